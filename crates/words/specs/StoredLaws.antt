@@ -1,0 +1,168 @@
+-- The laws of stores: how they compose, what is read after one, and the frame below one.
+-- Rests on Stored, the laws of words and texts, and the library's laws of `sets`; only a law of what was stored asks for room.
+use mathlib.Core.Path.{_≡_, refl, sym, ap, _∙_}
+use mathlib.Core.List.{List, [], _∷_, _++_}
+use Prim.Native.Nat.{ℕ, zero, suc, _+_, _-_, _/_, _%_, _≤_, _<_}
+use native.Mathlib.Omega.{arith}
+use native.Mathlib.Nat.{add-zero, zero-add}
+use native.Mathlib.Numerals.{add-one}
+use lib.ListN.{length, getD, set, take, drop, length-set, length-replicate}
+use lib.Seq.{sets, sets-eq, length-sets, set-set, set-comm, getD-set-same, getD-set-other}
+use Rattle.words.specs.Words.{wordAt, wordBytes, setWord, textAt, zeros}
+use Rattle.words.specs.WordsLaws.{wordAt-wordBytes, texts-agree, texts-agree-at, textAt-whole, drop-zeros}
+use Rattle.words.specs.Stored.{stored, Below}
+
+module _ {ℓ} {A : Type ℓ} where
+  -- ---- how stores compose
+
+  pub length-stored : (l : List A) (i : ℕ) (vs : List A) → length (stored l i vs) ≡ length l
+  unfolding stored
+  length-stored l i vs = length-sets l i vs
+
+  pub stored-nil : (l : List A) (i : ℕ) → stored l i [] ≡ l
+  unfolding stored
+  stored-nil l i = refl
+
+  -- with room it is what stood before, the elements, and what stood after
+  pub stored-is : (l : List A) (i : ℕ) (vs : List A) → i + length vs ≤ length l
+      → stored l i vs ≡ take i l ++ vs ++ drop (i + length vs) l
+  unfolding stored
+  stored-is l i vs h = sets-eq vs l i h
+
+  -- the store of one element, as an assignment leaves it
+  pub set-stored : (l : List A) (i : ℕ) (x : A) → set l i x ≡ stored l i (x ∷ [])
+  unfolding stored
+  set-stored l i x = refl
+
+  -- next to each other
+  pub stored-append : (l : List A) (i j : ℕ) (a b : List A) → i + length a ≡ j → stored (stored l i a) j b ≡ stored l i (a ++ b)
+  unfolding stored
+  stored-append l i j [] b e = let f : j ≡ i = omega arith in ap (λ (k : ℕ). sets l k b) f
+  stored-append l i j (x ∷ a) b e = stored-append (set l i x) (suc i) j a b (omega arith)
+
+  -- one element, and a store above it: in either order
+  set-below-stored : (l : List A) (i j : ℕ) (x : A) (b : List A) → i < j → set (stored l j b) i x ≡ stored (set l i x) j b
+  unfolding stored
+  set-below-stored l i j x [] h = refl
+  set-below-stored l i j x (y ∷ b) h =
+      set-below-stored (set l j y) i (suc j) x b (omega arith)
+      ∙ ap (λ (r : List A). sets r (suc j) b) (set-comm l j i y x (omega arith))
+
+  -- apart from each other: in either order
+  pub stored-swap : (l : List A) (i j : ℕ) (a b : List A) → i + length a ≤ j → stored (stored l j b) i a ≡ stored (stored l i a) j b
+  unfolding stored
+  stored-swap l i j [] b h = refl
+  stored-swap l i j (x ∷ a) b h =
+      ap (λ (r : List A). sets r (suc i) a) (set-below-stored l i j x b (omega arith))
+      ∙ stored-swap (set l i x) (suc i) j a b (omega arith)
+
+  -- at the same place: the later one stands
+  pub stored-again : (l : List A) (i : ℕ) (a b : List A) → length a ≡ length b → stored (stored l i a) i b ≡ stored l i b
+  unfolding stored
+  stored-again l i [] [] e = refl
+  stored-again l i [] (y ∷ b) e = absurd (omega arith)
+  stored-again l i (x ∷ a) [] e = absurd (omega arith)
+  stored-again l i (x ∷ a) (y ∷ b) e =
+      ap (λ (r : List A). sets r (suc i) b) (set-below-stored (set l i x) i (suc i) y a (omega arith))
+      ∙ ap (λ (r : List A). sets (sets r (suc i) a) (suc i) b) (set-set l i x y)
+      ∙ stored-again (set l i y) (suc i) a b (omega arith)
+
+  -- ---- an element after a store
+
+  pub getD-stored-below : (l : List A) (i : ℕ) (vs : List A) (k : ℕ) (d : A) → k < i → getD (stored l i vs) k d ≡ getD l k d
+  unfolding stored
+  getD-stored-below l i [] k d h = refl
+  getD-stored-below l i (x ∷ vs) k d h = getD-stored-below (set l i x) (suc i) vs k d (omega arith) ∙ getD-set-other l i k x d (omega arith)
+
+  pub getD-stored-above : (l : List A) (i : ℕ) (vs : List A) (k : ℕ) (d : A) → i + length vs ≤ k → getD (stored l i vs) k d ≡ getD l k d
+  unfolding stored
+  getD-stored-above l i [] k d h = refl
+  getD-stored-above l i (x ∷ vs) k d h = getD-stored-above (set l i x) (suc i) vs k d (omega arith) ∙ getD-set-other l i k x d (omega arith)
+
+  pub getD-stored-inside : (l : List A) (i : ℕ) (vs : List A) (k : ℕ) (d : A) → k < length vs → i + k < length l
+      → getD (stored l i vs) (i + k) d ≡ getD vs k d
+  unfolding stored
+  getD-stored-inside l i [] k d h r = absurd (omega arith)
+  getD-stored-inside l i (x ∷ vs) zero d h r =
+      rw add-zero (getD-stored-below (set l i x) (suc i) vs i d (omega arith) ∙ getD-set-same l i x d (omega arith))
+  getD-stored-inside l i (x ∷ vs) (suc k) d h r =
+      let e : i + suc k ≡ suc i + k = omega arith in
+      rw e (getD-stored-inside (set l i x) (suc i) vs k d (omega arith) (simp length-set (omega arith)))
+
+-- ---- a word after a store
+
+pub setWord-stored : (l : List ℕ) (i v : ℕ) → setWord l i v ≡ stored l i (wordBytes v)
+unfolding stored setWord
+setWord-stored l i v = ap (λ (k : ℕ). set (set l i (v % 256)) k (v / 256)) (add-one i)
+
+pub wordAt-stored-below : (l : List ℕ) (i : ℕ) (vs : List ℕ) (k : ℕ) → k + 1 < i → wordAt (stored l i vs) k ≡ wordAt l k
+unfolding wordAt
+wordAt-stored-below l i vs k h = rw (getD-stored-below l i vs k 0 (omega arith), getD-stored-below l i vs (k + 1) 0 h)
+
+pub wordAt-stored-above : (l : List ℕ) (i : ℕ) (vs : List ℕ) (k : ℕ) → i + length vs ≤ k → wordAt (stored l i vs) k ≡ wordAt l k
+unfolding wordAt
+wordAt-stored-above l i vs k h = rw (getD-stored-above l i vs k 0 h, getD-stored-above l i vs (k + 1) 0 (omega arith))
+
+pub wordAt-stored-inside : (l : List ℕ) (i : ℕ) (vs : List ℕ) (k : ℕ) → k + 1 < length vs → i + k + 1 < length l
+    → wordAt (stored l i vs) (i + k) ≡ wordAt vs k
+unfolding wordAt
+wordAt-stored-inside l i vs k h r =
+    let e : i + k + 1 ≡ i + (k + 1) = omega arith in
+    rw (e, getD-stored-inside l i vs k 0 (omega arith) (omega arith), getD-stored-inside l i vs (k + 1) 0 h (omega arith))
+
+-- the word that was stored
+pub wordAt-stored-word : (l : List ℕ) (i v : ℕ) → i + 1 < length l → wordAt (stored l i (wordBytes v)) i ≡ v
+wordAt-stored-word l i v h =
+    rw add-zero at (wordAt-stored-inside l i (wordBytes v) 0 (omega arith) (omega arith)) ∙ wordAt-wordBytes v
+
+-- ---- a text after a store
+
+pub textAt-stored-below : (l : List ℕ) (i : ℕ) (vs : List ℕ) (start len : ℕ) → start + len ≤ i
+    → textAt (stored l i vs) start len ≡ textAt l start len
+textAt-stored-below l i vs start len h =
+    texts-agree-at (stored l i vs) l start len (length-stored l i vs) (λ k q. getD-stored-below l i vs (start + k) 0 (omega arith))
+
+pub textAt-stored-above : (l : List ℕ) (i : ℕ) (vs : List ℕ) (start len : ℕ) → i + length vs ≤ start
+    → textAt (stored l i vs) start len ≡ textAt l start len
+textAt-stored-above l i vs start len h =
+    texts-agree-at (stored l i vs) l start len (length-stored l i vs) (λ k q. getD-stored-above l i vs (start + k) 0 (omega arith))
+
+pub textAt-stored-inside : (l : List ℕ) (i : ℕ) (vs : List ℕ) (k n : ℕ) → k + n ≤ length vs → i + k + n ≤ length l
+    → textAt (stored l i vs) (i + k) n ≡ textAt vs k n
+textAt-stored-inside l i vs k n h r = texts-agree (stored l i vs) vs (i + k) k n (rw (length-stored l i vs) r) h each
+  where
+    each : (m : ℕ) → m < n → getD (stored l i vs) (i + k + m) 0 ≡ getD vs (k + m) 0
+    each m q =
+        let e : i + k + m ≡ i + (k + m) = omega arith in
+        rw e (getD-stored-inside l i vs (k + m) 0 (omega arith) (omega arith))
+
+-- the text that was stored
+pub textAt-stored : (l : List ℕ) (i : ℕ) (vs : List ℕ) → i + length vs ≤ length l → textAt (stored l i vs) i (length vs) ≡ vs
+textAt-stored l i vs h =
+    rw add-zero at (textAt-stored-inside l i vs 0 (length vs) (omega arith) (omega arith)) ∙ textAt-whole vs
+
+-- a store at the front of zeros
+pub stored-zeros : (n : ℕ) (vs : List ℕ) → length vs ≤ n → stored (zeros n) 0 vs ≡ vs ++ zeros (n - length vs)
+stored-zeros n vs h = stored-is (zeros n) 0 vs (simp length-replicate (omega arith)) ∙ rw (zero-add, drop-zeros (length vs) n)
+
+-- ---- the frame below a place
+
+pub below-refl : (n : ℕ) (l : List ℕ) → Below n l l
+below-refl n l = record { same = λ k h. refl }
+
+pub below-trans : {n : ℕ} {a b c : List ℕ} → Below n a b → Below n b c → Below n a c
+below-trans f g = record { same = λ k h. g .same k h ∙ f .same k h }
+
+pub below-weaken : {m n : ℕ} {a b : List ℕ} → m ≤ n → Below n a b → Below m a b
+below-weaken h f = record { same = λ k q. f .same k (omega arith) }
+
+pub below-stored : (n : ℕ) (l : List ℕ) (i : ℕ) (vs : List ℕ) → n ≤ i → Below n l (stored l i vs)
+below-stored n l i vs h = record { same = λ k q. getD-stored-below l i vs k 0 (omega arith) }
+
+pub wordAt-below : {n : ℕ} {a b : List ℕ} → Below n a b → (k : ℕ) → k + 1 < n → wordAt b k ≡ wordAt a k
+unfolding wordAt
+wordAt-below f k h = rw (f .same k (omega arith), f .same (k + 1) h)
+
+pub textAt-below : {n : ℕ} {a b : List ℕ} → Below n a b → length b ≡ length a → (start len : ℕ) → start + len ≤ n
+    → textAt b start len ≡ textAt a start len
+textAt-below {n} {a} {b} f e start len h = texts-agree-at b a start len e (λ k q. f .same (start + k) (omega arith))
