@@ -5,7 +5,7 @@ use mathlib.Core.Bool.{Bool, true, false}
 use mathlib.Core.List.{List}
 use lib.ListN.{length, getD}
 use lib.Dec.{eqb, leb, ltb}
-use Rattle.words.specs.Words.{wordAt, textAt, both}
+use Rattle.words.specs.Words.{wordAt, textAt, both, pick}
 use Rattle.rules.specs.Limits.{recordSize, partSize, panelTrailer, panelMost, recordsMost, panelDepthMost}
 use Rattle.rules.specs.Searching.{every, times}
 use Rattle.rules.specs.SheetFile.{runIn}
@@ -83,27 +83,13 @@ pub data RecordKind : Type 0 where
 
 unfoldable pub recordKindOf : ℕ → RecordKind
 recordKindOf k =
-    elim (eqb k 0) [
-      | true ↦ Integer-record
-      | false ↦
-          elim (eqb k 1) [
-            | true ↦ Bytes-record
-            | false ↦
-                elim (eqb k 2) [
-                  | true ↦ List-record
-                  | false ↦
-                      elim (eqb k 3) [
-                        | true ↦ Pair-record
-                        | false ↦
-                            elim (eqb k 4) [
-                              | true ↦ Tuple-record
-                              | false ↦
-                                  elim (eqb k 5) [ true ↦ Constructor-record | false ↦ Unknown-record ]
-                            ]
-                      ]
-                ]
-          ]
-    ]
+    pick (eqb k 0) Integer-record
+    (pick (eqb k 1) Bytes-record
+    (pick (eqb k 2) List-record
+    (pick (eqb k 3) Pair-record
+    (pick (eqb k 4) Tuple-record
+    (pick (eqb k 5) Constructor-record
+    Unknown-record)))))
 
 -- ---- 21: "length (under 8, over 16,384, or trailer differs)"
 unfoldable pub panelLengthFits : List ℕ → Bool
@@ -148,7 +134,7 @@ isHigher v r j = both (ltb r (part v j)) (ltb (part v j) (records v))
 
 unfoldable pub partsHigher : List ℕ → ℕ → RecordKind → Bool
 unfolding every hasParts isHigher recordFirst recordCount
-partsHigher v r k = elim (hasParts k) [ true ↦ every (isHigher v r) (recordFirst v r) (recordCount v r) | false ↦ true ]
+partsHigher v r k = pick (hasParts k) (every (isHigher v r) (recordFirst v r) (recordCount v r)) true
 
 unfoldable pub recordKeepsRules : List ℕ → ℕ → Bool
 unfolding recordKind recordZero recordKindOf recordFieldsFit partsHigher

@@ -4,7 +4,7 @@ use Prim.Native.Nat.{ℕ, zero, suc, _+_, _-_}
 use mathlib.Core.Bool.{Bool, true, false}
 use mathlib.Core.List.{List, [], _∷_, _++_}
 use lib.Dec.{eqb, leb}
-use Rattle.words.specs.Words.{both}
+use Rattle.words.specs.Words.{both, pick}
 use Rattle.rules.specs.Limits.{patternsMost}
 use Rattle.rules.specs.SheetFile.{subject, typeKind, typeFlag, typeFirst, typeCount, constructorFirst, constructorCount, entry, patternKind, patternA, patternFirst, patternCount, child, root, poolText}
 
@@ -17,43 +17,17 @@ pub data PatternKind : Type 0 where
 
 unfoldable pub patternKindOf : ℕ → PatternKind
 patternKindOf k =
-    elim (eqb k 0) [
-      | true ↦ Discard
-      | false ↦
-          elim (eqb k 1) [
-            | true ↦ Variable
-            | false ↦
-                elim (eqb k 2) [
-                  | true ↦ Assign
-                  | false ↦
-                      elim (eqb k 3) [
-                        | true ↦ Integer
-                        | false ↦
-                            elim (eqb k 4) [
-                              | true ↦ ByteString
-                              | false ↦
-                                  elim (eqb k 5) [
-                                    | true ↦ ListOfAll
-                                    | false ↦
-                                        elim (eqb k 6) [
-                                          | true ↦ ListWithRest
-                                          | false ↦
-                                              elim (eqb k 7) [
-                                                | true ↦ Constructor
-                                                | false ↦
-                                                    elim (eqb k 8) [
-                                                      | true ↦ Pair
-                                                      | false ↦
-                                                          elim (eqb k 9) [ true ↦ Tuple | false ↦ Unknown ]
-                                                    ]
-                                              ]
-                                        ]
-                                  ]
-                            ]
-                      ]
-                ]
-          ]
-    ]
+    pick (eqb k 0) Discard
+    (pick (eqb k 1) Variable
+    (pick (eqb k 2) Assign
+    (pick (eqb k 3) Integer
+    (pick (eqb k 4) ByteString
+    (pick (eqb k 5) ListOfAll
+    (pick (eqb k 6) ListWithRest
+    (pick (eqb k 7) Constructor
+    (pick (eqb k 8) Pair
+    (pick (eqb k 9) Tuple
+    Unknown)))))))))
 
 -- A pattern's own number, and the number of the type that it is fitted to.
 pub record Mark : Type 0 where

@@ -6,7 +6,7 @@ use mathlib.Core.List.{List, [], _∷_}
 use mathlib.Core.Option.{Option, none, some}
 use lib.ListN.{length}
 use lib.Dec.{eqb, leb, ltb}
-use Rattle.words.specs.Words.{both, either}
+use Rattle.words.specs.Words.{both, either, pick}
 use Rattle.rules.specs.Limits.{typeSize, constructorSize, entrySize, patternSize, childSize, clauseSize, sheetTrailer, sheetMost, typesMost, constructorsMost, entriesMost, patternsMost, childrenMost, clausesMost, depthMost}
 use Rattle.rules.specs.Searching.{every, lowest, times}
 use Rattle.rules.specs.SheetFile.{subject, sheetLength, typesAt, constructorsAt, entriesAt, patternsAt, childrenAt, clausesAt, poolAt, poolEnd, types, constructors, entries, patterns, children, clauses, poolSize, typeKind, typeFlag, typeFirst, typeCount, constructorFirst, constructorCount, entry, patternKind, patternZero, patternA, patternFirst, patternCount, child, root, poolText, runIn}
@@ -57,27 +57,12 @@ countsFit s =
 unfoldable pub typeParts : List ℕ → ℕ → Bool
 unfolding types constructors entries typeKind typeFirst typeCount runIn
 typeParts s t =
-    elim (leb (typeKind s t) 1) [
-      | true ↦ both (eqb (typeFirst s t) 0) (eqb (typeCount s t) 0)
-      | false ↦
-          elim (eqb (typeKind s t) 2) [
-            | true ↦ both (eqb (typeCount s t) 1) (runIn (typeFirst s t) (typeCount s t) (entries s))
-            | false ↦
-                elim (eqb (typeKind s t) 3) [
-                  | true ↦ both (eqb (typeCount s t) 2) (runIn (typeFirst s t) (typeCount s t) (entries s))
-                  | false ↦
-                      elim (eqb (typeKind s t) 4) [
-                        | true ↦ both (leb 2 (typeCount s t)) (runIn (typeFirst s t) (typeCount s t) (entries s))
-                        | false ↦
-                            elim (eqb (typeKind s t) 5) [
-                              | true ↦ both (leb 1 (typeCount s t)) (runIn (typeFirst s t) (typeCount s t) (constructors s))
-                              | false ↦
-                                  false
-                            ]
-                      ]
-                ]
-          ]
-    ]
+    pick (leb (typeKind s t) 1) (both (eqb (typeFirst s t) 0) (eqb (typeCount s t) 0))
+    (pick (eqb (typeKind s t) 2) (both (eqb (typeCount s t) 1) (runIn (typeFirst s t) (typeCount s t) (entries s)))
+    (pick (eqb (typeKind s t) 3) (both (eqb (typeCount s t) 2) (runIn (typeFirst s t) (typeCount s t) (entries s)))
+    (pick (eqb (typeKind s t) 4) (both (leb 2 (typeCount s t)) (runIn (typeFirst s t) (typeCount s t) (entries s)))
+    (pick (eqb (typeKind s t) 5) (both (leb 1 (typeCount s t)) (runIn (typeFirst s t) (typeCount s t) (constructors s)))
+    false))))
 
 -- "Flags, Data only: 1 opaque, 2 list-decorated, 3 both"
 unfoldable pub typeFlags : List ℕ → ℕ → Bool
@@ -163,7 +148,7 @@ isAbove s p j = both (ltb p (child s j)) (ltb (child s j) (patterns s))
 
 unfoldable pub childrenAbove : List ℕ → ℕ → PatternKind → Bool
 unfolding every hasChildren isAbove patternFirst patternCount
-childrenAbove s p k = elim (hasChildren k) [ true ↦ every (isAbove s p) (patternFirst s p) (patternCount s p) | false ↦ true ]
+childrenAbove s p k = pick (hasChildren k) (every (isAbove s p) (patternFirst s p) (patternCount s p)) true
 
 -- "each pattern is exactly one clause's root or exactly one entry"
 unfoldable pub isRoot : List ℕ → ℕ → ℕ → Bool

@@ -5,7 +5,7 @@ use mathlib.Core.Bool.{Bool, true, false}
 use mathlib.Core.List.{List, [], _∷_, _++_}
 use mathlib.Core.Option.{Option, none, some}
 use lib.Dec.{eqb, leb}
-use Rattle.words.specs.Words.{either, sameText}
+use Rattle.words.specs.Words.{either, pick, sameText}
 use Rattle.rules.specs.Patterns.{Text, Mark, Pat, Pats, discard, variable, assign, integer, bytestring, listed, tailed, constructor, opened, many}
 use Rattle.rules.specs.Rows.{Path, samePath, Binding, Cell, Row, openedColumns, openedBindings}
 use Rattle.rules.specs.Columns.{testAt}
@@ -74,7 +74,7 @@ tailedLength (constructor m a qs) = 0
 tailedLength (opened m o qs) = 0
 
 unfoldable pub larger : ℕ → ℕ → ℕ
-larger a b = elim (leb a b) [ true ↦ b | false ↦ a ]
+larger a b = pick (leb a b) b a
 
 unfoldable pub longest : (Pat → ℕ) → List Pat → ℕ
 unfolding larger

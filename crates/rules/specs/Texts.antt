@@ -5,7 +5,7 @@ use mathlib.Core.Bool.{Bool, true, false}
 use mathlib.Core.List.{List, [], _∷_}
 use lib.ListN.{length}
 use lib.Dec.{eqb, leb}
-use Rattle.words.specs.Words.{both, either, sameText}
+use Rattle.words.specs.Words.{both, either, pick, sameText}
 use Rattle.rules.specs.Limits.{textMost}
 
 -- digits 0 to 9 are bytes 48 to 57, `-` is 45
@@ -20,7 +20,7 @@ natural (d ∷ ds) = both (both (leb 49 d) (leb d 57)) (digits ds)
 
 unfoldable pub afterSign : List ℕ → List ℕ
 afterSign [] = []
-afterSign (c ∷ cs) = elim (eqb c 45) [ true ↦ cs | false ↦ c ∷ cs ]
+afterSign (c ∷ cs) = pick (eqb c 45) cs (c ∷ cs)
 
 unfoldable pub canonical : List ℕ → Bool
 unfolding natural afterSign sameText

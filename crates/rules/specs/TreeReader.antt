@@ -5,7 +5,7 @@ use mathlib.Core.Bool.{Bool, true, false}
 use mathlib.Core.List.{List, [], _∷_, _++_}
 use lib.ListN.{length, getD}
 use lib.Dec.{eqb, leb, ltb}
-use Rattle.words.specs.Words.{wordAt, textAt, both, either}
+use Rattle.words.specs.Words.{wordAt, textAt, both, either, pick}
 use Rattle.rules.specs.Limits.{nodeSize, caseSize, bindingSize, pathSize, stepSize, treeTrailer, nodeBindingsMost}
 use Rattle.rules.specs.Searching.{every}
 use Rattle.rules.specs.SheetFile.{runIn}
@@ -239,19 +239,11 @@ pub data NodeKind : Type 0 where
 
 unfoldable pub nodeKindOf : ℕ → NodeKind
 nodeKindOf k =
-    elim (eqb k 0) [
-      | true ↦ Switch
-      | false ↦
-          elim (eqb k 1) [
-            | true ↦ List-switch
-            | false ↦
-                elim (eqb k 2) [
-                  | true ↦ Leaf
-                  | false ↦
-                      elim (eqb k 3) [ true ↦ Hoist-node | false ↦ Unknown-node ]
-                ]
-          ]
-    ]
+    pick (eqb k 0) Switch
+    (pick (eqb k 1) List-switch
+    (pick (eqb k 2) Leaf
+    (pick (eqb k 3) Hoist-node
+    Unknown-node)))
 
 -- "known kinds, zero bytes and unused fields 0"
 unfoldable pub nodeOfKind : List ℕ → ℕ → NodeKind → Bool
@@ -271,23 +263,12 @@ pub data CaseKind : Type 0 where
 
 unfoldable pub caseKindOf : ℕ → CaseKind
 caseKindOf k =
-    elim (eqb k 0) [
-      | true ↦ Constr-case
-      | false ↦
-          elim (eqb k 1) [
-            | true ↦ Int-case
-            | false ↦
-                elim (eqb k 2) [
-                  | true ↦ Bytes-case
-                  | false ↦
-                      elim (eqb k 3) [
-                        | true ↦ List-case
-                        | false ↦
-                            elim (eqb k 4) [ true ↦ List-with-tail-case | false ↦ Unknown-case ]
-                      ]
-                ]
-          ]
-    ]
+    pick (eqb k 0) Constr-case
+    (pick (eqb k 1) Int-case
+    (pick (eqb k 2) Bytes-case
+    (pick (eqb k 3) List-case
+    (pick (eqb k 4) List-with-tail-case
+    Unknown-case))))
 
 unfoldable pub caseOfKind : List ℕ → ℕ → CaseKind → Bool
 unfolding treePoolSize caseNumber caseLength runIn
@@ -366,19 +347,11 @@ treeFits t =
 -- ---- the tree that a file stands for
 unfoldable pub stepOfFields : ℕ → ℕ → ℕ → ℕ → Step
 stepOfFields kind flag i t =
-    elim (eqb kind 0) [
-      | true ↦ pair i t
-      | false ↦
-          elim (eqb kind 1) [
-            | true ↦ tuple i t
-            | false ↦
-                elim (eqb kind 2) [
-                  | true ↦ constr i (eqb flag 1) t
-                  | false ↦
-                      elim (eqb kind 3) [ true ↦ list i t | false ↦ listtail i t ]
-                ]
-          ]
-    ]
+    pick (eqb kind 0) (pair i t)
+    (pick (eqb kind 1) (tuple i t)
+    (pick (eqb kind 2) (constr i (eqb flag 1) t)
+    (pick (eqb kind 3) (list i t)
+    (listtail i t))))
 
 unfoldable pub stepAt : List ℕ → ℕ → Step
 unfolding stepKind stepFlag stepIndexAt stepType stepOfFields

@@ -5,7 +5,7 @@ use mathlib.Core.Bool.{Bool, true, false}
 use mathlib.Core.List.{List, [], _∷_}
 use mathlib.Core.Option.{Option, none, some}
 use lib.Dec.{eqb, leb, ltb}
-use Rattle.words.specs.Words.{both}
+use Rattle.words.specs.Words.{both, pick}
 use Rattle.rules.specs.PanelFile.{recordKind, recordA, recordFirst, recordCount, part, recordText, RecordKind, Integer-record, Bytes-record, List-record, Pair-record, Tuple-record, Constructor-record, Unknown-record, recordKindOf}
 use Rattle.rules.specs.Rows.{Step, pair, tuple, constr, list, listtail, Path, Binding}
 use Rattle.rules.specs.Splitting.{Test, Constr, Int, Bytes, ListOf, ListWithTail, sameTest}
@@ -25,16 +25,13 @@ panelRoot = record { place = 0; dropped = 0 }
 unfoldable pub partOf : List ℕ → ℕ → ℕ → ℕ → Option Position
 unfolding recordKind recordFirst recordCount part
 partOf v kind r i =
-    elim (both (eqb (recordKind v r) kind) (ltb i (recordCount v r))) [
-      | true ↦ some (record { place = part v (recordFirst v r + i); dropped = 0 })
-      | false ↦ none
-    ]
+    pick (both (eqb (recordKind v r) kind) (ltb i (recordCount v r))) (some (record { place = part v (recordFirst v r + i); dropped = 0 })) none
 
 -- what is left of a list after its first i elements
 unfoldable pub tailOf : List ℕ → ℕ → ℕ → Option Position
 unfolding recordKind recordCount
 tailOf v r i =
-    elim (both (eqb (recordKind v r) 2) (leb i (recordCount v r))) [ true ↦ some (record { place = r; dropped = i }) | false ↦ none ]
+    pick (both (eqb (recordKind v r) 2) (leb i (recordCount v r))) (some (record { place = r; dropped = i })) none
 
 unfoldable pub takeStep : List ℕ → Step → Position → Option Position
 unfolding partOf tailOf
@@ -91,7 +88,7 @@ shownAt v x = shown v (x .place) (recordKindOf (recordKind v (x .place)))
 -- the length of the list at a position, less the dropped ones
 unfoldable pub lengthAt : List ℕ → Position → Option ℕ
 unfolding recordKind recordCount
-lengthAt v x = elim (eqb (recordKind v (x .place)) 2) [ true ↦ some (recordCount v (x .place) - x .dropped) | false ↦ none ]
+lengthAt v x = pick (eqb (recordKind v (x .place)) 2) (some (recordCount v (x .place) - x .dropped)) none
 
 unfoldable pub testKind : Test → ℕ
 testKind (Constr a) = 0
@@ -133,7 +130,7 @@ tailNumber n (Constr a) = 0
 tailNumber n (Int w) = 0
 tailNumber n (Bytes w) = 0
 tailNumber n (ListOf k) = 0
-tailNumber n (ListWithTail k) = elim (leb k n) [ true ↦ suc k | false ↦ 0 ]
+tailNumber n (ListWithTail k) = pick (leb k n) (suc k) 0
 
 unfoldable pub largestTail : ℕ → Cases → ℕ
 unfolding tailNumber
