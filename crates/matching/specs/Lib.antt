@@ -1,0 +1,5 @@
+-- The walk of a built tree answers the first clause that matches: Depth, FirstMatch, Leaves; and what they rest on.
+pub mod Lists
+pub mod Paths
+pub mod Tests
+pub mod Depth
