@@ -3,3 +3,5 @@ pub mod Lists
 pub mod Paths
 pub mod Tests
 pub mod Depth
+pub mod Apart
+pub mod Bindings

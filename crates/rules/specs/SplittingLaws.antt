@@ -62,7 +62,7 @@ pub either-none : (a : Bool) → either a false ≡ a
 either-none true = refl
 either-none false = refl
 
-either-assoc : (a b c : Bool) → either (either a b) c ≡ either a (either b c)
+pub either-assoc : (a b c : Bool) → either (either a b) c ≡ either a (either b c)
 either-assoc true b c = refl
 either-assoc false b c = refl
 
