@@ -1,9 +1,9 @@
 -- The tests of a row stand apart from each other, and each in a column of its matrix. So a column that is tested is gone from
 -- the row too, and where no column is chosen the first row has no test.
-use Prim.Native.Nat.{ℕ, zero, suc, _+_, _≤_, _<_}
+use Prim.Native.Nat.{ℕ, _+_, _≤_, _<_}
 use native.Mathlib.Nat.{le-refl}
 use native.Mathlib.Omega.{arith}
-use mathlib.Core.Path.{_≡_, refl, sym, ap, ap₂, _∙_}
+use mathlib.Core.Path.{_≡_, refl, sym, ap, _∙_}
 use mathlib.Core.Logic.{_⊎_, inl, inr}
 use mathlib.Core.Bool.{Bool, true, false, true≢false, false≢true}
 use mathlib.Core.List.{List, [], _∷_, _++_, append-nil, append-assoc}
@@ -11,7 +11,7 @@ use mathlib.Core.Option.{Option, none, some}
 use Rattle.words.specs.Words.{either}
 use Rattle.words.specs.WordsLaws.{either-true, either-first-true, either-second-true}
 use Rattle.rules.specs.Patterns.{Opens, pairs, tuples, fields, Pat, Pats, discard, variable, assign, integer, bytestring, listed, tailed, constructor, opened, pnil, pcons, many}
-use Rattle.rules.specs.Rows.{Step, pair, tuple, constr, list, listtail, Path, into, opening, samePath, Cell, Row, columnsOf, columnsOfEach, openedColumns, clauseRow, clauseRows}
+use Rattle.rules.specs.Rows.{Step, constr, list, listtail, Path, into, opening, samePath, Cell, Row, columnsOf, columnsOfEach, openedColumns, clauseRow, clauseRows}
 use Rattle.rules.specs.Columns.{stepIndex, before, put, union, allTests, columns, without, testAt, count, choice}
 use Rattle.rules.specs.Splitting.{Test, withoutTest, openRow, covers, caseRows, caseOpens, defaultRows}
 use Rattle.rules.specs.SplittingLaws.{All, either-assoc}
@@ -425,13 +425,13 @@ case-neat p t ps rs h =
     (λ r q x y (n, o). (
       open-tidy p q r (take-test p (r .tests) q x) (n .0),
       unfold openRow in (all-append (λ c. isColumn (c .path) (union (caseOpens p t rs) ++ without p ps) ≡ true) (openedColumns p q) (withoutTest p (r .tests))
-      (within-left (union (caseOpens p t rs)) (without p ps) (openedColumns p q)
-      (all-map (λ c. isPathOf (c .path) (caseOpens p t rs) ≡ true) (λ c. isColumn (c .path) (union (caseOpens p t rs)) ≡ true)
-      (λ c k. isColumn-union (c .path) (caseOpens p t rs) ∙ k) (openedColumns p q) (o q x y)))
-      (within-right (union (caseOpens p t rs)) (without p ps) (withoutTest p (r .tests))
-      (within-without p ps (withoutTest p (r .tests))
-      (others-have (λ c. isColumn (c .path) ps ≡ true) p q (r .tests) (take-test p (r .tests) q x) (n .1))
-      (all-map (ApartFrom p) (λ c. p ≡ c .path → ⊥) (λ d k. apart-not-same p (d .path) k) (withoutTest p (r .tests)) (taken-tidy p q (r .tests) (take-test p (r .tests) q x) (n .0) .0))))),
+          (within-left (union (caseOpens p t rs)) (without p ps) (openedColumns p q)
+          (all-map (λ c. isPathOf (c .path) (caseOpens p t rs) ≡ true) (λ c. isColumn (c .path) (union (caseOpens p t rs)) ≡ true)
+          (λ c k. isColumn-union (c .path) (caseOpens p t rs) ∙ k) (openedColumns p q) (o q x y)))
+          (within-right (union (caseOpens p t rs)) (without p ps) (withoutTest p (r .tests))
+          (within-without p ps (withoutTest p (r .tests))
+          (others-have (λ c. isColumn (c .path) ps ≡ true) p q (r .tests) (take-test p (r .tests) q x) (n .1))
+          (all-map (ApartFrom p) (λ c. p ≡ c .path → ⊥) (λ d k. apart-not-same p (d .path) k) (withoutTest p (r .tests)) (taken-tidy p q (r .tests) (take-test p (r .tests) q x) (n .0) .0))))),
     ))
     rs
     (all-both (Neat ps) (Opens-in p t (caseOpens p t rs)) (λ r. Neat ps r × Opens-in p t (caseOpens p t rs) r) (λ r a b. (a, b)) rs h (case-opens-in p t rs))

@@ -1,18 +1,17 @@
 -- What is the same up to order, and the bindings of a pattern: all of them, wherever they stand in it, and those that a row has
 -- collected beside those that are still inside its tests. Opening a test moves bindings and loses none.
-use Prim.Native.Nat.{ℕ, zero, suc, _+_, _≤_, _<_}
-use native.Mathlib.Nat.{add-zero, zero-add, add-assoc}
+use Prim.Native.Nat.{ℕ, _+_}
+use native.Mathlib.Nat.{zero-add}
 use native.Mathlib.Omega.{arith}
-use mathlib.Core.Path.{_≡_, refl, sym, ap, ap₂, _∙_}
-use mathlib.Core.Bool.{Bool, true, false, true≢false, false≢true}
+use mathlib.Core.Path.{_≡_, refl, sym, ap, _∙_}
+use mathlib.Core.Bool.{true, false, false≢true}
 use mathlib.Core.List.{List, [], _∷_, _++_}
-use mathlib.Core.Option.{Option, none, some}
+use mathlib.Core.Option.{some}
 use lib.ListN.{length}
-use Rattle.rules.specs.Patterns.{Mark, Opens, Pat, Pats, discard, variable, assign, integer, bytestring, listed, tailed, constructor, opened, pnil, pcons, many, names, namesOf}
+use Rattle.rules.specs.Patterns.{Pat, Pats, discard, variable, assign, integer, bytestring, listed, tailed, constructor, opened, pnil, pcons, many}
 use Rattle.rules.specs.Rows.{Step, constr, list, listtail, Path, into, opening, Binding, Cell, Row, columnsOf, columnsOfEach, bindingsOf, bindingsOfEach, openedColumns, openedBindings, clauseRow}
 use Rattle.rules.specs.Columns.{testAt}
 use Rattle.rules.specs.Splitting.{withoutTest, openRow}
-use Rattle.rules.specs.SplittingLaws.{All}
 use Rattle.matching.specs.Tests.{isTest, TestRow, cell, Taken, take-test, row-test}
 
 -- ---- the same up to order: each way of weighing the elements gives both lists one sum

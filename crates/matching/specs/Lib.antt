@@ -5,3 +5,4 @@ pub mod Tests
 pub mod Depth
 pub mod Apart
 pub mod Bindings
+pub mod Leaves
