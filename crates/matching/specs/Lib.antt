@@ -6,3 +6,4 @@ pub mod Depth
 pub mod Apart
 pub mod Bindings
 pub mod Leaves
+pub mod Suits
