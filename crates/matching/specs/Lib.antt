@@ -7,3 +7,4 @@ pub mod Apart
 pub mod Bindings
 pub mod Leaves
 pub mod Suits
+pub mod Answers
