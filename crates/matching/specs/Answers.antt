@@ -1,11 +1,11 @@
 -- Answers of a walk that are the same up to the order of their bindings; and the first row of a matrix that holds, with its answer.
 -- A case's rows have the same first row as the matrix where the case is the right one, and so have the default's where none is.
-use Prim.Native.Nat.{ℕ, zero, suc, _+_, _≤_, _<_}
+use Prim.Native.Nat.{ℕ, _+_}
 use native.Mathlib.Nat.{zero-add}
 use native.Mathlib.Omega.{arith}
-use mathlib.Core.Path.{_≡_, refl, sym, ap, ap₂, _∙_}
-use mathlib.Core.Bool.{Bool, true, false, true≢false, false≢true}
-use mathlib.Core.List.{List, [], _∷_, _++_, map}
+use mathlib.Core.Path.{_≡_, refl, sym, ap, _∙_}
+use mathlib.Core.Bool.{Bool, true, false}
+use mathlib.Core.List.{List, [], _∷_, map}
 use mathlib.Core.Option.{Option, none, some}
 use lib.Dec.{eqb}
 use borrow.Author.Tests.{ne-eqb}
@@ -15,11 +15,10 @@ use Rattle.rules.specs.Rows.{Path, Binding, Cell, Row, openedColumns}
 use Rattle.rules.specs.Columns.{testAt}
 use Rattle.rules.specs.Splitting.{Test, withoutTest, openRow, column, covers, caseRows, defaultRows}
 use Rattle.rules.specs.Walking.{Position, panelRoot, follow, Bound, bound, Walked, reached, noLeaf, stuck, atLeaf}
-use Rattle.rules.specs.Meaning.{matches}
 use Rattle.rules.specs.SplittingLaws.{All}
 use Rattle.matching.specs.Lists.{all-append, all-map}
 use Rattle.matching.specs.Tests.{isTest, HasTest, TestRow, cell, Taken, take-test, taken-has, others-have, default-all}
-use Rattle.matching.specs.Bindings.{total, SameUpToOrder, total-none, total-first, rowBindings, open-bindings}
+use Rattle.matching.specs.Bindings.{total, SameUpToOrder, rowBindings, open-bindings}
 use Rattle.matching.specs.Suits.{Suits, holdsAt, holdAll, holdAll-append, holdsAt-matches, Good, headHolds, opened-read, head-fails}
 
 -- ---- the same answer: both at no leaf, or both at a leaf of one clause with the same bindings up to order; none is stuck

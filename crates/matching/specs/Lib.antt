@@ -8,3 +8,5 @@ pub mod Bindings
 pub mod Leaves
 pub mod Suits
 pub mod Answers
+pub mod Switches
+pub mod FirstMatch
