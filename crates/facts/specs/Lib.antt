@@ -1,0 +1,2 @@
+-- What an accepted sheet, panel and tree give: crates above cite these facts in the place of the verdicts.
+pub mod KindsLaws
