@@ -9,12 +9,12 @@ use native.Mathlib.Omega.{arith}
 use native.Mathlib.Nat.{div-add-mod}
 use borrow.Author.Tests.{leb-true, ltb-true, eqb-true}
 use lib.Dec.{eqb, leb, ltb}
-use Rattle.words.specs.Words.{both, either}
+use Rattle.words.specs.Words.{either}
 use Rattle.words.specs.WordsLaws.{both-true, either-true}
 use Rattle.rules.specs.Searching.{every, lowest}
 use Rattle.rules.specs.SearchingLaws.{every-true, lowest-none}
 use Rattle.rules.specs.SheetFile.{runIn}
-use Rattle.rules.specs.SheetRefusals.{wholeRecords, Verdict, accepted, refused, require, requireNone}
+use Rattle.rules.specs.SheetRefusals.{wholeRecords, Verdict, accepted, require, requireNone}
 
 -- "first, count": the run from first on lies in a section of n records, and first is 0 where count is 0
 pub record Run (first count n : ℕ) : Type 0 where
