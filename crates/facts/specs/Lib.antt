@@ -2,3 +2,4 @@
 pub mod KindsLaws
 pub mod RunsLaws
 pub mod SheetFacts
+pub mod PatternsLaws
