@@ -3,3 +3,4 @@ pub mod KindsLaws
 pub mod RunsLaws
 pub mod SheetFacts
 pub mod PatternsLaws
+pub mod PanelFacts

@@ -20,7 +20,7 @@ use Rattle.rules.specs.Patterns.{PatternKind, Discard, Variable, Assign, Intege
 use Rattle.rules.specs.Texts.{canonical, shortText}
 use Rattle.rules.specs.SheetRefusals.{lengthFits, layoutFits, hasClause, countsFit, typeParts, typeFlags, typeKeepsRules, constructorKeepsRules, entryKeepsRules, typesFit, hasChildren, tailFits, fieldsFit, isAbove, childrenAbove, isRoot, isEntry, standsOnce, patternKeepsRules, lists, childKeepsRules, rootKeepsRules, within, depthFits, shapeFits, transparent, lowestTransparent, textOfKind, badText, lowestBadText, misfit, lowestMisfit, repeats, nameTwice, lowestNameTwice, verdict, accepted}
 use Rattle.facts.specs.KindsLaws.{patternNumber, pattern-number, pattern-byte, pattern-unknown}
-use Rattle.facts.specs.RunsLaws.{Run, run-in, whole-rises, whole-fills, require-accepted, requireNone-accepted, every-below, none-below}
+use Rattle.facts.specs.RunsLaws.{Run, run-in, whole-rises, whole-fills, pool-fills, trailer-fills, require-accepted, requireNone-accepted, every-below, none-below}
 
 -- ---- 2 and 3: the sections stand back to back, each of whole records, and the trailer ends the file
 pub record Laid (s : List ℕ) : Type 0 where
@@ -62,8 +62,8 @@ laid s long out =
       patterns-end = whole-fills patternSize _ _ (s5 .0);
       children-end = whole-fills childSize _ _ (s6 .0);
       clauses-end = whole-fills clauseSize _ _ (s7 .0);
-      pool-end = omega arith;
-      trailer-end = omega arith;
+      pool-end = pool-fills (poolAt s) (poolEnd s) rises;
+      trailer-end = trailer-fills sheetTrailer (length s) least;
     }
 
 -- where a record's bytes lie: all before the trailer
