@@ -11,16 +11,14 @@ use native.Mathlib.Numerals.{add-one}
 use borrow.Author.Tests.{leb-true, leb-false, ltb-true, eqb-true, eq-eqb}
 use lib.Dec.{eqb, leb, ltb}
 use lib.ListN.{length}
-use Rattle.words.specs.Words.{Bytes, both, either}
+use Rattle.words.specs.Words.{Bytes, both}
 use Rattle.words.specs.WordsLaws.{both-true, either-true, either-first-true, either-second-true, wordAt-small}
 use Rattle.rules.specs.Limits.{nodeSize, caseSize, bindingSize, pathSize, stepSize, treeTrailer, nodeBindingsMost}
-use Rattle.rules.specs.Searching.{every}
 use Rattle.rules.specs.SearchingLaws.{every-true, first-or-rest}
-use Rattle.rules.specs.SheetFile.{runIn}
 use Rattle.rules.specs.SheetRefusals.{isIn}
-use Rattle.rules.specs.Building.{Tree, Cases, absent, leaf, hoist, switch, listswitch, cnil, ccons}
-use Rattle.rules.specs.TreeReader.{treeLength, nodesAt, casesAt, bindingsAt, pathsAt, stepsAt, treePoolAt, treePoolEnd, nodes, cases, bindings, paths, steps, treePoolSize, nodeKind, nodeZero, nodeWord, nodePath, nodeFirstCase, nodeCases, nodeTailCases, nodeDefault, nodeFirstBinding, nodeBindings, nodeChild, caseKind, caseZero, caseNumber, caseLength, caseChild, bindingPath, pathFirst, pathCount, stepKind, stepFlag, lengthTrue, startsRise, switchParts, isKind, switchCases, listSwitchCases, bindingParts, NodeKind, Switch, List-switch, Leaf, Hoist-node, Unknown-node, nodeKindOf, nodeOfKind, nodeKeepsRules, CaseKind, Constr-case, Int-case, Bytes-case, List-case, List-with-tail-case, Unknown-case, caseKindOf, caseOfKind, caseKeepsRules, bindingKeepsRules, pathKeepsRules, stepKeepsRules, caseChildren, defaultChild, childrenOfKind, nodeChildren, inPreOrder, nodesInPreOrder, treeFits, pathAt, bindingsFrom, caseTest, startOfTest, casesFor, defaultFor, nodeFor, treeBelow, treeOf}
-use Rattle.facts.specs.KindsLaws.{node-unknown, case-unknown, case-number, caseKindNumber, case-byte}
+use Rattle.rules.specs.Building.{Tree, Cases, hoist, switch, listswitch, cnil, ccons}
+use Rattle.rules.specs.TreeReader.{treeLength, nodesAt, casesAt, bindingsAt, pathsAt, stepsAt, treePoolAt, treePoolEnd, nodes, cases, bindings, paths, steps, treePoolSize, nodeKind, nodeZero, nodeWord, nodePath, nodeFirstCase, nodeCases, nodeTailCases, nodeDefault, nodeClause, nodeFirstBinding, nodeBindings, nodeChild, caseKind, caseZero, caseNumber, caseLength, caseChild, bindingPath, pathFirst, pathCount, stepKind, stepFlag, lengthTrue, startsRise, switchParts, isKind, switchCases, listSwitchCases, bindingParts, NodeKind, Switch, List-switch, Leaf, Hoist-node, Unknown-node, nodeKindOf, nodeOfKind, nodeKeepsRules, CaseKind, Constr-case, Int-case, Bytes-case, List-case, List-with-tail-case, Unknown-case, caseKindOf, caseOfKind, caseKeepsRules, bindingKeepsRules, pathKeepsRules, stepKeepsRules, caseChildren, defaultChild, childrenOfKind, nodeChildren, inPreOrder, nodesInPreOrder, treeFits, pathAt, bindingsFrom, caseTest, startOfTest, casesFor, defaultFor, nodeFor, treeBelow}
+use Rattle.facts.specs.KindsLaws.{node-unknown, case-unknown, case-byte}
 use Rattle.facts.specs.RunsLaws.{Run, run-in, whole-rises, whole-fills, pool-fills, trailer-fills, every-below}
 
 -- ---- the length and the starts: the sections stand back to back, each of whole records, and the trailer ends the file
@@ -336,13 +334,13 @@ tree-sound t fit =
     let f6 = both-true _ _ (f5 .1) in
     let f7 = both-true _ _ (f6 .1) in
     let node : (k : ℕ) → k < nodes t → (eqb (nodeZero t k) 0 ≡ true) × (nodeOfKind t k (nodeKindOf (nodeKind t k)) ≡ true) =
-        λ k h. both-true _ _ (every-below (nodeKeepsRules t) (nodes t) (f3 .0) k h)
+    λ k h. both-true _ _ (every-below (nodeKeepsRules t) (nodes t) (f3 .0) k h)
     in
     let branch : (i : ℕ) → i < cases t → (eqb (caseZero t i) 0 ≡ true) × (both (caseOfKind t i (caseKindOf (caseKind t i))) (ltb (caseChild t i) (nodes t)) ≡ true) =
-        λ i h. both-true _ _ (every-below (caseKeepsRules t) (cases t) (f4 .0) i h)
+    λ i h. both-true _ _ (every-below (caseKeepsRules t) (cases t) (f4 .0) i h)
     in
     let rest : (i : ℕ) → i < cases t → (caseOfKind t i (caseKindOf (caseKind t i)) ≡ true) × (ltb (caseChild t i) (nodes t) ≡ true) =
-        λ i h. both-true _ _ (branch i h .1)
+    λ i h. both-true _ _ (branch i h .1)
     in
     let step : (i : ℕ) → i < steps t → stepKeepsRules t i ≡ true = every-below (stepKeepsRules t) (steps t) (f7 .0) in
     record {
@@ -378,3 +376,133 @@ tree-sound t fit =
       some-node = first-there t (f7 .1);
       child-after = λ k c h. children-after-all t k c h (f7 .1);
     }
+
+-- ---- the children of a node
+pub case-listed : (t : List ℕ) (first n i : ℕ) → first ≤ i → i < first + n → isIn (caseChild t i) (caseChildren t first n) ≡ true
+unfolding isIn caseChildren
+case-listed t first zero i low high = absurd (omega arith)
+case-listed t first (suc n) i low high =
+    ⊎-elim (λ e. either-first-true _ _ (eq-eqb (caseChild t i) (caseChild t first) (ap (caseChild t) e)))
+    (λ w. either-second-true (eqb (caseChild t i) (caseChild t first)) (isIn (caseChild t i) (caseChildren t (first + 1) n)) (case-listed t (first + 1) n i (w .0) (w .1)))
+    (first-or-rest first i n low high)
+
+pub only-listed : (c : ℕ) → isIn c (c ∷ []) ≡ true
+unfolding isIn
+only-listed c = either-first-true (eqb c c) false (eq-eqb c c refl)
+
+pub default-listed : (d : ℕ) → isIn d (defaultChild (suc d)) ≡ true
+unfolding defaultChild
+default-listed d = only-listed d
+
+pub switch-children : (t : List ℕ) (k : ℕ) → nodeKind t k ≤ 1
+    → nodeChildren t k ≡ caseChildren t (nodeFirstCase t k) (nodeCases t k + nodeTailCases t k) ++ defaultChild (nodeDefault t k)
+unfolding nodeChildren childrenOfKind nodeKindOf
+switch-children t k h = ⊎-elim (λ e. rw e) (λ l. let e : nodeKind t k ≡ 0 = omega arith in rw e) (eq-or-lt-of-le h)
+
+pub hoist-children : (t : List ℕ) (k : ℕ) → nodeKind t k ≡ 3 → nodeChildren t k ≡ nodeChild t k ∷ []
+unfolding nodeChildren childrenOfKind nodeKindOf
+hoist-children t k e = rw e
+
+module _ {t : List ℕ} (sound : TreeSound t) (k : ℕ) (known : k < nodes t) where
+  pub case-child-after : (i : ℕ) → nodeKind t k ≤ 1 → nodeFirstCase t k ≤ i → i < nodeFirstCase t k + (nodeCases t k + nodeTailCases t k) → k < caseChild t i
+  case-child-after i h low high =
+      let here : isIn (caseChild t i) (nodeChildren t k) ≡ true = rw (switch-children t k h) (isIn-left (caseChild t i) _ _ (case-listed t _ _ i low high)) in
+      sound .child-after k (caseChild t i) known here .0
+
+  pub default-after : nodeKind t k ≤ 1 → 1 ≤ nodeDefault t k → k + 1 < nodeDefault t k
+  default-after h there = go (nodeDefault t k) refl there
+    where
+      go : (d : ℕ) → nodeDefault t k ≡ d → 1 ≤ d → k + 1 < d
+      go zero e l = absurd (omega arith)
+      go (suc d) e l =
+          let here : isIn d (nodeChildren t k) ≡ true = rw (switch-children t k h, e) (isIn-right d (caseChildren t (nodeFirstCase t k) (nodeCases t k + nodeTailCases t k)) (defaultChild (suc d)) (default-listed d)) in
+          omega (arith, sound .child-after k d known here .0)
+
+  pub hoist-child-after : nodeKind t k ≡ 3 → k < nodeChild t k
+  hoist-child-after e =
+      let here : isIn (nodeChild t k) (nodeChildren t k) ≡ true = rw (hoist-children t k e) (only-listed (nodeChild t k)) in
+      sound .child-after k (nodeChild t k) known here .0
+
+-- ---- the cases of a run
+module _ (f : ℕ → Tree) (t : List ℕ) where
+  pub casesFor-none : (i : ℕ) → casesFor f t i 0 ≡ cnil
+  unfolding casesFor
+  casesFor-none i = refl
+
+  pub casesFor-more : (i n : ℕ) → casesFor f t i (n + 1) ≡ ccons (caseTest t i) (startOfTest (caseNumber t i) (caseTest t i)) (f (caseChild t i)) (casesFor f t (i + 1) n)
+  unfolding casesFor
+  casesFor-more i n = rw (add-one n)
+
+  pub casesFor-some : (i n : ℕ) → (n ≡ 0 → ⊥)
+      → casesFor f t i n ≡ ccons (caseTest t i) (startOfTest (caseNumber t i) (caseTest t i)) (f (caseChild t i)) (casesFor f t (i + 1) (n - 1))
+  casesFor-some i n h =
+      let q : n ≡ n - 1 + 1 = omega arith in
+      ap (λ (m : ℕ). casesFor f t i m) q ∙ casesFor-more i (n - 1)
+
+-- read by two functions that agree at each child
+pub casesFor-same : (f g : ℕ → Tree) (t : List ℕ) (i n : ℕ) → ((j : ℕ) → i ≤ j → j < i + n → f (caseChild t j) ≡ g (caseChild t j)) → casesFor f t i n ≡ casesFor g t i n
+unfolding casesFor
+casesFor-same f g t i zero h = refl
+casesFor-same f g t i (suc n) h =
+    ap₂ (ccons (caseTest t i) (startOfTest (caseNumber t i) (caseTest t i)))
+    (h i (omega arith) (omega arith)) (casesFor-same f g t (i + 1) n (λ j low high. h j (omega arith) (omega arith)))
+
+-- ---- a tree is read one level at a time
+module _ (t : List ℕ) (k : ℕ) (f g : ℕ → Tree) where
+  default-same : (d : ℕ) → ((c : ℕ) → isIn c (defaultChild d) ≡ true → f c ≡ g c) → defaultFor f d ≡ defaultFor g d
+  unfolding defaultFor
+  default-same zero agree = refl
+  default-same (suc d) agree = agree d (default-listed d)
+
+  -- the parts of a switch or a list switch: the n cases of a run from i on, all in the node's own run, and the default
+  module _ (agree : (c : ℕ) → isIn c (caseChildren t (nodeFirstCase t k) (nodeCases t k + nodeTailCases t k) ++ defaultChild (nodeDefault t k)) ≡ true → f c ≡ g c) where
+    run-same : (i n : ℕ) → nodeFirstCase t k ≤ i → i + n ≤ nodeFirstCase t k + (nodeCases t k + nodeTailCases t k) → casesFor f t i n ≡ casesFor g t i n
+    run-same i n low high =
+        casesFor-same f g t i n
+        (λ j a b. agree (caseChild t j) (isIn-left (caseChild t j) _ _ (case-listed t (nodeFirstCase t k) (nodeCases t k + nodeTailCases t k) j (omega arith) (omega arith))))
+
+    rest-same : defaultFor f (nodeDefault t k) ≡ defaultFor g (nodeDefault t k)
+    rest-same =
+        default-same (nodeDefault t k)
+        (λ c h. agree c (isIn-right c (caseChildren t (nodeFirstCase t k) (nodeCases t k + nodeTailCases t k)) _ h))
+
+  pub nodeFor-same : (kind : NodeKind) → ((c : ℕ) → isIn c (childrenOfKind t k kind) ≡ true → f c ≡ g c) → nodeFor f t k kind ≡ nodeFor g t k kind
+  unfolding nodeFor childrenOfKind
+  nodeFor-same Switch agree =
+      ap₂ (switch (pathAt t (nodePath t k)))
+      (run-same agree (nodeFirstCase t k) (nodeCases t k) (omega arith) (omega arith)) (rest-same agree)
+  nodeFor-same List-switch agree =
+      ap₂ (λ (cs : Cases) (ts : Cases). listswitch (pathAt t (nodePath t k)) cs ts (defaultFor f (nodeDefault t k)))
+      (run-same agree (nodeFirstCase t k) (nodeCases t k) (omega arith) (omega arith))
+      (run-same agree (nodeFirstCase t k + nodeCases t k) (nodeTailCases t k) (omega arith) (omega arith))
+      ∙ ap (listswitch (pathAt t (nodePath t k)) (casesFor g t (nodeFirstCase t k) (nodeCases t k)) (casesFor g t (nodeFirstCase t k + nodeCases t k) (nodeTailCases t k))) (rest-same agree)
+  nodeFor-same Leaf agree = refl
+  nodeFor-same Hoist-node agree =
+      ap (hoist (nodeClause t k) (bindingsFrom t (nodeFirstBinding t k) (nodeBindings t k))) (agree (nodeChild t k) (only-listed (nodeChild t k)))
+  nodeFor-same Unknown-node agree = refl
+
+module _ (t : List ℕ) (sound : TreeSound t) where
+  -- depths that reach past the last node are the same
+  pub treeBelow-enough : (m n k : ℕ) → k < nodes t → nodes t ≤ m + k → nodes t ≤ n + k → treeBelow m t k ≡ treeBelow n t k
+  unfolding treeBelow nodeChildren
+  treeBelow-enough zero n k h a b = absurd (omega arith)
+  treeBelow-enough (suc m) zero k h a b = absurd (omega arith)
+  treeBelow-enough (suc m) (suc n) k h a b =
+      nodeFor-same t k (treeBelow m t) (treeBelow n t) (nodeKindOf (nodeKind t k))
+      (λ c e.
+      let after = sound .child-after k c h e in
+      treeBelow-enough m n c (after .1) (omega arith) (omega arith))
+
+  pub treeBelow-open : (k : ℕ) → k < nodes t → treeBelow (nodes t) t k ≡ nodeFor (treeBelow (nodes t) t) t k (nodeKindOf (nodeKind t k))
+  unfolding treeBelow nodeChildren
+  treeBelow-open k h =
+      let some : nodes t ≡ suc (nodes t - 1) = omega arith in
+      ap (λ (n : ℕ). treeBelow n t k) some
+      ∙ nodeFor-same t k (treeBelow (nodes t - 1) t) (treeBelow (nodes t) t) (nodeKindOf (nodeKind t k))
+      (λ c e.
+      let after = sound .child-after k c h e in
+      treeBelow-enough (nodes t - 1) (nodes t) c (after .1) (omega arith) (omega arith))
+
+  -- the same for a kind that is known
+  pub treeBelow-of-kind : (k : ℕ) → k < nodes t → (kind : NodeKind) → nodeKindOf (nodeKind t k) ≡ kind → treeBelow (nodes t) t k ≡ nodeFor (treeBelow (nodes t) t) t k kind
+  treeBelow-of-kind k h kind e = treeBelow-open k h ∙ ap (nodeFor (treeBelow (nodes t) t) t k) e
