@@ -95,7 +95,7 @@ pub record PanelShaped (v : List ℕ) : Type 0 where
   pub part-above : (r j : ℕ) → r < records v → Holds v r j → r < part v j
   pub part-record : (j : ℕ) → j < parts v → part v j < records v
   pub its-holder : (j : ℕ) → j < parts v → (r : ℕ) × (r < records v) × Holds v r j
-  pub one-holder : (q r j : ℕ) → q < records v → r < records v → j < parts v → Holds v q j → Holds v r j → q ≡ r
+  pub one-holder : (q r j : ℕ) → q < records v → r < records v → Holds v q j → Holds v r j → q ≡ r
   pub is-part-once : (r : ℕ) → 1 ≤ r → r < records v → times (isPart v r) 0 (parts v) ≡ 1
   pub root-depth : recordWithin panelDepthMost v 0 ≡ true
 
@@ -201,6 +201,9 @@ above-held v r j h o =
     let all = every-true (isHigher v r) (recordFirst v r) (recordCount v r) (rw (o .holder) at h) j (o .from) (o .to) in
     ltb-true r (part v j) (both-true (ltb r (part v j)) (ltb (part v j) (records v)) all .0)
 
+run-entry : (v : List ℕ) (r j : ℕ) → recordFieldsFit v r (recordKindOf (recordKind v r)) ≡ true → Holds v r j → j < parts v
+run-entry v r j fit o = omega (arith, fields-run v r fit (holder-kind v r (o .holder) .0), o .to)
+
 -- an entry that one record lists
 module _ (v : List ℕ) (j : ℕ) (once : times (holds v j) 0 (records v) ≡ 1) where
   holder-found : (r : ℕ) × (r < records v) × Holds v r j
@@ -238,7 +241,7 @@ panel-shaped v keeps =
       part-above = λ r j h. above-held v r j (second r h .1);
       part-record = λ j h. ltb-true _ _ (entries j h .0);
       its-holder = λ j h. holder-found v j (eqb-true _ _ (entries j h .1));
-      one-holder = λ q r j hq hr h. holder-one v j (eqb-true _ _ (entries j h .1)) q r hq hr;
+      one-holder = λ q r j hq hr o. holder-one v j (eqb-true _ _ (entries j (run-entry v q j (second q hq .0) o) .1)) q r hq hr o;
       is-part-once = λ r low h. eqb-true _ _ (once r low h);
       root-depth = k3 .1;
     }

@@ -16,7 +16,7 @@ use Rattle.rules.specs.Limits.{typeSize, constructorSize, entrySize, patternSiz
 use Rattle.rules.specs.Searching.{times}
 use Rattle.rules.specs.SearchingLaws.{every-true, times-some, times-found, times-one}
 use Rattle.rules.specs.SheetFile.{subject, sheetLength, typesAt, constructorsAt, entriesAt, patternsAt, childrenAt, clausesAt, poolAt, poolEnd, types, constructors, entries, patterns, children, clauses, poolSize, typeKind, typeFlag, typeFirst, typeCount, constructorFirst, constructorCount, entry, patternKind, patternZero, patternA, patternFirst, patternCount, child, root, poolText, runIn}
-use Rattle.rules.specs.Patterns.{PatternKind, Discard, Variable, Assign, Integer, ByteString, ListOfAll, ListWithRest, Constructor, Pair, Tuple, Unknown, patternKindOf, clausePattern, fits, names}
+use Rattle.rules.specs.Patterns.{PatternKind, Discard, Variable, Assign, Integer, ByteString, ListOfAll, ListWithRest, Constructor, Pair, Tuple, Unknown, patternKindOf, constructorOf, clausePattern, fits, names}
 use Rattle.rules.specs.Texts.{canonical, shortText}
 use Rattle.rules.specs.SheetRefusals.{lengthFits, layoutFits, hasClause, countsFit, typeParts, typeFlags, typeKeepsRules, constructorKeepsRules, entryKeepsRules, typesFit, hasChildren, tailFits, fieldsFit, isAbove, childrenAbove, isRoot, isEntry, standsOnce, patternKeepsRules, lists, childKeepsRules, rootKeepsRules, within, depthFits, shapeFits, transparent, lowestTransparent, textOfKind, badText, lowestBadText, misfit, lowestMisfit, repeats, nameTwice, lowestNameTwice, verdict, accepted}
 use Rattle.facts.specs.KindsLaws.{patternNumber, pattern-number, pattern-byte, pattern-unknown}
@@ -214,6 +214,18 @@ typed s keeps =
       subject-type = ltb-true _ _ (k3 .1);
     }
 
+-- the type numbers that a type's or a constructor's own run of entries holds, and the constructors of a Data type
+module _ {s : List ℕ} (ty : Typed s) where
+  pub part-type : (t i : ℕ) → t < types s → typeKind s t ≤ 4 → i < typeCount s t → entry s (typeFirst s t + i) < types s
+  part-type t i h k l = ty .entry-type (typeFirst s t + i) (omega (arith, ty .type-entries t h k))
+
+  pub field-type : (c i : ℕ) → c < constructors s → i < constructorCount s c → entry s (constructorFirst s c + i) < types s
+  field-type c i h l = ty .entry-type (constructorFirst s c + i) (omega (arith, ty .constructor-entries c h))
+
+  pub its-constructor : (t a : ℕ) → t < types s → typeKind s t ≡ 5 → a < typeCount s t → constructorOf s t a < constructors s
+  unfolding constructorOf
+  its-constructor t a h k l = omega (arith, ty .type-constructors t h k)
+
 -- ---- 8: patterns, child entries and roots
 -- p has its first and count in the child list
 abbrev pub Parent : List ℕ → ℕ → Type 0
@@ -239,7 +251,7 @@ pub record Shaped (s : List ℕ) : Type 0 where
   pub child-above : (p j : ℕ) → p < patterns s → Owns s p j → p < child s j
   pub child-pattern : (j : ℕ) → j < children s → child s j < patterns s
   pub owner : (j : ℕ) → j < children s → (p : ℕ) × (p < patterns s) × Owns s p j
-  pub one-owner : (p q j : ℕ) → p < patterns s → q < patterns s → j < children s → Owns s p j → Owns s q j → p ≡ q
+  pub one-owner : (p q j : ℕ) → p < patterns s → q < patterns s → Owns s p j → Owns s q j → p ≡ q
   pub stands-once : (p : ℕ) → p < patterns s → times (isRoot s p) 0 (clauses s) + times (isEntry s p) 0 (children s) ≡ 1
   pub root-pattern : (c : ℕ) → c < clauses s → root s c < patterns s
   pub root-depth : (c : ℕ) → c < clauses s → within depthMost s (root s c) ≡ true
@@ -355,6 +367,9 @@ above-owned s p j h o =
     let all = every-true (isAbove s p) (patternFirst s p) (patternCount s p) (rw (o .parent) at h) j (o .from) (o .to) in
     ltb-true p (child s j) (both-true (ltb p (child s j)) (ltb (child s j) (patterns s)) all .0)
 
+run-entry : (s : List ℕ) (p j : ℕ) → fieldsFit s p (patternKindOf (patternKind s p)) ≡ true → Owns s p j → j < children s
+run-entry s p j fit o = omega (arith, fields-run s p fit (o .parent), o .to)
+
 -- an entry that one pattern lists
 module _ (s : List ℕ) (j : ℕ) (once : times (lists s j) 0 (patterns s) ≡ 1) where
   owner-found : (p : ℕ) × (p < patterns s) × Owns s p j
@@ -396,7 +411,7 @@ shaped s keeps =
       child-above = λ p j h. above-owned s p j (third p h .0);
       child-pattern = λ j h. ltb-true _ _ (entries j h .0);
       owner = λ j h. owner-found s j (eqb-true _ _ (entries j h .1));
-      one-owner = λ p q j hp hq h. owner-one s j (eqb-true _ _ (entries j h .1)) p q hp hq;
+      one-owner = λ p q j hp hq o. owner-one s j (eqb-true _ _ (entries j (run-entry s p j (second p hp .0) o) .1)) p q hp hq o;
       stands-once = λ p h. eqb-true _ _ (third p h .1);
       root-pattern = λ c h. ltb-true _ _ (every-below (rootKeepsRules s) (clauses s) (k3 .0) c h);
       root-depth = λ c h. every-below (depthFits s) (clauses s) (k3 .1) c h;

@@ -17,7 +17,7 @@ use Rattle.rules.specs.Limits.{nodeSize, caseSize, bindingSize, pathSize, stepS
 use Rattle.rules.specs.SearchingLaws.{every-true, first-or-rest}
 use Rattle.rules.specs.SheetRefusals.{isIn}
 use Rattle.rules.specs.Building.{Tree, Cases, hoist, switch, listswitch, cnil, ccons}
-use Rattle.rules.specs.TreeReader.{treeLength, nodesAt, casesAt, bindingsAt, pathsAt, stepsAt, treePoolAt, treePoolEnd, nodes, cases, bindings, paths, steps, treePoolSize, nodeKind, nodeZero, nodeWord, nodePath, nodeFirstCase, nodeCases, nodeTailCases, nodeDefault, nodeClause, nodeFirstBinding, nodeBindings, nodeChild, caseKind, caseZero, caseNumber, caseLength, caseChild, bindingPath, pathFirst, pathCount, stepKind, stepFlag, lengthTrue, startsRise, switchParts, isKind, switchCases, listSwitchCases, bindingParts, NodeKind, Switch, List-switch, Leaf, Hoist-node, Unknown-node, nodeKindOf, nodeOfKind, nodeKeepsRules, CaseKind, Constr-case, Int-case, Bytes-case, List-case, List-with-tail-case, Unknown-case, caseKindOf, caseOfKind, caseKeepsRules, bindingKeepsRules, pathKeepsRules, stepKeepsRules, caseChildren, defaultChild, childrenOfKind, nodeChildren, inPreOrder, nodesInPreOrder, treeFits, pathAt, bindingsFrom, caseTest, startOfTest, casesFor, defaultFor, nodeFor, treeBelow}
+use Rattle.rules.specs.TreeReader.{treeLength, nodesAt, casesAt, bindingsAt, pathsAt, stepsAt, treePoolAt, treePoolEnd, nodes, cases, bindings, paths, steps, treePoolSize, nodeKind, nodeZero, nodeWord, nodePath, nodeFirstCase, nodeCases, nodeTailCases, nodeDefault, nodeClause, nodeFirstBinding, nodeBindings, nodeChild, caseKind, caseZero, caseNumber, caseLength, caseChild, bindingPath, pathFirst, pathCount, stepKind, stepFlag, lengthTrue, startsRise, switchParts, isKind, switchCases, listSwitchCases, bindingParts, NodeKind, Switch, List-switch, Leaf, Hoist-node, Unknown-node, nodeKindOf, nodeOfKind, nodeKeepsRules, CaseKind, Constr-case, Int-case, Bytes-case, List-case, List-with-tail-case, Unknown-case, caseKindOf, caseOfKind, caseKeepsRules, bindingKeepsRules, pathKeepsRules, stepKeepsRules, caseChildren, defaultChild, childrenOfKind, nodeChildren, inPreOrder, nodesInPreOrder, treeFits, stepAt, stepsFrom, pathAt, bindingName, bindingsFrom, caseTest, startOfTest, casesFor, defaultFor, nodeFor, treeBelow, treeOf}
 use Rattle.facts.specs.KindsLaws.{node-unknown, case-unknown, case-byte}
 use Rattle.facts.specs.RunsLaws.{Run, run-in, whole-rises, whole-fills, pool-fills, trailer-fills, every-below}
 
@@ -423,6 +423,41 @@ module _ {t : List ℕ} (sound : TreeSound t) (k : ℕ) (known : k < nodes t) wh
       let here : isIn (nodeChild t k) (nodeChildren t k) ≡ true = rw (hoist-children t k e) (only-listed (nodeChild t k)) in
       sound .child-after k (nodeChild t k) known here .0
 
+-- ---- the steps and the bindings of a run
+module _ (t : List ℕ) where
+  pub stepsFrom-none : (i : ℕ) → stepsFrom t i 0 ≡ []
+  unfolding stepsFrom
+  stepsFrom-none i = refl
+
+  pub stepsFrom-more : (i n : ℕ) → stepsFrom t i (n + 1) ≡ stepAt t i ∷ stepsFrom t (i + 1) n
+  unfolding stepsFrom
+  stepsFrom-more i n = rw (add-one n)
+
+  pub stepsFrom-some : (i n : ℕ) → (n ≡ 0 → ⊥) → stepsFrom t i n ≡ stepAt t i ∷ stepsFrom t (i + 1) (n - 1)
+  stepsFrom-some i n h = let q : n ≡ n - 1 + 1 = omega arith in ap (λ (m : ℕ). stepsFrom t i m) q ∙ stepsFrom-more i (n - 1)
+
+  pub length-stepsFrom : (i n : ℕ) → length (stepsFrom t i n) ≡ n
+  unfolding stepsFrom
+  length-stepsFrom i zero = refl
+  length-stepsFrom i (suc n) = ap suc (length-stepsFrom (i + 1) n)
+
+  pub bindingsFrom-none : (b : ℕ) → bindingsFrom t b 0 ≡ []
+  unfolding bindingsFrom
+  bindingsFrom-none b = refl
+
+  pub bindingsFrom-more : (b n : ℕ) → bindingsFrom t b (n + 1) ≡ record { name = bindingName t b; path = pathAt t (bindingPath t b) } ∷ bindingsFrom t (b + 1) n
+  unfolding bindingsFrom
+  bindingsFrom-more b n = rw (add-one n)
+
+  pub bindingsFrom-some : (b n : ℕ) → (n ≡ 0 → ⊥)
+      → bindingsFrom t b n ≡ record { name = bindingName t b; path = pathAt t (bindingPath t b) } ∷ bindingsFrom t (b + 1) (n - 1)
+  bindingsFrom-some b n h = let q : n ≡ n - 1 + 1 = omega arith in ap (λ (m : ℕ). bindingsFrom t b m) q ∙ bindingsFrom-more b (n - 1)
+
+  pub length-bindingsFrom : (b n : ℕ) → length (bindingsFrom t b n) ≡ n
+  unfolding bindingsFrom
+  length-bindingsFrom b zero = refl
+  length-bindingsFrom b (suc n) = ap suc (length-bindingsFrom (b + 1) n)
+
 -- ---- the cases of a run
 module _ (f : ℕ → Tree) (t : List ℕ) where
   pub casesFor-none : (i : ℕ) → casesFor f t i 0 ≡ cnil
@@ -506,3 +541,7 @@ module _ (t : List ℕ) (sound : TreeSound t) where
   -- the same for a kind that is known
   pub treeBelow-of-kind : (k : ℕ) → k < nodes t → (kind : NodeKind) → nodeKindOf (nodeKind t k) ≡ kind → treeBelow (nodes t) t k ≡ nodeFor (treeBelow (nodes t) t) t k kind
   treeBelow-of-kind k h kind e = treeBelow-open k h ∙ ap (nodeFor (treeBelow (nodes t) t) t k) e
+
+  pub treeOf-open : treeOf t ≡ nodeFor (treeBelow (nodes t) t) t 0 (nodeKindOf (nodeKind t 0))
+  unfolding treeOf
+  treeOf-open = treeBelow-open 0 (sound .some-node)
