@@ -14,6 +14,7 @@ use lib.ListN.{length}
 use Rattle.words.specs.Words.{Bytes, both}
 use Rattle.words.specs.WordsLaws.{both-true, either-true, either-first-true, either-second-true, wordAt-small}
 use Rattle.rules.specs.Limits.{nodeSize, caseSize, bindingSize, pathSize, stepSize, treeTrailer, nodeBindingsMost}
+use Rattle.rules.specs.Searching.{every}
 use Rattle.rules.specs.SearchingLaws.{every-true, first-or-rest}
 use Rattle.rules.specs.SheetRefusals.{isIn}
 use Rattle.rules.specs.Building.{Tree, Cases, hoist, switch, listswitch, cnil, ccons}
@@ -82,9 +83,8 @@ module _ {t : List ℕ} (l : TreeLaid t) where
   unfolding treeLength
   tree-length-small bytes = omega (arith, l .length-told, wordAt-small bytes (length t - 2))
 
--- ---- the reader's rules: nodes, cases, bindings, paths and steps
-pub record TreeSound (t : List ℕ) : Type 0 where
-  pub is-laid : TreeLaid t
+-- ---- the rules of nodes, cases, bindings, paths and steps
+pub record TreeRuled (t : List ℕ) : Type 0 where
   -- nodes
   pub node-zero : (k : ℕ) → k < nodes t → nodeZero t k ≡ 0
   pub node-kind : (k : ℕ) → k < nodes t → nodeKind t k ≤ 3
@@ -121,16 +121,20 @@ pub record TreeSound (t : List ℕ) : Type 0 where
   pub step-kind : (i : ℕ) → i < steps t → stepKind t i ≤ 4
   pub step-flag : (i : ℕ) → i < steps t → stepFlag t i ≤ 1
   pub step-flag-constr : (i : ℕ) → i < steps t → (stepKind t i ≡ 2 → ⊥) → stepFlag t i ≡ 0
-  -- pre-order
+
+-- ---- all that the reader asks
+pub record TreeSound (t : List ℕ) : Type 0 where
+  pub is-laid : TreeLaid t
+  pub is-ruled : TreeRuled t
   pub pre-order : nodesInPreOrder t ≡ true
   pub some-node : 1 ≤ nodes t
   pub child-after : (k c : ℕ) → k < nodes t → isIn c (nodeChildren t k) ≡ true → (k < c) × (c < nodes t)
 
 -- what one node says, kind by kind
-pub record SwitchParts (t : List ℕ) (k : ℕ) : Type 0 where
-  pub path : nodePath t k < paths t
-  pub run : Run (nodeFirstCase t k) (nodeCases t k + nodeTailCases t k) (cases t)
-  pub default : nodeDefault t k ≤ nodes t
+record SwitchParts (t : List ℕ) (k : ℕ) : Type 0 where
+  path : nodePath t k < paths t
+  run : Run (nodeFirstCase t k) (nodeCases t k + nodeTailCases t k) (cases t)
+  default : nodeDefault t k ≤ nodes t
 
 switch-parts : (t : List ℕ) (k : ℕ) → switchParts t k ≡ true → SwitchParts t k
 unfolding switchParts
@@ -323,28 +327,21 @@ module _ (t : List ℕ) where
       go zero e = absurd (true≢false (sym e))
       go (suc n) e = omega arith
 
-pub tree-sound : (t : List ℕ) → treeFits t ≡ true → TreeSound t
-unfolding treeFits nodeKeepsRules caseKeepsRules bindingKeepsRules pathKeepsRules nodesInPreOrder
-tree-sound t fit =
-    let f1 = both-true _ _ fit in
-    let f2 = both-true _ _ (f1 .1) in
-    let f3 = both-true _ _ (f2 .1) in
-    let f4 = both-true _ _ (f3 .1) in
-    let f5 = both-true _ _ (f4 .1) in
-    let f6 = both-true _ _ (f5 .1) in
-    let f7 = both-true _ _ (f6 .1) in
+pub tree-ruled : (t : List ℕ) → every (nodeKeepsRules t) 0 (nodes t) ≡ true → every (caseKeepsRules t) 0 (cases t) ≡ true
+    → every (bindingKeepsRules t) 0 (bindings t) ≡ true → every (pathKeepsRules t) 0 (paths t) ≡ true → every (stepKeepsRules t) 0 (steps t) ≡ true → TreeRuled t
+unfolding nodeKeepsRules caseKeepsRules bindingKeepsRules pathKeepsRules
+tree-ruled t keep-nodes keep-cases keep-bindings keep-paths keep-steps =
     let node : (k : ℕ) → k < nodes t → (eqb (nodeZero t k) 0 ≡ true) × (nodeOfKind t k (nodeKindOf (nodeKind t k)) ≡ true) =
-    λ k h. both-true _ _ (every-below (nodeKeepsRules t) (nodes t) (f3 .0) k h)
+    λ k h. both-true _ _ (every-below (nodeKeepsRules t) (nodes t) keep-nodes k h)
     in
     let branch : (i : ℕ) → i < cases t → (eqb (caseZero t i) 0 ≡ true) × (both (caseOfKind t i (caseKindOf (caseKind t i))) (ltb (caseChild t i) (nodes t)) ≡ true) =
-    λ i h. both-true _ _ (every-below (caseKeepsRules t) (cases t) (f4 .0) i h)
+    λ i h. both-true _ _ (every-below (caseKeepsRules t) (cases t) keep-cases i h)
     in
     let rest : (i : ℕ) → i < cases t → (caseOfKind t i (caseKindOf (caseKind t i)) ≡ true) × (ltb (caseChild t i) (nodes t) ≡ true) =
     λ i h. both-true _ _ (branch i h .1)
     in
-    let step : (i : ℕ) → i < steps t → stepKeepsRules t i ≡ true = every-below (stepKeepsRules t) (steps t) (f7 .0) in
+    let step : (i : ℕ) → i < steps t → stepKeepsRules t i ≡ true = every-below (stepKeepsRules t) (steps t) keep-steps in
     record {
-      is-laid = tree-laid t (f1 .0) (f2 .0);
       node-zero = λ k h. eqb-true _ _ (node k h .0);
       node-kind = λ k h. known-kind t k (node k h .1);
       switch-path = λ k h e. of-either-switch t k (node k h .1) e .path;
@@ -367,11 +364,26 @@ tree-sound t fit =
       case-text = λ i h. text-case t i (rest i h .0);
       case-no-text = λ i h a b. plain-case t i (rest i h .0) a b;
       case-child = λ i h. ltb-true _ _ (rest i h .1);
-      binding-path = λ b h. ltb-true _ _ (every-below (bindingKeepsRules t) (bindings t) (f5 .0) b h);
-      path-steps = λ p h. run-in _ _ _ (every-below (pathKeepsRules t) (paths t) (f6 .0) p h);
+      binding-path = λ b h. ltb-true _ _ (every-below (bindingKeepsRules t) (bindings t) keep-bindings b h);
+      path-steps = λ p h. run-in _ _ _ (every-below (pathKeepsRules t) (paths t) keep-paths p h);
       step-kind = λ i h. known-step t i (step i h);
       step-flag = λ i h. small-flag t i (step i h);
       step-flag-constr = λ i h. no-flag t i (step i h);
+    }
+
+pub tree-sound : (t : List ℕ) → treeFits t ≡ true → TreeSound t
+unfolding treeFits
+tree-sound t fit =
+    let f1 = both-true _ _ fit in
+    let f2 = both-true _ _ (f1 .1) in
+    let f3 = both-true _ _ (f2 .1) in
+    let f4 = both-true _ _ (f3 .1) in
+    let f5 = both-true _ _ (f4 .1) in
+    let f6 = both-true _ _ (f5 .1) in
+    let f7 = both-true _ _ (f6 .1) in
+    record {
+      is-laid = tree-laid t (f1 .0) (f2 .0);
+      is-ruled = tree-ruled t (f3 .0) (f4 .0) (f5 .0) (f6 .0) (f7 .0);
       pre-order = f7 .1;
       some-node = first-there t (f7 .1);
       child-after = λ k c h. children-after-all t k c h (f7 .1);
