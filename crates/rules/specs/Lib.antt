@@ -8,6 +8,7 @@ pub mod SheetRefusals
 pub mod Rows
 pub mod Columns
 pub mod Splitting
+pub mod SplittingLaws
 pub mod Building
 pub mod Hoisting
 pub mod TreeFile
