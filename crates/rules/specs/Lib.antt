@@ -18,3 +18,6 @@ pub mod Fitting
 pub mod Walking
 pub mod Meaning
 pub mod Calls
+pub mod Listing
+pub mod Samples
+pub mod Proved
