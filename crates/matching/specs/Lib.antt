@@ -10,3 +10,4 @@ pub mod Suits
 pub mod Answers
 pub mod Switches
 pub mod FirstMatch
+pub mod Typing
