@@ -31,7 +31,7 @@ pub record Apart (p q : Path) : Type 0 where
   pub right : q ≡ shared ++ two ∷ endTwo
   pub differ : stepIndex one ≡ stepIndex two → ⊥
 
-apart-sym : {p q : Path} → Apart p q → Apart q p
+pub apart-sym : {p q : Path} → Apart p q → Apart q p
 apart-sym a =
     record {
       shared = a .shared;
@@ -44,7 +44,7 @@ apart-sym a =
       differ = λ e. a .differ (sym e);
     }
 
-apart-longer : (p q : Path) → Apart p q → (x : Path) → Apart (p ++ x) q
+pub apart-longer : (p q : Path) → Apart p q → (x : Path) → Apart (p ++ x) q
 apart-longer p q a x =
     record {
       shared = a .shared;
@@ -250,10 +250,10 @@ tidy-skip (c ∷ cs) d ds h =
     let (e, f) = all-skip (Away c) cs d ds (h .0) in
     ((apart-sym e, a), (f, b))
 
-abbrev ApartFrom : Path → Cell → Type 0
+abbrev pub ApartFrom : Path → Cell → Type 0
 ApartFrom p d = Apart p (d .path)
 
-taken-tidy : (p : Path) (q : Pat) (cs : List Cell) → Taken p q cs → Tidy cs → All (ApartFrom p) (withoutTest p cs) × Tidy (withoutTest p cs)
+pub taken-tidy : (p : Path) (q : Pat) (cs : List Cell) → Taken p q cs → Tidy cs → All (ApartFrom p) (withoutTest p cs) × Tidy (withoutTest p cs)
 taken-tidy p q cs o h =
     let (a, b) = tidy-skip (o .front) (cell p q) (o .back) (rw (o .whole) at h) in
     (rw (o .rest) a, rw (o .rest) b)
@@ -360,7 +360,7 @@ within-without : (p : Path) (ps : List Path) (cs : List Cell) → Within ps cs �
 within-without p ps [] w n = tt
 within-without p ps (c ∷ cs) w n = (isColumn-without (c .path) p ps (n .0) (w .0), within-without p ps cs (w .1) (n .1))
 
-no-test-at : (p : Path) (cs : List Cell) → testAt p cs ≡ none → All (λ c. p ≡ c .path → ⊥) cs
+pub no-test-at : (p : Path) (cs : List Cell) → testAt p cs ≡ none → All (λ c. p ≡ c .path → ⊥) cs
 unfolding testAt
 no-test-at p [] e = tt
 no-test-at p (c ∷ cs) e = go (samePath p (c .path)) refl (no-test-at p cs)
@@ -468,7 +468,7 @@ test-counts c cs r rs e = rw (at-first, count) (omega arith)
     at-first : testAt (c .path) (r .tests) ≡ some (c .pattern)
     at-first = rw e (unfold testAt in (rw (samePath-refl (c .path), testAt)))
 
-all-column : (P : Path → Type 0) (p : Path) (ps : List Path) → All P ps → isColumn p ps ≡ true → P p
+pub all-column : (P : Path → Type 0) (p : Path) (ps : List Path) → All P ps → isColumn p ps ≡ true → P p
 unfolding isColumn
 all-column P p [] h e = absurd (false≢true e)
 all-column P p (q ∷ ps) h e = go (either-true (samePath p q) (isColumn p ps) e) (all-column P p ps (h .1))

@@ -11,3 +11,6 @@ pub mod Answers
 pub mod Switches
 pub mod FirstMatch
 pub mod Typing
+pub mod Order
+pub mod ColumnTypes
+pub mod SheetColumns

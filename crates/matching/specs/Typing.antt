@@ -97,14 +97,14 @@ module _ (s v : List ℕ) where
         (a .0, parts-have f (recordFirst v r) (recordCount v r) (constructorFirst s (constructorOf s t (recordA v r))) 1 (a .1))
 
   -- ---- constructor a of type t with n fields
-  takes : (t a n : ℕ) → takesArguments s t a n ≡ true → (typeKind s t ≡ 5) × (a < typeCount s t) × (constructorCount s (constructorOf s t a) ≡ n)
+  pub takes : (t a n : ℕ) → takesArguments s t a n ≡ true → (typeKind s t ≡ 5) × (a < typeCount s t) × (constructorCount s (constructorOf s t a) ≡ n)
   unfolding takesArguments
   takes t a n h =
       let x = both-true (eqb (typeKind s t) 5) (both (leb (a + 1) (typeCount s t)) (eqb (constructorCount s (constructorOf s t a)) n)) h in
       let y = both-true (leb (a + 1) (typeCount s t)) (eqb (constructorCount s (constructorOf s t a)) n) (x .1) in
       (eqb-true _ _ (x .0), omega (arith, leb-true (a + 1) (typeCount s t) (y .0)), eqb-true _ _ (y .1))
 
-  one-of-one : (t a b : ℕ) → oneConstructor s t ≡ true → a < typeCount s t → b < typeCount s t → b ≡ a
+  pub one-of-one : (t a b : ℕ) → oneConstructor s t ≡ true → a < typeCount s t → b < typeCount s t → b ≡ a
   unfolding oneConstructor
   one-of-one t a b h l k = omega (arith, eqb-true (typeCount s t) 1 (both-true (eqb (typeKind s t) 5) (eqb (typeCount s t) 1) h .1))
 
