@@ -1,1 +1,5 @@
 pub mod PathsLaws
+pub mod StandingLaws
+pub mod LengthLaws
+pub mod SectionsLaws
+pub mod FileLaws
