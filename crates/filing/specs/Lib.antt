@@ -3,3 +3,5 @@ pub mod StandingLaws
 pub mod LengthLaws
 pub mod SectionsLaws
 pub mod FileLaws
+pub mod Writable
+pub mod RecordsLaws

@@ -15,11 +15,11 @@ use Rattle.rules.specs.TreeReader.{stepOfFields}
 
 -- ---- steps and paths
 -- the step with these fields
-abbrev stepOf : List ℕ → Step
+unfoldable pub stepOf : List ℕ → Step
 unfolding stepOfFields
 stepOf fields = stepOfFields (getD fields 0 0) (getD fields 1 0) (getD fields 2 0) (getD fields 3 0)
 
-stepOf-stepFields : (s : Step) → stepOf (stepFields s) ≡ s
+pub stepOf-stepFields : (s : Step) → stepOf (stepFields s) ≡ s
 unfolding stepOf stepOfFields stepFields bit
 stepOf-stepFields (pair i t) = refl
 stepOf-stepFields (tuple i t) = refl

@@ -57,3 +57,10 @@ stands-word {t} {i} {xs} s k h =
 pub stands-text : {t : List ℕ} {i : ℕ} {xs : List ℕ} → Stands t i xs → (k n : ℕ) → k + n ≤ length xs → textAt t (i + k) n ≡ textAt xs k n
 stands-text {t} {i} {xs} s k n h =
     rw (s .whole, ← s .start) (textAt-append-right (s .before) (xs ++ s .after) k n ∙ textAt-append-left xs (s .after) k n h)
+
+-- ---- a field of standing bytes, at a place that is written in any way
+pub byte-field : {t : List ℕ} {i : ℕ} {xs : List ℕ} → Stands t i xs → (j k v : ℕ) → j ≡ i + k → k < length xs → getD xs k 0 ≡ v → getD t j 0 ≡ v
+byte-field s j k v e h f = rw e (stands-byte s k h ∙ f)
+
+pub word-field : {t : List ℕ} {i : ℕ} {xs : List ℕ} → Stands t i xs → (j k v : ℕ) → j ≡ i + k → k + 1 < length xs → wordAt xs k ≡ v → wordAt t j ≡ v
+word-field s j k v e h f = rw e (stands-word s k h ∙ f)
