@@ -5,3 +5,4 @@ pub mod SectionsLaws
 pub mod FileLaws
 pub mod Writable
 pub mod RecordsLaws
+pub mod TableLaws
