@@ -6,3 +6,4 @@ pub mod FileLaws
 pub mod Writable
 pub mod RecordsLaws
 pub mod TableLaws
+pub mod PlacedLaws
