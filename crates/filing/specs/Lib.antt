@@ -7,3 +7,4 @@ pub mod Writable
 pub mod RecordsLaws
 pub mod TableLaws
 pub mod PlacedLaws
+pub mod ReadLaws
