@@ -8,3 +8,4 @@ pub mod RecordsLaws
 pub mod TableLaws
 pub mod PlacedLaws
 pub mod ReadLaws
+pub mod RulesLaws

@@ -38,12 +38,18 @@ unfolding firstOf
 firstOf-some zero first h = absurd (omega arith)
 firstOf-some (suc n) first h = refl
 
-pub run-in : (n first most : ℕ) → first + n ≤ most → runIn (firstOf n first) n most ≡ true
-unfolding runIn firstOf
-run-in zero first most h = both-make (leb 0 most) (eqb 0 0) (le-leb 0 most (omega arith)) refl
-run-in (suc n) first most h =
+pub run-make : (n first most : ℕ) → first + n ≤ most → (n ≡ 0 → first ≡ 0) → runIn first n most ≡ true
+unfolding runIn
+run-make zero first most h z =
+    both-make (leb (first + 0) most) (eqb first 0) (le-leb (first + 0) most h) (eq-eqb first 0 (z refl))
+run-make (suc n) first most h z =
     both-make (leb (first + suc n) most) (either (ltb 0 (suc n)) (eqb first 0)) (le-leb (first + suc n) most h)
     (either-first-true (ltb 0 (suc n)) (eqb first 0) (lt-ltb 0 (suc n) (omega arith)))
+
+pub run-in : (n first most : ℕ) → first + n ≤ most → runIn (firstOf n first) n most ≡ true
+unfolding firstOf
+run-in zero first most h = run-make 0 0 most (omega arith) (λ z. z)
+run-in (suc n) first most h = run-make (suc n) first most h (λ z. absurd (omega arith))
 
 module _ (t : List ℕ) where
   -- ---- steps
