@@ -9,3 +9,4 @@ pub mod TableLaws
 pub mod PlacedLaws
 pub mod ReadLaws
 pub mod RulesLaws
+pub mod OrderLaws
