@@ -10,3 +10,4 @@ pub mod PlacedLaws
 pub mod ReadLaws
 pub mod RulesLaws
 pub mod OrderLaws
+pub mod FitsLaws

@@ -9,8 +9,10 @@ use native.Mathlib.Omega.{arith}
 use lib.ListN.{length, getD}
 use Rattle.words.specs.Words.{both, either, sameText}
 use Rattle.words.specs.WordsLaws.{both-true, both-make, either-true, either-first-true, either-second-true, sameText-refl, sameText-sound}
-use Rattle.rules.specs.Rows.{Step, pair, tuple, constr, list, listtail, Path, bit, stepFields, sameStep, samePath}
-use Rattle.rules.specs.TreeFile.{isAmong, firstUses, pathNumber, pathsUsed, pathTable}
+use Rattle.rules.specs.Rows.{Step, pair, tuple, constr, list, listtail, Path, bit, stepFields, sameStep, samePath, Binding}
+use Rattle.rules.specs.Building.{Tree, Cases, absent, leaf, hoist, switch, listswitch, cnil, ccons}
+use Rattle.rules.specs.Hoisting.{bindingsIn, bindingsInOf}
+use Rattle.rules.specs.TreeFile.{bindingPaths, pathsUsed, pathsUsedOf, isAmong, firstUses, pathNumber}
 use Rattle.rules.specs.TreeReader.{stepOfFields}
 
 -- ---- steps and paths
@@ -103,6 +105,20 @@ covers-first table p qs v = v .among p (isAmong-first p qs)
 pub covers-rest : (table : List Path) (p : Path) (qs : List Path) → Covers table (p ∷ qs) → Covers table qs
 covers-rest table p qs v = record { among = λ q h. v .among q (isAmong-rest q p qs h) }
 
+pub covers-append : (table ps qs : List Path) → Covers table ps → Covers table qs → Covers table (ps ++ qs)
+covers-append table ps qs v w =
+    record {
+      among = λ p h. ⊎-elim (λ e. v .among p e) (λ e. w .among p e) (either-true (isAmong p ps) (isAmong p qs) (sym (isAmong-append p ps qs) ∙ h));
+    }
+
+pub covers-nil : (table : List Path) → Covers table []
+unfolding isAmong
+covers-nil table = record { among = λ q h. absurd (true≢false (sym h)) }
+
+pub covers-cons : (table : List Path) (p : Path) (ps : List Path) → isAmong p table ≡ true → Covers table ps → Covers table (p ∷ ps)
+covers-cons table p ps first rest =
+    record { among = λ q h. ⊎-elim (λ e. rw e first) (λ e. rest .among q e) (isAmong-cases q p ps h) }
+
 -- ---- a path's number
 pub pathNumber-first : (q : Path) (qs : List Path) (p : Path) → samePath p q ≡ true → pathNumber (q ∷ qs) p ≡ 0
 unfolding pathNumber
@@ -155,21 +171,54 @@ firstUses-keeps (p ∷ ps) there q h =
     go false e known new = rw (firstUses-new there p ps e) new
 
 firstUses-covers : (ps there : List Path) → Covers (firstUses there ps) ps
-unfolding isAmong
-firstUses-covers [] there = record { among = λ q h. absurd (true≢false (sym h)) }
+firstUses-covers [] there = covers-nil (firstUses there [])
 firstUses-covers (p ∷ ps) there = go (isAmong p there) refl (firstUses-covers ps there) (firstUses-covers ps (there ++ p ∷ []))
   where
-    either-way : (table : List Path) → isAmong p table ≡ true → Covers table ps → Covers table (p ∷ ps)
-    either-way table first rest =
-        record { among = λ q h. ⊎-elim (λ e. rw e first) (λ e. rest .among q e) (isAmong-cases q p ps h) }
-
     go : (b : Bool) → isAmong p there ≡ b → Covers (firstUses there ps) ps → Covers (firstUses (there ++ p ∷ []) ps) ps
         → Covers (firstUses there (p ∷ ps)) (p ∷ ps)
     go true e known new =
-        rw (firstUses-known there p ps e) (either-way (firstUses there ps) (firstUses-keeps ps there p e) known)
+        rw (firstUses-known there p ps e) (covers-cons (firstUses there ps) p ps (firstUses-keeps ps there p e) known)
     go false e known new =
         rw (firstUses-new there p ps e)
-        (either-way (firstUses (there ++ p ∷ []) ps) (firstUses-keeps ps (there ++ p ∷ []) p (isAmong-right p there (p ∷ []) (isAmong-first p []))) new)
+        (covers-cons (firstUses (there ++ p ∷ []) ps) p ps (firstUses-keeps ps (there ++ p ∷ []) p (isAmong-right p there (p ∷ []) (isAmong-first p []))) new)
 
 pub table-covers : (ps : List Path) → Covers (firstUses [] ps) ps
 table-covers ps = firstUses-covers ps []
+
+-- ---- the paths of a tree's bindings are used by the tree
+bindingPaths-append : (xs ys : List Binding) → bindingPaths (xs ++ ys) ≡ bindingPaths xs ++ bindingPaths ys
+unfolding bindingPaths
+bindingPaths-append [] ys = refl
+bindingPaths-append (x ∷ xs) ys = rw (bindingPaths-append xs ys)
+
+module _ (table : List Path) where
+  -- of two parts: the paths used in each cover the bindings of each
+  both-cover : (xs ys : List Binding) → Covers table (bindingPaths xs) → Covers table (bindingPaths ys) → Covers table (bindingPaths (xs ++ ys))
+  both-cover xs ys v w = rw (bindingPaths-append xs ys) (covers-append table (bindingPaths xs) (bindingPaths ys) v w)
+
+  mutual
+    unfolding pathsUsed bindingsIn
+
+    pub bindings-covered : (a : Tree) → Covers table (pathsUsed a) → Covers table (bindingPaths (bindingsIn a))
+    bindings-covered absent v = v
+    bindings-covered (leaf c bs) v = v
+    bindings-covered (hoist c bs a) v =
+        both-cover bs (bindingsIn a) (covers-left table (bindingPaths bs) (pathsUsed a) v)
+        (bindings-covered a (covers-right table (bindingPaths bs) (pathsUsed a) v))
+    bindings-covered (switch p cs d) v =
+        let w = covers-rest table p (pathsUsedOf cs ++ pathsUsed d) v in
+        both-cover (bindingsInOf cs) (bindingsIn d) (bindings-covered-of cs (covers-left table (pathsUsedOf cs) (pathsUsed d) w))
+        (bindings-covered d (covers-right table (pathsUsedOf cs) (pathsUsed d) w))
+    bindings-covered (listswitch p cs ts d) v =
+        let w = covers-rest table p (pathsUsedOf cs ++ (pathsUsedOf ts ++ pathsUsed d)) v in
+        let x = covers-right table (pathsUsedOf cs) (pathsUsedOf ts ++ pathsUsed d) w in
+        both-cover (bindingsInOf cs) (bindingsInOf ts ++ bindingsIn d)
+        (bindings-covered-of cs (covers-left table (pathsUsedOf cs) (pathsUsedOf ts ++ pathsUsed d) w))
+        (both-cover (bindingsInOf ts) (bindingsIn d) (bindings-covered-of ts (covers-left table (pathsUsedOf ts) (pathsUsed d) x))
+        (bindings-covered d (covers-right table (pathsUsedOf ts) (pathsUsed d) x)))
+
+    pub bindings-covered-of : (cs : Cases) → Covers table (pathsUsedOf cs) → Covers table (bindingPaths (bindingsInOf cs))
+    bindings-covered-of cnil v = v
+    bindings-covered-of (ccons t start a cs) v =
+        both-cover (bindingsIn a) (bindingsInOf cs) (bindings-covered a (covers-left table (pathsUsed a) (pathsUsedOf cs) v))
+        (bindings-covered-of cs (covers-right table (pathsUsed a) (pathsUsedOf cs) v))
