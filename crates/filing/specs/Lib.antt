@@ -11,3 +11,4 @@ pub mod ReadLaws
 pub mod RulesLaws
 pub mod OrderLaws
 pub mod FitsLaws
+pub mod BoundLaws

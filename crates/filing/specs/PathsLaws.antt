@@ -151,11 +151,11 @@ path-numbered (q ∷ qs) p h = go (samePath p q) refl h (path-numbered qs p)
         }
 
 -- ---- the table of the paths used
-firstUses-new : (there : List Path) (p : Path) (ps : List Path) → isAmong p there ≡ false → firstUses there (p ∷ ps) ≡ firstUses (there ++ p ∷ []) ps
+pub firstUses-new : (there : List Path) (p : Path) (ps : List Path) → isAmong p there ≡ false → firstUses there (p ∷ ps) ≡ firstUses (there ++ p ∷ []) ps
 unfolding firstUses
 firstUses-new there p ps e = rw (firstUses, e)
 
-firstUses-known : (there : List Path) (p : Path) (ps : List Path) → isAmong p there ≡ true → firstUses there (p ∷ ps) ≡ firstUses there ps
+pub firstUses-known : (there : List Path) (p : Path) (ps : List Path) → isAmong p there ≡ true → firstUses there (p ∷ ps) ≡ firstUses there ps
 unfolding firstUses
 firstUses-known there p ps e = rw (firstUses, e)
 
