@@ -12,3 +12,4 @@ pub mod RulesLaws
 pub mod OrderLaws
 pub mod FitsLaws
 pub mod BoundLaws
+pub mod BytesLaws

@@ -34,7 +34,7 @@ present-nodes (hoist c bs a) h = omega arith
 present-nodes (switch p cs d) h = omega arith
 present-nodes (listswitch p cs ts d) h = omega arith
 
-default-inside : (k : ℕ) (d : Tree) → defaultField k d ≤ k + nodesIn d
+pub default-inside : (k : ℕ) (d : Tree) → defaultField k d ≤ k + nodesIn d
 unfolding defaultField nodesIn
 default-inside k absent = omega arith
 default-inside k (leaf c bs) = omega arith

@@ -10,7 +10,8 @@ use Rattle.rules.specs.Limits.{nodeBindingsMost}
 use Rattle.rules.specs.Rows.{Step, pair, tuple, constr, list, listtail, Path, Binding}
 use Rattle.rules.specs.Splitting.{Test, Constr, Int, Bytes, ListOf, ListWithTail}
 use Rattle.rules.specs.Building.{Tree, Cases, absent, leaf, hoist, switch, listswitch, cnil, ccons}
-use Rattle.rules.specs.Hoisting.{howMany}
+use Rattle.rules.specs.Hoisting.{howMany, bindingsIn}
+use Rattle.rules.specs.TreeFile.{pathsUsed, isAmong}
 
 unfoldable pub present : Tree → Bool
 present absent = false
@@ -72,3 +73,47 @@ unfoldable mutual
   pub WritableOf : List ℕ → Cases → Type 0
   WritableOf pool cnil = Unit {0}
   WritableOf pool (ccons t start a cs) = TextStarts pool start t × (present a ≡ true) × Writable pool a × WritableOf pool cs
+
+-- ---- numbers that two bytes hold
+unfoldable pub SmallStep : Step → Type 0
+SmallStep (pair i t) = (i < 65536) × (t < 65536)
+SmallStep (tuple i t) = (i < 65536) × (t < 65536)
+SmallStep (constr i b t) = (i < 65536) × (t < 65536)
+SmallStep (list i t) = (i < 65536) × (t < 65536)
+SmallStep (listtail i t) = (i < 65536) × (t < 65536)
+
+unfoldable pub SmallPath : Path → Type 0
+unfolding SmallStep
+SmallPath [] = Unit {0}
+SmallPath (s ∷ ss) = SmallStep s × SmallPath ss
+
+unfoldable pub SmallNames : List Binding → Type 0
+SmallNames [] = Unit {0}
+SmallNames (x ∷ xs) = (x .name < 65536) × SmallNames xs
+
+unfoldable pub SmallTest : Test → Type 0
+SmallTest (Constr a) = a < 65536
+SmallTest (Int w) = Unit {0}
+SmallTest (Bytes w) = Unit {0}
+SmallTest (ListOf n) = n < 65536
+SmallTest (ListWithTail n) = n < 65536
+
+-- clauses, constructor numbers and list lengths
+unfoldable mutual
+  unfolding SmallTest
+
+  pub SmallNumbers : Tree → Type 0
+  SmallNumbers absent = Unit {0}
+  SmallNumbers (leaf c bs) = c < 65536
+  SmallNumbers (hoist c bs a) = (c < 65536) × SmallNumbers a
+  SmallNumbers (switch p cs d) = SmallNumbersOf cs × SmallNumbers d
+  SmallNumbers (listswitch p cs ts d) = SmallNumbersOf cs × SmallNumbersOf ts × SmallNumbers d
+
+  pub SmallNumbersOf : Cases → Type 0
+  SmallNumbersOf cnil = Unit {0}
+  SmallNumbersOf (ccons t start a cs) = SmallTest t × SmallNumbers a × SmallNumbersOf cs
+
+pub record InWords (a : Tree) : Type 0 where
+  pub numbers : SmallNumbers a
+  pub names : SmallNames (bindingsIn a)
+  pub paths : (p : Path) → isAmong p (pathsUsed a) ≡ true → SmallPath p
