@@ -4,20 +4,19 @@ use mathlib.Core.Path.{_≡_, refl, sym, ap, _∙_}
 use mathlib.Core.Logic.{_⊎_, inl, inr, ⊎-elim}
 use mathlib.Core.Bool.{Bool, true, false, true≢false}
 use mathlib.Core.List.{List, [], _∷_, _++_}
-use Prim.Native.Nat.{ℕ, zero, suc, _+_, _-_, _*_, _≤_, _<_}
+use Prim.Native.Nat.{ℕ, suc, _+_, _*_, _≤_, _<_}
 use native.Mathlib.Omega.{arith}
 use lib.ListN.{length}
 use Rattle.words.specs.Words.{either}
 use Rattle.words.specs.WordsLaws.{either-true, either-false, either-make-false}
-use Rattle.rules.specs.Limits.{patternsMost, depthMost, nodesMost, bindingsMost, sheetMost, treeRoom}
-use Rattle.rules.specs.Rows.{Path, samePath, Binding}
+use Rattle.rules.specs.Limits.{treeRoom}
+use Rattle.rules.specs.Rows.{Path, samePath}
 use Rattle.rules.specs.Building.{Tree, Cases, absent, leaf, hoist, switch, listswitch, cnil, ccons}
-use Rattle.rules.specs.Hoisting.{howMany, nodesIn, nodesInOf, bindingsIn}
+use Rattle.rules.specs.Hoisting.{howMany, nodesIn, nodesInOf}
 use Rattle.rules.specs.TreeFile.{isAmong, firstUses, pathsUsed, pathTable, casesIn, casesInOf, treeFile}
-use Rattle.filing.specs.PathsLaws.{samePath-sound, samePath-make, isAmong-append, isAmong-left, isAmong-right, isAmong-first, isAmong-rest, isAmong-cases, Covers, covers-rest, firstUses-new, firstUses-known}
-use Rattle.filing.specs.LengthLaws.{stepsIn}
+use Rattle.filing.specs.PathsLaws.{samePath-sound, samePath-make, isAmong-append, isAmong-left, isAmong-first, isAmong-rest, isAmong-cases, Covers, firstUses-new, firstUses-known}
 use Rattle.filing.specs.FileLaws.{file-length}
-use Rattle.filing.specs.Writable.{present, Writable, WritableOf}
+use Rattle.filing.specs.Writable.{present, Writable, WritableOf, stepsIn, Short, Bounded}
 
 -- ---- every case has its own child node
 at-most : (d : Tree) → (present d ≡ true → casesIn d < nodesIn d) → casesIn d ≤ nodesIn d
@@ -150,10 +149,6 @@ table-size a all v =
     distinct-fewer (pathTable a) all (table-distinct a) (record { among = λ p h. v .among p (table-used a .among p h) })
 
 -- ---- the steps of short paths
--- a pattern at depth 12 has a path of 11 steps
-pub record Short (ps : List Path) : Type 0 where
-  pub short : (p : Path) → isAmong p ps ≡ true → length p < depthMost
-
 steps-most : (ps : List Path) → Short ps → stepsIn ps ≤ 11 * length ps
 unfolding stepsIn
 steps-most [] s = omega arith
@@ -165,14 +160,6 @@ pub table-short : (a : Tree) → Short (pathsUsed a) → Short (pathTable a)
 table-short a s = record { short = λ p h. s .short p (table-used a .among p h) }
 
 -- ---- the bound: 1,024 nodes, 1,023 cases, 4,096 bindings, 192 paths of at most 11 steps, a pool of at most 8,192 bytes
--- what the counts of a tree are at most
-pub record Bounded (pool : List ℕ) (a : Tree) : Type 0 where
-  pub nodes-most : nodesIn a ≤ nodesMost
-  pub bindings-most : length (bindingsIn a) ≤ bindingsMost
-  pub paths-most : length (pathTable a) ≤ patternsMost
-  pub paths-short : Short (pathsUsed a)
-  pub pool-most : length pool ≤ sheetMost
-
 pub file-most : (pool : List ℕ) (a : Tree) → present a ≡ true → Writable pool a → Bounded pool a → length (treeFile pool a) ≤ 58502
 file-most pool a r w m =
     let n = m .nodes-most in

@@ -1,9 +1,9 @@
 -- The file of a writable tree is bytes, where its numbers are those that two bytes hold and it is under 65,536 bytes long.
 -- Rests on the laws of its length; the counts that are written are bounded by the length.
-use mathlib.Core.Path.{_≡_, refl, sym, ap, _∙_}
+use mathlib.Core.Path.{_≡_, refl}
 use mathlib.Core.Bool.{Bool, true, false}
 use mathlib.Core.List.{List, [], _∷_, _++_}
-use Prim.Native.Nat.{ℕ, zero, suc, _+_, _-_, _*_, _/_, _%_, _≤_, _<_}
+use Prim.Native.Nat.{ℕ, zero, suc, _+_, _*_, _/_, _%_, _≤_, _<_}
 use native.Mathlib.Omega.{arith}
 use lib.ListN.{length, getD, length-append}
 use Rattle.words.specs.Words.{wordBytes, Bytes as AllBytes}
@@ -14,10 +14,9 @@ use Rattle.rules.specs.Building.{Tree, Cases, absent, leaf, hoist, switch, list
 use Rattle.rules.specs.Hoisting.{howMany, nodesIn, nodesInOf, bindingsIn, bindingsInOf}
 use Rattle.rules.specs.TreeFile.{isAmong, pathNumber, pathTable, firstOf, nodeBytes, casesIn, casesInOf, defaultField, nodesFrom, nodesFromOf, caseBytes, ownCases, casesFrom, casesFromOf, bindingsBytes, pathsBytes, stepBytes, pathSteps, stepsBytes, backToBack, startsFrom, fileOf, treeSections, treeFile}
 use Rattle.filing.specs.PathsLaws.{isAmong-first, isAmong-rest, pathNumber-first, pathNumber-rest}
-use Rattle.filing.specs.LengthLaws.{stepsIn, length-nodesFrom, length-casesFrom, length-bindingsBytes, length-pathsBytes, length-stepsBytes}
 use Rattle.filing.specs.FileLaws.{file-length}
-use Rattle.filing.specs.Writable.{present, InPool, TextStarts, Writable, WritableOf, SmallStep, SmallPath, SmallNames, SmallTest, SmallNumbers, SmallNumbersOf, InWords}
-use Rattle.filing.specs.RulesLaws.{present-nodes, default-inside}
+use Rattle.filing.specs.Writable.{stepsIn, TextStarts, Writable, WritableOf, SmallStep, SmallPath, SmallNames, SmallTest, SmallNumbers, SmallNumbersOf, InWords}
+use Rattle.filing.specs.RulesLaws.{default-inside}
 use Rattle.filing.specs.BoundLaws.{table-used}
 
 -- ---- bytes of parts

@@ -1,18 +1,19 @@
 -- The tree file counted: how long it is, where its sections start, and how many records each has, all by the tree's own counts.
 -- Rests on the laws of sections and of their lengths; nothing is asked of the tree.
-use mathlib.Core.Path.{_≡_, refl, sym, ap, _∙_}
-use mathlib.Core.List.{List, [], _∷_}
-use Prim.Native.Nat.{ℕ, _+_, _-_, _*_, _/_, _%_, _≤_, _<_}
+use mathlib.Core.Path.{_≡_}
+use mathlib.Core.List.{List}
+use Prim.Native.Nat.{ℕ, _+_, _*_}
 use native.Mathlib.Omega.{arith}
 use lib.ListN.{length}
 use Rattle.rules.specs.Limits.{nodeSize, caseSize, bindingSize, pathSize, stepSize, treeTrailer}
 use Rattle.rules.specs.Rows.{Path}
 use Rattle.rules.specs.Building.{Tree}
 use Rattle.rules.specs.Hoisting.{nodesIn, bindingsIn}
-use Rattle.rules.specs.TreeFile.{casesIn, nodesFrom, casesFrom, bindingsBytes, pathsBytes, stepsBytes, pathTable, treeSections, fileOf, treeFile}
+use Rattle.rules.specs.TreeFile.{casesIn, nodesFrom, casesFrom, bindingsBytes, pathsBytes, stepsBytes, pathTable, treeSections, treeFile}
 use Rattle.rules.specs.TreeReader.{treeLength, nodesAt, casesAt, bindingsAt, pathsAt, stepsAt, treePoolAt, treePoolEnd, nodes, cases, bindings, paths, steps, treePoolSize}
 use Rattle.filing.specs.StandingLaws.{Stands}
-use Rattle.filing.specs.LengthLaws.{stepsIn, length-nodesFrom, length-casesFrom, length-bindingsBytes, length-pathsBytes, length-stepsBytes}
+use Rattle.filing.specs.Writable.{stepsIn}
+use Rattle.filing.specs.LengthLaws.{length-nodesFrom, length-casesFrom, length-bindingsBytes, length-pathsBytes, length-stepsBytes}
 use Rattle.filing.specs.SectionsLaws.{Sectioned, file-sectioned}
 
 -- t has the sections of the tree a, whose paths are numbered by the table

@@ -1,15 +1,14 @@
 -- The file of a writable tree passes what a reader asks, else 31.
 -- Rests on the laws of its sections, of its records and of its order.
-use mathlib.Core.Path.{_≡_, refl, sym, ap, _∙_}
-use mathlib.Core.Bool.{Bool, true, false}
+use mathlib.Core.Path.{_≡_}
+use mathlib.Core.Bool.{true}
 use mathlib.Core.List.{List, [], _∷_}
-use Prim.Native.Nat.{ℕ, _+_, _-_, _*_, _/_, _%_, _≤_, _<_}
+use Prim.Native.Nat.{ℕ, _+_, _-_, _%_, _≤_}
 use native.Mathlib.Omega.{arith}
-use native.Mathlib.Nat.{add-zero, zero-add}
+use native.Mathlib.Nat.{add-zero}
 use lib.ListN.{length}
 use lib.Dec.{eqb, leb}
 use borrow.Author.Tests.{le-leb, eq-eqb}
-use Rattle.words.specs.Words.{both}
 use Rattle.words.specs.WordsLaws.{both-make}
 use Rattle.rules.specs.Limits.{nodeSize, caseSize, bindingSize, pathSize, stepSize, treeTrailer}
 use Rattle.rules.specs.Searching.{every}
@@ -17,16 +16,13 @@ use Rattle.rules.specs.SheetRefusals.{wholeRecords}
 use Rattle.rules.specs.Rows.{Path}
 use Rattle.rules.specs.Building.{Tree}
 use Rattle.rules.specs.Hoisting.{nodesIn, bindingsIn}
-use Rattle.rules.specs.TreeFile.{casesIn, bindingPaths, pathsUsed, pathTable, treeFile}
-use Rattle.rules.specs.TreeReader.{treeLength, nodesAt, casesAt, bindingsAt, pathsAt, stepsAt, treePoolAt, treePoolEnd, nodes, cases, bindings, paths, steps, treePoolSize, lengthTrue, startsRise, nodeKeepsRules, caseKeepsRules, bindingKeepsRules, pathKeepsRules, stepKeepsRules, inPreOrder, treeFits}
+use Rattle.rules.specs.TreeFile.{casesIn, pathsUsed, pathTable, treeFile}
+use Rattle.rules.specs.TreeReader.{treeLength, nodesAt, casesAt, bindingsAt, pathsAt, stepsAt, treePoolAt, treePoolEnd, lengthTrue, startsRise, bindingKeepsRules, pathKeepsRules, stepKeepsRules, inPreOrder, treeFits}
 use Rattle.filing.specs.PathsLaws.{Covers, table-covers, bindings-covered}
-use Rattle.filing.specs.StandingLaws.{Stands}
-use Rattle.filing.specs.LengthLaws.{stepsIn}
 use Rattle.filing.specs.FileLaws.{Filed, tree-filed}
-use Rattle.filing.specs.Writable.{present, Writable}
-use Rattle.filing.specs.TableLaws.{Tabled, steps-keep-rules, paths-keep-rules, bindings-keep-rules}
-use Rattle.filing.specs.PlacedLaws.{Placed}
-use Rattle.filing.specs.ReadLaws.{root-placed, table-read}
+use Rattle.filing.specs.Writable.{stepsIn, present, Writable}
+use Rattle.filing.specs.TableLaws.{steps-keep-rules, paths-keep-rules, bindings-keep-rules}
+use Rattle.filing.specs.PlacedLaws.{root-placed, table-read}
 use Rattle.filing.specs.RulesLaws.{Keeps, tree-keeps-rules}
 use Rattle.filing.specs.OrderLaws.{nodes-in-order}
 

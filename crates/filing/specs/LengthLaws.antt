@@ -1,26 +1,17 @@
 -- How long each section of a tree file is: the size of its records times their count in the tree or in the table.
 -- Rests on the definitions of the sections; the places of records in the file are over these lengths.
-use mathlib.Core.Path.{_≡_, refl, sym, ap, _∙_}
+use mathlib.Core.Path.{_≡_, refl}
 use mathlib.Core.List.{List, [], _∷_, _++_}
-use Prim.Native.Nat.{ℕ, zero, suc, _+_, _*_, _≤_, _<_}
+use Prim.Native.Nat.{ℕ, _+_, _*_}
 use native.Mathlib.Omega.{arith}
 use lib.ListN.{length, length-append}
-use Rattle.words.specs.Words.{wordBytes}
 use Rattle.rules.specs.Limits.{nodeSize, caseSize, bindingSize, pathSize, stepSize}
 use Rattle.rules.specs.Rows.{Step, pair, tuple, constr, list, listtail, Path, Binding}
 use Rattle.rules.specs.Splitting.{Test, Constr, Int, Bytes, ListOf, ListWithTail}
 use Rattle.rules.specs.Building.{Tree, Cases, absent, leaf, hoist, switch, listswitch, cnil, ccons}
 use Rattle.rules.specs.Hoisting.{howMany, nodesIn, nodesInOf, bindingsIn, bindingsInOf}
-use Rattle.rules.specs.TreeFile.{nodeBytes, casesIn, casesInOf, nodesFrom, nodesFromOf, caseBytes, ownCases, casesFrom, casesFromOf, bindingsBytes, pathsBytes, stepBytes, pathSteps, stepsBytes}
-
--- how many steps the paths have together
-unfoldable pub stepsIn : List Path → ℕ
-stepsIn [] = 0
-stepsIn (p ∷ ps) = length p + stepsIn ps
-
-pub length-nodeBytes : (kind a b c d e : ℕ) → length (nodeBytes kind a b c d e) ≡ nodeSize
-unfolding nodeBytes
-length-nodeBytes kind a b c d e = refl
+use Rattle.rules.specs.TreeFile.{casesIn, casesInOf, nodesFrom, nodesFromOf, caseBytes, ownCases, casesFrom, casesFromOf, bindingsBytes, pathsBytes, stepBytes, pathSteps, stepsBytes}
+use Rattle.filing.specs.Writable.{stepsIn}
 
 pub length-caseBytes : (t : Test) (start child : ℕ) → length (caseBytes t start child) ≡ caseSize
 unfolding caseBytes

@@ -1,10 +1,11 @@
+pub mod Writable
 pub mod PathsLaws
 pub mod StandingLaws
 pub mod LengthLaws
 pub mod SectionsLaws
 pub mod FileLaws
-pub mod Writable
 pub mod RecordsLaws
+pub mod RunLaws
 pub mod TableLaws
 pub mod PlacedLaws
 pub mod ReadLaws
@@ -13,3 +14,4 @@ pub mod OrderLaws
 pub mod FitsLaws
 pub mod BoundLaws
 pub mod BytesLaws
+pub mod Examples

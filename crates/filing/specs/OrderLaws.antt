@@ -1,26 +1,23 @@
 -- The nodes of a written tree stand in pre-order, each other node a child exactly once.
 -- Rests on the records placed in a file, opened one level at a time.
-use mathlib.Core.Path.{_≡_, refl, sym, ap, ap₂, _∙_}
-use mathlib.Core.Bool.{Bool, true, false, true≢false}
+use mathlib.Core.Path.{_≡_, refl, sym, ap, _∙_}
+use mathlib.Core.Bool.{true, true≢false}
 use mathlib.Core.List.{List, [], _∷_, _++_, append-assoc}
-use Prim.Native.Nat.{ℕ, zero, suc, _+_, _*_, _≤_, _<_}
+use Prim.Native.Nat.{ℕ, zero, suc, _+_, _*_, _≤_}
 use native.Mathlib.Omega.{arith}
 use native.Mathlib.Nat.{add-zero, zero-add}
 use lib.ListN.{length}
-use lib.Dec.{eqb}
 use borrow.Author.Tests.{eq-eqb}
-use Rattle.words.specs.Words.{both}
 use Rattle.rules.specs.Limits.{caseSize}
 use Rattle.rules.specs.Rows.{Path, Binding}
-use Rattle.rules.specs.Splitting.{Test}
 use Rattle.rules.specs.Building.{Tree, Cases, absent, leaf, hoist, switch, listswitch, cnil, ccons}
 use Rattle.rules.specs.Hoisting.{howMany, nodesIn, nodesInOf, bindingsIn, bindingsInOf}
-use Rattle.rules.specs.TreeFile.{pathNumber, firstOf, casesIn, casesInOf, defaultField, ownCases}
-use Rattle.rules.specs.TreeReader.{casesAt, nodeKind, nodeFirstCase, nodeCases, nodeTailCases, nodeDefault, nodeChild, caseChild, NodeKind, Switch, List-switch, Leaf, Hoist-node, nodeKindOf, caseChildren, defaultChild, childrenOfKind, nodeChildren, inPreOrder}
+use Rattle.rules.specs.TreeFile.{firstOf, casesIn, casesInOf, defaultField, ownCases}
+use Rattle.rules.specs.TreeReader.{casesAt, nodeFirstCase, nodeCases, nodeTailCases, nodeDefault, nodeChild, caseChild, nodeKindOf, caseChildren, defaultChild, childrenOfKind, nodeChildren, inPreOrder}
 use Rattle.filing.specs.StandingLaws.{Stands}
 use Rattle.filing.specs.Writable.{present, Writable, WritableOf}
-use Rattle.filing.specs.RecordsLaws.{NodeIs, CaseIs}
-use Rattle.filing.specs.TableLaws.{Tabled, firstOf-some}
+use Rattle.filing.specs.RunLaws.{firstOf-some}
+use Rattle.filing.specs.TableLaws.{Tabled}
 use Rattle.filing.specs.PlacedLaws.{Placed, PlacedOf, LeafAt, HoistAt, SwitchAt, ListSwitchAt, leaf-placed, hoist-placed, switch-placed, list-switch-placed, own-first, own-rest, first-placed, rest-placed}
 
 -- the first node of a tree that starts at k, if it has one; the first nodes of the subtrees of cases

@@ -4,10 +4,10 @@ use mathlib.Core.Path.{_≡_, refl, sym, ap, _∙_}
 use mathlib.Core.Logic.{_⊎_, inl, inr, ⊎-elim}
 use mathlib.Core.Bool.{Bool, true, false, true≢false}
 use mathlib.Core.List.{List, [], _∷_, _++_}
-use Prim.Native.Nat.{ℕ, zero, suc, _+_, _≤_, _<_}
+use Prim.Native.Nat.{ℕ, suc, _<_}
 use native.Mathlib.Omega.{arith}
 use lib.ListN.{length, getD}
-use Rattle.words.specs.Words.{both, either, sameText}
+use Rattle.words.specs.Words.{either}
 use Rattle.words.specs.WordsLaws.{both-true, both-make, either-true, either-first-true, either-second-true, sameText-refl, sameText-sound}
 use Rattle.rules.specs.Rows.{Step, pair, tuple, constr, list, listtail, Path, bit, stepFields, sameStep, samePath, Binding}
 use Rattle.rules.specs.Building.{Tree, Cases, absent, leaf, hoist, switch, listswitch, cnil, ccons}

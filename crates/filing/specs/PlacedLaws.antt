@@ -1,23 +1,24 @@
 -- A tree's records placed in a file: what stands at a node's numbers, opened one level, gives the node's fields and places its
 -- subtrees at theirs. Reading the tree back and keeping the reader's rules are recursions over this.
-use mathlib.Core.Path.{_≡_, refl, sym, ap, _∙_}
+use mathlib.Core.Path.{_≡_, refl}
 use mathlib.Core.List.{List, [], _∷_, _++_}
-use Prim.Native.Nat.{ℕ, zero, suc, _+_, _-_, _*_, _≤_, _<_}
+use Prim.Native.Nat.{ℕ, _+_, _*_, _<_}
 use native.Mathlib.Omega.{arith}
 use native.Mathlib.Nat.{add-zero}
-use lib.ListN.{length, length-append}
+use lib.ListN.{length}
 use Rattle.rules.specs.Limits.{nodeSize, caseSize, bindingSize}
 use Rattle.rules.specs.Rows.{Path, Binding}
 use Rattle.rules.specs.Splitting.{Test}
-use Rattle.rules.specs.Building.{Tree, Cases, absent, leaf, hoist, switch, listswitch, cnil, ccons}
+use Rattle.rules.specs.Building.{Tree, Cases, leaf, hoist, switch, listswitch, ccons}
 use Rattle.rules.specs.Hoisting.{howMany, nodesIn, nodesInOf, bindingsIn, bindingsInOf}
 use Rattle.rules.specs.TreeFile.{bindingPaths, pathsUsed, pathsUsedOf, pathNumber, firstOf, nodeBytes, casesIn, casesInOf, defaultField, nodesFrom, nodesFromOf, caseBytes, ownCases, casesFrom, casesFromOf, bindingsBytes}
 use Rattle.rules.specs.TreeReader.{nodesAt, casesAt, bindingsAt, paths, pathAt, bindingsFrom}
 use Rattle.filing.specs.PathsLaws.{Covers, covers-left, covers-right, covers-first, covers-rest}
 use Rattle.filing.specs.StandingLaws.{Stands, stands-left, stands-right}
-use Rattle.filing.specs.LengthLaws.{length-nodeBytes, length-nodesFrom, length-nodesFromOf, length-caseBytes, length-ownCases, length-casesFrom, length-casesFromOf, length-bindingsBytes}
+use Rattle.filing.specs.LengthLaws.{length-nodesFrom, length-nodesFromOf, length-caseBytes, length-ownCases, length-casesFrom, length-casesFromOf, length-bindingsBytes}
+use Rattle.filing.specs.FileLaws.{Filed}
 use Rattle.filing.specs.RecordsLaws.{NodeIs, node-is, CaseIs, case-is}
-use Rattle.filing.specs.TableLaws.{Tabled, bindings-read}
+use Rattle.filing.specs.TableLaws.{Tabled, tabled, bindings-read}
 
 bindingsBytes-append : (table : List Path) (xs ys : List Binding) → bindingsBytes table (xs ++ ys) ≡ bindingsBytes table xs ++ bindingsBytes table ys
 unfolding bindingsBytes
@@ -251,3 +252,16 @@ module _ (t : List ℕ) (table : List Path) (tab : Tabled t table) where
         bindings-there = second-part (bindingsIn a) (bindingsInOf cs) b (h .bindings-there);
         used = covers-right table (pathsUsed a) (pathsUsedOf cs) (h .used);
       }
+
+-- the records of the whole tree
+pub root-placed : {t pool : List ℕ} {table : List Path} {a : Tree} → Filed t pool table a → Covers table (pathsUsed a) → Placed t table 0 0 0 a
+root-placed h v =
+    record {
+      nodes-there = rw add-zero (h .nodes-stand);
+      cases-there = rw add-zero (h .cases-stand);
+      bindings-there = rw add-zero (h .bindings-stand);
+      used = v;
+    }
+
+pub table-read : {t pool : List ℕ} {table : List Path} {a : Tree} → Filed t pool table a → Tabled t table
+table-read {t} {pool} {table} h = tabled t table (h .paths-are) (h .paths-stand) (h .steps-stand)

@@ -1,40 +1,26 @@
 -- Reading a tree file gives back the tree that was written: nodes, cases with their tests and texts, bindings, paths.
 -- Rests on the records placed in a file, opened one level at a time.
 use mathlib.Core.Path.{_≡_, refl, sym, ap, _∙_}
-use mathlib.Core.Bool.{Bool, true, false, true≢false}
-use mathlib.Core.List.{List, [], _∷_, _++_}
-use Prim.Native.Nat.{ℕ, zero, suc, _+_, _-_, _*_, _≤_, _<_}
+use mathlib.Core.Bool.{true, true≢false}
+use mathlib.Core.List.{List}
+use Prim.Native.Nat.{ℕ, zero, suc, _+_, _*_, _≤_}
 use native.Mathlib.Omega.{arith}
-use native.Mathlib.Nat.{add-zero}
 use lib.ListN.{length}
-use Rattle.words.specs.Words.{textAt}
-use Rattle.rules.specs.Limits.{nodeSize, caseSize, bindingSize}
+use Rattle.rules.specs.Limits.{caseSize}
 use Rattle.rules.specs.Rows.{Path, Binding}
 use Rattle.rules.specs.Splitting.{Test, Constr, Int, Bytes, ListOf, ListWithTail}
 use Rattle.rules.specs.Building.{Tree, Cases, absent, leaf, hoist, switch, listswitch, cnil, ccons}
 use Rattle.rules.specs.Hoisting.{howMany, nodesIn, nodesInOf, bindingsIn, bindingsInOf}
-use Rattle.rules.specs.TreeFile.{pathTable, pathsUsed, pathNumber, firstOf, casesIn, casesInOf, defaultField, ownCases, treeFile}
-use Rattle.rules.specs.TreeReader.{nodesAt, casesAt, bindingsAt, treePoolAt, nodes, nodeKind, nodePath, nodeFirstCase, nodeCases, nodeTailCases, nodeDefault, nodeClause, nodeFirstBinding, nodeBindings, nodeChild, caseKind, caseNumber, caseLength, caseChild, NodeKind, Switch, List-switch, Leaf, Hoist-node, Unknown-node, nodeKindOf, caseKindOf, pathAt, bindingsFrom, caseText, testOfKind, caseTest, startOfTest, casesFor, defaultFor, nodeFor, treeBelow, treeOf}
+use Rattle.rules.specs.TreeFile.{pathTable, pathsUsed, firstOf, casesIn, casesInOf, defaultField, ownCases, treeFile}
+use Rattle.rules.specs.TreeReader.{casesAt, treePoolAt, nodes, nodeKind, nodePath, nodeFirstCase, nodeCases, nodeTailCases, nodeDefault, nodeClause, nodeFirstBinding, nodeBindings, nodeChild, caseNumber, caseLength, Switch, List-switch, Leaf, Hoist-node, nodeKindOf, caseKindOf, bindingsFrom, caseText, testOfKind, caseTest, startOfTest, casesFor, defaultFor, nodeFor, treeBelow, treeOf}
 use Rattle.filing.specs.PathsLaws.{Covers, table-covers}
 use Rattle.filing.specs.StandingLaws.{Stands, stands-text}
 use Rattle.filing.specs.FileLaws.{Filed, tree-filed}
 use Rattle.filing.specs.Writable.{present, testKind, InPool, TextStarts, Writable, WritableOf}
-use Rattle.filing.specs.RecordsLaws.{NodeIs, CaseIs, testNumber, testLength}
-use Rattle.filing.specs.TableLaws.{Tabled, tabled, firstOf-some}
-use Rattle.filing.specs.PlacedLaws.{Placed, PlacedOf, LeafAt, HoistAt, SwitchAt, ListSwitchAt, leaf-placed, hoist-placed, switch-placed, list-switch-placed, own-first, own-rest, first-placed, rest-placed}
-
--- the records of the whole tree
-pub root-placed : {t pool : List ℕ} {table : List Path} {a : Tree} → Filed t pool table a → Covers table (pathsUsed a) → Placed t table 0 0 0 a
-root-placed h v =
-    record {
-      nodes-there = rw add-zero (h .nodes-stand);
-      cases-there = rw add-zero (h .cases-stand);
-      bindings-there = rw add-zero (h .bindings-stand);
-      used = v;
-    }
-
-pub table-read : {t pool : List ℕ} {table : List Path} {a : Tree} → Filed t pool table a → Tabled t table
-table-read {t} {pool} {table} h = tabled t table (h .paths-are) (h .paths-stand) (h .steps-stand)
+use Rattle.filing.specs.RecordsLaws.{CaseIs, testNumber, testLength}
+use Rattle.filing.specs.RunLaws.{firstOf-some}
+use Rattle.filing.specs.TableLaws.{Tabled}
+use Rattle.filing.specs.PlacedLaws.{Placed, PlacedOf, LeafAt, HoistAt, SwitchAt, ListSwitchAt, leaf-placed, hoist-placed, switch-placed, list-switch-placed, own-first, own-rest, first-placed, rest-placed, root-placed, table-read}
 
 -- where nothing is read, it does not matter from where
 module _ (t : List ℕ) where
@@ -177,3 +163,7 @@ filed-read t pool table a h v r w =
 pub file-read : (pool : List ℕ) (a : Tree) → present a ≡ true → Writable pool a → treeOf (treeFile pool a) ≡ a
 unfolding pathTable
 file-read pool a r w = filed-read (treeFile pool a) pool (pathTable a) a (tree-filed pool a) (table-covers (pathsUsed a)) r w
+
+-- so a file with its pool says one tree
+pub file-same : (pool : List ℕ) (a b : Tree) → present a ≡ true → Writable pool a → present b ≡ true → Writable pool b → treeFile pool a ≡ treeFile pool b → a ≡ b
+file-same pool a b r w s v e = sym (file-read pool a r w) ∙ ap treeOf e ∙ file-read pool b s v

@@ -1,13 +1,13 @@
 -- The records of a tree file read back: bytes of a record that stand at its place give its fields.
 -- Rests on the laws of standing bytes; a record's bytes are as the tree file's definition writes them.
-use mathlib.Core.Path.{_≡_, refl, sym, ap, _∙_}
-use mathlib.Core.List.{List, [], _∷_, _++_}
-use Prim.Native.Nat.{ℕ, zero, suc, _+_, _-_, _*_, _/_, _%_, _≤_, _<_}
+use mathlib.Core.Path.{_≡_, refl}
+use mathlib.Core.List.{List, _∷_, _++_}
+use Prim.Native.Nat.{ℕ, _+_, _*_}
 use native.Mathlib.Omega.{arith}
 use lib.ListN.{length, getD}
 use Rattle.words.specs.Words.{wordAt, wordBytes}
 use Rattle.rules.specs.Limits.{nodeSize, caseSize, bindingSize, pathSize, stepSize}
-use Rattle.rules.specs.Rows.{Step, pair, tuple, constr, list, listtail, Path, stepFields}
+use Rattle.rules.specs.Rows.{Step, pair, tuple, constr, list, listtail, stepFields}
 use Rattle.rules.specs.Splitting.{Test, Constr, Int, Bytes, ListOf, ListWithTail}
 use Rattle.rules.specs.TreeFile.{nodeBytes, caseBytes, stepBytes}
 use Rattle.rules.specs.TreeReader.{nodesAt, casesAt, bindingsAt, pathsAt, stepsAt, nodeKind, nodeZero, nodeWord, caseKind, caseZero, caseNumber, caseLength, caseChild, bindingName, bindingPath, pathFirst, pathCount, stepKind, stepFlag, stepIndexAt, stepType, stepAt}

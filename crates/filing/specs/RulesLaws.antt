@@ -1,16 +1,14 @@
 -- The nodes and the cases of a written tree keep the rules that the reader asks of each record.
 -- Rests on the records placed in a file, opened one level at a time.
-use mathlib.Core.Path.{_≡_, refl, sym, ap, _∙_}
-use mathlib.Core.Bool.{Bool, true, false, true≢false}
-use mathlib.Core.List.{List, [], _∷_, _++_}
-use Prim.Native.Nat.{ℕ, zero, suc, _+_, _-_, _*_, _≤_, _<_}
+use mathlib.Core.Path.{_≡_, refl, sym, _∙_}
+use mathlib.Core.Bool.{true, true≢false}
+use mathlib.Core.List.{List, _++_}
+use Prim.Native.Nat.{ℕ, suc, _+_, _*_, _≤_, _<_}
 use native.Mathlib.Omega.{arith}
-use native.Mathlib.Nat.{add-zero}
 use lib.ListN.{length, length-append}
-use lib.Dec.{eqb, leb, ltb}
+use lib.Dec.{leb}
 use borrow.Author.Tests.{le-leb, lt-ltb, eq-eqb}
-use Rattle.words.specs.Words.{both, either}
-use Rattle.words.specs.WordsLaws.{both-make, either-first-true, either-second-true}
+use Rattle.words.specs.WordsLaws.{both-make}
 use Rattle.rules.specs.Limits.{nodeBindingsMost, caseSize}
 use Rattle.rules.specs.Searching.{every}
 use Rattle.rules.specs.SheetFile.{runIn}
@@ -19,11 +17,12 @@ use Rattle.rules.specs.Splitting.{Test, Constr, Int, Bytes, ListOf, ListWithTai
 use Rattle.rules.specs.Building.{Tree, Cases, absent, leaf, hoist, switch, listswitch, cnil, ccons}
 use Rattle.rules.specs.Hoisting.{howMany, nodesIn, nodesInOf, bindingsIn, bindingsInOf}
 use Rattle.rules.specs.TreeFile.{pathNumber, firstOf, casesIn, casesInOf, defaultField, ownCases}
-use Rattle.rules.specs.TreeReader.{casesAt, nodes, cases, bindings, paths, treePoolSize, nodeKind, nodeZero, nodeWord, nodePath, nodeFirstCase, nodeCases, nodeTailCases, nodeDefault, nodeFirstBinding, nodeBindings, nodeChild, caseKind, caseZero, caseNumber, caseLength, caseChild, isKind, switchParts, switchCases, listSwitchCases, bindingParts, NodeKind, Switch, List-switch, Leaf, Hoist-node, nodeKindOf, nodeOfKind, nodeKeepsRules, CaseKind, caseKindOf, caseOfKind, caseKeepsRules}
+use Rattle.rules.specs.TreeReader.{casesAt, nodes, cases, bindings, paths, treePoolSize, nodeWord, nodePath, nodeFirstCase, nodeCases, nodeTailCases, nodeDefault, nodeFirstBinding, nodeBindings, nodeChild, caseKind, caseNumber, caseLength, isKind, switchParts, switchCases, listSwitchCases, bindingParts, nodeKindOf, nodeOfKind, nodeKeepsRules, caseKindOf, caseOfKind, caseKeepsRules}
 use Rattle.filing.specs.StandingLaws.{Stands}
 use Rattle.filing.specs.Writable.{present, testKind, InPool, TextStarts, AllOfKind, SwitchCases, ListCases, Writable, WritableOf}
 use Rattle.filing.specs.RecordsLaws.{NodeIs, CaseIs, testNumber, testLength}
-use Rattle.filing.specs.TableLaws.{Tabled, every-append, firstOf-some, run-make, run-in}
+use Rattle.filing.specs.RunLaws.{every-append, firstOf-some, run-make, run-in}
+use Rattle.filing.specs.TableLaws.{Tabled}
 use Rattle.filing.specs.PlacedLaws.{Placed, PlacedOf, LeafAt, HoistAt, SwitchAt, ListSwitchAt, leaf-placed, hoist-placed, switch-placed, list-switch-placed, own-first, own-rest, first-placed, rest-placed}
 
 pub present-nodes : (a : Tree) → present a ≡ true → 1 ≤ nodesIn a

@@ -1,10 +1,10 @@
 -- A file of six sections and its trailer: where each section starts is what the trailer says, and its bytes stand there.
 -- Rests on the definition of the file alone, whatever the sections hold.
 use mathlib.Core.Path.{_≡_, refl, sym, ap, _∙_}
-use mathlib.Core.List.{List, [], _∷_, _++_, append-assoc, append-nil}
-use Prim.Native.Nat.{ℕ, zero, suc, _+_, _-_, _*_, _/_, _%_, _≤_, _<_}
+use mathlib.Core.List.{List, [], _∷_, _++_}
+use Prim.Native.Nat.{ℕ, _+_, _-_, _*_}
 use native.Mathlib.Omega.{arith}
-use lib.ListN.{length, getD, length-append}
+use lib.ListN.{length, length-append}
 use Rattle.words.specs.Words.{wordAt, wordBytes}
 use Rattle.words.specs.WordsLaws.{wordAt-append-right}
 use Rattle.rules.specs.Limits.{treeTrailer}

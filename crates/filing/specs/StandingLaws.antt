@@ -1,12 +1,12 @@
 -- Bytes that stand at a place of a list: what is read there is read from them, and a part of them stands at its own place.
 -- Rests on the laws of words and texts; the laws of records and sections are over these.
-use mathlib.Core.Path.{_≡_, refl, sym, ap, _∙_}
-use mathlib.Core.List.{List, [], _∷_, _++_, append-assoc, append-nil}
-use Prim.Native.Nat.{ℕ, zero, suc, _+_, _*_, _≤_, _<_}
+use mathlib.Core.Path.{_≡_, sym, ap, _∙_}
+use mathlib.Core.List.{List, _++_, append-assoc}
+use Prim.Native.Nat.{ℕ, _+_, _≤_, _<_}
 use native.Mathlib.Omega.{arith}
-use lib.ListN.{length, getD, take, drop, length-append, List·getD-append}
+use lib.ListN.{length, getD, length-append, List·getD-append}
 use lib.Seq.{getD-append-add}
-use Rattle.words.specs.Words.{wordAt, wordBytes, textAt}
+use Rattle.words.specs.Words.{wordAt, textAt}
 use Rattle.words.specs.WordsLaws.{wordAt-append-left, wordAt-append-right, textAt-append-left, textAt-append-right}
 
 -- t has the bytes xs from i on
@@ -17,9 +17,6 @@ pub record Stands (t : List ℕ) (i : ℕ) (xs : List ℕ) : Type 0 where
   pub start : length before ≡ i
 
 -- ---- parts
-pub stands-between : (xs ys zs : List ℕ) (i : ℕ) → length xs ≡ i → Stands (xs ++ (ys ++ zs)) i ys
-stands-between xs ys zs i e = record { before = xs; after = zs; whole = refl; start = e }
-
 pub stands-left : {t : List ℕ} {i : ℕ} (xs ys : List ℕ) → Stands t i (xs ++ ys) → Stands t i xs
 stands-left xs ys s =
     record {
@@ -42,10 +39,6 @@ stands-right xs ys j e s =
     }
 
 -- ---- what is read
-pub stands-inside : {t : List ℕ} {i : ℕ} {xs : List ℕ} → Stands t i xs → i + length xs ≤ length t
-stands-inside {t} {i} {xs} s =
-    omega (arith, ap length (s .whole), length-append (s .before) (xs ++ s .after), length-append xs (s .after), s .start)
-
 pub stands-byte : {t : List ℕ} {i : ℕ} {xs : List ℕ} → Stands t i xs → (k : ℕ) → k < length xs → getD t (i + k) 0 ≡ getD xs k 0
 stands-byte {t} {i} {xs} s k h =
     rw (s .whole, ← s .start) (getD-append-add (s .before) (xs ++ s .after) k 0 ∙ List·getD-append xs (s .after) 0 k h)

@@ -6,12 +6,12 @@ use mathlib.Core.List.{List, [], _∷_}
 use Prim.Native.Nat.{ℕ, _+_, _≤_, _<_}
 use lib.ListN.{length}
 use Rattle.words.specs.Words.{textAt}
-use Rattle.rules.specs.Limits.{nodeBindingsMost}
+use Rattle.rules.specs.Limits.{nodeBindingsMost, patternsMost, depthMost, nodesMost, bindingsMost, sheetMost}
 use Rattle.rules.specs.Rows.{Step, pair, tuple, constr, list, listtail, Path, Binding}
 use Rattle.rules.specs.Splitting.{Test, Constr, Int, Bytes, ListOf, ListWithTail}
 use Rattle.rules.specs.Building.{Tree, Cases, absent, leaf, hoist, switch, listswitch, cnil, ccons}
-use Rattle.rules.specs.Hoisting.{howMany, bindingsIn}
-use Rattle.rules.specs.TreeFile.{pathsUsed, isAmong}
+use Rattle.rules.specs.Hoisting.{howMany, nodesIn, bindingsIn}
+use Rattle.rules.specs.TreeFile.{pathsUsed, isAmong, pathTable}
 
 unfoldable pub present : Tree → Bool
 present absent = false
@@ -117,3 +117,21 @@ pub record InWords (a : Tree) : Type 0 where
   pub numbers : SmallNumbers a
   pub names : SmallNames (bindingsIn a)
   pub paths : (p : Path) → isAmong p (pathsUsed a) ≡ true → SmallPath p
+
+-- ---- how large a tree is
+-- how many steps the paths have together
+unfoldable pub stepsIn : List Path → ℕ
+stepsIn [] = 0
+stepsIn (p ∷ ps) = length p + stepsIn ps
+
+-- a pattern at depth 12 has a path of 11 steps
+pub record Short (ps : List Path) : Type 0 where
+  pub short : (p : Path) → isAmong p ps ≡ true → length p < depthMost
+
+-- what the counts of a tree are at most
+pub record Bounded (pool : List ℕ) (a : Tree) : Type 0 where
+  pub nodes-most : nodesIn a ≤ nodesMost
+  pub bindings-most : length (bindingsIn a) ≤ bindingsMost
+  pub paths-most : length (pathTable a) ≤ patternsMost
+  pub paths-short : Short (pathsUsed a)
+  pub pool-most : length pool ≤ sheetMost
