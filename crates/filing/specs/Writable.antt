@@ -1,5 +1,6 @@
 -- What is asked of a tree that is written as a file: `absent` only as a default, switches with cases of one kind, texts that are
--- parts of the pool, at most 192 bindings a node; and, for the file to be bytes, numbers that two bytes hold.
+-- parts of the pool, at most 192 bindings a node. Also numbers that two bytes hold, for the file to be bytes, and the counts that
+-- bound its length.
 use mathlib.Core.Path.{_≡_}
 use mathlib.Core.Bool.{Bool, true, false}
 use mathlib.Core.List.{List, [], _∷_}
