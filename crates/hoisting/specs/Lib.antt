@@ -1,0 +1,6 @@
+-- What hoisting keeps, where it puts each clause's hoist, and how many nodes and bindings it adds: rules 5 to 7 of 01 as theorems.
+pub mod Trees
+pub mod Scopes
+pub mod UnhoistedLaws
+pub mod ScopesLaws
+pub mod IdleLaws
