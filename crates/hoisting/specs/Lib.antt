@@ -4,3 +4,4 @@ pub mod Scopes
 pub mod UnhoistedLaws
 pub mod ScopesLaws
 pub mod IdleLaws
+pub mod OnceLaws

@@ -1,6 +1,7 @@
 -- Rule 6: a clause's scope, the common start of its visits, is what going over the tree once gives.
 -- The scope of one list of visits after another is the common start of the two scopes; a clause without a leaf alone has none.
-use mathlib.Core.Path.{_≡_, refl, sym, ap, ap₂, _∙_}
+use mathlib.Core.Path.{_≡_, refl, sym, ap, ap₂, _∙_, subst}
+use mathlib.Core.Logic.{_⊎_, inl, inr}
 use mathlib.Core.Bool.{Bool, true, false}
 use mathlib.Core.List.{List, [], _∷_, _++_, append-nil, append-assoc}
 use mathlib.Core.Option.{Option, none, some}
@@ -201,7 +202,7 @@ meet-merge q (some (j ∷ s)) (some []) a = ap some (commonStart-append q (j ∷
 meet-merge q (some (j ∷ s)) (some (k ∷ t)) a =
     ap some (commonStart-append q (j ∷ s) (k ∷ t) ∙ ap (λ z. q ++ z) (commonStart-apart j k s t (ne-eqb j k a)))
 
-pub scopeInOf-between : (c i : ℕ) (cs : Cases) → Between (Case i) (Case (i + howMany cs)) (scopeInOf c i cs)
+scopeInOf-between : (c i : ℕ) (cs : Cases) → Between (Case i) (Case (i + howMany cs)) (scopeInOf c i cs)
 unfolding scopeIn howMany
 scopeInOf-between c i cnil = tt
 scopeInOf-between c i (ccons t at a cs) =
@@ -294,3 +295,41 @@ placed-root (some s) = refl
 -- THEOREM: a clause's scope is what going over the tree once gives
 pub scope-is : (c : ℕ) (a : Tree) → scope c (visits [] a) ≡ scopeIn c a
 scope-is c a = scope-visits c [] a ∙ placed-root (scopeIn c a)
+
+-- ---- where a scope comes from
+pub noted-root : (b : Bool) (s : Place) → noted b none ≡ some s → s ≡ []
+unfolding noted
+noted-root true s e = cc
+noted-root false s e = let z : _≡_ {A = ℕ} 0 1 = cc in absurd (omega arith)
+
+pub noted-step : (b : Bool) (o : Option Place) (k : ℕ) (s : Place) → noted b o ≡ some (k ∷ s) → o ≡ some (k ∷ s)
+unfolding noted
+noted-step true o k s e = let z : _≡_ {A = ℕ} 0 1 = cc in absurd (omega arith)
+noted-step false o k s e = e
+
+-- below one of two different children, and not in the other
+pub merge-step : (o p : Option Place) (k : ℕ) (s : Place) → merge o p ≡ some (k ∷ s) → ((o ≡ some (k ∷ s)) × (p ≡ none)) ⊎ ((o ≡ none) × (p ≡ some (k ∷ s)))
+unfolding merge
+merge-step none p k s e = inr (refl, e)
+merge-step (some x) none k s e = inl (e, refl)
+merge-step (some x) (some y) k s e = let z : _≡_ {A = ℕ} 0 1 = cc in absurd (omega arith)
+
+pub merge-none : (o p : Option Place) → merge o p ≡ none → (o ≡ none) × (p ≡ none)
+unfolding merge
+merge-none none p e = (refl, e)
+merge-none (some x) none e = let z : _≡_ {A = ℕ} 0 1 = cc in absurd (omega arith)
+merge-none (some x) (some y) e = let z : _≡_ {A = ℕ} 0 1 = cc in absurd (omega arith)
+
+pub beneath-step : (j : ℕ) (o : Option Place) (k : ℕ) (s : Place) → beneath j o ≡ some (k ∷ s) → (j ≡ k) × (o ≡ some s)
+unfolding beneath
+beneath-step j none k s e = let z : _≡_ {A = ℕ} 0 1 = cc in absurd (omega arith)
+beneath-step j (some x) k s e = let f : x ≡ s = cc in (cc, ap some f)
+
+pub beneath-none : (j : ℕ) (o : Option Place) → beneath j o ≡ none → o ≡ none
+unfolding beneath
+beneath-none j none e = refl
+beneath-none j (some x) e = let z : _≡_ {A = ℕ} 0 1 = cc in absurd (omega arith)
+
+-- a scope in cases i, i + 1, .. begins with a step to one of them
+pub scopeInOf-step : (c i : ℕ) (cs : Cases) (k : ℕ) (s : Place) → scopeInOf c i cs ≡ some (k ∷ s) → (Case i ≤ k) × (k < Case (i + howMany cs))
+scopeInOf-step c i cs k s e = subst (Between (Case i) (Case (i + howMany cs))) e (scopeInOf-between c i cs)

@@ -7,7 +7,7 @@ use mathlib.Core.Bool.{Bool, true, false}
 use mathlib.Core.List.{List, [], _∷_, _++_}
 use lib.Dec.{eqb}
 use Rattle.words.specs.Words.{pick, sameText}
-use Rattle.rules.specs.Rows.{Binding}
+use Rattle.rules.specs.Rows.{Binding, bit}
 use Rattle.rules.specs.Building.{Tree, Cases, absent, leaf, hoist, switch, listswitch, cnil, ccons}
 use Rattle.rules.specs.Hoisting.{Place, Fallback, Case, howMany}
 
@@ -76,8 +76,8 @@ unfoldable mutual
 
 -- how many hoists of clause c there are
 unfoldable pub hoistsOf : ℕ → Tree → ℕ
-unfolding overHoists
-hoistsOf c a = overHoists (λ d bs. pick (eqb c d) 1 0) a
+unfolding overHoists bit
+hoistsOf c a = overHoists (λ d bs. bit (eqb c d)) a
 
 -- P of each hoist's clause and bindings
 unfoldable mutual
@@ -143,3 +143,9 @@ unfoldable mutual
 unfoldable pub nodesAt : Place → Tree → ℕ
 unfolding overPlaces sameText
 nodesAt s a = overPlaces a (λ x. pick (sameText x s) 1 0)
+
+-- ---- sums
+-- f i + f (i + 1) + .. , n of them
+unfoldable pub sum : (ℕ → ℕ) → ℕ → ℕ → ℕ
+sum f i zero = 0
+sum f i (suc n) = f i + sum f (i + 1) n
