@@ -5,3 +5,4 @@ pub mod UnhoistedLaws
 pub mod ScopesLaws
 pub mod IdleLaws
 pub mod OnceLaws
+pub mod AboveLaws

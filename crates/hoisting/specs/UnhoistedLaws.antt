@@ -146,6 +146,10 @@ mutual
 pub hasLeaf-hoistedAt : (c : ℕ) (hs : List Hoist) (q : Place) (a : Tree) → hasLeaf c (hoisted hs q a) ≡ hasLeaf c a
 hasLeaf-hoistedAt c hs q a = sym (hasLeaf-unhoisted c (hoisted hs q a)) ∙ ap (hasLeaf c) (hoisted-unhoisted hs q a) ∙ hasLeaf-unhoisted c a
 
+pub hasLeafOf-hoistedAt : (c : ℕ) (hs : List Hoist) (q : Place) (i : ℕ) (cs : Cases) → hasLeafOf c (hoistedOf hs q i cs) ≡ hasLeafOf c cs
+hasLeafOf-hoistedAt c hs q i cs =
+    sym (hasLeafOf-unhoisted c (hoistedOf hs q i cs)) ∙ ap (hasLeafOf c) (hoistedOf-unhoisted hs q i cs) ∙ hasLeafOf-unhoisted c cs
+
 -- THEOREM: a clause has a leaf in the hoisted tree where it has one in the tree
 pub hasLeaf-hoisted : (c n : ℕ) (a : Tree) → hasLeaf c (hoistAll n a) ≡ hasLeaf c a
 hasLeaf-hoisted c n a = kept (hasLeaf c) (hasLeaf-unhoisted c) n a
