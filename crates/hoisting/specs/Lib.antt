@@ -6,3 +6,5 @@ pub mod ScopesLaws
 pub mod IdleLaws
 pub mod OnceLaws
 pub mod AboveLaws
+pub mod BindingsLaws
+pub mod BuiltLaws

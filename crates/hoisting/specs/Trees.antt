@@ -32,14 +32,14 @@ isPresent (hoist c bs a) = true
 isPresent (switch p cs d) = true
 isPresent (listswitch p cs ts d) = true
 
--- a tree of n clauses: each leaf is of one of them, each switch has a case, and only a default is absent
+-- a tree of n clauses: each leaf and hoist is of one of them, each switch has a case, and only a default is absent
 unfoldable mutual
   unfolding howMany isPresent
 
   pub WellMade : ℕ → Tree → Type 0
   WellMade n absent = Unit {0}
   WellMade n (leaf c bs) = c < n
-  WellMade n (hoist c bs a) = (isPresent a ≡ true) × WellMade n a
+  WellMade n (hoist c bs a) = (c < n) × (isPresent a ≡ true) × WellMade n a
   WellMade n (switch p cs d) = (0 < howMany cs) × WellMadeOf n cs × WellMade n d
   WellMade n (listswitch p cs ts d) = (0 < howMany cs + howMany ts) × WellMadeOf n cs × WellMadeOf n ts × WellMade n d
 
@@ -110,11 +110,14 @@ pub record Leaf : Type 0 where
   pub clause : ℕ
   pub bindings : List Binding
 
+abbrev pub leafWith : ℕ → List Binding → Leaf
+leafWith c bs = record { clause = c; bindings = bs }
+
 -- in node order: cases, tail cases, default
 unfoldable mutual
   pub leavesOf : Tree → List Leaf
   leavesOf absent = []
-  leavesOf (leaf c bs) = record { clause = c; bindings = bs } ∷ []
+  leavesOf (leaf c bs) = leafWith c bs ∷ []
   leavesOf (hoist c bs a) = leavesOf a
   leavesOf (switch p cs d) = leavesOfEach cs ++ leavesOf d
   leavesOf (listswitch p cs ts d) = leavesOfEach cs ++ (leavesOfEach ts ++ leavesOf d)
@@ -122,6 +125,22 @@ unfoldable mutual
   pub leavesOfEach : Cases → List Leaf
   leavesOfEach cnil = []
   leavesOfEach (ccons t at a cs) = leavesOf a ++ leavesOfEach cs
+
+abbrev pub Among : Leaf → List Leaf → Type 0
+Among x [] = ⊥
+Among x (y ∷ ys) = (x ≡ y) ⊎ Among x ys
+
+-- P of each leaf's clause and bindings
+abbrev pub EachLeaf : (ℕ → List Binding → Type 0) → Tree → Type 0
+EachLeaf P a = (x : Leaf) → Among x (leavesOf a) → P (x .clause) (x .bindings)
+
+-- ---- bindings, in whatever order
+unfoldable pub total : (Binding → ℕ) → List Binding → ℕ
+total f [] = 0
+total f (b ∷ bs) = f b + total f bs
+
+abbrev pub SameBindings : List Binding → List Binding → Type 0
+SameBindings bs cs = (f : Binding → ℕ) → total f bs ≡ total f cs
 
 -- ---- places
 -- the sum of f over the places of the tree's nodes; a hoist stands where what is below it stands

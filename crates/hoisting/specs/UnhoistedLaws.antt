@@ -93,14 +93,14 @@ mutual
       λ i. atPart v (firstKind-unhoisted cs i) (follow v p panelRoot) (λ t. walkCases-unhoisted cs t v (λ u. walk (unhoisted d) v) (λ u. walk d v) (λ u. walk-unhoisted d v) i)
   walk-unhoisted (listswitch p cs ts d) v =
       λ i. atList v (follow v p panelRoot) (λ n.
-        walkCases-unhoisted cs (ListOf n) v
-        (λ u. atTail (largestTail n (unhoistedOf ts)) (λ k. walkCases (unhoistedOf ts) (ListWithTail k) v (λ u. walk (unhoisted d) v)) (λ u. walk (unhoisted d) v))
-        (λ u. atTail (largestTail n ts) (λ k. walkCases ts (ListWithTail k) v (λ u. walk d v)) (λ u. walk d v))
-        (λ u j.
-        atTail (largestTail-unhoisted n ts j)
-        (λ k. walkCases-unhoisted ts (ListWithTail k) v (λ u. walk (unhoisted d) v) (λ u. walk d v) (λ u. walk-unhoisted d v) j)
-        (λ u. walk-unhoisted d v j))
-        i)
+      walkCases-unhoisted cs (ListOf n) v
+      (λ u. atTail (largestTail n (unhoistedOf ts)) (λ k. walkCases (unhoistedOf ts) (ListWithTail k) v (λ u. walk (unhoisted d) v)) (λ u. walk (unhoisted d) v))
+      (λ u. atTail (largestTail n ts) (λ k. walkCases ts (ListWithTail k) v (λ u. walk d v)) (λ u. walk d v))
+      (λ u j.
+      atTail (largestTail-unhoisted n ts j)
+      (λ k. walkCases-unhoisted ts (ListWithTail k) v (λ u. walk (unhoisted d) v) (λ u. walk d v) (λ u. walk-unhoisted d v) j)
+      (λ u. walk-unhoisted d v j))
+      i)
 
   walkCases-unhoisted : (cs : Cases) (t : Test) (v : List ℕ) (f g : Unit {0} → Walked) → ((u : Unit {0}) → f u ≡ g u) → walkCases (unhoistedOf cs) t v f ≡ walkCases cs t v g
   walkCases-unhoisted cnil t v f g h = h tt
