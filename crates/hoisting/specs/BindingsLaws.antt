@@ -7,14 +7,14 @@ use mathlib.Core.List.{List, [], _∷_, _++_}
 use mathlib.Core.Option.{Option, none, some}
 use Prim.Native.Nat.{ℕ, zero, suc, _+_, _≤_, _<_}
 use native.Mathlib.Omega.{arith}
-use lib.ListN.{length}
+use lib.ListN.{length, length-append}
 use lib.Dec.{eqb}
 use borrow.Author.Tests.{eqb-true, eq-eqb}
 use Rattle.words.specs.Words.{either, pick, sameText}
 use Rattle.rules.specs.Rows.{Binding}
 use Rattle.rules.specs.Building.{Tree, Cases, absent, leaf, hoist, switch, listswitch, cnil, ccons}
-use Rattle.rules.specs.Hoisting.{Place, Fallback, Case, under, Visit, howMany, visits, scope, orElse, firstBindings, firstBindingsOf, Hoist, hoists, isAt, wrap, hoisted, hoistedOf, hoistAll, bindingsIn, hasLeaf, hasLeafOf}
-use Rattle.hoisting.specs.Trees.{Plain, PlainOf, overHoists, EachHoist, EachHoistOf, Leaf, leafWith, leavesOf, leavesOfEach, Among, EachLeaf, total, SameBindings, sum}
+use Rattle.rules.specs.Hoisting.{Place, Fallback, Case, under, Visit, howMany, visits, scope, orElse, firstBindings, firstBindingsOf, Hoist, hoists, isAt, wrap, hoisted, hoistedOf, hoistAll, bindingsIn, bindingsInOf, hasLeaf, hasLeafOf}
+use Rattle.hoisting.specs.Trees.{Plain, PlainOf, overHoists, EachHoist, EachHoistOf, Leaf, leafWith, leavesOf, leavesOfEach, Among, EachLeaf, overLeaves, total, SameBindings, sum}
 use Rattle.hoisting.specs.Scopes.{hasScope}
 use Rattle.hoisting.specs.IdleLaws.{hasScope-scope}
 use Rattle.hoisting.specs.OnceLaws.{overHoists-hoistAll}
@@ -38,6 +38,12 @@ among-split x (y ∷ xs) ys (inr h) = ⊎-elim (λ k. inl (inr k)) (λ k. inr k)
 -- ---- the first leaf that binds something
 no-bindings : (b : Binding) (bs : List Binding) → b ∷ bs ≡ [] → ⊥
 no-bindings b bs e = let z : _≡_ {A = ℕ} 0 1 = cc in omega arith
+
+-- a table of first bindings goes from one part of the tree to the next
+pub orElse-assoc : (xs ys zs : List Binding) → orElse (orElse xs ys) zs ≡ orElse xs (orElse ys zs)
+unfolding orElse
+orElse-assoc [] ys zs = refl
+orElse-assoc (x ∷ xs) ys zs = refl
 
 orElse-both : (xs ys : List Binding) → orElse xs ys ≡ [] → (xs ≡ []) × (ys ≡ [])
 unfolding orElse
@@ -238,3 +244,78 @@ bindingsIn-hoistAll n a =
         go : (b : Bool) → hasLeaf c a ≡ b → pick (hasLeaf c a) (length (firstBindings c a)) 0 ≡ length (firstBindings c a)
         go true e = rw e
         go false e = rw e (sym (ap length (firstBindings-idle c a e)))
+
+total-ones : (bs : List Binding) → total (λ b. 1) bs ≡ length bs
+unfolding total
+total-ones [] = refl
+total-ones (b ∷ bs) = omega (arith, total-ones bs)
+
+-- bindings that are the same in whatever order are as many
+pub same-length : (bs cs : List Binding) → SameBindings bs cs → length bs ≡ length cs
+same-length bs cs h = sym (total-ones bs) ∙ h (λ b. 1) ∙ total-ones cs
+
+overLeaves-append : (f : Leaf → ℕ) (xs ys : List Leaf) → overLeaves f (xs ++ ys) ≡ overLeaves f xs + overLeaves f ys
+unfolding overLeaves
+overLeaves-append f [] ys = omega arith
+overLeaves-append f (x ∷ xs) ys = omega (arith, overLeaves-append f xs ys)
+
+overLeaves-same : (f g : Leaf → ℕ) (xs : List Leaf) → ((x : Leaf) → Among x xs → f x ≡ g x) → overLeaves f xs ≡ overLeaves g xs
+unfolding overLeaves
+overLeaves-same f g [] h = refl
+overLeaves-same f g (x ∷ xs) h = ap₂ _+_ (h x (inl refl)) (overLeaves-same f g xs (λ y m. h y (inr m)))
+
+abbrev bindingsOf : Leaf → ℕ
+bindingsOf x = length (x .bindings)
+
+mutual
+  unfolding bindingsIn leavesOf overLeaves Plain
+
+  -- the bindings of a plain tree are those of its leaves
+  bindingsIn-leaves : (a : Tree) → Plain a → length (bindingsIn a) ≡ overLeaves bindingsOf (leavesOf a)
+  bindingsIn-leaves absent p = refl
+  bindingsIn-leaves (leaf c bs) p = omega arith
+  bindingsIn-leaves (hoist c bs a) p = absurd p
+  bindingsIn-leaves (switch x cs d) p =
+      omega (
+        arith,
+        length-append (bindingsInOf cs) (bindingsIn d),
+        overLeaves-append bindingsOf (leavesOfEach cs) (leavesOf d),
+        bindingsInOf-leaves cs (p .0),
+        bindingsIn-leaves d (p .1),
+      )
+  bindingsIn-leaves (listswitch x cs ts d) p =
+      omega (
+        arith,
+        length-append (bindingsInOf cs) (bindingsInOf ts ++ bindingsIn d),
+        length-append (bindingsInOf ts) (bindingsIn d),
+        overLeaves-append bindingsOf (leavesOfEach cs) (leavesOfEach ts ++ leavesOf d),
+        overLeaves-append bindingsOf (leavesOfEach ts) (leavesOf d),
+        bindingsInOf-leaves cs (p .0),
+        bindingsInOf-leaves ts (p .1),
+        bindingsIn-leaves d (p .2),
+      )
+
+  bindingsInOf-leaves : (cs : Cases) → PlainOf cs → length (bindingsInOf cs) ≡ overLeaves bindingsOf (leavesOfEach cs)
+  bindingsInOf-leaves cnil p = refl
+  bindingsInOf-leaves (ccons t at a cs) p =
+      omega (
+        arith,
+        length-append (bindingsIn a) (bindingsInOf cs),
+        overLeaves-append bindingsOf (leavesOf a) (leavesOfEach cs),
+        bindingsIn-leaves a (p .0),
+        bindingsInOf-leaves cs (p .1),
+      )
+
+-- THEOREM: where each leaf of a clause c has m c bindings, 13 is counted from the clauses of the leaves alone
+pub bindingsIn-by-clause : (n : ℕ) (a : Tree) (m : ℕ → ℕ) → Plain a → EachLeaf (λ c bs. length bs ≡ m c) a
+    → length (bindingsIn (hoistAll n a)) ≡ overLeaves (λ x. m (x .clause)) (leavesOf a) + sum (λ c. pick (hasLeaf c a) (m c) 0) 0 n
+bindingsIn-by-clause n a m p h =
+    bindingsIn-hoistAll n a
+    ∙ ap₂ _+_ (bindingsIn-leaves a p ∙ overLeaves-same bindingsOf (λ x. m (x .clause)) (leavesOf a) h) (ap (λ f. sum f 0 n) (λ i c. each c i))
+  where
+    each : (c : ℕ) → length (firstBindings c a) ≡ pick (hasLeaf c a) (m c) 0
+    each c = go (hasLeaf c a) refl
+      where
+        go : (b : Bool) → hasLeaf c a ≡ b → length (firstBindings c a) ≡ pick (hasLeaf c a) (m c) 0
+        go true e = rw e (firstBindings-as (λ c bs. length bs ≡ m c) c a h e)
+        go false e = rw e (ap length (firstBindings-idle c a e))

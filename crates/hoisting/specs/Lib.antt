@@ -10,3 +10,4 @@ pub mod AboveLaws
 pub mod BindingsLaws
 pub mod BuiltLaws
 pub mod DescentLaws
+pub mod WholeTreeLaws

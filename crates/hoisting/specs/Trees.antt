@@ -134,6 +134,11 @@ Among x (y ∷ ys) = (x ≡ y) ⊎ Among x ys
 abbrev pub EachLeaf : (ℕ → List Binding → Type 0) → Tree → Type 0
 EachLeaf P a = (x : Leaf) → Among x (leavesOf a) → P (x .clause) (x .bindings)
 
+-- the sum of f over the leaves
+unfoldable pub overLeaves : (Leaf → ℕ) → List Leaf → ℕ
+overLeaves f [] = 0
+overLeaves f (x ∷ xs) = f x + overLeaves f xs
+
 -- ---- bindings, in whatever order
 unfoldable pub total : (Binding → ℕ) → List Binding → ℕ
 total f [] = 0
