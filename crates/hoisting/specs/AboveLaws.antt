@@ -9,13 +9,13 @@ use Prim.Native.Nat.{ℕ, zero, suc, _+_, _≤_, _<_}
 use native.Mathlib.Omega.{arith}
 use lib.Dec.{eqb}
 use borrow.Author.Tests.{eqb-false}
-use Rattle.words.specs.Words.{either, sameText}
+use Rattle.words.specs.Words.{either}
 use Rattle.words.specs.WordsLaws.{either-false, sameText-refl}
 use Rattle.rules.specs.SearchingLaws.{first-or-rest}
 use Rattle.rules.specs.Building.{Tree, Cases, absent, leaf, hoist, switch, listswitch, cnil, ccons}
-use Rattle.rules.specs.Hoisting.{Place, Fallback, Case, under, Visit, howMany, visits, scope, firstBindings, Hoist, hoists, isAt, wrap, hoisted, hoistedOf, hoistAll, hasLeaf, hasLeafOf}
+use Rattle.rules.specs.Hoisting.{Place, Fallback, Case, under, Visit, howMany, visits, scope, Hoist, hoists, isAt, wrap, hoisted, hoistedOf, hoistAll, hasLeaf, hasLeafOf}
 use Rattle.hoisting.specs.Trees.{Above, AboveOf}
-use Rattle.hoisting.specs.Scopes.{hasScope, later, lastLeaf, lastLeafOf, isClause, beneath, merge, noted, scopeIn, scopeInOf}
+use Rattle.hoisting.specs.Scopes.{hasScope, later, lastLeaf, lastLeafOf, isClause, beneath, merge, scopeIn, scopeInOf}
 use Rattle.hoisting.specs.ScopesLaws.{scope-is, noted-root, noted-step, merge-step, merge-none, beneath-step, beneath-none}
 use Rattle.hoisting.specs.IdleLaws.{hasScope-scopeIn, hasScope-scopeInOf}
 use Rattle.hoisting.specs.UnhoistedLaws.{hasLeaf-hoistedAt, hasLeafOf-hoistedAt}
@@ -91,7 +91,7 @@ module _ (c : ℕ) (hs : List Hoist) where
   mutual
     unfolding hoisted Above scopeIn
 
-    -- LEMMA
+    -- where the hoist of c stands at its scope, it is met before any leaf of c
     above-hoisted : (q : Place) (a : Tree) (s : Place) → scopeIn c a ≡ some s → HoistsAt c (q ++ s) hs → Above c (hoisted hs q a)
     above-hoisted q absent s e h = tt
     above-hoisted q (leaf d bs) s e h = above-here c q hs (leaf d bs) (at-root q (subst (λ z. HoistsAt c (q ++ z) hs) (noted-root (eqb c d) s e) h))

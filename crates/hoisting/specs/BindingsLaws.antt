@@ -5,15 +5,15 @@ use mathlib.Core.Logic.{_⊎_, inl, inr, ⊎-elim}
 use mathlib.Core.Bool.{Bool, true, false, true≢false, false≢true}
 use mathlib.Core.List.{List, [], _∷_, _++_}
 use mathlib.Core.Option.{Option, none, some}
-use Prim.Native.Nat.{ℕ, zero, suc, _+_, _≤_, _<_}
+use Prim.Native.Nat.{ℕ, zero, suc, _+_, _<_}
 use native.Mathlib.Omega.{arith}
 use lib.ListN.{length, length-append}
 use lib.Dec.{eqb}
 use borrow.Author.Tests.{eqb-true, eq-eqb}
-use Rattle.words.specs.Words.{either, pick, sameText}
+use Rattle.words.specs.Words.{either, pick}
 use Rattle.rules.specs.Rows.{Binding}
 use Rattle.rules.specs.Building.{Tree, Cases, absent, leaf, hoist, switch, listswitch, cnil, ccons}
-use Rattle.rules.specs.Hoisting.{Place, Fallback, Case, under, Visit, howMany, visits, scope, orElse, firstBindings, firstBindingsOf, Hoist, hoists, isAt, wrap, hoisted, hoistedOf, hoistAll, bindingsIn, bindingsInOf, hasLeaf, hasLeafOf}
+use Rattle.rules.specs.Hoisting.{Place, Fallback, Case, under, howMany, visits, scope, orElse, firstBindings, firstBindingsOf, Hoist, hoists, isAt, wrap, hoisted, hoistedOf, hoistAll, bindingsIn, bindingsInOf, hasLeaf, hasLeafOf}
 use Rattle.hoisting.specs.Trees.{Plain, PlainOf, overHoists, EachHoist, EachHoistOf, Leaf, leafWith, leavesOf, leavesOfEach, Among, EachLeaf, overLeaves, total, SameBindings, sum}
 use Rattle.hoisting.specs.Scopes.{hasScope}
 use Rattle.hoisting.specs.IdleLaws.{hasScope-scope}
@@ -112,7 +112,7 @@ first-three c b t d bs ts ds xs ys zs f g h =
 mutual
   unfolding firstBindings hasLeaf leavesOf
 
-  -- LEMMA
+  -- the first bindings of c in a tree are those of one of its leaves, or none where it has no leaf
   first-in : (c : ℕ) (a : Tree) → First c (hasLeaf c a) (firstBindings c a) (leavesOf a)
   first-in c absent = first-none c
   first-in c (leaf k bs) = first-leaf c k bs (eqb c k) (eqb-true c k)
@@ -230,6 +230,11 @@ module _ (P : ℕ → List Binding → Type 0) where
 -- THEOREM: each hoist of the hoisted tree binds what a leaf of its clause binds
 pub hoists-bind : (n : ℕ) (a : Tree) → Plain a → EachHoist (λ c bs. Among (leafWith c bs) (leavesOf a)) (hoistAll n a)
 hoists-bind n a p = hoists-as-leaves (λ c bs. Among (leafWith c bs) (leavesOf a)) n a p (λ x m. m)
+
+-- THEOREM: where the leaves of each clause bind the same in whatever order, so does its hoist
+pub hoists-same : (n : ℕ) (a : Tree) (bound : ℕ → List Binding) → Plain a → EachLeaf (λ c bs. SameBindings bs (bound c)) a
+    → EachHoist (λ c bs. SameBindings bs (bound c)) (hoistAll n a)
+hoists-same n a bound p h = hoists-as-leaves (λ c bs. SameBindings bs (bound c)) n a p h
 
 -- ---- 13
 -- THEOREM: hoisting adds the bindings of each clause's hoist

@@ -1,7 +1,7 @@
 -- A built tree is plain and well made: it has no hoist, its leaves are of the sheet's clauses, each switch has a case, and only a default is absent.
 -- Rests on rules 1 to 4 by what they keep: each row of a matrix is of a clause, and tests what can be tested.
 use mathlib.Core.Path.{_≡_, refl, sym, ap, _∙_, subst}
-use mathlib.Core.Bool.{Bool, true, false, not, true≢false, false≢true}
+use mathlib.Core.Bool.{Bool, true, false, not, false≢true}
 use mathlib.Core.List.{List, [], _∷_, _++_}
 use mathlib.Core.Option.{Option, none, some}
 use Prim.Native.Nat.{ℕ, zero, suc, _+_, _-_, _≤_, _<_}
@@ -9,12 +9,12 @@ use native.Mathlib.Omega.{arith}
 use native.Mathlib.Nat.{zero-add}
 use lib.Dec.{leb, ltb}
 use lib.ListN.{length, length-append}
-use borrow.Author.Tests.{leb-true, leb-false, ltb-true}
-use Rattle.rules.specs.Patterns.{Mark, Pat, Pats, discard, variable, assign, integer, bytestring, listed, tailed, constructor, opened, pnil, pcons, many}
-use Rattle.rules.specs.Rows.{Step, list, listtail, constr, Path, samePath, Binding, Cell, Row, into, opening, columnsOf, columnsOfEach, clauseRow, clauseRows, openedColumns}
+use borrow.Author.Tests.{leb-true, ltb-true}
+use Rattle.rules.specs.Patterns.{Pat, Pats, discard, variable, assign, integer, bytestring, listed, tailed, constructor, opened, pnil, pcons, many}
+use Rattle.rules.specs.Rows.{Step, list, listtail, constr, Path, samePath, Cell, Row, into, opening, columnsOf, columnsOfEach, clauseRow, clauseRows, openedColumns}
 use Rattle.rules.specs.Columns.{testAt, count, better, choice, columns, union, without}
-use Rattle.rules.specs.Splitting.{Test, ListOf, ListWithTail, sameTest, rising, joined, taillessLength, tailedLength, larger, longest, column, withoutTest, openRow, textStart, Group, Split, addRow, join, joinEach, addToAll, goDown, split}
-use Rattle.rules.specs.Building.{Tree, Cases, absent, leaf, hoist, switch, listswitch, cnil, ccons, leafOf, hasList, isTailCase, select, casesBy, nodeBy, treeTo, matrixPlaces, plainTree}
+use Rattle.rules.specs.Splitting.{Test, ListOf, ListWithTail, sameTest, rising, joined, taillessLength, tailedLength, larger, longest, column, withoutTest, openRow, Group, Split, addRow, join, joinEach, addToAll, goDown, split}
+use Rattle.rules.specs.Building.{Tree, leafOf, hasList, isTailCase, select, casesBy, nodeBy, treeTo, matrixPlaces, plainTree}
 use Rattle.rules.specs.Hoisting.{howMany}
 use Rattle.hoisting.specs.Trees.{Plain, PlainOf, isPresent, WellMade, WellMadeOf}
 
@@ -63,7 +63,7 @@ treeTo-plain (suc deep) ps rs = go (choice ps rs) refl (treeTo-plain deep)
         (nodeBy-plain p (hasList (column p rs)) (caseTree deep ps p) ((split p rs) .groups) (treeTo deep (without p ps) ((split p rs) .rest))
         (λ g. unfold caseTree in ih (union (g .opens) ++ without p ps) (g .rows)) (ih (without p ps) ((split p rs) .rest)))
 
--- THEOREM
+-- THEOREM: the tree of the clauses with these patterns has no hoist
 pub plainTree-plain : (qs : List Pat) → Plain (plainTree qs)
 unfolding plainTree
 plainTree-plain qs = treeTo-plain (matrixPlaces (clauseRows 0 qs)) (columns (clauseRows 0 qs)) (clauseRows 0 qs)

@@ -2,8 +2,8 @@
 -- DescentLaws shows that this is the hoisting of rule 7.
 use Prim.Native.Nat.{ℕ, zero, suc, _+_}
 use mathlib.Core.Bool.{Bool, true, false, not}
-use mathlib.Core.List.{List, [], _∷_}
-use lib.Dec.{eqb, leb}
+use mathlib.Core.List.{List}
+use lib.Dec.{leb}
 use Rattle.words.specs.Words.{both, either}
 use Rattle.rules.specs.Rows.{Binding, bit}
 use Rattle.rules.specs.Building.{Tree, Cases, absent, leaf, hoist, switch, listswitch, cnil, ccons}

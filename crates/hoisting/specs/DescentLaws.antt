@@ -1,19 +1,22 @@
 -- Rule 7 by going down the tree once: a clause is hoisted at the first node where it is visited last or has a leaf in two children.
 -- Rests on the scope by one pass: in a child of a switch the scope is what is left of the switch's, and in the others there is none.
-use mathlib.Core.Path.{_≡_, refl, sym, ap, ap₂, _∙_, subst}
+use mathlib.Core.Path.{_≡_, refl, sym, ap, _∙_, subst}
 use mathlib.Core.Logic.{_⊎_, inl, inr, ⊎-elim}
-use mathlib.Core.Bool.{Bool, true, false, not, true≢false, false≢true}
+use mathlib.Core.Bool.{Bool, true, false, not}
 use mathlib.Core.List.{List, [], _∷_, _++_, append-nil, append-assoc}
 use mathlib.Core.Option.{Option, none, some}
-use Prim.Native.Nat.{ℕ, zero, suc, _+_, _≤_, _<_}
+use Prim.Native.Nat.{ℕ, zero, suc, _+_, _-_, _≤_, _<_}
 use native.Mathlib.Omega.{arith}
 use native.Mathlib.Numerals.{add-one}
+use lib.ListN.{length, length-append}
 use lib.Dec.{eqb, leb}
-use borrow.Author.Tests.{eqb-true, eqb-false, eq-eqb, ne-eqb, leb-true, leb-false, le-leb, lt-leb}
+use borrow.Author.Tests.{eq-eqb, ne-eqb, leb-true, leb-false, le-leb, lt-leb}
 use Rattle.words.specs.Words.{both, either, pick, sameText}
 use Rattle.rules.specs.Rows.{Binding, bit}
+use Rattle.rules.specs.Searching.{times}
 use Rattle.rules.specs.Building.{Tree, Cases, absent, leaf, hoist, switch, listswitch, cnil, ccons}
-use Rattle.rules.specs.Hoisting.{Place, Fallback, Case, under, Visit, howMany, visits, scope, firstBindings, Hoist, hoists, isAt, wrap, hoisted, hoistedOf, hoistAll, hasLeaf}
+use Rattle.rules.specs.Hoisting.{Place, Fallback, Case, under, howMany, visits, scope, firstBindings, Hoist, hoists, isAt, wrap, hoisted, hoistedOf, hoistAll, nodesIn, bindingsIn, hasLeaf}
+use Rattle.hoisting.specs.Trees.{sum}
 use Rattle.hoisting.specs.Scopes.{hasScope, later, lastLeaf, lastLeafOf, isClause, beneath, merge, noted, scopeIn, scopeInOf}
 use Rattle.hoisting.specs.ScopesLaws.{scope-is, noted-step, merge-step, merge-none, beneath-step, beneath-none, scopeInOf-step}
 use Rattle.hoisting.specs.IdleLaws.{hasScope-scopeIn}
@@ -216,7 +219,7 @@ child-some c (listswitch p cs ts d) k b j s h e =
     (merge-step (scopeInOf c 0 cs) o j s
     (noted-step (isClause c (later (lastLeafOf cs) (later (lastLeafOf ts) (lastLeaf d)))) (merge (scopeInOf c 0 cs) o) j s e))
 
--- LEMMA: a place below child k is the scope exactly where the root is not, and the place is the scope in the child
+-- a place below child k is the scope exactly where the root is not, and the place is the scope in the child
 child-scope : (c : ℕ) (a : Tree) (k : ℕ) (b : Tree) (x : Place) → Child a k b → isAt (k ∷ x) (scopeIn c a) ≡ both (not (isScope c a)) (isAt x (scopeIn c b))
 unfolding isAt sameText
 child-scope c a k b x h = go (scopeIn c a) refl
@@ -303,3 +306,92 @@ module _ (root : Tree) (n : ℕ) where
 pub hoistAll-by : (n : ℕ) (a : Tree) → hoistAll n a ≡ hoistBy (λ c. firstBindings c a) n (λ c. true) a
 unfolding hoistAll
 hoistAll-by n a = descent a n [] a (λ c. true) (λ c x. ap (isAt x) (scope-is c a))
+
+-- ---- hoisting over a node by a loop over the clauses: "n - c are left from c on"
+module _ (f : ℕ → Bool) (bs : ℕ → List Binding) (a : Tree) where
+  wrapStep : ℕ → ℕ → Bool → Tree
+  wrapStep c n b = elim b [ true ↦ hoist c (bs c) (wrapBy f bs (c + 1) n a) | false ↦ wrapBy f bs (c + 1) n a ]
+
+  wrapBy-next : (c n : ℕ) → c < n → wrapBy f bs c (n - c) a ≡ wrapStep c (n - (c + 1)) (f c)
+  unfolding wrapBy wrapStep
+  wrapBy-next c n h = let d : n - c ≡ suc (n - (c + 1)) = omega arith in rw d
+
+  pub wrapBy-on : (c n : ℕ) → c < n → f c ≡ true → wrapBy f bs c (n - c) a ≡ hoist c (bs c) (wrapBy f bs (c + 1) (n - (c + 1)) a)
+  unfolding wrapStep
+  wrapBy-on c n h e = wrapBy-next c n h ∙ ap (wrapStep c (n - (c + 1))) e
+
+  pub wrapBy-past : (c n : ℕ) → c < n → f c ≡ false → wrapBy f bs c (n - c) a ≡ wrapBy f bs (c + 1) (n - (c + 1)) a
+  unfolding wrapStep
+  wrapBy-past c n h e = wrapBy-next c n h ∙ ap (wrapStep c (n - (c + 1))) e
+
+  pub wrapBy-end : (c n : ℕ) → n ≤ c → wrapBy f bs c (n - c) a ≡ a
+  unfolding wrapBy
+  wrapBy-end c n h = let d : n - c ≡ 0 = omega arith in rw d
+
+  -- the counts of the hoists over a node
+  pub nodesIn-wrapBy : (c n : ℕ) → nodesIn (wrapBy f bs c n a) ≡ times f c n + nodesIn a
+  unfolding wrapBy times nodesIn
+  nodesIn-wrapBy c zero = omega arith
+  nodesIn-wrapBy c (suc n) = go (f c) refl (nodesIn-wrapBy (c + 1) n)
+    where
+      go : (b : Bool) → f c ≡ b → nodesIn (wrapBy f bs (c + 1) n a) ≡ times f (c + 1) n + nodesIn a → nodesIn (wrapBy f bs c (suc n) a) ≡ times f c (suc n) + nodesIn a
+      go true e ih = rw (e, wrapBy, times) (omega arith)
+      go false e ih = rw (e, wrapBy, times) ih
+
+  pub bindingsIn-wrapBy : (c n : ℕ) → length (bindingsIn (wrapBy f bs c n a)) ≡ sum (λ k. pick (f k) (length (bs k)) 0) c n + length (bindingsIn a)
+  unfolding wrapBy sum bindingsIn
+  bindingsIn-wrapBy c zero = omega arith
+  bindingsIn-wrapBy c (suc n) = go (f c) refl (bindingsIn-wrapBy (c + 1) n)
+    where
+      go : (b : Bool) → f c ≡ b
+          → length (bindingsIn (wrapBy f bs (c + 1) n a)) ≡ sum (λ k. pick (f k) (length (bs k)) 0) (c + 1) n + length (bindingsIn a)
+          → length (bindingsIn (wrapBy f bs c (suc n) a)) ≡ sum (λ k. pick (f k) (length (bs k)) 0) c (suc n) + length (bindingsIn a)
+      go true e ih = rw (e, wrapBy) (omega (arith, length-append (bs c) (bindingsIn (wrapBy f bs (c + 1) n a))))
+      go false e ih = rw (e, wrapBy) (omega arith)
+
+-- ---- only the n clauses are looked at
+wrapBy-same : (f g : ℕ → Bool) (bs ds : ℕ → List Binding) (c n m : ℕ) (a : Tree) → c + n ≤ m → ((k : ℕ) → k < m → f k ≡ g k) → ((k : ℕ) → k < m → bs k ≡ ds k)
+    → wrapBy f bs c n a ≡ wrapBy g ds c n a
+unfolding wrapBy
+wrapBy-same f g bs ds c zero m a l h k = refl
+wrapBy-same f g bs ds c (suc n) m a l h k = go (g c) refl (wrapBy-same f g bs ds (c + 1) n m a (omega arith) h k)
+  where
+    e : f c ≡ g c
+    e = h c (omega arith)
+
+    go : (b : Bool) → g c ≡ b → wrapBy f bs (c + 1) n a ≡ wrapBy g ds (c + 1) n a → wrapBy f bs c (suc n) a ≡ wrapBy g ds c (suc n) a
+    go true x ih = rw (wrapBy, e ∙ x, x) (λ i. hoist c (k c (omega arith) i) (ih i))
+    go false x ih = rw (wrapBy, e ∙ x, x) ih
+
+module _ (bs ds : ℕ → List Binding) (n : ℕ) (k : (c : ℕ) → c < n → bs c ≡ ds c) where
+  same-wrap : (f g : ℕ → Bool) (x a b : Tree) → ((c : ℕ) → c < n → f c ≡ g c) → a ≡ b → wrapBy (here f x) bs 0 n a ≡ wrapBy (here g x) ds 0 n b
+  same-wrap f g x a b h e =
+      wrapBy-same (here f x) (here g x) bs ds 0 n n a (omega arith) (λ c l. ap (λ z. both z (isScope c x)) (h c l)) k
+      ∙ ap (wrapBy (here g x) ds 0 n) e
+
+  further-same : (f g : ℕ → Bool) (x : Tree) → ((c : ℕ) → c < n → f c ≡ g c) → (c : ℕ) → c < n → further f x c ≡ further g x c
+  further-same f g x h c l = ap (λ z. both z (not (isScope c x))) (h c l)
+
+  mutual
+    unfolding hoistBy
+
+    -- THEOREM: what is said of clauses from n on does not matter
+    pub hoistBy-same : (a : Tree) (f g : ℕ → Bool) → ((c : ℕ) → c < n → f c ≡ g c) → hoistBy bs n f a ≡ hoistBy ds n g a
+    hoistBy-same absent f g h = refl
+    hoistBy-same (leaf c cs) f g h = same-wrap f g (leaf c cs) (leaf c cs) (leaf c cs) h refl
+    hoistBy-same (hoist c cs a) f g h = ap (hoist c cs) (hoistBy-same a f g h)
+    hoistBy-same (switch p cs d) f g h =
+        let x : Tree = switch p cs d in
+        same-wrap f g x (switch p (hoistByOf bs n (further f x) cs) (hoistBy bs n (further f x) d)) (switch p (hoistByOf ds n (further g x) cs) (hoistBy ds n (further g x) d)) h
+        (λ i. switch p (hoistByOf-same cs (further f x) (further g x) (further-same f g x h) i) (hoistBy-same d (further f x) (further g x) (further-same f g x h) i))
+    hoistBy-same (listswitch p cs ts d) f g h =
+        let x : Tree = listswitch p cs ts d in
+        same-wrap f g x (listswitch p (hoistByOf bs n (further f x) cs) (hoistByOf bs n (further f x) ts) (hoistBy bs n (further f x) d))
+        (listswitch p (hoistByOf ds n (further g x) cs) (hoistByOf ds n (further g x) ts) (hoistBy ds n (further g x) d)) h
+        (λ i.
+        listswitch p (hoistByOf-same cs (further f x) (further g x) (further-same f g x h) i) (hoistByOf-same ts (further f x) (further g x) (further-same f g x h) i)
+        (hoistBy-same d (further f x) (further g x) (further-same f g x h) i))
+
+    hoistByOf-same : (cs : Cases) (f g : ℕ → Bool) → ((c : ℕ) → c < n → f c ≡ g c) → hoistByOf bs n f cs ≡ hoistByOf ds n g cs
+    hoistByOf-same cnil f g h = refl
+    hoistByOf-same (ccons t at a cs) f g h = λ i. ccons t at (hoistBy-same a f g h i) (hoistByOf-same cs f g h i)

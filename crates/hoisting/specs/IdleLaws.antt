@@ -1,24 +1,24 @@
 -- Refusal 14: a clause has a scope exactly where it has a leaf, so it is the same to ask either, of the tree or of the hoisted one.
 -- The lowest clause without a leaf is what `lowestIdle` finds on the whole tree.
 use mathlib.Core.Path.{_≡_, refl, sym, ap, ap₂, _∙_}
-use mathlib.Core.Logic.{_↔_, _⊎_, inl, inr, ⊎-elim}
+use mathlib.Core.Logic.{_↔_}
 use mathlib.Core.Bool.{Bool, true, false, not, true≢false}
-use mathlib.Core.List.{List, []}
+use mathlib.Core.List.{[]}
 use mathlib.Core.Option.{Option, none, some}
-use Prim.Native.Nat.{ℕ, zero, suc, _+_, _≤_, _<_}
+use Prim.Native.Nat.{ℕ, suc, _<_}
 use native.Mathlib.Omega.{arith}
 use lib.Dec.{eqb, ltb}
 use borrow.Author.Tests.{not-true, not-false, ltb-true, ltb-false}
 use Rattle.words.specs.Words.{either}
-use Rattle.words.specs.WordsLaws.{either-true, either-first-true, either-second-true}
+use Rattle.words.specs.WordsLaws.{either-first-true, either-second-true}
 use Rattle.rules.specs.Searching.{lowest}
-use Rattle.rules.specs.SearchingLaws.{Lowest, lowest-none, lowest-some, lowest-make-none}
+use Rattle.rules.specs.SearchingLaws.{lowest-none, lowest-some, lowest-make-none}
 use Rattle.rules.specs.Building.{Tree, Cases, absent, leaf, hoist, switch, listswitch, cnil, ccons}
 use Rattle.rules.specs.Hoisting.{Place, Fallback, Case, howMany, visits, scope, hoistAll, hasLeaf, hasLeafOf}
 use Rattle.rules.specs.Calls.{lowestIdle}
 use Rattle.hoisting.specs.Scopes.{hasScope, later, lastLeaf, lastLeafOf, isClause, beneath, merge, noted, scopeIn, scopeInOf}
 use Rattle.hoisting.specs.ScopesLaws.{scope-is}
-use Rattle.hoisting.specs.UnhoistedLaws.{hasLeaf-hoisted, lowestIdle-hoisted}
+use Rattle.hoisting.specs.UnhoistedLaws.{lowestIdle-hoisted}
 
 -- ---- a clause with a leaf has a scope
 later-true : (c : ℕ) (o p : Option ℕ) (x y : Bool) → (isClause c o ≡ true → x ≡ true) → (isClause c p ≡ true → y ≡ true)

@@ -11,3 +11,4 @@ pub mod BindingsLaws
 pub mod BuiltLaws
 pub mod DescentLaws
 pub mod WholeTreeLaws
+pub mod Examples

@@ -1,8 +1,8 @@
 -- Rule 7: a clause's scope is the place of exactly one node, so each clause with a leaf is hoisted once, and no other.
 -- What the hoists add up to, counted in any way, is the sum over the clauses with a leaf; the nodes of 12 are counted so.
-use mathlib.Core.Path.{_≡_, refl, sym, ap, ap₂, _∙_, subst}
-use mathlib.Core.Logic.{_⊎_, inl, inr, ⊎-elim}
-use mathlib.Core.Bool.{Bool, true, false, true≢false}
+use mathlib.Core.Path.{_≡_, refl, sym, ap, ap₂, _∙_}
+use mathlib.Core.Logic.{⊎-elim}
+use mathlib.Core.Bool.{Bool, true, false}
 use mathlib.Core.List.{List, [], _∷_, _++_, append-nil, append-assoc}
 use mathlib.Core.Option.{Option, none, some}
 use Prim.Native.Nat.{ℕ, zero, suc, _+_, _≤_, _<_}
@@ -15,9 +15,9 @@ use Rattle.rules.specs.Rows.{Binding, bit}
 use Rattle.rules.specs.Searching.{times}
 use Rattle.rules.specs.SearchingLaws.{first-or-rest}
 use Rattle.rules.specs.Building.{Tree, Cases, absent, leaf, hoist, switch, listswitch, cnil, ccons}
-use Rattle.rules.specs.Hoisting.{Place, Fallback, Case, under, Visit, howMany, visits, scope, firstBindings, Hoist, hoists, isAt, wrap, hoisted, hoistedOf, hoistAll, nodesIn, hasLeaf}
+use Rattle.rules.specs.Hoisting.{Place, Fallback, Case, under, howMany, visits, scope, firstBindings, Hoist, hoists, isAt, wrap, hoisted, hoistedOf, hoistAll, nodesIn, hasLeaf}
 use Rattle.hoisting.specs.Trees.{Plain, PlainOf, overHoists, overHoistsOf, hoistsOf, overPlaces, overPlacesOf, nodesAt, sum}
-use Rattle.hoisting.specs.Scopes.{hasScope, later, lastLeaf, lastLeafOf, isClause, beneath, merge, noted, scopeIn, scopeInOf}
+use Rattle.hoisting.specs.Scopes.{hasScope, later, lastLeaf, lastLeafOf, isClause, beneath, merge, scopeIn, scopeInOf}
 use Rattle.hoisting.specs.ScopesLaws.{scope-is, noted-root, noted-step, merge-step, beneath-step, scopeInOf-step}
 use Rattle.hoisting.specs.IdleLaws.{hasScope-scope}
 use Rattle.hoisting.specs.UnhoistedLaws.{nodesIn-added}
@@ -89,7 +89,7 @@ no-scope s e = let z : _≡_ {A = ℕ} 0 1 = cc in omega arith
 mutual
   unfolding overPlaces scopeIn sameText
 
-  -- LEMMA
+  -- a sum that is v at the scope and 0 elsewhere is v
   only-scope : (c v : ℕ) (a : Tree) (s : Place) → scopeIn c a ≡ some s → overPlaces a (only v s) ≡ v
   only-scope c v absent s e = absurd (no-scope s e)
   only-scope c v (leaf d bs) s e = only-leaf v s (noted-root (eqb c d) s e)

@@ -1,8 +1,8 @@
 -- A clause's scope by going over the tree once: from the scopes in the children of a switch, without the places of all leaves.
 -- ScopesLaws shows that it is the scope of rule 6, the common start of the clause's visits.
-use Prim.Native.Nat.{ℕ, zero, suc, _+_}
+use Prim.Native.Nat.{ℕ, suc}
 use mathlib.Core.Bool.{Bool, true, false}
-use mathlib.Core.List.{List, [], _∷_, _++_}
+use mathlib.Core.List.{[], _∷_, _++_}
 use mathlib.Core.Option.{Option, none, some}
 use lib.Dec.{eqb}
 use Rattle.words.specs.Words.{pick}

@@ -5,7 +5,7 @@ use mathlib.Core.Logic.{_⊎_, inl, inr}
 use mathlib.Core.Bool.{Bool, true, false}
 use mathlib.Core.List.{List, [], _∷_, _++_, append-nil, append-assoc}
 use mathlib.Core.Option.{Option, none, some}
-use Prim.Native.Nat.{ℕ, zero, suc, _+_, _≤_, _<_}
+use Prim.Native.Nat.{ℕ, suc, _+_, _≤_, _<_}
 use native.Mathlib.Omega.{arith}
 use lib.Dec.{eqb}
 use borrow.Author.Tests.{eqb-true, eqb-false, eq-eqb, ne-eqb}
@@ -128,7 +128,7 @@ lastOf-steppedBack q xs = lastOf-append xs (lastAt q xs) ∙ ap (later (lastOf x
 mutual
   unfolding visits lastLeaf lastOf
 
-  -- LEMMA: the visits end with the last leaf
+  -- the visits end with the last leaf
   lastOf-visits : (q : Place) (a : Tree) → lastOf (visits q a) ≡ lastLeaf a
   lastOf-visits q absent = refl
   lastOf-visits q (leaf c bs) = refl

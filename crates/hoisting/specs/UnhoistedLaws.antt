@@ -3,20 +3,18 @@
 use mathlib.Core.Path.{_≡_, refl, sym, ap, _∙_}
 use mathlib.Core.Bool.{Bool, true, false, not}
 use mathlib.Core.List.{List, [], _∷_, _++_}
-use mathlib.Core.Option.{Option, none, some}
-use Prim.Native.Nat.{ℕ, zero, suc, _+_, _<_}
+use Prim.Native.Nat.{ℕ, suc, _+_}
 use native.Mathlib.Omega.{arith}
 use lib.Dec.{leb}
 use lib.ListN.{length, length-append}
 use Rattle.words.specs.Words.{either}
-use Rattle.rules.specs.Rows.{Path, Binding}
 use Rattle.rules.specs.Splitting.{Test, ListOf, ListWithTail, sameTest}
 use Rattle.rules.specs.Building.{Tree, Cases, absent, leaf, hoist, switch, listswitch, cnil, ccons}
 use Rattle.rules.specs.Hoisting.{Place, Fallback, Case, under, howMany, visits, Hoist, hoists, isAt, wrap, hoisted, hoistedOf, hoistAll, nodesIn, nodesInOf, bindingsIn, bindingsInOf, hasLeaf, hasLeafOf}
 use Rattle.rules.specs.Walking.{Walked, panelRoot, follow, atPart, atList, atTail, ifSame, firstKind, largestTail, tailNumber, walk, walkCases}
 use Rattle.rules.specs.Searching.{lowest}
 use Rattle.rules.specs.Calls.{lowestIdle}
-use Rattle.hoisting.specs.Trees.{Plain, PlainOf, unhoisted, unhoistedOf, overHoists, overHoistsOf, Leaf, leavesOf, leavesOfEach}
+use Rattle.hoisting.specs.Trees.{Plain, PlainOf, unhoisted, unhoistedOf, overHoists, overHoistsOf, leavesOf, leavesOfEach}
 
 -- ---- hoisting only adds hoists
 wrap-unhoisted : (q : Place) (hs : List Hoist) (a : Tree) → unhoisted (wrap q hs a) ≡ unhoisted a

@@ -1,21 +1,21 @@
 -- The whole tree of a sheet's clauses: each clause with a leaf is hoisted exactly once and above all its leaves, and nothing else is changed.
 -- The theorems of the other files at the tree that is built; and what a well made tree keeps when it is hoisted.
-use mathlib.Core.Path.{_≡_, refl, sym, ap, _∙_}
+use mathlib.Core.Path.{_≡_, refl, ap, _∙_}
 use mathlib.Core.Bool.{Bool, true, false}
 use mathlib.Core.List.{List, [], _∷_}
-use mathlib.Core.Option.{Option, none, some}
+use mathlib.Core.Option.{none, some}
 use Prim.Native.Nat.{ℕ, zero, suc, _+_, _≤_, _<_}
 use native.Mathlib.Omega.{arith}
 use lib.ListN.{length}
 use Rattle.rules.specs.Patterns.{Pat}
-use Rattle.rules.specs.Rows.{Binding, bit}
+use Rattle.rules.specs.Rows.{bit}
 use Rattle.rules.specs.Searching.{times}
 use Rattle.rules.specs.Building.{Tree, Cases, absent, leaf, hoist, switch, listswitch, cnil, ccons, plainTree}
 use Rattle.rules.specs.Hoisting.{Place, Fallback, Case, under, Visit, howMany, visits, firstBindings, Hoist, hoists, isAt, wrap, hoisted, hoistedOf, hoistAll, wholeTree, nodesIn, nodesInOf, bindingsIn, hasLeaf}
 use Rattle.rules.specs.TreeFile.{casesIn, casesInOf}
 use Rattle.rules.specs.Walking.{walk}
 use Rattle.rules.specs.Calls.{lowestIdle}
-use Rattle.hoisting.specs.Trees.{isPresent, WellMade, WellMadeOf, hoistsOf, EachHoist, Above, Leaf, leafWith, leavesOf, Among, sum}
+use Rattle.hoisting.specs.Trees.{isPresent, WellMade, WellMadeOf, hoistsOf, EachHoist, Above, leafWith, leavesOf, Among, sum}
 use Rattle.hoisting.specs.Descent.{hoistBy}
 use Rattle.hoisting.specs.UnhoistedLaws.{walk-hoisted, leavesOf-hoisted, hasLeaf-hoisted}
 use Rattle.hoisting.specs.IdleLaws.{LowestIdle, lowestIdle-some, lowestIdle-none, lowestIdle-make, lowestIdle-make-none}
