@@ -8,6 +8,7 @@ use crate::generate::panels::Panels;
 use crate::generate::{damage, sheets};
 use crate::oracle;
 use crate::random::Random;
+use crate::reached;
 use crate::reference::panel::{Position, whole};
 use crate::reference::sheet::Checked;
 use crate::reference::walk::Reached;
@@ -24,7 +25,10 @@ pub struct Counts {
     compared_idle: usize,
     nodes: usize,
     bindings: usize,
+    /// Trees of under 10, under 100, under 500 and more nodes.
+    sizes: [usize; 4],
     largest: usize,
+    reached: BTreeMap<&'static str, usize>,
     fitting: usize,
     leaves: usize,
     no_leaves: usize,
@@ -69,6 +73,11 @@ fn one(random: &mut Random, bytes: &[u8], counts: &mut Counts) -> Result<(), Str
     counts.nodes += built.nodes;
     counts.bindings += built.bindings;
     counts.largest = counts.largest.max(built.nodes);
+    let size = [10, 100, 500].iter().filter(|&&limit| built.nodes >= limit).count();
+    counts.sizes[size] += 1;
+    for what in reached::of(&checked, &built.root) {
+        *counts.reached.entry(what).or_default() += 1;
+    }
     same(&built.root, &oracle::build(&checked))?;
 
     let file = tree_file::written(&built.root, &checked.sheet.pool);
@@ -100,7 +109,8 @@ fn idle(checked: &Checked, counts: &mut Counts) -> Result<(), String> {
     let Ok(whole) = build::whole(checked) else {
         return Ok(());
     };
-    let one_leaf = matches!(&whole.root, Node::Hoist { child, .. } if matches!(**child, Node::Leaf { .. }));
+    let one_leaf =
+        matches!(&whole.root, Node::Hoist { child, .. } if matches!(**child, Node::Leaf { .. }));
     if one_leaf && !whole.idle.is_empty() {
         return Ok(());
     }
@@ -115,7 +125,9 @@ fn same(reference: &Node, oracle: &Node) -> Result<(), String> {
         return Err(format!("listings differ\nreference:\n{ours}oracle:\n{theirs}"));
     }
     if reference != oracle {
-        return Err(format!("types of steps differ\nreference:\n{reference:?}\noracle:\n{oracle:?}"));
+        return Err(format!(
+            "types of steps differ\nreference:\n{reference:?}\noracle:\n{oracle:?}"
+        ));
     }
     Ok(())
 }
@@ -195,9 +207,17 @@ impl std::fmt::Display for Counts {
         writeln!(f, "sheets by refusal number: {}", show(&c.sheets))?;
         writeln!(
             f,
-            "trees compared with the Rust: {} accepted ({} nodes, {} bindings, the largest {} nodes), {} more refused by 13 or 14",
-            c.compared, c.nodes, c.bindings, c.largest, c.compared_idle
+            "trees compared with the Rust: {} accepted, {} more refused by 13 or 14",
+            c.compared, c.compared_idle
         )?;
+        let [small, medium, large, huge] = c.sizes;
+        writeln!(
+            f,
+            "their nodes: {}, bindings: {}; under 10 nodes {small}, under 100 {medium}, under 500 {large}, more {huge}, the largest {}",
+            c.nodes, c.bindings, c.largest
+        )?;
+        let reached: Vec<String> = c.reached.iter().map(|(w, n)| format!("{w} {n}")).collect();
+        writeln!(f, "accepted sheets with: {}", reached.join(", "))?;
         writeln!(
             f,
             "walks of fitting panels compared with the matcher: {} ({} at a leaf, {} no leaf)",

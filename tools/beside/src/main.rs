@@ -8,7 +8,10 @@ mod generate;
 mod hand;
 mod oracle;
 mod random;
+mod reached;
 mod reference;
+#[cfg(test)]
+mod tests;
 mod tree;
 
 use std::fmt::Write;
@@ -17,7 +20,7 @@ use std::process::ExitCode;
 use generate::panels::Panels;
 use random::Random;
 use reference::panel::Position;
-use reference::{Refusal, calls, tree_file};
+use reference::{Refusal, calls};
 
 const USAGE: &str = "\
 beside list SHEET           the listing of the Rust's tree
@@ -26,7 +29,8 @@ beside tree SHEET OUT       writes the tree file, by the reference
 beside walk SHEET PANEL     fit check, build and walk, by the reference
 beside compare N SEED       N random sheets: the Rust against the reference, walks against a matcher
 beside gen SEED DIR K       writes K random sheets with panels, and what the reference answers
-beside bytes [NAME]         the hand-made sheets and panels, and their trees, as lists of bytes
+beside bytes [NAME]         hand-made sheets and panels, and their trees, as lists of bytes
+beside hand DIR             writes the hand-made ones, and what the reference answers
 ";
 
 /// The Rust recurses once for every level of a tree, and so does the reference.
@@ -66,11 +70,15 @@ fn command(args: &[String]) -> Result<bool, String> {
             return Ok(counts.differences.is_empty());
         }
         ["gen", seed, dir, k] => generated(number(seed)?, dir, number(k)?)?,
-        ["bytes"] => hand::all().iter().for_each(show_bytes),
-        ["bytes", name] => match hand::all().iter().find(|hand| hand.name == name) {
-            Some(hand) => show_bytes(hand),
-            None => return Err(format!("no sheet or panel is named {name}")),
-        },
+        ["bytes"] => hand::proved().iter().for_each(show_bytes),
+        ["bytes", name] => {
+            let all = hand::proved().into_iter().chain(hand::limits());
+            match all.into_iter().find(|hand| hand.name == name) {
+                Some(hand) => show_bytes(&hand),
+                None => return Err(format!("no sheet or panel is named {name}")),
+            }
+        }
+        ["hand", dir] => by_hand(dir)?,
         _ => return Err(format!("the commands are\n{USAGE}")),
     }
     Ok(true)
@@ -98,8 +106,10 @@ fn listed(sheet: &[u8], by_oracle: bool) -> String {
 }
 
 fn tree_bytes(sheet: &[u8]) -> Result<Vec<u8>, Refusal> {
-    let (checked, built) = calls::tree_of(sheet)?;
-    Ok(tree_file::written(&built.root, &checked.sheet.pool))
+    let mut tree = vec![0; 65536];
+    let answer = calls::build(sheet, &mut tree, &mut [0; 65536])?;
+    tree.truncate(answer.length);
+    Ok(tree)
 }
 
 /// What the walk of a panel over a sheet's tree answers, with a line for each binding.
@@ -124,13 +134,42 @@ fn walked(sheet: &[u8], panel: &[u8]) -> String {
     }
 }
 
+/// A writer of files into a folder, which is made if it is not there.
+fn folder(dir: &str) -> Result<impl Fn(&str, &[u8]) -> Result<(), String>, String> {
+    std::fs::create_dir_all(dir).map_err(|e| format!("{dir}: {e}"))?;
+    let dir = dir.to_string();
+    Ok(move |name: &str, bytes: &[u8]| {
+        std::fs::write(format!("{dir}/{name}"), bytes).map_err(|e| format!("{dir}/{name}: {e}"))
+    })
+}
+
+/// The hand-made sheets and panels by their names, and `answers`.
+fn by_hand(dir: &str) -> Result<(), String> {
+    let write = folder(dir)?;
+    let mut answers = String::new();
+    for hand in hand::proved().into_iter().chain(hand::limits()) {
+        let name = format!("{}.{}", hand.name, if hand.sheet { "sheet" } else { "panel" });
+        write(&name, &hand.bytes)?;
+        write!(answers, "{name}: {}\n{}", hand.about, hand_answer(&hand)).unwrap();
+    }
+    write("answers", answers.as_bytes())
+}
+
+/// The listing of a sheet, or whether a panel passes 21 to 24.
+fn hand_answer(hand: &hand::Hand) -> String {
+    if hand.sheet {
+        return listed(&hand.bytes, false);
+    }
+    match reference::panel::check(&hand.bytes) {
+        Ok(panel) => format!("{} records\n", panel.records.len()),
+        Err(refusal) => refused(refusal),
+    }
+}
+
 /// Sheets `0000.sheet` and on, their panels `0000.0.panel` and on, and `answers`, what the
 /// reference says of each.
 fn generated(seed: u64, dir: &str, many: u64) -> Result<(), String> {
-    std::fs::create_dir_all(dir).map_err(|e| format!("{dir}: {e}"))?;
-    let write = |name: &str, bytes: &[u8]| {
-        std::fs::write(format!("{dir}/{name}"), bytes).map_err(|e| format!("{dir}/{name}: {e}"))
-    };
+    let write = folder(dir)?;
     let mut answers = String::new();
     for case in 0..many {
         let mut random = Random::of_case(seed, case);
@@ -162,12 +201,12 @@ fn show_bytes(hand: &hand::Hand) {
     let kind = if hand.sheet { "sheet" } else { "panel" };
     println!("{kind} {}, {} bytes: {}", hand.name, hand.bytes.len(), hand.about);
     println!("{}", byte_list(&hand.bytes));
-    if hand.sheet {
-        if let Ok(tree) = tree_bytes(&hand.bytes) {
-            println!("tree of {}, {} bytes:", hand.name, tree.len());
-            println!("{}", byte_list(&tree));
-        }
-        print!("{}", listed(&hand.bytes, false));
+    if hand.sheet
+        && let Ok(tree) = tree_bytes(&hand.bytes)
+    {
+        println!("tree of {}, {} bytes:", hand.name, tree.len());
+        println!("{}", byte_list(&tree));
     }
+    print!("{}", hand_answer(hand));
     println!();
 }

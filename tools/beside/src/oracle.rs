@@ -79,13 +79,15 @@ impl Types {
     fn of(sheet: &Sheet) -> Self {
         let mut progress = vec![Progress::NotBegun; sheet.types.len()];
         let mut links = vec![];
-        let all = (0..sheet.types.len()).map(|t| make(sheet, t, &mut progress, &mut links)).collect();
+        let all =
+            (0..sheet.types.len()).map(|t| make(sheet, t, &mut progress, &mut links)).collect();
         Types { all, links }
     }
 
     /// The type number of a type that the Rust answered: each number has a type of its own.
     fn number(&self, tipo: &Rc<Type>) -> u16 {
-        self.all.iter().position(|known| Rc::ptr_eq(known, tipo)).expect("a type of the sheet") as u16
+        self.all.iter().position(|known| Rc::ptr_eq(known, tipo)).expect("a type of the sheet")
+            as u16
     }
 
     fn data_types(&self, checked: &Checked) -> Vec<(DataTypeKey, TypedDataType)> {
@@ -145,7 +147,9 @@ impl Types {
                 let ret = self.all[data].clone();
                 Pattern::Constructor {
                     arguments: parts.into_iter().map(|value| CallArg { value }).collect(),
-                    constructor: PatternConstructor::Record { name: constructor_name(p.a as usize) },
+                    constructor: PatternConstructor::Record {
+                        name: constructor_name(p.a as usize),
+                    },
                     tipo: if args.is_empty() { ret } else { Rc::new(Type::Fn { args, ret }) },
                 }
             }
@@ -175,9 +179,8 @@ fn make(
         Progress::NotBegun => progress[number] = Progress::Begun(None),
     }
     let t = sheet.types[number];
-    let app = |module: &str, name: String, args| {
-        Type::App { module: module.to_string(), name, args }
-    };
+    let app =
+        |module: &str, name: String, args| Type::App { module: module.to_string(), name, args };
     let mut entries = || -> Vec<Rc<Type>> {
         let entries = &sheet.type_list[t.first as usize..][..t.count as usize];
         entries.iter().map(|&e| make(sheet, e as usize, progress, links)).collect()

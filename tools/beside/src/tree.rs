@@ -90,12 +90,9 @@ impl Node {
             Node::Switch { cases, default, .. } => {
                 cases.iter().map(|(_, n)| n).chain(default.as_deref()).collect()
             }
-            Node::ListSwitch { cases, tail_cases, default, .. } => cases
-                .iter()
-                .chain(tail_cases)
-                .map(|(_, n)| n)
-                .chain(default.as_deref())
-                .collect(),
+            Node::ListSwitch { cases, tail_cases, default, .. } => {
+                cases.iter().chain(tail_cases).map(|(_, n)| n).chain(default.as_deref()).collect()
+            }
             Node::Leaf { .. } => vec![],
             Node::Hoist { child, .. } => vec![child],
         }
@@ -115,7 +112,7 @@ impl Node {
     }
 }
 
-fn show_path(path: &[Step]) -> String {
+pub fn show_path(path: &[Step]) -> String {
     if path.is_empty() {
         return ".".to_string();
     }

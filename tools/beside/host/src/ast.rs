@@ -7,38 +7,15 @@ use crate::tipo::{PatternConstructor, Type};
 
 #[derive(Clone, Debug)]
 pub enum Pattern<Constructor, Type, ByteValue> {
-    Int {
-        value: String,
-    },
-    ByteArray {
-        value: Vec<ByteValue>,
-    },
-    Var {
-        name: String,
-    },
-    Assign {
-        name: String,
-        pattern: Box<Self>,
-    },
-    Discard {
-        name: String,
-    },
-    List {
-        elements: Vec<Self>,
-        tail: Option<Box<Self>>,
-    },
-    Constructor {
-        arguments: Vec<CallArg<Self>>,
-        constructor: Constructor,
-        tipo: Type,
-    },
-    Pair {
-        fst: Box<Self>,
-        snd: Box<Self>,
-    },
-    Tuple {
-        elems: Vec<Self>,
-    },
+    Int { value: String },
+    ByteArray { value: Vec<ByteValue> },
+    Var { name: String },
+    Assign { name: String, pattern: Box<Self> },
+    Discard { name: String },
+    List { elements: Vec<Self>, tail: Option<Box<Self>> },
+    Constructor { arguments: Vec<CallArg<Self>>, constructor: Constructor, tipo: Type },
+    Pair { fst: Box<Self>, snd: Box<Self> },
+    Tuple { elems: Vec<Self> },
 }
 
 pub type TypedPattern = Pattern<PatternConstructor, Rc<Type>, u8>;

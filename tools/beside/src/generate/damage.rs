@@ -73,9 +73,8 @@ fn sections(plan: &Plan, bytes: &[u8]) -> Option<Vec<(usize, usize)>> {
 /// A section with a record in it, and that record's start.
 fn record(random: &mut Random, plan: &Plan, bytes: &[u8]) -> Option<(usize, usize)> {
     let sections = sections(plan, bytes)?;
-    let able: Vec<usize> = (0..sections.len())
-        .filter(|&i| sections[i].1 - sections[i].0 >= plan.sizes[i])
-        .collect();
+    let able: Vec<usize> =
+        (0..sections.len()).filter(|&i| sections[i].1 - sections[i].0 >= plan.sizes[i]).collect();
     if able.is_empty() {
         return None;
     }
@@ -125,7 +124,8 @@ fn mend_length(bytes: &mut [u8]) {
 }
 
 fn shorten(random: &mut Random, bytes: &mut Vec<u8>) {
-    let less = if random.chance(1, 2) { random.between(1, 4) } else { random.below(bytes.len() + 1) };
+    let less =
+        if random.chance(1, 2) { random.between(1, 4) } else { random.below(bytes.len() + 1) };
     bytes.truncate(bytes.len().saturating_sub(less));
     if random.chance(1, 3) {
         mend_length(bytes);
@@ -225,7 +225,8 @@ pub fn misfit(random: &mut Random, panel: &mut Panel) {
         }
         V_BYTES => r.kind = V_LIST,
         kind => {
-            let kinds = if r.count == 2 { &[V_LIST, V_PAIR, V_TUPLE][..] } else { &[V_LIST, V_TUPLE] };
+            let kinds =
+                if r.count == 2 { &[V_LIST, V_PAIR, V_TUPLE][..] } else { &[V_LIST, V_TUPLE] };
             r.a = 0;
             r.kind = *random.pick(kinds);
             if r.kind == kind {

@@ -12,6 +12,14 @@ use crate::random::Random;
 
 /// A canonical integer. Few of them, so that they meet again; now and then a rare one.
 pub fn int_text(random: &mut Random) -> String {
+    int_text_of(random, 0)
+}
+
+/// The same, with as many more of them as `spread` says.
+pub fn int_text_of(random: &mut Random, spread: usize) -> String {
+    if spread > 0 && random.chance(5, 6) {
+        return random.below(spread).to_string();
+    }
     match random.below(12) {
         0 => "0".to_string(),
         1..=4 => "1".to_string(),

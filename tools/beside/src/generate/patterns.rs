@@ -1,7 +1,7 @@
 //! Random patterns of a type.
 
 use super::types::Types;
-use super::{byte_text, int_text};
+use super::{byte_text, int_text_of};
 use crate::files::*;
 use crate::random::Random;
 
@@ -19,15 +19,22 @@ pub struct Mood {
     pub tail: usize,
     /// Elements of a list pattern, at most.
     pub elements: usize,
+    /// How many more integers there are than the few that meet again and again.
+    pub spread: usize,
+    /// Clauses, at most.
+    pub clauses: usize,
     /// That a wrong text, arity or kind is written.
     pub slip: usize,
 }
 
 impl Mood {
     pub fn random(random: &mut Random) -> Self {
+        let clauses = *random.pick(&[1, 4, 6, 6, 10, 16, 24, 32]);
         Mood {
-            depth: *random.pick(&[1, 2, 2, 3, 3, 3, 4, 5, 8, 12, 12]),
-            wild: *random.pick(&[5, 20, 30, 40, 50, 60, 75]),
+            clauses,
+            spread: if clauses > 16 { random.between(10, 40) } else { 0 },
+            depth: *random.pick(&[2, 2, 3, 3, 3, 4, 4, 5, 8, 12, 12]),
+            wild: *random.pick(&[5, 20, 30, 40, 50, 60, 70]),
             variable: *random.pick(&[0, 20, 50, 90, 100]),
             assign: *random.pick(&[0, 0, 5, 10, 30]),
             tail: *random.pick(&[0, 20, 40, 60, 100]),
@@ -64,10 +71,10 @@ impl Maker<'_> {
     }
 
     /// A pattern of a type that is no wildcard, if room and depth allow.
-    fn opened(&mut self, random: &mut Random, of: u16, depth: usize) -> Pattern {
+    pub fn opened(&mut self, random: &mut Random, of: u16, depth: usize) -> Pattern {
         let t = self.types.record(of);
         match t.kind {
-            INT => Pattern::Int(int_text(random)),
+            INT => Pattern::Int(int_text_of(random, self.mood.spread)),
             BYTES => Pattern::Bytes(byte_text(random)),
             LIST => self.list(random, of, depth),
             DATA => {
@@ -168,8 +175,14 @@ fn wild(random: &mut Random, mood: Mood) -> Pattern {
 }
 
 /// A relative of a pattern: some of its parts are made anew or become wildcards.
-pub fn relative(random: &mut Random, maker: &mut Maker, pattern: &Pattern, of: u16, depth: usize) -> Pattern {
-    if random.chance(1, 6) || depth == 0 {
+pub fn relative(
+    random: &mut Random,
+    maker: &mut Maker,
+    pattern: &Pattern,
+    of: u16,
+    depth: usize,
+) -> Pattern {
+    if depth == 0 || random.chance(1, 6) {
         return maker.pattern(random, of, depth.max(1));
     }
     let types: Vec<u16> = match pattern {
@@ -241,17 +254,26 @@ fn fresh(random: &mut Random, next: &mut u16, twice: bool) -> u16 {
     *next
 }
 
-/// How many wildcards a pattern has: clauses with few of them go first in a sheet.
-pub fn wildcards(pattern: &Pattern) -> usize {
+/// The parts of a pattern.
+fn parts(pattern: &Pattern) -> Vec<&Pattern> {
     match pattern {
-        Pattern::Discard | Pattern::Variable(_) => 1,
-        Pattern::Assign(_, inside) => wildcards(inside),
-        Pattern::Int(_) | Pattern::Bytes(_) => 0,
-        Pattern::List(parts) | Pattern::Constr(_, parts) | Pattern::Tuple(parts) => {
-            parts.iter().map(wildcards).sum()
-        }
-        // What a tail leaves open is more than a wildcard does.
-        Pattern::Tailed(parts) => parts.iter().map(wildcards).sum::<usize>() + 1,
-        Pattern::Pair(fst, snd) => wildcards(fst) + wildcards(snd),
+        Pattern::Discard | Pattern::Variable(_) | Pattern::Int(_) | Pattern::Bytes(_) => vec![],
+        Pattern::Assign(_, inside) => vec![inside],
+        Pattern::List(parts)
+        | Pattern::Tailed(parts)
+        | Pattern::Constr(_, parts)
+        | Pattern::Tuple(parts) => parts.iter().collect(),
+        Pattern::Pair(fst, snd) => vec![fst, snd],
     }
+}
+
+/// How many patterns a pattern consists of.
+pub fn size(pattern: &Pattern) -> usize {
+    1 + parts(pattern).into_iter().map(size).sum::<usize>()
+}
+
+/// How much a pattern leaves open: clauses that leave little go first in a sheet.
+pub fn wildcards(pattern: &Pattern) -> usize {
+    let own = matches!(pattern, Pattern::Discard | Pattern::Variable(_) | Pattern::Tailed(_));
+    own as usize + parts(pattern).into_iter().map(wildcards).sum::<usize>()
 }

@@ -17,6 +17,8 @@ pub enum Flavour {
     Lists,
     Tuples,
     Data,
+    /// Data types of one constructor mostly.
+    Records,
     /// A subject with one wide tuple of plain types.
     Wide,
 }
@@ -33,7 +35,7 @@ pub fn types(random: &mut Random, flavour: Flavour) -> Types {
         let kind = kind(random, flavour, number);
         let record = match kind {
             INT | BYTES => TypeRecord { kind, flag: 0, first: 0, count: 0 },
-            DATA => data(random, &mut sheet, count),
+            DATA => data(random, &mut sheet, count, flavour),
             _ => {
                 let arity = match kind {
                     LIST => 1,
@@ -53,7 +55,7 @@ pub fn types(random: &mut Random, flavour: Flavour) -> Types {
             && t.flag == 1
             && t.count == 1
             && sheet.constructors[t.first as usize].count == 1;
-        if transparent && !random.chance(1, 40) {
+        if transparent && !random.chance(1, 6) {
             sheet.types[number].flag = *random.pick(&[0, 2, 3]);
         }
     }
@@ -65,17 +67,17 @@ pub fn types(random: &mut Random, flavour: Flavour) -> Types {
         let run = entries(random, &mut sheet, count, 2);
         sheet.constructors.push(run);
     }
-    sheet.subject = if random.chance(3, 4) { 0 } else { random.below(count) as u16 };
+    sheet.subject = if random.chance(5, 6) { 0 } else { random.below(count) as u16 };
     Types::of(sheet)
 }
 
 fn kind(random: &mut Random, flavour: Flavour, number: usize) -> u8 {
     // The subject is most often type 0.
-    if number == 0 && random.chance(3, 4) {
+    if number == 0 && random.chance(9, 10) {
         return match flavour {
             Flavour::Lists => LIST,
             Flavour::Tuples | Flavour::Wide => *random.pick(&[TUPLE, TUPLE, PAIR]),
-            Flavour::Data => DATA,
+            Flavour::Data | Flavour::Records => DATA,
             Flavour::Mixed => *random.pick(&[LIST, PAIR, TUPLE, DATA]),
         };
     }
@@ -86,7 +88,7 @@ fn kind(random: &mut Random, flavour: Flavour, number: usize) -> u8 {
         Flavour::Lists => LIST,
         Flavour::Tuples => TUPLE,
         Flavour::Wide => INT,
-        Flavour::Data | Flavour::Mixed => DATA,
+        Flavour::Data | Flavour::Records | Flavour::Mixed => DATA,
     };
     if random.chance(1, 3) {
         return often;
@@ -111,8 +113,9 @@ fn entries(random: &mut Random, sheet: &mut Sheet, types: usize, arity: usize) -
     Run { first: there as u16, count: arity as u16 }
 }
 
-fn data(random: &mut Random, sheet: &mut Sheet, types: usize) -> TypeRecord {
-    let count = *random.pick(&[1, 1, 1, 2, 2, 2, 3, 3, 4, 7]);
+fn data(random: &mut Random, sheet: &mut Sheet, types: usize, flavour: Flavour) -> TypeRecord {
+    let few = flavour == Flavour::Records && random.chance(3, 4);
+    let count = if few { 1 } else { *random.pick(&[1, 1, 1, 2, 2, 2, 3, 3, 4, 7]) };
     let flag = *random.pick(&[0, 0, 0, 0, 1, 2, 2, 3]);
     let there = sheet.constructors.len();
     if there >= count && (random.chance(1, 6) || there + count > 128) {

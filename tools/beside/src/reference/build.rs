@@ -195,11 +195,8 @@ impl Builder<'_> {
         };
         let path = matrix.columns[column].clone();
         let (default, cases) = self.split(&matrix, column);
-        let default = if default.rows.is_empty() {
-            None
-        } else {
-            Some(Box::new(self.tree(default)?))
-        };
+        let default =
+            if default.rows.is_empty() { None } else { Some(Box::new(self.tree(default)?)) };
         let on_lists = matches!(cases[0].0, Test::List(_) | Test::ListWithTail(_));
         let (tails, heads): (Vec<_>, Vec<_>) =
             cases.into_iter().partition(|(test, _)| matches!(test, Test::ListWithTail(_)));
@@ -226,7 +223,8 @@ impl Builder<'_> {
             tests.filter_map(|p| wanted(&self.test(p))).max()
         };
         let longest_tailless = lengths(|t| if let Test::List(n) = t { Some(*n) } else { None });
-        let longest_tailed = lengths(|t| if let Test::ListWithTail(n) = t { Some(*n) } else { None });
+        let longest_tailed =
+            lengths(|t| if let Test::ListWithTail(n) = t { Some(*n) } else { None });
 
         // Rows by number, each with its opened part in a case.
         let mut default: Vec<usize> = vec![];
@@ -312,7 +310,12 @@ fn specialized(matrix: &Matrix, column: usize, rows: Vec<(usize, Mapped)>) -> Ma
         })
         .collect();
     columns.extend(
-        matrix.columns.iter().enumerate().filter(|(c, _)| *c != column).map(|(_, path)| path.clone()),
+        matrix
+            .columns
+            .iter()
+            .enumerate()
+            .filter(|(c, _)| *c != column)
+            .map(|(_, path)| path.clone()),
     );
     Matrix { columns, rows }
 }

@@ -49,9 +49,7 @@ fn matches(
                 && matches(checked, panel, tail, rest, bound)
         }
         P_LIST => r.kind == V_LIST && each(checked, panel, inside, parts, bound),
-        P_CONSTR => {
-            r.kind == V_CONSTR && r.a == p.a && each(checked, panel, inside, parts, bound)
-        }
+        P_CONSTR => r.kind == V_CONSTR && r.a == p.a && each(checked, panel, inside, parts, bound),
         P_PAIR => r.kind == V_PAIR && each(checked, panel, inside, parts, bound),
         _ => r.kind == V_TUPLE && each(checked, panel, inside, parts, bound),
     }

@@ -36,7 +36,8 @@ fn laid_out(starts: &[usize], sizes: &[usize], trailer: usize) -> bool {
     }
     let mut ends = starts[1..].to_vec();
     ends.push(trailer);
-    (0..starts.len()).all(|i| starts[i] <= ends[i] && (ends[i] - starts[i]) % sizes[i] == 0)
+    (0..starts.len())
+        .all(|i| starts[i] <= ends[i] && (ends[i] - starts[i]).is_multiple_of(sizes[i]))
 }
 
 /// `0`, or an optional `-` and then a digit 1 to 9 and further digits.

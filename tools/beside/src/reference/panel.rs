@@ -105,16 +105,14 @@ fn linked_as_tree(panel: &Panel) -> bool {
     let mut entry_owners = vec![0; panel.children.len()];
     let mut uses = vec![0; panel.records.len()];
     for (number, r) in panel.records.iter().enumerate() {
-        if r.kind <= V_BYTES {
-            continue;
-        }
-        for entry in r.first as usize..r.first as usize + r.count as usize {
-            let child = panel.children[entry] as usize;
-            if child <= number || child >= panel.records.len() {
+        let parts = panel.parts(whole(number as u16));
+        for (i, &part) in parts.iter().enumerate() {
+            let part = part as usize;
+            if part <= number || part >= panel.records.len() {
                 return false;
             }
-            entry_owners[entry] += 1;
-            uses[child] += 1;
+            entry_owners[r.first as usize + i] += 1;
+            uses[part] += 1;
         }
     }
     entry_owners.iter().all(|&n| n == 1) && uses[1..].iter().all(|&n| n == 1)

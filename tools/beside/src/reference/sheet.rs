@@ -92,7 +92,12 @@ pub fn open(bytes: &[u8]) -> Result<Sheet, Refusal> {
     Ok(Sheet {
         types: section(0)
             .chunks(6)
-            .map(|b| TypeRecord { kind: b[0], flag: b[1], first: u16_at(b, 2), count: u16_at(b, 4) })
+            .map(|b| TypeRecord {
+                kind: b[0],
+                flag: b[1],
+                first: u16_at(b, 2),
+                count: u16_at(b, 4),
+            })
             .collect(),
         constructors: section(1)
             .chunks(4)
@@ -163,7 +168,9 @@ fn patterns_keep_shape(sheet: &Sheet) -> bool {
         && sheet.children.iter().all(|&c| (c as usize) < patterns)
         && sheet.clauses.iter().all(|&r| (r as usize) < patterns)
         && linked_as_trees(sheet)
-        && (0..patterns).filter(|&p| sheet.patterns[p].kind == P_TAILED).all(|p| tail_kept(sheet, p))
+        && (0..patterns)
+            .filter(|&p| sheet.patterns[p].kind == P_TAILED)
+            .all(|p| tail_kept(sheet, p))
         && sheet.clauses.iter().all(|&root| depth(sheet, root) <= 12)
 }
 

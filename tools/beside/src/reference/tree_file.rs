@@ -170,7 +170,8 @@ pub fn read(bytes: &[u8]) -> Result<Tree, Refusal> {
 }
 
 impl Tree {
-    /// What each record is asked by itself.
+    /// What each record is asked by itself, used or not. The child of a case is asked by
+    /// `in_pre_order` alone, so that of a case outside every switch's run is not asked.
     fn records_kept(&self) -> bool {
         self.nodes.iter().all(|node| self.node_kept(node))
             && self.cases.iter().all(|&(kind, [start, count, _])| match kind {
@@ -180,7 +181,10 @@ impl Tree {
             })
             && self.bindings.iter().all(|&[_, path]| (path as usize) < self.paths.len())
             && self.paths.iter().all(|&[first, count]| run_inside(first, count, self.steps.len()))
-            && self.steps.iter().all(|s| s.kind <= S_LISTTAIL && s.flag <= (s.kind == S_CONSTR) as u8)
+            && self
+                .steps
+                .iter()
+                .all(|s| s.kind <= S_LISTTAIL && s.flag <= (s.kind == S_CONSTR) as u8)
     }
 
     fn node_kept(&self, &(kind, fields): &(u8, [u16; 5])) -> bool {
