@@ -188,6 +188,15 @@ fn orders() -> Vec<u8> {
     )
 }
 
+/// A tail after one element beside a list of 187: a case for every length between.
+fn long_list() -> Vec<u8> {
+    let clauses = [
+        Pattern::Tailed(vec![int("1"), Pattern::Variable(1)]),
+        Pattern::List(vec![Pattern::Discard; 187]),
+    ];
+    sheet_of(ints_in_list(), &clauses)
+}
+
 /// Cases at the limits, and one where the order of bindings tells.
 pub fn limits() -> Vec<Hand> {
     let list = |depth| sheet_of(lists_in_lists(), &[nested(depth, Pattern::List)]);
@@ -200,6 +209,8 @@ pub fn limits() -> Vec<Hand> {
     let steps = [4, 2, 2, 3, 3, 2];
     vec![
         sheet("orders", "(1,_,C1 5); (2,C0 5,_); (_,C0 n1,C1 n2)", orders()),
+        sheet("patterns-192", "(1, 1, .. 1), a tuple of 191", staircase(&[191], &[], false)),
+        sheet("long-list", "[1, ..n1]; a list of 187", long_list()),
         sheet("clauses-32", "1; 2; .. 32", one_int_for_each(32)),
         sheet("clauses-33", "1; 2; .. 33", one_int_for_each(33)),
         sheet("nodes-1024", "a tree of 1,024 nodes", staircase(&steps, &[], true)),

@@ -34,7 +34,7 @@ beside hand DIR             writes the hand-made ones, and what the reference an
 ";
 
 /// The Rust recurses once for every level of a tree, and so does the reference.
-const STACK: usize = 1 << 30;
+const STACK: usize = 1 << 28;
 
 fn main() -> ExitCode {
     let args: Vec<String> = std::env::args().skip(1).collect();

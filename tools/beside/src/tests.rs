@@ -81,6 +81,8 @@ fn a_hoist_binds_in_the_order_of_the_leaf_built_first() {
 
 #[test]
 fn the_limits() {
+    assert!(agreed("patterns-192").starts_with("tree 193 0\n"));
+    assert!(agreed("long-list").starts_with("tree 380 189\n"));
     assert!(agreed("clauses-32").starts_with("tree 65 0\n"));
     assert!(agreed("nodes-1024").starts_with("tree 1024 0\n"));
     assert!(agreed("bindings-4096").starts_with("tree 1024 4096\n"));
