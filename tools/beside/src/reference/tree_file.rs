@@ -170,14 +170,17 @@ pub fn read(bytes: &[u8]) -> Result<Tree, Refusal> {
 }
 
 impl Tree {
-    /// What each record is asked by itself, used or not. The child of a case is asked by
-    /// `in_pre_order` alone, so that of a case outside every switch's run is not asked.
+    /// What each record is asked by itself, used or not: the child of a case outside every switch's
+    /// run must be a node too, though it is nobody's child.
     fn records_kept(&self) -> bool {
         self.nodes.iter().all(|node| self.node_kept(node))
-            && self.cases.iter().all(|&(kind, [start, count, _])| match kind {
-                0 | 3 | 4 => count == 0,
-                1 | 2 => run_inside(start, count, self.pool.len()),
-                _ => false,
+            && self.cases.iter().all(|&(kind, [start, count, child])| {
+                (child as usize) < self.nodes.len()
+                    && match kind {
+                        0 | 3 | 4 => count == 0,
+                        1 | 2 => run_inside(start, count, self.pool.len()),
+                        _ => false,
+                    }
             })
             && self.bindings.iter().all(|&[_, path]| (path as usize) < self.paths.len())
             && self.paths.iter().all(|&[first, count]| run_inside(first, count, self.steps.len()))
