@@ -13,7 +13,7 @@ use Rattle.rules.specs.TreeReader.{treeFits, treeOf}
 use Rattle.rules.specs.Walking.{Position, Bound, Walked, reached, noLeaf, stuck, walk}
 use Rattle.rules.specs.Calls.{Answer, answers, refuses, Built, WalkEnd, leafOf, withoutLeaf, sheetTree, sheetTreeFile, buildAnswer, fitCall, walkAnswer, walkedWords, textPart, meaning}
 use Rattle.rules.specs.Listing.{listing, sheetListing}
-use Rattle.rules.specs.Samples.{sheet1, panel2, panel3, panel4, panel5, sheet6, sheet7, panel7, sheet8, sheet9, sheet10, sheet11, sheet12, sheet13, sheet14, sheet15, file1, listing1}
+use Rattle.rules.specs.Samples.{sheet1, panel2, panel3, panel4, panel5, sheet6, sheet7, panel7, sheet8, sheet9, sheet10, sheet11, sheet12, sheet13, sheet14, sheet15, sheet16, file1, listing1}
 
 -- ---- P1 "this tree"
 abbrev n1 : List Binding
@@ -217,6 +217,44 @@ P14 = refl
 P15 : buildAnswer sheet15 treeRoom workRoom ≡ refuses 14 2
 unfolding buildAnswer
 P15 = refl
+
+-- ---- one more: (1,_,C1 5), (2,C0 5,_), (_,C0 n1,C1 n2). Clause 2's hoist has n1 before n2, as its leaf that is built first, in the
+-- default; its leaf that is listed first has n2 before n1.
+abbrev C0-part : Path
+C0-part = tuple 1 0 ∷ constr 0 false 2 ∷ []
+
+abbrev C1-part : Path
+C1-part = tuple 2 0 ∷ constr 0 false 2 ∷ []
+
+abbrev n1-n2 : List Binding
+n1-n2 = record { name = 1; path = C0-part } ∷ record { name = 2; path = C1-part } ∷ []
+
+abbrev n2-n1 : List Binding
+n2-n1 = record { name = 2; path = C1-part } ∷ record { name = 1; path = C0-part } ∷ []
+
+P16 : sheetTree sheet16
+    ≡ hoist 2 n1-n2
+    (switch (tuple 0 0 ∷ [])
+    (ccons (Int (49 ∷ [])) 0
+    (switch (tuple 2 0 ∷ [])
+    (ccons (Constr 1) 0
+    (switch C1-part (ccons (Int (53 ∷ [])) 1 (hoist 0 [] (leaf 0 [])) cnil)
+    (switch (tuple 1 0 ∷ []) (ccons (Constr 0) 0 (leaf 2 n2-n1) cnil) absent))
+    cnil)
+    absent)
+    (ccons (Int (50 ∷ [])) 2
+    (switch (tuple 1 0 ∷ [])
+    (ccons (Constr 0) 0
+    (switch C0-part (ccons (Int (53 ∷ [])) 1 (hoist 1 [] (leaf 1 [])) cnil)
+    (switch (tuple 2 0 ∷ []) (ccons (Constr 1) 0 (leaf 2 n1-n2) cnil) absent))
+    cnil)
+    absent)
+    cnil))
+    (switch (tuple 1 0 ∷ [])
+    (ccons (Constr 0) 0 (switch (tuple 2 0 ∷ []) (ccons (Constr 1) 0 (leaf 2 n1-n2) cnil) absent) cnil)
+    absent))
+unfolding sheetTree
+P16 = refl
 
 -- ---- refusal 1: a buffer one byte, or one u16, too small
 P1-room : buildAnswer sheet1 65535 workRoom ≡ refuses 1 0
