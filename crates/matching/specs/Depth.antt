@@ -352,12 +352,12 @@ treeTo-zero : (ps : List Path) (rs : List Row) → treeTo zero ps rs ≡ leafOf 
 unfolding treeTo
 treeTo-zero ps rs = refl
 
-treeTo-none : (deep : ℕ) (ps : List Path) (rs : List Row) → choice ps rs ≡ none → treeTo deep ps rs ≡ leafOf rs
+pub treeTo-none : (deep : ℕ) (ps : List Path) (rs : List Row) → choice ps rs ≡ none → treeTo deep ps rs ≡ leafOf rs
 unfolding treeTo
 treeTo-none zero ps rs x = refl
 treeTo-none (suc deep) ps rs x = rw (x, treeTo)
 
-treeTo-some : (deep : ℕ) (ps : List Path) (rs : List Row) (p : Path) → choice ps rs ≡ some p
+pub treeTo-some : (deep : ℕ) (ps : List Path) (rs : List Row) (p : Path) → choice ps rs ≡ some p
     → treeTo (suc deep) ps rs
     ≡ nodeOn p (column p rs) (λ t. treeTo deep (caseColumns p t ps rs) (caseRows p t rs)) (treeTo deep (without p ps) (defaultRows p rs))
 unfolding treeTo caseColumns

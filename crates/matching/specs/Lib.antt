@@ -1,4 +1,9 @@
--- The walk of a built tree answers the first clause that matches: Depth, FirstMatch, Leaves; and what they rest on.
+-- What a built tree means, over the definitions of rules alone.
+--   Depth: a tree does not depend on how deep it may go; its equations by the filters of rule 4, and induction over its matrices.
+--   FirstMatch: where the clauses suit the panel, the walk answers the first that matches. Typing: for accepted sheets and fitting panels.
+--   Leaves: every leaf is a clause's and binds what its pattern binds.
+--   SheetColumns: the order of columns is total in the matrices of an accepted sheet.
+-- The others are what these rest on.
 pub mod Lists
 pub mod Paths
 pub mod Tests

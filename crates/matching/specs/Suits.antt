@@ -16,7 +16,7 @@ use Rattle.rules.specs.Rows.{Step, pair, tuple, constr, list, listtail, Path, i
 use Rattle.rules.specs.PanelFile.{recordKind, recordA, recordFirst, recordCount, recordText}
 use Rattle.rules.specs.Walking.{Position, panelRoot, partOf, tailOf, takeStep, follow, Bound, bound}
 use Rattle.rules.specs.Meaning.{partAt, elementsAt, elements, after, openKind, matches, matchEach, gives, givesEach}
-use Rattle.rules.specs.SplittingLaws.{All}
+use Rattle.rules.specs.SplittingLaws.{All, both-end}
 use Rattle.matching.specs.Lists.{all-append}
 use Rattle.matching.specs.Tests.{isTest, cell}
 use Rattle.matching.specs.Bindings.{allBindings, allBindingsOfEach}
@@ -123,10 +123,6 @@ module _ (v : List ℕ) where
   both-assoc : (a b c : Bool) → both (both a b) c ≡ both a (both b c)
   both-assoc true b c = refl
   both-assoc false b c = refl
-
-  both-end : (a : Bool) → both a true ≡ a
-  both-end true = refl
-  both-end false = refl
 
   pub holdAll-append : (cs ds : List Cell) → holdAll (cs ++ ds) ≡ both (holdAll cs) (holdAll ds)
   unfolding holdAll

@@ -11,12 +11,12 @@ use mathlib.Core.List.{List, [], _∷_}
 use mathlib.Core.Option.{Option, some}
 use lib.Dec.{eqb, leb}
 use borrow.Author.Tests.{eqb-true, eq-eqb, leb-true, leb-false, le-leb, lt-leb}
-use Rattle.words.specs.Words.{both, either}
+use Rattle.words.specs.Words.{either}
 use Rattle.words.specs.WordsLaws.{either-true, either-false, either-first-true, either-second-true}
 use Rattle.rules.specs.Patterns.{Mark, Pat, Pats, discard, variable, assign, integer, bytestring, listed, tailed, constructor, opened, many}
 use Rattle.rules.specs.Rows.{Path}
 use Rattle.rules.specs.Splitting.{Test, Constr, Int, Bytes, ListOf, ListWithTail, sameTest, taillessLength, tailedLength, longest, Met, isMet, casesOf, covers}
-use Rattle.rules.specs.SplittingLaws.{All, InRange, anyCovers, sameTest-sound, sameTest-refl, either-none, not-true-false, longest-bounds, casesOf-covers, case-covered}
+use Rattle.rules.specs.SplittingLaws.{All, both-end, InRange, anyCovers, sameTest-sound, sameTest-refl, either-none, not-true-false, longest-bounds, casesOf-covers, case-covered}
 use Rattle.rules.specs.Building.{Tree, Cases, switch, listswitch, cnil, ccons, isList, hasList}
 use Rattle.rules.specs.PanelFile.{recordKind, recordA, recordText}
 use Rattle.rules.specs.Walking.{Position, panelRoot, follow, Walked, shownAt, lengthAt, testKind, firstKind, ofThisKind, tailNumber, largestTail, atTail, walk, walkCases}
@@ -231,10 +231,6 @@ module _ (v : List ℕ) (x : Position) where
   covers-shown-by (listed m qs) ((i, s), l) = absurd (true≢false l)
   covers-shown-by (tailed m qs q) ((i, s), l) = absurd (true≢false l)
   covers-shown-by (constructor m a qs) ((i, s), l) = both-end (eqb (recordA v (x .place)) a)
-    where
-      both-end : (b : Bool) → both b true ≡ b
-      both-end true = refl
-      both-end false = refl
   covers-shown-by (opened m o qs) ((i, s), l) = refl
 
   covers-kind : (q : Pat) (u : Test) → Plain q → covers q u ≡ true → testKind u ≡ testKind (shownBy q)
@@ -298,10 +294,6 @@ module _ (v : List ℕ) (x : Position) where
   covers-exact (integer m at w) (s, l) = absurd (false≢true l)
   covers-exact (bytestring m at w) (s, l) = absurd (false≢true l)
   covers-exact (listed m qs) (s, l) = both-end (eqb (elements v x) (many qs))
-    where
-      both-end : (b : Bool) → both b true ≡ b
-      both-end true = refl
-      both-end false = refl
   covers-exact (tailed m qs q) (s, l) = refl
   covers-exact (constructor m a qs) (s, l) = absurd (false≢true l)
   covers-exact (opened m o qs) (s, l) = absurd (false≢true l)

@@ -66,6 +66,10 @@ pub either-assoc : (a b c : Bool) → either (either a b) c ≡ either a (either
 either-assoc true b c = refl
 either-assoc false b c = refl
 
+pub both-end : (a : Bool) → both a true ≡ a
+both-end true = refl
+both-end false = refl
+
 either-absorb : (a b c : Bool) → (b ≡ true → a ≡ true) → either a c ≡ either a (either b c)
 either-absorb true b c h = refl
 either-absorb false true c h = absurd (false≢true (h refl))
@@ -144,19 +148,11 @@ module _ (f : ℕ → Test) where
 
 list-same : (i j : ℕ) → sameTest (ListOf i) (ListOf j) ≡ eqb i j
 unfolding sameTest
-list-same i j = end (eqb i j)
-  where
-    end : (b : Bool) → both b true ≡ b
-    end true = refl
-    end false = refl
+list-same i j = both-end (eqb i j)
 
 tail-same : (i j : ℕ) → sameTest (ListWithTail i) (ListWithTail j) ≡ eqb i j
 unfolding sameTest
-tail-same i j = end (eqb i j)
-  where
-    end : (b : Bool) → both b true ≡ b
-    end true = refl
-    end false = refl
+tail-same i j = both-end (eqb i j)
 
 list-not-tail : (i j : ℕ) → sameTest (ListOf i) (ListWithTail j) ≡ false
 unfolding sameTest
