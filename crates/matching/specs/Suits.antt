@@ -15,7 +15,7 @@ use Rattle.rules.specs.Patterns.{Opens, pairs, tuples, fields, Pat, Pats, disca
 use Rattle.rules.specs.Rows.{Step, pair, tuple, constr, list, listtail, Path, into, opening, Binding, Cell, columnsOf, columnsOfEach, openedColumns}
 use Rattle.rules.specs.PanelFile.{recordKind, recordA, recordFirst, recordCount, recordText}
 use Rattle.rules.specs.Walking.{Position, panelRoot, partOf, tailOf, takeStep, follow, Bound, bound}
-use Rattle.rules.specs.Meaning.{partAt, elementsAt, elements, after, openKind, matches, matchEach, gives, givesEach}
+use Rattle.rules.specs.Meaning.{partAt, elementsAt, elements, after, openKind, hasNumber, matches, matchEach, gives, givesEach}
 use Rattle.rules.specs.SplittingLaws.{All, both-end}
 use Rattle.matching.specs.Lists.{all-append}
 use Rattle.matching.specs.Tests.{isTest, cell}
@@ -24,7 +24,7 @@ use Rattle.matching.specs.Bindings.{allBindings, allBindingsOfEach}
 -- At each place the panel has the kind that the pattern asks; the parts are as many as the pattern's where the type says how many.
 -- What is inside a list or a constructor need suit only where the pattern's own test holds.
 unfoldable mutual
-  unfolding many openKind elementsAt elements after
+  unfolding many openKind hasNumber elementsAt elements after
 
   pub Suits : Pat → List ℕ → Position → Type 0
   Suits (discard m) v x = Unit {0}
@@ -42,6 +42,7 @@ unfoldable mutual
       × (recordA v (x .place) ≡ a → (recordCount v (x .place) ≡ many qs) × SuitEach qs v (recordFirst v (x .place)))
   Suits (opened m o qs) v x =
       (recordKind v (x .place) ≡ openKind o)
+      × (hasNumber o (recordA v (x .place)) ≡ true)
       × (recordCount v (x .place) ≡ many qs)
       × SuitEach qs v (recordFirst v (x .place))
 
@@ -189,10 +190,10 @@ module _ (v : List ℕ) where
     columns-read p (tailed m qs q) x e s = read-one p (tailed m qs q) x e refl s
     columns-read p (constructor m a qs) x e s = read-one p (constructor m a qs) x e refl s
     columns-read p (opened m o qs) x e s =
-        rw (eq-eqb (recordKind v (x .place)) (openKind o) (s .0), eq-eqb (recordCount v (x .place)) (many qs) (s .1))
+        rw (eq-eqb (recordKind v (x .place)) (openKind o) (s .0), s .1, eq-eqb (recordCount v (x .place)) (many qs) (s .2))
         (from-first (λ j. Read (columnsOfEach p (opening o (m .type)) 0 qs) (matchEach qs v j)) (recordFirst v (x .place))
         (columnsOfEach-read p (opening o (m .type)) (recordFirst v (x .place)) 0 (recordCount v (x .place)) qs (opening-leads p x (m .type) o e (s .0))
-        (no-more (many qs) (recordCount v (x .place)) (s .1)) (to-first (λ j. SuitEach qs v j) (recordFirst v (x .place)) (s .2))))
+        (no-more (many qs) (recordCount v (x .place)) (s .2)) (to-first (λ j. SuitEach qs v j) (recordFirst v (x .place)) (s .3))))
 
     pub columnsOfEach-read : (p : Path) (step : ℕ → Step) (d i n : ℕ) (qs : Pats) → Leads p step d n → i + many qs ≤ n → SuitEach qs v (d + i)
         → Read (columnsOfEach p step i qs) (matchEach qs v (d + i))
@@ -335,11 +336,12 @@ module _ (v : List ℕ) where
         (no-more (many qs) (recordCount v (x .place)) n) (to-first (λ j. SuitEach qs v j) (recordFirst v (x .place)) b)
         (to-first (λ j. matchEach qs v j ≡ true) (recordFirst v (x .place)) d))
     gives-bound p (opened m o qs) x e s h =
-        let (k, f) = both-true (eqb (recordKind v (x .place)) (openKind o)) (both (eqb (recordCount v (x .place)) (many qs)) (matchEach qs v (recordFirst v (x .place)))) h in
-        let (c, d) = both-true (eqb (recordCount v (x .place)) (many qs)) (matchEach qs v (recordFirst v (x .place))) f in
+        let (k, f) = both-true (eqb (recordKind v (x .place)) (openKind o)) (both (hasNumber o (recordA v (x .place))) (both (eqb (recordCount v (x .place)) (many qs)) (matchEach qs v (recordFirst v (x .place))))) h in
+        let (l, g) = both-true (hasNumber o (recordA v (x .place))) (both (eqb (recordCount v (x .place)) (many qs)) (matchEach qs v (recordFirst v (x .place)))) f in
+        let (c, d) = both-true (eqb (recordCount v (x .place)) (many qs)) (matchEach qs v (recordFirst v (x .place))) g in
         from-first (λ j. bound v (allBindingsOfEach p (opening o (m .type)) 0 qs) ≡ some (givesEach qs v j)) (recordFirst v (x .place))
         (givesEach-bound p (opening o (m .type)) (recordFirst v (x .place)) 0 (recordCount v (x .place)) qs (opening-leads p x (m .type) o e (s .0))
-        (no-more (many qs) (recordCount v (x .place)) (s .1)) (to-first (λ j. SuitEach qs v j) (recordFirst v (x .place)) (s .2))
+        (no-more (many qs) (recordCount v (x .place)) (s .2)) (to-first (λ j. SuitEach qs v j) (recordFirst v (x .place)) (s .3))
         (to-first (λ j. matchEach qs v j ≡ true) (recordFirst v (x .place)) d))
 
     pub givesEach-bound : (p : Path) (step : ℕ → Step) (d i n : ℕ) (qs : Pats) → Leads p step d n → i + many qs ≤ n → SuitEach qs v (d + i) → matchEach qs v (d + i) ≡ true

@@ -7,7 +7,7 @@ use mathlib.Core.Path.{_≡_, refl, sym, ap, ap₂, _∙_}
 use mathlib.Core.Bool.{Bool, true, false, false≢true}
 use mathlib.Core.List.{List}
 use lib.Dec.{eqb, leb}
-use borrow.Author.Tests.{eqb-true, leb-true}
+use borrow.Author.Tests.{eq-eqb, eqb-true, leb-true}
 use Rattle.words.specs.Words.{both}
 use Rattle.words.specs.WordsLaws.{both-true}
 use Rattle.rules.specs.Limits.{patternsMost, recordsMost}
@@ -18,7 +18,7 @@ use Rattle.rules.specs.Fitting.{partsFit, recordFits, hasTypeTo, panelFits}
 use Rattle.rules.specs.SheetRefusals.{verdict, accepted}
 use Rattle.rules.specs.Building.{plainTree}
 use Rattle.rules.specs.Walking.{Position, panelRoot, walk}
-use Rattle.rules.specs.Meaning.{elementsAt, elements, after, openKind, firstMatch}
+use Rattle.rules.specs.Meaning.{elementsAt, elements, after, openKind, hasNumber, firstMatch}
 use Rattle.rules.specs.Calls.{sheetPatterns}
 use Rattle.rules.specs.SplittingLaws.{All}
 use Rattle.facts.specs.KindsLaws.{recordNumber, record-byte, byte-record}
@@ -204,7 +204,7 @@ module _ (s v : List ℕ) where
           )
 
       constructor-suits : fits (ofKind f s p t Constructor) s ≡ true → Suits (ofKind f s p t Constructor) v x
-      unfolding ofKind fits Suits openKind
+      unfolding ofKind fits Suits openKind hasNumber
       constructor-suits h = go (oneConstructor s t) refl h
         where
           the-one : oneConstructor s t ≡ true → takesArguments s t (patternA s p) (many fieldPatterns) ≡ true → recordA v r ≡ patternA s p
@@ -218,7 +218,7 @@ module _ (s v : List ℕ) where
           go true e w =
               let (a, b) = both-true (takesArguments s t (patternA s p) (many fieldPatterns)) (fitAll fieldPatterns s) w in
               let (c, d) = fields-suit a b (the-one e a) in
-              (kind-is 5 (takes t (patternA s p) (many fieldPatterns) a .0), c, d)
+              (kind-is 5 (takes t (patternA s p) (many fieldPatterns) a .0), eq-eqb _ _ (the-one e a), c, d)
           go false e w =
               let (a, b) = both-true (takesArguments s t (patternA s p) (many fieldPatterns)) (fitAll fieldPatterns s) w in
               (kind-is 5 (takes t (patternA s p) (many fieldPatterns) a .0), fields-suit a b)
@@ -236,22 +236,22 @@ module _ (s v : List ℕ) where
       )
 
       pair-suits : fits (ofKind f s p t Pair) s ≡ true → Suits (ofKind f s p t Pair) v x
-      unfolding ofKind fits Suits openKind opensInto
+      unfolding ofKind fits Suits openKind hasNumber opensInto
       pair-suits h =
           let (a, b) = both-true (both (eqb (typeKind s t) 3) (eqb (typeCount s t) (many partPatterns))) (fitAll partPatterns s) h in
           let (c, d) = both-true (eqb (typeKind s t) 3) (eqb (typeCount s t) (many partPatterns)) a in
           let e = eqb-true (typeKind s t) 3 c in
           let (m, n) = parts-suit (eqb-true _ _ d) b (pair-parts g r t typed e) in
-          (kind-is 3 e, m, n)
+          (kind-is 3 e, refl, m, n)
 
       tuple-suits : fits (ofKind f s p t Tuple) s ≡ true → Suits (ofKind f s p t Tuple) v x
-      unfolding ofKind fits Suits openKind opensInto
+      unfolding ofKind fits Suits openKind hasNumber opensInto
       tuple-suits h =
           let (a, b) = both-true (both (eqb (typeKind s t) 4) (eqb (typeCount s t) (many partPatterns))) (fitAll partPatterns s) h in
           let (c, d) = both-true (eqb (typeKind s t) 4) (eqb (typeCount s t) (many partPatterns)) a in
           let e = eqb-true (typeKind s t) 4 c in
           let (m, n) = parts-suit (eqb-true _ _ d) b (tuple-parts g r t typed e) in
-          (kind-is 4 e, m, n)
+          (kind-is 4 e, refl, m, n)
 
       kind-suits : hasTypeTo (suc k) s v r t ≡ true → (kind : PatternKind) → fits (ofKind f s p t kind) s ≡ true → Suits (ofKind f s p t kind) v x
       unfolding ofKind fits Suits

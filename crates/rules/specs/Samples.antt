@@ -1,4 +1,4 @@
--- The sheets and panels of 01's proved cases P1 to P12, and one more, as bytes.
+-- The sheets and panels of 01's proved cases P1 to P12 and of four cases more, the tree file of P1's sheet and its listing, as bytes.
 -- A comment says what each run of bytes is; Proved has what is proved of them.
 use Prim.Native.Nat.{ℕ}
 use mathlib.Core.List.{List, [], _∷_}
