@@ -2,3 +2,6 @@
 pub mod KindsLaws
 pub mod RunsLaws
 pub mod SheetFacts
+pub mod PatternsLaws
+pub mod PanelFacts
+pub mod TreeFacts

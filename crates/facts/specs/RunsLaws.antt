@@ -42,6 +42,13 @@ whole-fills size from to h =
     let even = eqb-true ((to - from) % size) 0 (both-true (leb from to) (eqb ((to - from) % size) 0) h .1) in
     omega (arith, div-add-mod (to - from) size)
 
+-- a pool reaches from its start to the trailer, and the trailer to the end
+pub pool-fills : (from to : ℕ) → from ≤ to → from + (to - from) ≡ to
+pool-fills from to h = omega arith
+
+pub trailer-fills : (trailer long : ℕ) → trailer ≤ long → long - trailer + trailer ≡ long
+trailer-fills trailer long h = omega arith
+
 -- a verdict that accepts passed its first test, and the rest accepts
 pub require-accepted : (test : Bool) (number : ℕ) (rest : Verdict) → require test number rest ≡ accepted → (test ≡ true) × (rest ≡ accepted)
 require-accepted true number rest h = (refl, h)
