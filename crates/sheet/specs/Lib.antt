@@ -8,3 +8,8 @@ pub mod TestsLaws
 pub mod LoopsLaws
 pub mod Types
 pub mod TypesLaws
+pub mod Meeting
+pub mod MeetingLaws
+pub mod Shape
+pub mod ShapeLaws
+pub mod TallyLaws

@@ -2,6 +2,7 @@
 mod layout;
 mod limits;
 pub mod records;
+mod shape;
 mod types;
 
 // Where the sections start; the pool ends where the trailer begins.
