@@ -13,3 +13,4 @@ pub mod MeetingLaws
 pub mod Shape
 pub mod ShapeLaws
 pub mod TallyLaws
+pub mod TextsLaws

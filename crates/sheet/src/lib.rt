@@ -3,6 +3,7 @@ mod layout;
 mod limits;
 pub mod records;
 mod shape;
+mod texts;
 mod types;
 
 // Where the sections start; the pool ends where the trailer begins.
