@@ -14,3 +14,6 @@ pub mod Shape
 pub mod ShapeLaws
 pub mod TallyLaws
 pub mod TextsLaws
+pub mod Fitting
+pub mod FittingLaws
+pub mod AskingLaws

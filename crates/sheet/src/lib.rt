@@ -1,4 +1,5 @@
 // The check of a sheet: refusals 2 to 11 of document 01.
+mod fitting;
 mod layout;
 mod limits;
 pub mod records;
