@@ -2,6 +2,7 @@
 mod fitting;
 mod layout;
 mod limits;
+mod names;
 pub mod records;
 mod shape;
 mod texts;
