@@ -22,3 +22,5 @@ pub mod Names
 pub mod NamesLaws
 pub mod ForestLaws
 pub mod CollectLaws
+pub mod Check
+pub mod CheckLaws
