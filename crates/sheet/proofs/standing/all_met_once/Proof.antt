@@ -6,10 +6,10 @@ use lib.Dec.{eqb}
 use lib.ListN.{getD}
 use Rattle.sheet.specs.Meeting.{metOnce}
 use Rattle.sheet.specs.LoopsLaws.{EveryLeft, every-begins, every-goes-on, every-stops, every-ends}
-use Rattle.sheet.proofs.shape.all_met_once.Statement.{statement}
-use Rattle.sheet.proofs.shape.all_met_once.Tie as tie
-use Rattle.sheet.proofs.shape.all_met_once.Reads as reads
-use Rattle.sheet.proofs.shape.all_met_once.Lts as lts
+use Rattle.sheet.proofs.standing.all_met_once.Statement.{statement}
+use Rattle.sheet.proofs.standing.all_met_once.Tie as tie
+use Rattle.sheet.proofs.standing.all_met_once.Reads as reads
+use Rattle.sheet.proofs.standing.all_met_once.Lts as lts
 
 abbrev Inv-loop : tie.InvT-loop
 Inv-loop n met i₀ i = (i ≤ n) × EveryLeft (λ k. eqb (getD (met .times) k 0) 1) n i

@@ -1,11 +1,11 @@
 use borrow.Author.Needs.{needs}
 use Rattle.sheet.specs.ShapeLaws.{children-there, children-absent}
-use Rattle.sheet.proofs.shape.children_of.Statement.{statement}
-use Rattle.sheet.proofs.shape.children_of.Tie as tie
-use Rattle.sheet.proofs.shape.children_of.Reads as reads
-use Rattle.sheet.proofs.shape.children_of.Lts as lts
+use Rattle.sheet.proofs.records.children_of.Statement.{statement}
+use Rattle.sheet.proofs.records.children_of.Tie as tie
+use Rattle.sheet.proofs.records.children_of.Reads as reads
+use Rattle.sheet.proofs.records.children_of.Lts as lts
 use Rattle.sheet.proofs.records.pattern_at.Reads as pattern-at-reads
-use Rattle.sheet.proofs.shape.has_children.Reads as has-children-reads
+use Rattle.sheet.proofs.records.has_children.Reads as has-children-reads
 
 pattern-at-requires : tie.Need-pattern-at-requires
 pattern-at-requires c κs = search needs

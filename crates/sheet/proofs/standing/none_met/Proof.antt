@@ -6,10 +6,10 @@ use lib.Dec.{eqb}
 use lib.ListN.{getD}
 use Rattle.sheet.specs.Meeting.{noneMet}
 use Rattle.sheet.specs.LoopsLaws.{EveryFrom, from-begins, from-goes-on, from-stops, from-ends}
-use Rattle.sheet.proofs.shape.none_met.Statement.{statement}
-use Rattle.sheet.proofs.shape.none_met.Tie as tie
-use Rattle.sheet.proofs.shape.none_met.Reads as reads
-use Rattle.sheet.proofs.shape.none_met.Lts as lts
+use Rattle.sheet.proofs.standing.none_met.Statement.{statement}
+use Rattle.sheet.proofs.standing.none_met.Tie as tie
+use Rattle.sheet.proofs.standing.none_met.Reads as reads
+use Rattle.sheet.proofs.standing.none_met.Lts as lts
 
 abbrev Inv-loop : tie.InvT-loop
 Inv-loop first count met k₀ k = (k ≤ count) × EveryFrom (λ i. eqb (getD (met .times) i 0) 0) count first k

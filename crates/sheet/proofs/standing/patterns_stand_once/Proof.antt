@@ -3,13 +3,13 @@ use native.Mathlib.Omega.{arith}
 use Rattle.sheet.specs.SectionsLaws.{mapped}
 use Rattle.sheet.specs.MeetingLaws.{none-of-zeros}
 use Rattle.sheet.specs.TallyLaws.{stand-once}
-use Rattle.sheet.proofs.shape.patterns_stand_once.Statement.{statement}
-use Rattle.sheet.proofs.shape.patterns_stand_once.Tie as tie
-use Rattle.sheet.proofs.shape.patterns_stand_once.Reads as reads
-use Rattle.sheet.proofs.shape.patterns_stand_once.Lts as lts
-use Rattle.sheet.proofs.shape.all_met_once.Reads as all-met-once-reads
-use Rattle.sheet.proofs.shape.meet_children.Reads as meet-children-reads
-use Rattle.sheet.proofs.shape.meet_roots.Reads as meet-roots-reads
+use Rattle.sheet.proofs.standing.patterns_stand_once.Statement.{statement}
+use Rattle.sheet.proofs.standing.patterns_stand_once.Tie as tie
+use Rattle.sheet.proofs.standing.patterns_stand_once.Reads as reads
+use Rattle.sheet.proofs.standing.patterns_stand_once.Lts as lts
+use Rattle.sheet.proofs.standing.all_met_once.Reads as all-met-once-reads
+use Rattle.sheet.proofs.standing.meet_children.Reads as meet-children-reads
+use Rattle.sheet.proofs.standing.meet_roots.Reads as meet-roots-reads
 
 meet-roots-requires : tie.Need-meet-roots-requires
 meet-roots-requires c κs = (c .before .pre .0, c .before .pre .1, c .before .pre .2, c .before .pre .3, none-of-zeros)

@@ -1,10 +1,10 @@
 use borrow.Author.Needs.{needs}
 use native.Mathlib.Omega.{arith}
 use Rattle.sheet.specs.MeetingLaws.{meets-one}
-use Rattle.sheet.proofs.shape.meet.Statement.{statement}
-use Rattle.sheet.proofs.shape.meet.Tie as tie
-use Rattle.sheet.proofs.shape.meet.Reads as reads
-use Rattle.sheet.proofs.shape.meet.Lts as lts
+use Rattle.sheet.proofs.standing.meet.Statement.{statement}
+use Rattle.sheet.proofs.standing.meet.Tie as tie
+use Rattle.sheet.proofs.standing.meet.Reads as reads
+use Rattle.sheet.proofs.standing.meet.Lts as lts
 
 element-copy-out-next : tie.Need-element-copy-out-next
 element-copy-out-next c = search needs

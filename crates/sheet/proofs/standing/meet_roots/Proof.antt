@@ -4,12 +4,12 @@ use native.Mathlib.Omega.{arith}
 use Rattle.rules.specs.SheetFile.{clauses}
 use Rattle.sheet.specs.SectionsLaws.{mapped}
 use Rattle.sheet.specs.TallyLaws.{RootTally, roots-begin, root-room-to-meet, roots-go-on, roots-done}
-use Rattle.sheet.proofs.shape.meet_roots.Statement.{statement}
-use Rattle.sheet.proofs.shape.meet_roots.Tie as tie
-use Rattle.sheet.proofs.shape.meet_roots.Reads as reads
-use Rattle.sheet.proofs.shape.meet_roots.Lts as lts
+use Rattle.sheet.proofs.standing.meet_roots.Statement.{statement}
+use Rattle.sheet.proofs.standing.meet_roots.Tie as tie
+use Rattle.sheet.proofs.standing.meet_roots.Reads as reads
+use Rattle.sheet.proofs.standing.meet_roots.Lts as lts
 use Rattle.sheet.proofs.records.root_at.Reads as root-at-reads
-use Rattle.sheet.proofs.shape.meet.Reads as meet-reads
+use Rattle.sheet.proofs.standing.meet.Reads as meet-reads
 
 abbrev Inv-loop : tie.InvT-loop
 Inv-loop s m next₀ c₀ next c = (c ≤ clauses s) × RootTally s c (next .times)

@@ -4,11 +4,11 @@ use Prim.Native.Nat.{_-_, _≤_}
 use native.Mathlib.Omega.{arith}
 use Rattle.sheet.specs.Meeting.{Meets}
 use Rattle.sheet.specs.MeetingLaws.{meets-none, meets-more, room-to-meet, meets-all}
-use Rattle.sheet.proofs.shape.meet_all.Statement.{statement}
-use Rattle.sheet.proofs.shape.meet_all.Tie as tie
-use Rattle.sheet.proofs.shape.meet_all.Reads as reads
-use Rattle.sheet.proofs.shape.meet_all.Lts as lts
-use Rattle.sheet.proofs.shape.meet.Reads as meet-reads
+use Rattle.sheet.proofs.standing.meet_all.Statement.{statement}
+use Rattle.sheet.proofs.standing.meet_all.Tie as tie
+use Rattle.sheet.proofs.standing.meet_all.Reads as reads
+use Rattle.sheet.proofs.standing.meet_all.Lts as lts
+use Rattle.sheet.proofs.standing.meet.Reads as meet-reads
 
 abbrev Inv-loop : tie.InvT-loop
 Inv-loop first count next₀ k₀ next k = (k ≤ count) × Meets first k (next₀ .times) (next .times)

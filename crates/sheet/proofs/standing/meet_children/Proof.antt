@@ -4,12 +4,12 @@ use native.Mathlib.Omega.{arith}
 use Rattle.rules.specs.SheetFile.{children}
 use Rattle.sheet.specs.SectionsLaws.{mapped}
 use Rattle.sheet.specs.TallyLaws.{EntryTally, entries-begin, entry-room-to-meet, entries-go-on, entries-done}
-use Rattle.sheet.proofs.shape.meet_children.Statement.{statement}
-use Rattle.sheet.proofs.shape.meet_children.Tie as tie
-use Rattle.sheet.proofs.shape.meet_children.Reads as reads
-use Rattle.sheet.proofs.shape.meet_children.Lts as lts
+use Rattle.sheet.proofs.standing.meet_children.Statement.{statement}
+use Rattle.sheet.proofs.standing.meet_children.Tie as tie
+use Rattle.sheet.proofs.standing.meet_children.Reads as reads
+use Rattle.sheet.proofs.standing.meet_children.Lts as lts
 use Rattle.sheet.proofs.records.child_at.Reads as child-at-reads
-use Rattle.sheet.proofs.shape.meet.Reads as meet-reads
+use Rattle.sheet.proofs.standing.meet.Reads as meet-reads
 
 abbrev Inv-loop : tie.InvT-loop
 Inv-loop s m next₀ j₀ next j = (j ≤ children s) × EntryTally s j (next .times)

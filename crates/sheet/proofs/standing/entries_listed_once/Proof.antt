@@ -7,14 +7,14 @@ use Rattle.sheet.specs.SectionsLaws.{mapped}
 use Rattle.sheet.specs.TestsLaws.{passed, stopped}
 use Rattle.sheet.specs.MeetingLaws.{none-of-zeros}
 use Rattle.sheet.specs.TallyLaws.{ListTally, lists-begin, list-room, lists-go-on, listed-twice, lists-done}
-use Rattle.sheet.proofs.shape.entries_listed_once.Statement.{statement}
-use Rattle.sheet.proofs.shape.entries_listed_once.Tie as tie
-use Rattle.sheet.proofs.shape.entries_listed_once.Reads as reads
-use Rattle.sheet.proofs.shape.entries_listed_once.Lts as lts
-use Rattle.sheet.proofs.shape.all_met_once.Reads as all-met-once-reads
-use Rattle.sheet.proofs.shape.children_of.Reads as children-of-reads
-use Rattle.sheet.proofs.shape.meet_all.Reads as meet-all-reads
-use Rattle.sheet.proofs.shape.none_met.Reads as none-met-reads
+use Rattle.sheet.proofs.standing.entries_listed_once.Statement.{statement}
+use Rattle.sheet.proofs.standing.entries_listed_once.Tie as tie
+use Rattle.sheet.proofs.standing.entries_listed_once.Reads as reads
+use Rattle.sheet.proofs.standing.entries_listed_once.Lts as lts
+use Rattle.sheet.proofs.standing.all_met_once.Reads as all-met-once-reads
+use Rattle.sheet.proofs.records.children_of.Reads as children-of-reads
+use Rattle.sheet.proofs.standing.meet_all.Reads as meet-all-reads
+use Rattle.sheet.proofs.standing.none_met.Reads as none-met-reads
 
 abbrev Inv-loop : tie.InvT-loop
 Inv-loop s m met₀ p₀ met p = (p ≤ patterns s) × ListTally s p (met .times)
