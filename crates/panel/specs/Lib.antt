@@ -1,7 +1,6 @@
 -- The definitions that the contracts of this crate cite, and their laws.
 pub mod Opened
 pub mod Answers
-pub mod AnswersLaws
 pub mod LayoutLaws
 pub mod Sums
 pub mod Shape
@@ -9,3 +8,4 @@ pub mod ShapeLaws
 pub mod ShapePass
 pub mod ShapeSteps
 pub mod TextsLaws
+pub mod AnswersLaws

@@ -2,10 +2,12 @@
 use words::word_at;
 ghost use mathlib.Core.Path.{_≡_};
 ghost use Prim.Native.Nat.{_<_, _≤_};
-ghost use Rattle.rules.specs.PanelFile.{records};
+ghost use Rattle.rules.specs.PanelFile.{records, panelVerdict};
+ghost use Rattle.rules.specs.SheetRefusals.{accepted};
+ghost use Rattle.rules.specs.Calls.{textPart};
 ghost use Rattle.facts.specs.PanelFacts.{PanelLaid};
-ghost use Rattle.panel.specs.Opened.{recordOf};
-ghost use Rattle.panel.specs.Answers.{checked};
+ghost use Rattle.panel.specs.Opened.{mapOf, recordOf};
+ghost use Rattle.panel.specs.Answers.{checked, located};
 
 mod layout;
 mod limits;
@@ -93,4 +95,57 @@ pub fn check(v: &[u8]) -> Checked
         };
     }
     Checked::Accepted(m)
+}
+
+// 33: the position is not an integer or byte string of the panel with 0 dropped.
+fn not_text() -> Located
+    ensures { λ r. ⌜ r ≡ Located.Refused 33 0 ⌝ }
+{
+    Located::Refused {
+        number: 33,
+        place: 0,
+    }
+}
+
+// The text of record r with so many elements dropped, in an accepted panel.
+fn text_in(v: &[u8], m: Map, r: u16, dropped: u16) -> Located
+    requires { ⌜ (panelVerdict (now v) ≡ accepted) × (m ≡ mapOf (now v)) ⌝ }
+    ensures { λ res. ⌜ res ≡ located (now (v .entry)) r dropped ⌝ }
+{
+    let at = r as usize;
+    if m.records <= at {
+        return not_text();
+    }
+    let x = record_at(v, at);
+    if 1 < x.kind {
+        return not_text();
+    }
+    if dropped != 0 {
+        return not_text();
+    }
+    Located::At {
+        start: m.pool_at + x.first,
+        count: x.count,
+    }
+}
+
+// The text call: where the bytes of an integer or a byte string stand in the panel.
+pub fn text(v: &[u8], r: u16, dropped: u16) -> Located
+    ensures { λ res. ⌜ res ≡ located (now (v .entry)) r dropped ⌝ }
+{
+    match check(v) {
+        Checked::Accepted(m) => text_in(v, m, r, dropped),
+        Checked::Refused { number, place } => Located::Refused { number, place },
+    }
+}
+
+// The twin of the text call: that part of the caller's panel itself, empty if refused.
+pub fn text_part<'a>(v: &'a [u8], r: u16, dropped: u16) -> &'a [u8]
+    ensures { λ res. ⌜ now res ≡ textPart (now (v .entry)) r dropped ⌝ }
+{
+    let Located::At { start, count } = text(v, r, dropped) else {
+        return &v[..0];
+    };
+    let end = start + count;
+    &v[start..end]
 }
