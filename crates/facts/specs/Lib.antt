@@ -4,3 +4,4 @@ pub mod RunsLaws
 pub mod SheetFacts
 pub mod PatternsLaws
 pub mod PanelFacts
+pub mod TreeFacts

@@ -14,7 +14,7 @@ use lib.ListN.{length}
 use Rattle.words.specs.Words.{both}
 use Rattle.words.specs.WordsLaws.{both-true}
 use Rattle.rules.specs.Limits.{recordSize, partSize, panelTrailer, panelMost, recordsMost, panelDepthMost, textMost}
-use Rattle.rules.specs.Searching.{times}
+use Rattle.rules.specs.Searching.{every, times}
 use Rattle.rules.specs.SearchingLaws.{every-true, times-found, times-one}
 use Rattle.rules.specs.SheetFile.{typeKind, typeCount, entry, runIn}
 use Rattle.rules.specs.Patterns.{takesArguments}
@@ -95,9 +95,8 @@ pub record PanelShaped (v : List ℕ) : Type 0 where
   pub part-above : (r j : ℕ) → r < records v → Holds v r j → r < part v j
   pub part-record : (j : ℕ) → j < parts v → part v j < records v
   pub its-holder : (j : ℕ) → j < parts v → (r : ℕ) × (r < records v) × Holds v r j
-  pub one-holder : (q r j : ℕ) → q < records v → r < records v → j < parts v → Holds v q j → Holds v r j → q ≡ r
+  pub one-holder : (q r j : ℕ) → q < records v → r < records v → Holds v q j → Holds v r j → q ≡ r
   pub is-part-once : (r : ℕ) → 1 ≤ r → r < records v → times (isPart v r) 0 (parts v) ≡ 1
-  pub root-depth : recordWithin panelDepthMost v 0 ≡ true
 
 -- which kinds have parts: list to constructor
 numbers-with-parts : (kind : RecordKind) → 2 ≤ recordNumber kind → recordNumber kind ≤ 5 → hasParts kind ≡ true
@@ -157,7 +156,7 @@ module _ (v : List ℕ) (r : ℕ) (fit : recordFieldsFit v r (recordKindOf (reco
   of-kind : (kind : RecordKind) → recordKindOf (recordKind v r) ≡ kind → recordFieldsFit v r kind ≡ true
   of-kind kind e = rw e at fit
 
-  fields-kind : recordKind v r ≤ 5
+  pub fields-kind : recordKind v r ≤ 5
   unfolding recordFieldsFit
   fields-kind = go (leb (recordKind v r) 5) refl
     where
@@ -165,23 +164,23 @@ module _ (v : List ℕ) (r : ℕ) (fit : recordFieldsFit v r (recordKindOf (reco
       go true e = leb-true _ _ e
       go false e = absurd (true≢false (sym (of-kind Unknown-record (record-unknown _ (leb-false _ _ e)))))
 
-  fields-a-unused : (recordKind v r ≡ 5 → ⊥) → recordA v r ≡ 0
+  pub fields-a-unused : (recordKind v r ≡ 5 → ⊥) → recordA v r ≡ 0
   fields-a-unused c = fields-a v r (recordKindOf (recordKind v r)) fit (λ e. c (record-byte _ Constructor-record e (omega arith)))
 
-  fields-pair : recordKind v r ≡ 3 → recordCount v r ≡ 2
+  pub fields-pair : recordKind v r ≡ 3 → recordCount v r ≡ 2
   unfolding recordFieldsFit recordKindOf
   fields-pair e =
       let f = both-true (eqb (recordA v r) 0) _ (of-kind Pair-record (rw e)) in
       eqb-true _ _ (both-true (eqb (recordCount v r) 2) (runIn (recordFirst v r) (recordCount v r) (parts v)) (f .1) .0)
 
-  fields-text : recordKind v r ≤ 1 → Run (recordFirst v r) (recordCount v r) (panelPoolSize v)
+  pub fields-text : recordKind v r ≤ 1 → Run (recordFirst v r) (recordCount v r) (panelPoolSize v)
   unfolding recordFieldsFit recordKindOf
   fields-text h =
       ⊎-elim (λ e. run-in _ _ _ (both-true (eqb (recordA v r) 0) _ (of-kind Bytes-record (rw e)) .1))
       (λ l. let e : recordKind v r ≡ 0 = omega arith in run-in _ _ _ (both-true (eqb (recordA v r) 0) _ (of-kind Integer-record (rw e)) .1))
       (eq-or-lt-of-le h)
 
-  fields-run : 2 ≤ recordKind v r → Run (recordFirst v r) (recordCount v r) (parts v)
+  pub fields-run : 2 ≤ recordKind v r → Run (recordFirst v r) (recordCount v r) (parts v)
   fields-run low = fields-parts v r (recordKindOf (recordKind v r)) fit (kind-holder v r low fields-kind)
 
 pub holds-listed : (v : List ℕ) (r j : ℕ) → holds v j r ≡ true → Holds v r j
@@ -201,6 +200,9 @@ above-held v r j h o =
     let all = every-true (isHigher v r) (recordFirst v r) (recordCount v r) (rw (o .holder) at h) j (o .from) (o .to) in
     ltb-true r (part v j) (both-true (ltb r (part v j)) (ltb (part v j) (records v)) all .0)
 
+run-entry : (v : List ℕ) (r j : ℕ) → recordFieldsFit v r (recordKindOf (recordKind v r)) ≡ true → Holds v r j → j < parts v
+run-entry v r j fit o = omega (arith, fields-run v r fit (holder-kind v r (o .holder) .0), o .to)
+
 -- an entry that one record lists
 module _ (v : List ℕ) (j : ℕ) (once : times (holds v j) 0 (records v) ≡ 1) where
   holder-found : (r : ℕ) × (r < records v) × Holds v r j
@@ -210,23 +212,22 @@ module _ (v : List ℕ) (j : ℕ) (once : times (holds v j) 0 (records v) ≡ 1)
   holder-one q r hq hr oq or =
       times-one (holds v j) 0 (records v) q r (omega arith) (omega arith) (omega arith) (listed-holds v q j oq) (omega arith) (omega arith) (listed-holds v r j or)
 
-pub panel-shaped : (v : List ℕ) → panelShapeFits v ≡ true → PanelShaped v
-unfolding panelShapeFits recordKeepsRules isOnePart partKeepsRules
-panel-shaped v keeps =
-    let k1 = both-true _ _ keeps in
-    let k2 = both-true _ _ (k1 .1) in
-    let k3 = both-true _ _ (k2 .1) in
+-- from the rules of records and child entries; the depth is asked after these
+pub panel-shaped-by-rules : (v : List ℕ) → every (recordKeepsRules v) 0 (records v) ≡ true → every (isOnePart v) 1 (records v - 1) ≡ true
+    → every (partKeepsRules v) 0 (parts v) ≡ true → PanelShaped v
+unfolding recordKeepsRules isOnePart partKeepsRules
+panel-shaped-by-rules v keep-records each-once keep-parts =
     let first : (r : ℕ) → r < records v → (eqb (recordZero v r) 0 ≡ true) × (both (recordFieldsFit v r (recordKindOf (recordKind v r))) (partsHigher v r (recordKindOf (recordKind v r))) ≡ true) =
-    λ r h. both-true _ _ (every-below (recordKeepsRules v) (records v) (k1 .0) r h)
+    λ r h. both-true _ _ (every-below (recordKeepsRules v) (records v) keep-records r h)
     in
     let second : (r : ℕ) → r < records v → (recordFieldsFit v r (recordKindOf (recordKind v r)) ≡ true) × (partsHigher v r (recordKindOf (recordKind v r)) ≡ true) =
     λ r h. both-true _ _ (first r h .1)
     in
     let once : (r : ℕ) → 1 ≤ r → r < records v → eqb (times (isPart v r) 0 (parts v)) 1 ≡ true =
-    λ r low h. every-true (isOnePart v) 1 (records v - 1) (k2 .0) r low (below r h)
+    λ r low h. every-true (isOnePart v) 1 (records v - 1) each-once r low (below r h)
     in
     let entries : (j : ℕ) → j < parts v → (ltb (part v j) (records v) ≡ true) × (eqb (times (holds v j) 0 (records v)) 1 ≡ true) =
-    λ j h. both-true _ _ (every-below (partKeepsRules v) (parts v) (k3 .0) j h)
+    λ j h. both-true _ _ (every-below (partKeepsRules v) (parts v) keep-parts j h)
     in
     record {
       zero-byte = λ r h. eqb-true _ _ (first r h .0);
@@ -238,13 +239,27 @@ panel-shaped v keeps =
       part-above = λ r j h. above-held v r j (second r h .1);
       part-record = λ j h. ltb-true _ _ (entries j h .0);
       its-holder = λ j h. holder-found v j (eqb-true _ _ (entries j h .1));
-      one-holder = λ q r j hq hr h. holder-one v j (eqb-true _ _ (entries j h .1)) q r hq hr;
+      one-holder = λ q r j hq hr o. holder-one v j (eqb-true _ _ (entries j (run-entry v q j (second q hq .0) o) .1)) q r hq hr o;
       is-part-once = λ r low h. eqb-true _ _ (once r low h);
-      root-depth = k3 .1;
     }
   where
     below : (r : ℕ) → r < records v → r < 1 + (records v - 1)
     below r h = omega arith
+
+pub panel-shaped : (v : List ℕ) → panelShapeFits v ≡ true → PanelShaped v
+unfolding panelShapeFits
+panel-shaped v keeps =
+    let k1 = both-true _ _ keeps in
+    let k2 = both-true _ _ (k1 .1) in
+    let k3 = both-true _ _ (k2 .1) in
+    panel-shaped-by-rules v (k1 .0) (k2 .0) (k3 .0)
+
+pub panel-shape-depth : (v : List ℕ) → panelShapeFits v ≡ true → recordWithin panelDepthMost v 0 ≡ true
+unfolding panelShapeFits
+panel-shape-depth v keeps =
+    let k1 = both-true (every (recordKeepsRules v) 0 (records v)) _ keeps in
+    let k2 = both-true (every (isOnePart v) 1 (records v - 1)) _ (k1 .1) in
+    both-true (every (partKeepsRules v) 0 (parts v)) _ (k2 .1) .1
 
 module _ {v : List ℕ} (sh : PanelShaped v) where
   -- what stands in a record's list
@@ -281,6 +296,7 @@ recordWithin-part v deep r j h o =
 pub record PanelAccepted (v : List ℕ) : Type 0 where
   pub is-laid : PanelLaid v
   pub is-shaped : PanelShaped v
+  pub root-depth : recordWithin panelDepthMost v 0 ≡ true
   pub integer-canonical : (r : ℕ) → r < records v → recordKind v r ≡ 0 → canonical (recordText v r) ≡ true
   pub text-short : (r : ℕ) → r < records v → recordKind v r ≤ 1 → recordCount v r ≤ textMost
 
@@ -309,6 +325,7 @@ accepted-panel v h =
     record {
       is-laid = panel-laid v (v21 .0) (v22 .0);
       is-shaped = panel-shaped v (v23 .0);
+      root-depth = panel-shape-depth v (v23 .0);
       integer-canonical = λ r l e. good-integer v r (texts r l) e .1;
       text-short = λ r l. good-short v r (texts r l);
     }

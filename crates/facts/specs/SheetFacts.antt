@@ -13,10 +13,10 @@ use lib.ListN.{length}
 use Rattle.words.specs.Words.{both}
 use Rattle.words.specs.WordsLaws.{both-true, either-true}
 use Rattle.rules.specs.Limits.{typeSize, constructorSize, entrySize, patternSize, childSize, clauseSize, sheetTrailer, sheetMost, typesMost, constructorsMost, entriesMost, patternsMost, childrenMost, clausesMost, depthMost, textMost}
-use Rattle.rules.specs.Searching.{times}
+use Rattle.rules.specs.Searching.{every, times}
 use Rattle.rules.specs.SearchingLaws.{every-true, times-some, times-found, times-one}
 use Rattle.rules.specs.SheetFile.{subject, sheetLength, typesAt, constructorsAt, entriesAt, patternsAt, childrenAt, clausesAt, poolAt, poolEnd, types, constructors, entries, patterns, children, clauses, poolSize, typeKind, typeFlag, typeFirst, typeCount, constructorFirst, constructorCount, entry, patternKind, patternZero, patternA, patternFirst, patternCount, child, root, poolText, runIn}
-use Rattle.rules.specs.Patterns.{PatternKind, Discard, Variable, Assign, Integer, ByteString, ListOfAll, ListWithRest, Constructor, Pair, Tuple, Unknown, patternKindOf, clausePattern, fits, names}
+use Rattle.rules.specs.Patterns.{PatternKind, Discard, Variable, Assign, Integer, ByteString, ListOfAll, ListWithRest, Constructor, Pair, Tuple, Unknown, patternKindOf, constructorOf, clausePattern, fits, names}
 use Rattle.rules.specs.Texts.{canonical, shortText}
 use Rattle.rules.specs.SheetRefusals.{lengthFits, layoutFits, hasClause, countsFit, typeParts, typeFlags, typeKeepsRules, constructorKeepsRules, entryKeepsRules, typesFit, hasChildren, tailFits, fieldsFit, isAbove, childrenAbove, isRoot, isEntry, standsOnce, patternKeepsRules, lists, childKeepsRules, rootKeepsRules, within, depthFits, shapeFits, transparent, lowestTransparent, textOfKind, badText, lowestBadText, misfit, lowestMisfit, repeats, nameTwice, lowestNameTwice, verdict, accepted}
 use Rattle.facts.specs.KindsLaws.{patternNumber, pattern-number, pattern-byte, pattern-unknown}
@@ -214,6 +214,18 @@ typed s keeps =
       subject-type = ltb-true _ _ (k3 .1);
     }
 
+-- the type numbers that a type's or a constructor's own run of entries holds, and the constructors of a Data type
+module _ {s : List ℕ} (ty : Typed s) where
+  pub part-type : (t i : ℕ) → t < types s → typeKind s t ≤ 4 → i < typeCount s t → entry s (typeFirst s t + i) < types s
+  part-type t i h k l = ty .entry-type (typeFirst s t + i) (omega (arith, ty .type-entries t h k))
+
+  pub field-type : (c i : ℕ) → c < constructors s → i < constructorCount s c → entry s (constructorFirst s c + i) < types s
+  field-type c i h l = ty .entry-type (constructorFirst s c + i) (omega (arith, ty .constructor-entries c h))
+
+  pub its-constructor : (t a : ℕ) → t < types s → typeKind s t ≡ 5 → a < typeCount s t → constructorOf s t a < constructors s
+  unfolding constructorOf
+  its-constructor t a h k l = omega (arith, ty .type-constructors t h k)
+
 -- ---- 8: patterns, child entries and roots
 -- p has its first and count in the child list
 abbrev pub Parent : List ℕ → ℕ → Type 0
@@ -239,10 +251,9 @@ pub record Shaped (s : List ℕ) : Type 0 where
   pub child-above : (p j : ℕ) → p < patterns s → Owns s p j → p < child s j
   pub child-pattern : (j : ℕ) → j < children s → child s j < patterns s
   pub owner : (j : ℕ) → j < children s → (p : ℕ) × (p < patterns s) × Owns s p j
-  pub one-owner : (p q j : ℕ) → p < patterns s → q < patterns s → j < children s → Owns s p j → Owns s q j → p ≡ q
+  pub one-owner : (p q j : ℕ) → p < patterns s → q < patterns s → Owns s p j → Owns s q j → p ≡ q
   pub stands-once : (p : ℕ) → p < patterns s → times (isRoot s p) 0 (clauses s) + times (isEntry s p) 0 (children s) ≡ 1
   pub root-pattern : (c : ℕ) → c < clauses s → root s c < patterns s
-  pub root-depth : (c : ℕ) → c < clauses s → within depthMost s (root s c) ≡ true
 
 -- what the fields of one pattern say, kind by kind
 fields-a : (s : List ℕ) (p : ℕ) (kind : PatternKind) → fieldsFit s p kind ≡ true → (kind ≡ Variable → ⊥) → (kind ≡ Assign → ⊥) → (kind ≡ Constructor → ⊥) → patternA s p ≡ 0
@@ -279,7 +290,7 @@ module _ (s : List ℕ) (p : ℕ) (fit : fieldsFit s p (patternKindOf (patternKi
   of-kind : (kind : PatternKind) → patternKindOf (patternKind s p) ≡ kind → fieldsFit s p kind ≡ true
   of-kind kind e = rw e at fit
 
-  fields-kind : patternKind s p ≤ 9
+  pub fields-kind : patternKind s p ≤ 9
   unfolding fieldsFit
   fields-kind = go (leb (patternKind s p) 9) refl
     where
@@ -287,14 +298,14 @@ module _ (s : List ℕ) (p : ℕ) (fit : fieldsFit s p (patternKindOf (patternKi
       go true e = leb-true _ _ e
       go false e = absurd (true≢false (sym (of-kind Unknown (pattern-unknown _ (leb-false _ _ e)))))
 
-  fields-a-unused : (patternKind s p ≡ 1 → ⊥) → (patternKind s p ≡ 2 → ⊥) → (patternKind s p ≡ 7 → ⊥) → patternA s p ≡ 0
+  pub fields-a-unused : (patternKind s p ≡ 1 → ⊥) → (patternKind s p ≡ 2 → ⊥) → (patternKind s p ≡ 7 → ⊥) → patternA s p ≡ 0
   fields-a-unused v a c =
       fields-a s p (patternKindOf (patternKind s p)) fit
       (λ e. v (pattern-byte _ Variable e (omega arith)))
       (λ e. a (pattern-byte _ Assign e (omega arith)))
       (λ e. c (pattern-byte _ Constructor e (omega arith)))
 
-  fields-plain : patternKind s p ≤ 1 → (patternFirst s p ≡ 0) × (patternCount s p ≡ 0)
+  pub fields-plain : patternKind s p ≤ 1 → (patternFirst s p ≡ 0) × (patternCount s p ≡ 0)
   unfolding fieldsFit patternKindOf
   fields-plain h = ⊎-elim variable discard (eq-or-lt-of-le h)
     where
@@ -310,18 +321,18 @@ module _ (s : List ℕ) (p : ℕ) (fit : fieldsFit s p (patternKindOf (patternKi
           let g = both-true (eqb (patternFirst s p) 0) (eqb (patternCount s p) 0) (f .1) in
           (eqb-true _ _ (g .0), eqb-true _ _ (g .1))
 
-  fields-assign : patternKind s p ≡ 2 → patternCount s p ≡ 1
+  pub fields-assign : patternKind s p ≡ 2 → patternCount s p ≡ 1
   unfolding fieldsFit patternKindOf
   fields-assign e = eqb-true _ _ (both-true (eqb (patternCount s p) 1) (runIn (patternFirst s p) (patternCount s p) (children s)) (of-kind Assign (rw e)) .0)
 
-  fields-text : 3 ≤ patternKind s p → patternKind s p ≤ 4 → Run (patternFirst s p) (patternCount s p) (poolSize s)
+  pub fields-text : 3 ≤ patternKind s p → patternKind s p ≤ 4 → Run (patternFirst s p) (patternCount s p) (poolSize s)
   unfolding fieldsFit patternKindOf
   fields-text low high =
       ⊎-elim (λ e. run-in _ _ _ (both-true (eqb (patternA s p) 0) _ (of-kind ByteString (rw e)) .1))
       (λ l. let e : patternKind s p ≡ 3 = omega arith in run-in _ _ _ (both-true (eqb (patternA s p) 0) _ (of-kind Integer (rw e)) .1))
       (eq-or-lt-of-le high)
 
-  fields-tail : patternKind s p ≡ 6 → (2 ≤ patternCount s p) × (patternKind s (child s (patternFirst s p + (patternCount s p - 1))) ≤ 1)
+  pub fields-tail : patternKind s p ≡ 6 → (2 ≤ patternCount s p) × (patternKind s (child s (patternFirst s p + (patternCount s p - 1))) ≤ 1)
   unfolding fieldsFit patternKindOf tailFits
   fields-tail e =
       let f = both-true (eqb (patternA s p) 0) _ (of-kind ListWithRest (rw e)) in
@@ -329,13 +340,13 @@ module _ (s : List ℕ) (p : ℕ) (fit : fieldsFit s p (patternKindOf (patternKi
       let h = both-true (runIn (patternFirst s p) (patternCount s p) (children s)) (tailFits s p) (g .1) in
       (leb-true _ _ (g .0), leb-true _ _ (h .1))
 
-  fields-pair : patternKind s p ≡ 8 → patternCount s p ≡ 2
+  pub fields-pair : patternKind s p ≡ 8 → patternCount s p ≡ 2
   unfolding fieldsFit patternKindOf
   fields-pair e =
       let f = both-true (eqb (patternA s p) 0) _ (of-kind Pair (rw e)) in
       eqb-true _ _ (both-true (eqb (patternCount s p) 2) (runIn (patternFirst s p) (patternCount s p) (children s)) (f .1) .0)
 
-  fields-run : Parent s p → Run (patternFirst s p) (patternCount s p) (children s)
+  pub fields-run : Parent s p → Run (patternFirst s p) (patternCount s p) (children s)
   fields-run has = fields-children s p (patternKindOf (patternKind s p)) fit has
 
 pub owns-listed : (s : List ℕ) (p j : ℕ) → lists s j p ≡ true → Owns s p j
@@ -355,6 +366,9 @@ above-owned s p j h o =
     let all = every-true (isAbove s p) (patternFirst s p) (patternCount s p) (rw (o .parent) at h) j (o .from) (o .to) in
     ltb-true p (child s j) (both-true (ltb p (child s j)) (ltb (child s j) (patterns s)) all .0)
 
+run-entry : (s : List ℕ) (p j : ℕ) → fieldsFit s p (patternKindOf (patternKind s p)) ≡ true → Owns s p j → j < children s
+run-entry s p j fit o = omega (arith, fields-run s p fit (o .parent), o .to)
+
 -- an entry that one pattern lists
 module _ (s : List ℕ) (j : ℕ) (once : times (lists s j) 0 (patterns s) ≡ 1) where
   owner-found : (p : ℕ) × (p < patterns s) × Owns s p j
@@ -364,14 +378,13 @@ module _ (s : List ℕ) (j : ℕ) (once : times (lists s j) 0 (patterns s) ≡ 1
   owner-one p q hp hq op oq =
       times-one (lists s j) 0 (patterns s) p q (omega arith) (omega arith) (omega arith) (listed-owns s p j op) (omega arith) (omega arith) (listed-owns s q j oq)
 
-pub shaped : (s : List ℕ) → shapeFits s ≡ true → Shaped s
-unfolding shapeFits patternKeepsRules standsOnce childKeepsRules rootKeepsRules depthFits
-shaped s keeps =
-    let k1 = both-true _ _ keeps in
-    let k2 = both-true _ _ (k1 .1) in
-    let k3 = both-true _ _ (k2 .1) in
+-- from the rules of patterns, child entries and roots; the depth is asked after these
+pub shaped-by-rules : (s : List ℕ) → every (patternKeepsRules s) 0 (patterns s) ≡ true → every (childKeepsRules s) 0 (children s) ≡ true
+    → every (rootKeepsRules s) 0 (clauses s) ≡ true → Shaped s
+unfolding patternKeepsRules standsOnce childKeepsRules rootKeepsRules
+shaped-by-rules s keep-patterns keep-children keep-roots =
     let first : (p : ℕ) → p < patterns s → (eqb (patternZero s p) 0 ≡ true) × (both (fieldsFit s p (patternKindOf (patternKind s p))) (both (childrenAbove s p (patternKindOf (patternKind s p))) (standsOnce s p)) ≡ true) =
-    λ p h. both-true _ _ (every-below (patternKeepsRules s) (patterns s) (k1 .0) p h)
+    λ p h. both-true _ _ (every-below (patternKeepsRules s) (patterns s) keep-patterns p h)
     in
     let second : (p : ℕ) → p < patterns s → (fieldsFit s p (patternKindOf (patternKind s p)) ≡ true) × (both (childrenAbove s p (patternKindOf (patternKind s p))) (standsOnce s p) ≡ true) =
     λ p h. both-true _ _ (first p h .1)
@@ -380,7 +393,7 @@ shaped s keeps =
     λ p h. both-true _ _ (second p h .1)
     in
     let entries : (j : ℕ) → j < children s → (ltb (child s j) (patterns s) ≡ true) × (eqb (times (lists s j) 0 (patterns s)) 1 ≡ true) =
-    λ j h. both-true _ _ (every-below (childKeepsRules s) (children s) (k2 .0) j h)
+    λ j h. both-true _ _ (every-below (childKeepsRules s) (children s) keep-children j h)
     in
     record {
       zero-byte = λ p h. eqb-true _ _ (first p h .0);
@@ -396,11 +409,26 @@ shaped s keeps =
       child-above = λ p j h. above-owned s p j (third p h .0);
       child-pattern = λ j h. ltb-true _ _ (entries j h .0);
       owner = λ j h. owner-found s j (eqb-true _ _ (entries j h .1));
-      one-owner = λ p q j hp hq h. owner-one s j (eqb-true _ _ (entries j h .1)) p q hp hq;
+      one-owner = λ p q j hp hq o. owner-one s j (eqb-true _ _ (entries j (run-entry s p j (second p hp .0) o) .1)) p q hp hq o;
       stands-once = λ p h. eqb-true _ _ (third p h .1);
-      root-pattern = λ c h. ltb-true _ _ (every-below (rootKeepsRules s) (clauses s) (k3 .0) c h);
-      root-depth = λ c h. every-below (depthFits s) (clauses s) (k3 .1) c h;
+      root-pattern = λ c h. ltb-true _ _ (every-below (rootKeepsRules s) (clauses s) keep-roots c h);
     }
+
+pub shaped : (s : List ℕ) → shapeFits s ≡ true → Shaped s
+unfolding shapeFits
+shaped s keeps =
+    let k1 = both-true _ _ keeps in
+    let k2 = both-true _ _ (k1 .1) in
+    let k3 = both-true _ _ (k2 .1) in
+    shaped-by-rules s (k1 .0) (k2 .0) (k3 .0)
+
+pub shape-depth : (s : List ℕ) → shapeFits s ≡ true → (c : ℕ) → c < clauses s → within depthMost s (root s c) ≡ true
+unfolding shapeFits depthFits
+shape-depth s keeps =
+    let k1 = both-true (every (patternKeepsRules s) 0 (patterns s)) _ keeps in
+    let k2 = both-true (every (childKeepsRules s) 0 (children s)) _ (k1 .1) in
+    let k3 = both-true (every (rootKeepsRules s) 0 (clauses s)) _ (k2 .1) in
+    every-below (depthFits s) (clauses s) (k3 .1)
 
 -- which kinds have children: assign, and list to tuple
 pub assign-parent : (s : List ℕ) (p : ℕ) → patternKind s p ≡ 2 → Parent s p
@@ -504,6 +532,7 @@ pub record Accepted (s : List ℕ) : Type 0 where
   pub is-typed : Typed s
   pub none-transparent : (t : ℕ) → t < types s → transparent s t ≡ false
   pub is-shaped : Shaped s
+  pub root-depth : (c : ℕ) → c < clauses s → within depthMost s (root s c) ≡ true
   pub integer-canonical : (p : ℕ) → p < patterns s → patternKind s p ≡ 3 → canonical (poolText s (patternFirst s p) (patternCount s p)) ≡ true
   pub text-short : (p : ℕ) → p < patterns s → 3 ≤ patternKind s p → patternKind s p ≤ 4 → patternCount s p ≤ textMost
   pub clause-fits : (c : ℕ) → c < clauses s → fits (clausePattern s c) s ≡ true
@@ -542,6 +571,7 @@ accepted-sheet s h =
       is-typed = typed s (v6 .0);
       none-transparent = none-below (transparent s) (types s) (v7 .0);
       is-shaped = shaped s (v8 .0);
+      root-depth = shape-depth s (v8 .0);
       integer-canonical = λ p l e. good-integer s p (none-below (badText s) (patterns s) (v9 .0) p l) e .1;
       text-short = λ p l. good-short s p (none-below (badText s) (patterns s) (v9 .0) p l);
       clause-fits = λ c l. not-false _ (none-below (misfit s) (clauses s) (v10 .0) c l);
