@@ -113,8 +113,8 @@ fn enter_record(v: &[u8], m: Map, s: Seen, r: usize) -> Seen
     requires { ⌜ Opened (now v) m × (r < records (now v)) ⌝ }
     ensures { λ res. ⌜ res ≡ enterRecord (now (v .entry)) s r ⌝ }
 {
-    let depth = s.depths[r];
-    if depth == 0 {
+    let met = s.depths[r];
+    if met == 0 {
         return broken(s);
     }
     let x = record_at(v, r);

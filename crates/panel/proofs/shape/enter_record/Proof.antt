@@ -15,8 +15,8 @@ fit c =
     let o = c .before .before .before .before .before .before .pre .0 in
     c .fields-fit .ensures (a .v .now) (a .r) (c .before .before .record-at .ensures) (o .parts-are) (pool-read (a .v .now) (a .m) o)
 
-element-copy-out-depth : tie.Need-element-copy-out-depth
-element-copy-out-depth c = search needs
+element-copy-out-met : tie.Need-element-copy-out-met
+element-copy-out-met c = search needs
 
 broken-requires : tie.Need-broken-requires
 broken-requires c κs = search needs
@@ -66,7 +66,7 @@ pub enter-record-spec : {M : Type 1} → statement M
 enter-record-spec =
     tie.close
     (tie.spec
-    element-copy-out-depth
+    element-copy-out-met
     broken-requires
     returns
     record-at-requires
