@@ -1,21 +1,20 @@
 -- The answers from what the code has found: one law for each way out of a call.
 -- Rests on Answers, and on what an accepted panel gives.
-use mathlib.Core.Path.{_≡_, refl, sym, ap, _∙_}
+use mathlib.Core.Path.{_≡_, refl, ap}
 use mathlib.Core.Bool.{Bool, true, false}
 use mathlib.Core.List.{List, []}
 use Prim.Native.Nat.{ℕ, _+_, _≤_, _<_}
 use native.Mathlib.Omega.{arith}
-use borrow.Author.Tests.{leb-true, ltb-true, eq-eqb, ne-eqb, le-leb, lt-leb, lt-ltb, le-ltb}
-use lib.Dec.{eqb, leb, ltb}
+use borrow.Author.Tests.{leb-true, ltb-true, ne-eqb, le-leb, lt-leb, lt-ltb, le-ltb}
+use lib.Dec.{leb, ltb}
 use lib.ListN.{length}
-use Rattle.words.specs.Words.{both, textAt}
-use Rattle.words.specs.WordsLaws.{both-true, both-first-false, both-second-false, both-make}
+use Rattle.words.specs.Words.{textAt}
+use Rattle.words.specs.WordsLaws.{both-true, both-first-false, both-second-false}
 use Rattle.rules.specs.SheetRefusals.{Verdict, accepted, refused, require}
 use Rattle.rules.specs.PanelFile.{records, recordKind, panelPoolAt, recordFirst, recordCount, panelLengthFits, panelLayoutFits, panelShapeFits, panelTextsFit, panelVerdict}
 use Rattle.rules.specs.Calls.{Answer, answers, refuses, Span, unless, hasText, textCall, partOfSpan, textPart}
-use Rattle.facts.specs.PanelFacts.{PanelLaid, accepted-panel}
+use Rattle.facts.specs.PanelFacts.{accepted-panel}
 use Rattle.panel.specs.declared.Map.{Map}
-use Rattle.panel.specs.declared.Checked.{Checked}
 use Rattle.panel.specs.declared.Checked.the-variants.{Accepted, Refused}
 use Rattle.panel.specs.declared.Record.{Record}
 use Rattle.panel.specs.declared.Located.{Located}

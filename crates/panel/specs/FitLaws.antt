@@ -6,21 +6,18 @@ use mathlib.Core.Bool.{Bool, true, false}
 use mathlib.Core.List.{List}
 use Prim.Native.Nat.{ℕ, _+_, _-_, _≤_, _<_}
 use native.Mathlib.Omega.{arith}
-use borrow.Author.Tests.{eqb-true, leb-true, eq-eqb, ne-eqb, le-leb, lt-leb}
+use borrow.Author.Tests.{eqb-true, leb-true, eq-eqb, le-leb}
 use lib.Dec.{eqb, leb}
 use Rattle.words.specs.Words.{both, pick}
 use Rattle.words.specs.WordsLaws.{both-true}
 use Rattle.rules.specs.Limits.{recordsMost}
-use Rattle.rules.specs.SheetFile.{subject, types, constructors, entries, entry, typeKind, typeFirst, typeCount, constructorFirst, constructorCount}
+use Rattle.rules.specs.SheetFile.{subject, types, entries, entry, typeKind, typeFirst, typeCount, constructorFirst, constructorCount}
 use Rattle.rules.specs.Patterns.{constructorOf, takesArguments}
 use Rattle.rules.specs.PanelFile.{records, parts, recordKind, recordA, recordFirst, recordCount, part, RecordKind, Integer-record, Bytes-record, List-record, Pair-record, Tuple-record, Constructor-record, Unknown-record, recordKindOf, hasParts}
 use Rattle.rules.specs.Fitting.{partsFit, recordFits, hasTypeTo, panelFits}
-use Rattle.facts.specs.KindsLaws.{record-unknown}
-use Rattle.facts.specs.SheetFacts.{Laid, Typed, its-constructor}
-use Rattle.facts.specs.PanelFacts.{Holds, Holder, PanelShaped, held-entry, held-record, hasType-open, partsFit-some}
+use Rattle.facts.specs.PanelFacts.{Holds, Holder, held-entry, held-record, hasType-open, partsFit-some}
 use Rattle.sheet.specs.declared.Map.{Map as SheetMap}
 use Rattle.sheet.specs.declared.records.TypeRecord.{TypeRecord}
-use Rattle.sheet.specs.Sections.{mapOf as sheetMapOf}
 use Rattle.sheet.specs.declared.records.Run.{Run as Fields}
 use Rattle.sheet.specs.Records.{typeOf}
 use Rattle.sheet.specs.Records.{constructorOf as constructorAt}

@@ -1,10 +1,9 @@
 -- The layout and the map of a panel, and one record of it, from what was read.
 -- Rests on the definitions of the crate rules alone.
-use mathlib.Core.Path.{_≡_, refl, sym, ap, _∙_}
-use mathlib.Core.Bool.{Bool, true, false}
+use mathlib.Core.Path.{_≡_}
+use mathlib.Core.Bool.{Bool}
 use mathlib.Core.List.{List}
 use Prim.Native.Nat.{ℕ, _+_, _-_, _*_, _/_}
-use native.Mathlib.Omega.{arith}
 use native.Mathlib.Nat.{sub-zero, zero-add}
 use lib.Dec.{eqb, leb}
 use lib.ListN.{length, getD}

@@ -6,6 +6,7 @@ pub mod Sums
 pub mod Shape
 pub mod ShapeLaws
 pub mod ShapePass
+pub mod ShapeAnswer
 pub mod ShapeSteps
 pub mod TextsLaws
 pub mod AnswersLaws

@@ -7,9 +7,7 @@ use lib.ListN.{getD, set}
 use lib.Dec.{eqb, ltb}
 use Rattle.words.specs.Words.{both, pick, zeros}
 use Rattle.rules.specs.Limits.{recordsMost, panelDepthMost}
-use Rattle.rules.specs.SheetFile.{runIn}
-use Rattle.rules.specs.PanelFile.{records, parts, panelPoolSize, recordKind, recordZero, recordA, recordFirst, recordCount, part, RecordKind, Integer-record, Bytes-record, List-record, Pair-record, Tuple-record, Constructor-record, Unknown-record, recordKindOf, hasParts, recordFieldsFit, isHigher}
-use Rattle.panel.specs.declared.Record.{Record}
+use Rattle.rules.specs.PanelFile.{records, parts, recordKind, recordZero, recordFirst, recordCount, part, recordKindOf, hasParts, recordFieldsFit, isHigher}
 use Rattle.panel.specs.declared.shape.Seen.{Seen}
 
 -- the zero byte and the fields of record r by its kind

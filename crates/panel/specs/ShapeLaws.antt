@@ -1,13 +1,13 @@
 -- The pass of refusal 23 one step at a time; and the tests of 23 from facts of each record and each part, in the other direction
 -- than the crate facts gives them. Rests on the laws of `every`.
-use mathlib.Core.Path.{_≡_, refl, sym, ap, _∙_}
+use mathlib.Core.Path.{_≡_, refl}
 use mathlib.Core.Bool.{Bool, true, false}
 use mathlib.Core.List.{List}
-use Prim.Native.Nat.{ℕ, zero, suc, _+_, _-_, _≤_, _<_}
+use Prim.Native.Nat.{ℕ, suc, _+_, _-_, _≤_, _<_}
 use native.Mathlib.Omega.{arith}
 use borrow.Author.Tests.{ltb-true, eq-eqb, lt-ltb}
 use lib.Dec.{eqb, ltb}
-use Rattle.words.specs.Words.{both, pick}
+use Rattle.words.specs.Words.{pick}
 use Rattle.words.specs.WordsLaws.{both-true, both-make}
 use Rattle.rules.specs.Limits.{panelDepthMost}
 use Rattle.rules.specs.Searching.{every, times}

@@ -1,6 +1,6 @@
 -- The steps of the pass over a panel's records and parts from what the code has read: one law for each way out of a function.
 -- Rests on Shape, and on the tables of kinds.
-use mathlib.Core.Path.{_≡_, refl, sym, ap, ap₂, _∙_}
+use mathlib.Core.Path.{_≡_, sym, ap, ap₂, _∙_}
 use mathlib.Core.Logic.{_⊎_, inl, inr, ⊎-elim}
 use mathlib.Core.Bool.{Bool, true, false}
 use mathlib.Core.List.{List}
@@ -13,7 +13,7 @@ use Rattle.words.specs.Words.{wordAt, both}
 use Rattle.words.specs.WordsLaws.{both-make, both-first-false, both-second-false}
 use Rattle.rules.specs.Limits.{partSize, panelDepthMost}
 use Rattle.rules.specs.SheetFile.{runIn}
-use Rattle.rules.specs.PanelFile.{records, parts, partsAt, panelPoolSize, recordKind, recordZero, recordA, recordFirst, recordCount, part, RecordKind, Integer-record, Bytes-record, List-record, Pair-record, Tuple-record, Constructor-record, Unknown-record, recordKindOf, hasParts, recordFieldsFit, isHigher}
+use Rattle.rules.specs.PanelFile.{records, parts, panelPoolSize, recordKind, recordZero, recordA, recordFirst, recordCount, part, RecordKind, Integer-record, Bytes-record, List-record, Pair-record, Tuple-record, Constructor-record, Unknown-record, recordKindOf, hasParts, recordFieldsFit, isHigher}
 use Rattle.facts.specs.KindsLaws.{record-unknown}
 use Rattle.facts.specs.PanelFacts.{kind-holder}
 use Rattle.panel.specs.declared.Map.{Map}

@@ -1,12 +1,11 @@
 -- `panel::check` meets its contract: each stage is the definition of its refusal, tried in the order of the verdict.
-use native.Mathlib.Omega.{arith}
 use mathlib.Core.Path.{_≡_, sym, _∙_}
 use mathlib.Core.Bool.{true}
 use borrow.Author.Needs.{needs}
 use borrow.Author.Tests.{leb-true, not-true, not-false}
 use Rattle.words.specs.WordsLaws.{both-true}
-use Rattle.rules.specs.PanelFile.{panelLengthFits, panelLayoutFits, panelShapeFits, panelTextsFit}
-use Rattle.facts.specs.PanelFacts.{PanelLaid, panel-laid, panel-shaped}
+use Rattle.rules.specs.PanelFile.{panelLengthFits, panelLayoutFits, panelShapeFits}
+use Rattle.facts.specs.PanelFacts.{panel-laid, panel-shaped}
 use Rattle.panel.specs.Opened.{Opened, opened}
 use Rattle.panel.specs.AnswersLaws.{refused-21, refused-22, refused-23, refused-24, accepted-map}
 use Rattle.panel.proofs.check.Statement.{statement}

@@ -1,7 +1,6 @@
 -- `panel::text_in` meets its contract: each return is one case of the text call on an accepted panel.
 use Prim.Native.Nat.{_<_}
 use native.Mathlib.Omega.{arith}
-use mathlib.Core.Path.{_≡_, ap}
 use borrow.Author.Needs.{needs}
 use Rattle.rules.specs.PanelFile.{records}
 use Rattle.panel.specs.AnswersLaws.{accepts-opened, no-record, other-kind, some-dropped, text-start, text-at}

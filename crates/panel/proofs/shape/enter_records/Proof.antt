@@ -1,10 +1,9 @@
 -- `panel::shape::enter_records` meets its contract. The loop's invariant: the records that are left, from what was seen so far, give what
 -- all of them give from the start.
-use Prim.Native.Nat.{_+_, _-_, _≤_}
+use Prim.Native.Nat.{_-_, _≤_}
 use native.Mathlib.Omega.{arith}
 use native.Mathlib.Nat.{sub-zero}
-use mathlib.Core.Path.{_≡_, refl, sym, ap, _∙_}
-use borrow.Author.Needs.{needs}
+use mathlib.Core.Path.{_≡_, refl, sym, _∙_}
 use borrow.Author.Tests.{not-true, not-false}
 use Rattle.rules.specs.PanelFile.{records}
 use Rattle.panel.specs.Shape.{enterRecords}

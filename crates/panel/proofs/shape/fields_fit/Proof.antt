@@ -1,5 +1,4 @@
 -- `panel::shape::fields_fit` meets its contract: each arm is the case of its kind.
-use native.Mathlib.Omega.{arith}
 use borrow.Author.Needs.{needs}
 use Rattle.panel.specs.ShapeSteps.{zero-used, text-a, text-run, list-a, list-run, pair-a, pair-count, pair-run, constructor-run, no-kind, past-kinds}
 use Rattle.panel.proofs.shape.fields_fit.Statement.{statement}

@@ -2,7 +2,7 @@
 use native.Mathlib.Omega.{arith}
 use borrow.Author.Needs.{needs}
 use Rattle.panel.specs.Shape.{atRoot}
-use Rattle.panel.specs.ShapePass.{count-wrong, count-right}
+use Rattle.panel.specs.ShapeAnswer.{count-wrong, count-right}
 use Rattle.panel.proofs.shape.shape_fits.Statement.{statement}
 use Rattle.panel.proofs.shape.shape_fits.Tie as tie
 

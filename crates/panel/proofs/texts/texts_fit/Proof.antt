@@ -1,9 +1,8 @@
 -- `panel::texts::texts_fit` meets its contract. The loop's invariant: what is left of the records fits exactly if all do.
-use Prim.Native.Nat.{_+_, _-_, _≤_}
+use Prim.Native.Nat.{_-_, _≤_}
 use native.Mathlib.Omega.{arith}
 use native.Mathlib.Nat.{sub-zero}
 use mathlib.Core.Path.{_≡_, refl, sym, _∙_}
-use borrow.Author.Needs.{needs}
 use borrow.Author.Tests.{not-true, not-false}
 use Rattle.rules.specs.Searching.{every}
 use Rattle.rules.specs.SearchingLaws.{every-on, every-stop, every-end}
