@@ -8,3 +8,12 @@ pub mod TestsLaws
 pub mod LoopsLaws
 pub mod Types
 pub mod TypesLaws
+pub mod Meeting
+pub mod MeetingLaws
+pub mod Shape
+pub mod ShapeLaws
+pub mod TallyLaws
+pub mod TextsLaws
+pub mod Fitting
+pub mod FittingLaws
+pub mod AskingLaws

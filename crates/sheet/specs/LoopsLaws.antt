@@ -3,9 +3,10 @@
 use mathlib.Core.Path.{_≡_, refl, ap, sym, _∙_}
 use mathlib.Core.Bool.{Bool, true, false}
 use mathlib.Core.Option.{Option, none, some}
-use Prim.Native.Nat.{ℕ, _+_, _-_, _≤_, _<_}
+use Prim.Native.Nat.{ℕ, zero, suc, _+_, _-_, _≤_, _<_}
 use native.Mathlib.Omega.{arith}
 use native.Mathlib.Nat.{sub-zero}
+use Rattle.words.specs.Words.{both}
 use Rattle.rules.specs.Searching.{every, lowest}
 use Rattle.rules.specs.SearchingLaws.{every-on, every-stop, every-end, lowest-found, lowest-on, lowest-end}
 use Rattle.sheet.specs.declared.Found.{Found}
@@ -29,6 +30,31 @@ module _ (f : ℕ → Bool) (n : ℕ) where
 
   pub every-ends : (i : ℕ) → n ≤ i → EveryLeft i → true ≡ every f 0 n
   every-ends i h left = sym (every-end f i n h) ∙ left
+
+  -- ---- a loop that asks n numbers from `first` on, and counts k from 0
+  abbrev pub EveryFrom : ℕ → ℕ → Type 0
+  EveryFrom first k = every f (first + k) (n - k) ≡ every f first n
+
+  pub from-begins : (first : ℕ) → EveryFrom first 0
+  from-begins first = let e : first + 0 ≡ first = omega arith in rw (e, sub-zero n)
+
+  module _ (first k : ℕ) (h : k < n) (left : EveryFrom first k) where
+    from-next : every f (first + k) (n - k) ≡ both (f (first + k)) (every f (first + (k + 1)) (n - (k + 1)))
+    unfolding every
+    from-next =
+        let e : n - k ≡ suc (n - (k + 1)) = omega arith in
+        let g : first + k + 1 ≡ first + (k + 1) = omega arith in
+        ap (every f (first + k)) e ∙ ap (λ (i : ℕ). both (f (first + k)) (every f i (n - (k + 1)))) g
+
+    pub from-goes-on : f (first + k) ≡ true → EveryFrom first (k + 1)
+    from-goes-on e = ap (λ (b : Bool). both b (every f (first + (k + 1)) (n - (k + 1)))) (sym e) ∙ sym from-next ∙ left
+
+    pub from-stops : f (first + k) ≡ false → false ≡ every f first n
+    from-stops e = ap (λ (b : Bool). both b (every f (first + (k + 1)) (n - (k + 1)))) (sym e) ∙ sym from-next ∙ left
+
+  pub from-ends : (first k : ℕ) → n ≤ k → EveryFrom first k → true ≡ every f first n
+  unfolding every
+  from-ends first k h left = let e : n - k ≡ 0 = omega arith in sym (ap (every f (first + k)) e) ∙ left
 
   -- ---- a loop that looks for the lowest number
   abbrev pub LowestLeft : ℕ → Type 0

@@ -1,7 +1,10 @@
 // The check of a sheet: refusals 2 to 11 of document 01.
+mod fitting;
 mod layout;
 mod limits;
 pub mod records;
+mod shape;
+mod texts;
 mod types;
 
 // Where the sections start; the pool ends where the trailer begins.
