@@ -10,18 +10,24 @@ use lib.Dec.{leb, ltb}
 use lib.ListN.{length}
 use Rattle.words.specs.Words.{textAt}
 use Rattle.words.specs.WordsLaws.{both-true, both-first-false, both-second-false}
-use Rattle.rules.specs.SheetRefusals.{Verdict, accepted, refused, require}
+use Rattle.rules.specs.SheetRefusals.{Verdict, accepted, refused, require, verdict}
+use Rattle.rules.specs.Fitting.{panelFits}
 use Rattle.rules.specs.PanelFile.{records, recordKind, panelPoolAt, recordFirst, recordCount, panelLengthFits, panelLayoutFits, panelShapeFits, panelTextsFit, panelVerdict}
-use Rattle.rules.specs.Calls.{Answer, answers, refuses, Span, unless, hasText, textCall, partOfSpan, textPart}
+use Rattle.rules.specs.Calls.{fitCall, Answer, answers, refuses, Span, unless, hasText, textCall, partOfSpan, textPart}
+use Rattle.facts.specs.SheetFacts.{accepted-sheet}
+use Rattle.sheet.specs.declared.Map.{Map as SheetMap}
 use Rattle.facts.specs.PanelFacts.{accepted-panel}
 use Rattle.panel.specs.declared.Map.{Map}
 use Rattle.panel.specs.declared.Checked.the-variants.{Accepted, Refused}
-use Rattle.panel.specs.declared.Record.{Record}
+use Rattle.panel.specs.declared.records.Record.{Record}
 use Rattle.panel.specs.declared.Located.{Located}
 use Rattle.panel.specs.declared.Located.the-variants.{At}
 use Rattle.panel.specs.declared.Located.the-variants.{Refused as NotLocated}
+use Rattle.panel.specs.declared.Fitted.the-variants.{Fits}
+use Rattle.panel.specs.declared.Fitted.the-variants.{Refused as NotFitted}
+use Rattle.panel.specs.Fit.{Ready}
 use Rattle.panel.specs.Opened.{mapOf, recordOf, Opened, opened}
-use Rattle.panel.specs.Answers.{checkedBy, checked, locatedBy, located}
+use Rattle.panel.specs.Answers.{checkedBy, checked, Accepts, SheetAccepts, fittedBy, fitted, locatedBy, located}
 use Rattle.panel.specs.TextsLaws.{text-inside}
 
 -- ---- the check of a panel
@@ -48,10 +54,6 @@ module _ (v : List ℕ) where
   accepted-map m e a b c d = rw (a, b, c, d, e)
 
 -- what an answer says of the verdict
-pub record Accepts (v : List ℕ) (m : Map) : Type 0 where
-  pub verdict : panelVerdict v ≡ accepted
-  pub map : m ≡ mapOf v
-
 pub accepts : (v : List ℕ) (m : Map) → checked v ≡ Accepted m → Accepts v m
 unfolding checked checkedBy
 accepts v m h = go (panelVerdict v) refl h
@@ -69,8 +71,8 @@ refuses-by v number place h = go (panelVerdict v) refl h
     go (refused n p) e x = cc
 
 -- an accepted panel with its map is open
-pub accepts-opened : (v : List ℕ) (m : Map) → panelVerdict v ≡ accepted → m ≡ mapOf v → Opened v m
-accepts-opened v m ok e = opened v m (accepted-panel v ok .is-laid) e
+pub accepts-opened : (v : List ℕ) (m : Map) → Accepts v m → Opened v m
+accepts-opened v m a = opened v m (accepted-panel v (a .verdict) .is-laid) (a .map)
 
 -- ---- the text call
 module _ (v : List ℕ) (r dropped : ℕ) where
@@ -150,3 +152,34 @@ module _ (v : List ℕ) (r dropped : ℕ) where
           omega (arith, inside e f)
       go accepted e false f x = let z : _≡_ {A = ℕ} 0 1 = cc in absurd (omega arith)
       go (refused number place) e b f x = let z : _≡_ {A = ℕ} 0 1 = cc in absurd (omega arith)
+
+-- ---- the fit check
+module _ (s v : List ℕ) where
+  pub fit-sheet-refused : (number place : ℕ) → verdict s ≡ refused number place → NotFitted number place ≡ fitted s v
+  unfolding fitted fittedBy fitCall
+  fit-sheet-refused number place h = rw h
+
+  module _ (sm : SheetMap) (sheet : SheetAccepts s sm) where
+    pub fit-panel-refused : (number place : ℕ) → panelVerdict v ≡ refused number place → NotFitted number place ≡ fitted s v
+    unfolding fitted fittedBy fitCall
+    fit-panel-refused number place h = rw (sheet .verdict, h)
+
+    module _ (vm : Map) (panel : Accepts v vm) where
+      pub fit-yes : panelFits s v ≡ true → Fits ≡ fitted s v
+      unfolding fitted fittedBy fitCall
+      fit-yes h = rw (sheet .verdict, panel .verdict, h)
+
+      pub fit-no : panelFits s v ≡ false → NotFitted 25 0 ≡ fitted s v
+      unfolding fitted fittedBy fitCall
+      fit-no h = rw (sheet .verdict, panel .verdict, h)
+
+      pub fit-ready : Ready s sm v vm
+      fit-ready =
+          let a = accepted-sheet s (sheet .verdict) in
+          record {
+            sheet-laid = a .is-laid;
+            sheet-map = sheet .map;
+            is-typed = a .is-typed;
+            is-open = accepts-opened v vm panel;
+            is-shaped = accepted-panel v (panel .verdict) .is-shaped;
+          }

@@ -17,7 +17,7 @@ use Rattle.sheet.specs.declared.records.TypeRecord.{TypeRecord}
 use Rattle.sheet.specs.Sections.{mapOf as sheetMapOf}
 use Rattle.sheet.specs.Records.{typeOf}
 use Rattle.panel.specs.declared.Map.{Map}
-use Rattle.panel.specs.declared.Record.{Record}
+use Rattle.panel.specs.declared.records.Record.{Record}
 use Rattle.panel.specs.declared.fitting.Below.{Below}
 use Rattle.panel.specs.declared.fitting.Below.the-variants.{Alone, Parts}
 use Rattle.panel.specs.Opened.{Opened, recordOf}

@@ -22,7 +22,7 @@ use Rattle.sheet.specs.declared.records.Run.{Run as Fields}
 use Rattle.sheet.specs.Records.{typeOf}
 use Rattle.sheet.specs.Records.{constructorOf as constructorAt}
 use Rattle.panel.specs.declared.Map.{Map}
-use Rattle.panel.specs.declared.Record.{Record}
+use Rattle.panel.specs.declared.records.Record.{Record}
 use Rattle.panel.specs.declared.fitting.Below.{Below}
 use Rattle.panel.specs.declared.fitting.Below.the-variants.{Alone, Parts}
 use Rattle.panel.specs.Opened.{recordOf}

@@ -13,7 +13,7 @@ use Rattle.rules.specs.SheetRefusals.{wholeRecords}
 use Rattle.rules.specs.PanelFile.{panelStart, recordsAt, partsAt, panelPoolAt, panelPoolEnd, records, parts, recordKind, recordZero, recordA, recordFirst, recordCount, panelLayoutFits}
 use Rattle.facts.specs.PanelFacts.{PanelLaid}
 use Rattle.panel.specs.declared.Map.{Map}
-use Rattle.panel.specs.declared.Record.{Record}
+use Rattle.panel.specs.declared.records.Record.{Record}
 use Rattle.panel.specs.Opened.{mapOf, recordOf}
 
 -- the layout of sections that start at a, b and c, before a trailer at e

@@ -6,7 +6,7 @@ use Prim.Native.Nat.{ℕ, _-_}
 use Rattle.rules.specs.PanelFile.{partsAt, panelPoolAt, panelPoolEnd, records, parts, panelPoolSize, recordKind, recordZero, recordA, recordFirst, recordCount}
 use Rattle.facts.specs.PanelFacts.{PanelLaid}
 use Rattle.panel.specs.declared.Map.{Map}
-use Rattle.panel.specs.declared.Record.{Record}
+use Rattle.panel.specs.declared.records.Record.{Record}
 
 abbrev pub mapOf : List ℕ → Map
 mapOf v = record {

@@ -17,7 +17,7 @@ use Rattle.rules.specs.PanelFile.{records, parts, panelPoolSize, recordKind, re
 use Rattle.facts.specs.KindsLaws.{record-unknown}
 use Rattle.facts.specs.PanelFacts.{kind-holder}
 use Rattle.panel.specs.declared.Map.{Map}
-use Rattle.panel.specs.declared.Record.{Record}
+use Rattle.panel.specs.declared.records.Record.{Record}
 use Rattle.panel.specs.declared.shape.Seen.{Seen}
 use Rattle.panel.specs.Opened.{Opened, recordOf}
 use Rattle.panel.specs.Sums.{same-or-not}

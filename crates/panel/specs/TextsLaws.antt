@@ -18,7 +18,7 @@ use Rattle.rules.specs.PanelFile.{records, recordKind, recordFirst, recordCount
 use Rattle.facts.specs.KindsLaws.{record-byte}
 use Rattle.facts.specs.PanelFacts.{PanelShaped, panel-text-inside}
 use Rattle.panel.specs.declared.Map.{Map}
-use Rattle.panel.specs.declared.Record.{Record}
+use Rattle.panel.specs.declared.records.Record.{Record}
 use Rattle.panel.specs.Opened.{Opened, recordOf}
 use Rattle.panel.specs.Sums.{same-or-not}
 

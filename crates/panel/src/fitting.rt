@@ -1,9 +1,9 @@
 // Refusal 25: a panel fits the subject type of a sheet. Fitting a record calls fitting its parts, which calls fitting a record; a type
 // may contain itself, and it ends because a part's record has a larger number than its owner.
 use crate::Map;
-use crate::Record;
-use crate::part_at;
-use crate::record_at;
+use crate::records::Record;
+use crate::records::part_at;
+use crate::records::record_at;
 use sheet::records::TypeRecord;
 use sheet::records::constructor_at;
 use sheet::records::entry_at;

@@ -1,25 +1,27 @@
-// The check of a panel: refusals 21 to 24 of document 01.
-use words::word_at;
+// The panel of document 01: its check (refusals 21 to 24), the text of a position (33) with the twin that returns the part of the
+// panel itself, and whether it fits a sheet (25). Each contract is one equation with a definition of the crate rules.
+//
+// Cost. The check reads the trailer, each record twice (for its shape and for its text), each part once, and each byte of an integer
+// once: at most 512 records, 511 parts and 32,768 bytes of text, whatever the lists of a damaged panel say, since the pass over the
+// records ends at the first part that it meets a second time. Besides the panel it needs a table of 512 depths, handed on by value.
+// The text call adds one record to the check. Fitting reads each record and each part once, with its type and its type entry; its
+// calls are at most 544 deep, one for each of 511 parts and 32 levels.
 ghost use mathlib.Core.Path.{_≡_};
-ghost use Prim.Native.Nat.{_<_, _≤_};
-ghost use Rattle.rules.specs.PanelFile.{records, parts, part, panelVerdict};
-ghost use Rattle.rules.specs.SheetRefusals.{accepted};
 ghost use Rattle.rules.specs.Calls.{textPart};
-ghost use Rattle.facts.specs.PanelFacts.{PanelLaid};
-ghost use Rattle.panel.specs.Opened.{Opened, mapOf, recordOf};
-ghost use Rattle.panel.specs.Answers.{checked, located};
+ghost use Rattle.panel.specs.Answers.{checked, located, fitted, Accepts, SheetAccepts};
 
 mod fitting;
 mod layout;
 mod limits;
+pub mod records;
 mod shape;
 mod texts;
 
+use fitting::fits;
 use layout::layout_fits;
 use layout::length_fits;
 use layout::map_of;
-use limits::PART_SIZE;
-use limits::RECORD_SIZE;
+use records::record_at;
 use shape::shape_fits;
 use texts::texts_fit;
 
@@ -43,36 +45,10 @@ pub enum Located {
     Refused { number: u16, place: u16 },
 }
 
-// One record of a panel, with its fields as they stand in the file.
-pub struct Record {
-    pub kind: u8,
-    pub zero: u8,
-    pub a: usize,
-    pub first: usize,
-    pub count: usize,
-}
-
-// Record r of a panel.
-pub fn record_at(v: &[u8], r: usize) -> Record
-    requires { ⌜ PanelLaid (now v) × (r < records (now v)) ⌝ }
-    ensures { λ res. ⌜ res ≡ recordOf (now (v .entry)) r ⌝ }
-{
-    let at = RECORD_SIZE * r;
-    Record {
-        kind: v[at],
-        zero: v[at + 1],
-        a: word_at(v, at + 2) as usize,
-        first: word_at(v, at + 4) as usize,
-        count: word_at(v, at + 6) as usize,
-    }
-}
-
-// Part j of a panel: the number of a record.
-pub fn part_at(v: &[u8], m: Map, j: usize) -> usize
-    requires { ⌜ Opened (now v) m × (j < parts (now v)) ⌝ }
-    ensures { λ res. ⌜ res ≡ part (now (v .entry)) j ⌝ }
-{
-    word_at(v, m.parts_at + PART_SIZE * j) as usize
+// Whether a panel fits a sheet.
+pub enum Fitted {
+    Fits,
+    Refused { number: u16, place: u16 },
 }
 
 // The check of a panel: 21 length, 22 layout and count of records, 23 shape, 24 text.
@@ -119,7 +95,7 @@ fn not_text() -> Located
 
 // The text of record r with so many elements dropped, in an accepted panel.
 fn text_in(v: &[u8], m: Map, r: u16, dropped: u16) -> Located
-    requires { ⌜ (panelVerdict (now v) ≡ accepted) × (m ≡ mapOf (now v)) ⌝ }
+    requires { ⌜ Accepts (now v) m ⌝ }
     ensures { λ res. ⌜ res ≡ located (now (v .entry)) r dropped ⌝ }
 {
     let at = r as usize;
@@ -158,4 +134,30 @@ pub fn text_part<'a>(v: &'a [u8], r: u16, dropped: u16) -> &'a [u8]
     };
     let end = start + count;
     &v[start..end]
+}
+
+// 25, of an accepted sheet and an accepted panel.
+fn fit_both(s: &[u8], sm: sheet::Map, v: &[u8], vm: Map) -> Fitted
+    requires { ⌜ SheetAccepts (now s) sm × Accepts (now v) vm ⌝ }
+    ensures { λ res. ⌜ res ≡ fitted (now (s .entry)) (now (v .entry)) ⌝ }
+{
+    if fits(s, sm, v, vm) {
+        Fitted::Fits
+    } else {
+        Fitted::Refused {
+            number: 25,
+            place: 0,
+        }
+    }
+}
+
+// The fit check of an accepted sheet.
+fn fit_panel(s: &[u8], sm: sheet::Map, v: &[u8]) -> Fitted
+    requires { ⌜ SheetAccepts (now s) sm ⌝ }
+    ensures { λ res. ⌜ res ≡ fitted (now (s .entry)) (now (v .entry)) ⌝ }
+{
+    match check(v) {
+        Checked::Accepted(vm) => fit_both(s, sm, v, vm),
+        Checked::Refused { number, place } => Fitted::Refused { number, place },
+    }
 }

@@ -1,10 +1,11 @@
 // Refusal 23 of a panel: its shape, in one pass over the records in order and the parts of each in order. A part's number is
 // larger than its owner's, so that when a record is at hand its depth is known, or it is nobody's part.
 use crate::Map;
-use crate::Record;
 use crate::limits::PANEL_DEPTH_MOST;
-use crate::part_at;
-use crate::record_at;
+use crate::limits::RECORDS_MOST;
+use crate::records::Record;
+use crate::records::part_at;
+use crate::records::record_at;
 use sheet::records::run_in;
 ghost use mathlib.Core.Path.{_≡_};
 ghost use mathlib.Core.List.{List};
@@ -16,7 +17,7 @@ ghost use Rattle.panel.specs.Shape.{broken as Shape·broken};
 
 // What the pass has met: the depth of each record, 0 for one that was not met yet, and whether no rule is broken.
 pub struct Seen {
-    pub depths: [u8; 512],
+    pub depths: [u8; RECORDS_MOST],
     pub sound: bool,
 }
 
@@ -151,7 +152,7 @@ pub fn shape_fits(v: &[u8], m: Map) -> bool
     if m.parts + 1 != m.records {
         return false;
     }
-    let mut depths = [0u8; 512];
+    let mut depths = [0u8; RECORDS_MOST];
     depths[0] = 1;
     let end = enter_records(
         v,

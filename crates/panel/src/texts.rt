@@ -1,7 +1,7 @@
 // Refusal 24 of a panel: an integer is canonical, and a text has at most 64 bytes.
 use crate::Map;
 use crate::limits::TEXT_MOST;
-use crate::record_at;
+use crate::records::record_at;
 ghost use mathlib.Core.Path.{_≡_};
 ghost use Prim.Native.Nat.{_+_, _<_, _≤_};
 ghost use lib.ListN.{length};

@@ -15,8 +15,7 @@ enum-known-m c = search needs
 text-in-requires : tie.Need-text-in-requires
 text-in-requires c κs =
     let e : c .before .before .before .check .result ≡ Accepted (c .before .m .given .0 .0) = search needs in
-    let a = accepts (c .before .before .before .before .before .args .v .now) (c .before .m .given .0 .0) (sym (c .before .before .before .check .ensures) ∙ e) in
-    (a .verdict, a .map)
+    accepts (c .before .before .before .before .before .args .v .now) (c .before .m .given .0 .0) (sym (c .before .before .before .check .ensures) ∙ e)
 
 enum-known-number : tie.Need-enum-known-number
 enum-known-number c = search needs

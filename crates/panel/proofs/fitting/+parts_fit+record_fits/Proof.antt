@@ -18,7 +18,7 @@ use Rattle.panel.proofs.fitting.record_fits.Reads as record-fits
 use Rattle.panel.proofs.fitting.record_fits.Kinds as record-fits-kinds
 use Rattle.panel.proofs.fitting.+parts_fit+record_fits.Lts-record_fits as record-fits-lts
 use Rattle.panel.proofs.fitting.below_record.Reads as below-record-reads
-use Rattle.panel.proofs.part_at.Reads as part-at-reads
+use Rattle.panel.proofs.records.part_at.Reads as part-at-reads
 use Rattle.panel.proofs.fitting.+parts_fit+record_fits.{statement}
 use Rattle.panel.proofs.fitting.+parts_fit+record_fits.Tie.{close}
 

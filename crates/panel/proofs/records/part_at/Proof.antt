@@ -1,8 +1,8 @@
--- `panel::part_at` meets its contract: a part of an open panel lies before the trailer.
+-- `panel::records::part_at` meets its contract: a part of an open panel lies before the trailer.
 use borrow.Author.Needs.{needs}
 use Rattle.panel.specs.ShapeSteps.{part-read}
-use Rattle.panel.proofs.part_at.Statement.{statement}
-use Rattle.panel.proofs.part_at.Tie as tie
+use Rattle.panel.proofs.records.part_at.Statement.{statement}
+use Rattle.panel.proofs.records.part_at.Tie as tie
 
 mul-word-at : tie.Need-mul-word-at
 mul-word-at c = search needs

@@ -1,8 +1,8 @@
--- `panel::record_at` meets its contract: a record of a laid panel lies before the trailer, and the records start at 0.
+-- `panel::records::record_at` meets its contract: a record of a laid panel lies before the trailer, and the records start at 0.
 use borrow.Author.Needs.{needs}
 use Rattle.panel.specs.LayoutLaws.{record-read}
-use Rattle.panel.proofs.record_at.Statement.{statement}
-use Rattle.panel.proofs.record_at.Tie as tie
+use Rattle.panel.proofs.records.record_at.Statement.{statement}
+use Rattle.panel.proofs.records.record_at.Tie as tie
 
 mul-at : tie.Need-mul-at
 mul-at c = search needs
