@@ -4,11 +4,11 @@ mod make;
 
 use make::chain;
 use make::end;
+use make::four;
 use make::leaf;
 use make::part;
 use make::record;
 use make::three;
-use make::trailer;
 use make::wide;
 use panel::Checked;
 use panel::Located;
@@ -80,7 +80,7 @@ fn with_pool(name: &[u8], pool: u16) {
 fn with_trailer(name: &[u8], records_at: u16, parts_at: u16, pool_at: u16, length: u16) {
     let mut b = [0u8; 24];
     record(&mut b, 0, 1, 0, 0, 0);
-    trailer(&mut b, 16, records_at, parts_at, pool_at, length);
+    four(&mut b, 16, records_at, parts_at, pool_at, length);
     check(name, &b);
 }
 
@@ -88,7 +88,7 @@ fn lengths() {
     let b = [0u8; 7];
     check(b"7 bytes", &b);
     let mut c = [0u8; 8];
-    trailer(&mut c, 0, 0, 0, 0, 8);
+    four(&mut c, 0, 0, 0, 0, 8);
     check(b"8 bytes, no record", &c);
     with_pool(b"1 record", 0);
     with_pool(b"16384 bytes", 16368);

@@ -12,15 +12,22 @@ pub fn word(b: &mut [u8], i: usize, x: u16) {
     put_word(b, i, x);
 }
 
-// Record r: the kind byte with the zero byte after it, a, first, count.
-pub fn record(b: &mut [u8], r: usize, kind: u16, a: u16, first: u16, count: u16) {
-    if 4096 < r {
+// Four words from byte i on: a record, or a trailer.
+pub fn four(b: &mut [u8], i: usize, w: u16, x: u16, y: u16, z: u16) {
+    if 32768 < i {
         return;
     }
-    word(b, 8 * r, kind);
-    word(b, 8 * r + 2, a);
-    word(b, 8 * r + 4, first);
-    word(b, 8 * r + 6, count);
+    word(b, i, w);
+    word(b, i + 2, x);
+    word(b, i + 4, y);
+    word(b, i + 6, z);
+}
+
+// Record r: the kind byte with the zero byte after it, a, first, count.
+pub fn record(b: &mut [u8], r: usize, kind: u16, a: u16, first: u16, count: u16) {
+    if r < 4096 {
+        four(b, 8 * r, kind, a, first, count);
+    }
 }
 
 // Part j of a panel of n records.
@@ -49,17 +56,6 @@ pub fn bytes(b: &mut [u8], i: usize, text: &[u8]) {
     }
 }
 
-// A trailer at byte i.
-pub fn trailer(b: &mut [u8], i: usize, records_at: u16, parts_at: u16, pool_at: u16, length: u16) {
-    if 32768 < i {
-        return;
-    }
-    word(b, i, records_at);
-    word(b, i + 2, parts_at);
-    word(b, i + 4, pool_at);
-    word(b, i + 6, length);
-}
-
 // The trailer of a panel of n records, so many parts and so many bytes of text, and the length of the whole.
 pub fn end(b: &mut [u8], n: u16, parts: u16, pool: u16) -> usize {
     if 1024 < n {
@@ -74,7 +70,7 @@ pub fn end(b: &mut [u8], n: u16, parts: u16, pool: u16) -> usize {
     let parts_at = 8 * n;
     let pool_at = parts_at + 2 * parts;
     let length = pool_at + pool + 8;
-    trailer(b, (length - 8) as usize, 0, parts_at, pool_at, length);
+    four(b, (length - 8) as usize, 0, parts_at, pool_at, length);
     length as usize
 }
 
