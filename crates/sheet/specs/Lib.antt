@@ -17,3 +17,10 @@ pub mod TextsLaws
 pub mod Fitting
 pub mod FittingLaws
 pub mod AskingLaws
+pub mod Sums
+pub mod Names
+pub mod NamesLaws
+pub mod ForestLaws
+pub mod CollectLaws
+pub mod Check
+pub mod CheckLaws

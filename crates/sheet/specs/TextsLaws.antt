@@ -26,7 +26,7 @@ use Rattle.sheet.specs.Records.{patternOf}
 -- ---- texts
 module _ (s : List ℕ) where
   -- a text of some bytes is its first byte and the rest
-  text-cons : (i n : ℕ) → i < length s → (n ≡ 0 → ⊥) → textAt s i n ≡ getD s i 0 ∷ textAt s (i + 1) (n - 1)
+  pub text-cons : (i n : ℕ) → i < length s → (n ≡ 0 → ⊥) → textAt s i n ≡ getD s i 0 ∷ textAt s (i + 1) (n - 1)
   text-cons i n h some =
       let e : n ≡ suc (n - 1) = omega arith in
       ap (λ (k : ℕ). take k (drop i s)) e ∙ rw (drop-cons s i 0 h, add-one i)
