@@ -16,6 +16,8 @@ use Rattle.rules.specs.PanelFile.{records, recordKind, panelPoolAt, recordFirst
 use Rattle.rules.specs.Calls.{fitCall, Answer, answers, refuses, Span, unless, hasText, textCall, partOfSpan, textPart}
 use Rattle.facts.specs.SheetFacts.{accepted-sheet}
 use Rattle.sheet.specs.declared.Map.{Map as SheetMap}
+use Rattle.sheet.specs.declared.Checked.the-variants.{Accepted as SheetAccepted, Refused as SheetRefused}
+use Rattle.sheet.specs.Check.{answer as sheetAnswer, checked as sheetChecked}
 use Rattle.facts.specs.PanelFacts.{accepted-panel}
 use Rattle.panel.specs.declared.Map.{Map}
 use Rattle.panel.specs.declared.Checked.the-variants.{Accepted, Refused}
@@ -154,6 +156,22 @@ module _ (v : List ℕ) (r dropped : ℕ) where
       go (refused number place) e b f x = let z : _≡_ {A = ℕ} 0 1 = cc in absurd (omega arith)
 
 -- ---- the fit check
+pub sheet-accepts : (s : List ℕ) (m : SheetMap) → sheetChecked s ≡ SheetAccepted m → SheetAccepts s m
+unfolding sheetChecked
+sheet-accepts s m h = go (verdict s) refl h
+  where
+    go : (w : Verdict) → verdict s ≡ w → sheetAnswer s w ≡ SheetAccepted m → SheetAccepts s m
+    go accepted e x = record { verdict = e; map = cc }
+    go (refused number place) e x = let z : _≡_ {A = ℕ} 0 1 = cc in absurd (omega arith)
+
+pub sheet-refuses : (s : List ℕ) (number place : ℕ) → sheetChecked s ≡ SheetRefused number place → verdict s ≡ refused number place
+unfolding sheetChecked
+sheet-refuses s number place h = go (verdict s) refl h
+  where
+    go : (w : Verdict) → verdict s ≡ w → sheetAnswer s w ≡ SheetRefused number place → verdict s ≡ refused number place
+    go accepted e x = let z : _≡_ {A = ℕ} 0 1 = cc in absurd (omega arith)
+    go (refused n p) e x = cc
+
 module _ (s v : List ℕ) where
   pub fit-sheet-refused : (number place : ℕ) → verdict s ≡ refused number place → NotFitted number place ≡ fitted s v
   unfolding fitted fittedBy fitCall

@@ -161,3 +161,13 @@ fn fit_panel(s: &[u8], sm: sheet::Map, v: &[u8]) -> Fitted
         Checked::Refused { number, place } => Fitted::Refused { number, place },
     }
 }
+
+// The fit check: refusals 2 to 11 of the sheet, 21 to 24 of the panel, then 25.
+pub fn fit(s: &[u8], v: &[u8]) -> Fitted
+    ensures { λ res. ⌜ res ≡ fitted (now (s .entry)) (now (v .entry)) ⌝ }
+{
+    match sheet::check(s) {
+        sheet::Checked::Accepted(sm) => fit_panel(s, sm, v),
+        sheet::Checked::Refused { number, place } => Fitted::Refused { number, place },
+    }
+}
