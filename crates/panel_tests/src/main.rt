@@ -11,6 +11,7 @@ use make::record;
 use make::three;
 use make::wide;
 use panel::Checked;
+use panel::Fitted;
 use panel::Located;
 
 fn say_refused(number: u16, place: u16) {
@@ -64,6 +65,23 @@ fn text(name: &[u8], v: &[u8], r: u16, dropped: u16) {
 fn text_first(name: &[u8], b: &[u8], n: usize, r: u16, dropped: u16) {
     if n <= b.len() {
         text(name, &b[..n], r, dropped);
+    }
+}
+
+// The fit check.
+fn fit(name: &[u8], s: &[u8], v: &[u8]) {
+    io::write_all(1, name);
+    match panel::fit(s, v) {
+        Fitted::Fits => {
+            io::write_all(1, b": fits\n");
+        }
+        Fitted::Refused { number, place } => say_refused(number, place),
+    }
+}
+
+fn fit_first(name: &[u8], s: &[u8], b: &[u8], n: usize) {
+    if n <= b.len() {
+        fit(name, s, &b[..n]);
     }
 }
 
@@ -261,6 +279,104 @@ fn positions() {
     text(b"a text of 7 bytes", &b, 0, 0);
 }
 
+// ---- 25
+// One clause, a discard, on type 1. Types: 0 Int; 1 a tuple of types 0 and 2; 2 Data of two constructors, the first without a field,
+// the second with one of type 0.
+const SHEET: [u8; 60] = [
+    0,
+    0,
+    0,
+    0,
+    0,
+    0,
+    4,
+    0,
+    0,
+    0,
+    2,
+    0,
+    5,
+    0,
+    0,
+    0,
+    2,
+    0,
+    0,
+    0,
+    0,
+    0,
+    2,
+    0,
+    1,
+    0,
+    0,
+    0,
+    2,
+    0,
+    0,
+    0,
+    0,
+    0,
+    0,
+    0,
+    0,
+    0,
+    0,
+    0,
+    0,
+    0,
+    0,
+    0,
+    18,
+    0,
+    26,
+    0,
+    32,
+    0,
+    40,
+    0,
+    40,
+    0,
+    42,
+    0,
+    1,
+    0,
+    60,
+    0,
+];
+
+// A root of the kind given, of the integer `7` and a constructor, whose one part is the `7` of the kind given.
+fn fitting(name: &[u8], root: u16, number: u16, field: u16) {
+    let mut b = [0u8; 64];
+    record(&mut b, 0, root, 0, 0, 2);
+    record(&mut b, 1, 0, 0, 0, 1);
+    record(&mut b, 2, 5, number, 2, 1);
+    record(&mut b, 3, field, 0, 0, 1);
+    four(&mut b, 32, 1, 2, 3, 55);
+    let n = end(&mut b, 4, 3, 1);
+    fit_first(name, &SHEET, &b, n);
+}
+
+fn fits() {
+    fitting(
+        b"a tuple of an integer and constructor 1 of an integer",
+        4,
+        1,
+        0,
+    );
+    fitting(b"a list where a tuple is wanted", 2, 1, 0);
+    fitting(b"a pair where a tuple is wanted", 3, 1, 0);
+    fitting(b"a constructor number one past its type", 4, 2, 0);
+    fitting(b"constructor 0 with a part", 4, 0, 0);
+    fitting(b"a byte string where an integer is wanted", 4, 1, 1);
+}
+
+fn refusals() {
+    let b = [0u8; 17];
+    fit(b"a sheet of 17 bytes", &b, &b);
+    fit(b"a panel of 17 bytes that tells none", &SHEET, &b);
+}
+
 fn main() {
     lengths();
     layouts();
@@ -274,4 +390,6 @@ fn main() {
     more_integers();
     texts();
     positions();
+    fits();
+    refusals();
 }

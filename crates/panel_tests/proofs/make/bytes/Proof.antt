@@ -1,6 +1,5 @@
 -- `panel_tests::make::bytes` is safe, and ends: the loop's invariant is that the buffer keeps its length.
-use Prim.Native.Nat.{_-_, _≤_, _<_}
-use native.Mathlib.Omega.{arith}
+use Prim.Native.Nat.{_-_, _≤_}
 use mathlib.Core.Path.{_≡_}
 use borrow.Author.Needs.{needs}
 use lib.ListN.{length}
