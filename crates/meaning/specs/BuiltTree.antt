@@ -1,41 +1,52 @@
 -- The tree of an accepted sheet can be written as a file: it is there, its switches' cases are of one kind with texts that are parts of
 -- the sheet's pool, a node has at most 192 bindings. Its numbers are words if the sheet is bytes; within 12 and 13 it is small.
-use Prim.Native.Nat.{ℕ, zero, suc, _+_, _≤_, _<_}
+use Prim.Native.Nat.{ℕ, _+_, _≤_, _<_}
 use native.Mathlib.Omega.{arith}
-use mathlib.Core.Path.{_≡_, refl, sym, ap, _∙_, subst}
-use mathlib.Core.Logic.{_⊎_, inl, inr, ⊎-elim}
+use mathlib.Core.Path.{_≡_, refl, _∙_, subst}
+use mathlib.Core.Logic.{⊎-elim}
 use mathlib.Core.Bool.{Bool, true, false, false≢true}
 use mathlib.Core.List.{List, [], _∷_, _++_}
-use mathlib.Core.Option.{Option, none, some}
-use lib.Dec.{leb}
-use lib.ListN.{length}
-use borrow.Author.Tests.{leb-true}
+use lib.Dec.{ltb}
+use lib.ListN.{length, getD, drop, length-take, List·getD-eq-default}
+use borrow.Author.Tests.{ltb-true, ltb-false}
 use Rattle.words.specs.Words.{Bytes as AllBytes, textAt}
-use Rattle.words.specs.WordsLaws.{length-textAt}
-use Rattle.rules.specs.Limits.{nodesMost, bindingsMost, clausesMost, sheetMost}
-use Rattle.rules.specs.SheetFile.{clauses, patterns, patternA, poolAt, poolSize, poolText, pool, subject}
+use Rattle.words.specs.WordsLaws.{length-textAt, getD-textAt}
+use Rattle.rules.specs.Limits.{nodesMost, bindingsMost, sheetMost}
+use Rattle.rules.specs.SheetFile.{clauses, patterns, poolAt, poolSize, poolText, pool, subject}
 use Rattle.rules.specs.Rows.{Path, Binding}
 use Rattle.rules.specs.Splitting.{Test, Constr, Int, Bytes, ListOf, ListWithTail}
 use Rattle.rules.specs.SplittingLaws.{All}
-use Rattle.rules.specs.Building.{Tree, Cases, absent, leaf, hoist, switch, listswitch, cnil, ccons, plainTree}
+use Rattle.rules.specs.Building.{Tree, Cases, absent, leaf, hoist, switch, listswitch, cnil, ccons}
 use Rattle.rules.specs.Hoisting.{howMany, wholeTree, nodesIn, bindingsIn, bindingsInOf}
 use Rattle.rules.specs.TreeFile.{bindingPaths, pathsUsed, pathsUsedOf, isAmong, pathTable}
-use Rattle.rules.specs.SheetRefusals.{verdict, accepted, requireNone}
-use Rattle.rules.specs.Calls.{sheetPatterns, sheetTree, lowestIdle, treeVerdict}
-use Rattle.facts.specs.RunsLaws.{require-accepted, requireNone-accepted}
-use Rattle.facts.specs.SheetFacts.{Laid, text-inside, Accepted, accepted-sheet}
-use Rattle.filing.specs.Writable.{present, testKind, AllOfKind, SwitchCases, ListCases, Writable, WritableOf, SmallPath, SmallNames, SmallTest, SmallNumbers, SmallNumbersOf, InWords, Short, Bounded}
-use Rattle.filing.specs.PathsLaws.{isAmong-cases, Covers}
+use Rattle.rules.specs.Calls.{sheetPatterns, sheetTree}
+use Rattle.facts.specs.SheetFacts.{text-inside, Accepted}
+use Rattle.filing.specs.Writable.{present, AllOfKind, SwitchCases, Writable, WritableOf, SmallNames, SmallTest, SmallNumbers, SmallNumbersOf, InWords, Bounded}
+use Rattle.filing.specs.PathsLaws.{isAmong-cases}
 use Rattle.filing.specs.BoundLaws.{table-size}
 use Rattle.hoisting.specs.Trees.{unhoisted, unhoistedOf, isPresent, WellMade, WellMadeOf, EachHoist, EachHoistOf}
 use Rattle.hoisting.specs.WholeTreeLaws.{wholeTree-made, wholeTree-present}
-use Rattle.matching.specs.Lists.{all-append, all-map}
+use Rattle.matching.specs.Lists.{all-append}
 use Rattle.matching.specs.Leaves.{AllLeaves, AllLeavesOf}
 use Rattle.matching.specs.SheetColumns.{sheet-resolved}
 use Rattle.meaning.specs.Stands.{Used, sheetPaths, length-sheetPaths, used-among, used-short, name-small, used-small}
 use Rattle.meaning.specs.SheetPatterns.{FieldA, sheet-everywhere}
 use Rattle.meaning.specs.Formed.{OneKind, Formed, FormedOf, NumberOf, CaseOf, plain-formed}
 use Rattle.meaning.specs.SheetLeaves.{whole-unhoisted, length-sheetPatterns, BindingOf, LeafFine, leaves-fine, hoists-fine}
+
+-- ---- the pool of a sheet of bytes is bytes
+pub pool-bytes : (s : List ℕ) → AllBytes s → AllBytes (pool s)
+unfolding pool poolText
+pool-bytes s bytes = record { byte = each }
+  where
+    each : (i : ℕ) → getD (textAt s (poolAt s + 0) (poolSize s)) i 0 < 256
+    each i = go (ltb i (poolSize s)) refl
+      where
+        go : (b : Bool) → ltb i (poolSize s) ≡ b → getD (textAt s (poolAt s + 0) (poolSize s)) i 0 < 256
+        go true e = rw (getD-textAt s (poolAt s + 0) (poolSize s) i 0 (ltb-true i (poolSize s) e)) (bytes .byte (poolAt s + 0 + i))
+        go false e =
+            rw (List·getD-eq-default (textAt s (poolAt s + 0) (poolSize s)) 0 {n = i} (omega (arith, ltb-false i (poolSize s) e, length-take (poolSize s) (drop (poolAt s + 0) s))))
+            (omega arith)
 
 -- ---- hoisting keeps a tree formed
 kind-unhoisted : (k : ℕ) (cs : Cases) → AllOfKind k (unhoistedOf cs) → AllOfKind k cs

@@ -2,11 +2,10 @@
 -- it, and starts where that pattern's text starts. Lists' numbers are below the longest lengths.
 use Prim.Native.Nat.{ℕ, _≤_}
 use native.Mathlib.Omega.{arith}
-use mathlib.Core.Path.{_≡_, refl, sym, _∙_}
+use mathlib.Core.Path.{_≡_, refl, _∙_}
 use mathlib.Core.Bool.{Bool, true, false}
 use mathlib.Core.List.{List, [], _∷_, _++_}
 use lib.Dec.{leb}
-use borrow.Author.Tests.{leb-true, leb-false}
 use Rattle.words.specs.WordsLaws.{either-first-true, either-second-true}
 use Rattle.rules.specs.Patterns.{Pat}
 use Rattle.rules.specs.Splitting.{Test, sameTest, joined, textStart, taillessLength, tailedLength, larger, longest, Met, isMet, meet, meetAll, casesOf, covers}

@@ -1,6 +1,6 @@
 -- Counting: numbers of which none is there twice are no more than there are numbers to choose from; and what holds of each element of
 -- a list holds of each element of a list that is the same up to order.
-use Prim.Native.Nat.{ℕ, zero, suc, _+_, _≤_, _<_}
+use Prim.Native.Nat.{ℕ, zero, suc, _≤_, _<_}
 use native.Mathlib.Omega.{arith}
 use native.Mathlib.Nat.{eq-or-lt-of-le}
 use mathlib.Core.Path.{_≡_, refl, sym, ap, _∙_}
@@ -12,7 +12,7 @@ use lib.ListN.{length}
 use borrow.Author.Tests.{eqb-true, eq-eqb}
 use Rattle.words.specs.Words.{both, either}
 use Rattle.words.specs.WordsLaws.{both-true, both-make, either-true, either-false, either-first-true, either-second-true}
-use Rattle.rules.specs.Rows.{Path, samePath, Binding, bit}
+use Rattle.rules.specs.Rows.{samePath, Binding, bit}
 use Rattle.rules.specs.SheetRefusals.{isIn, repeats}
 use Rattle.rules.specs.SplittingLaws.{All}
 use Rattle.filing.specs.PathsLaws.{samePath-sound, samePath-refl}

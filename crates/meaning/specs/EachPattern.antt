@@ -2,7 +2,6 @@
 -- of those that a test opens to; and so of the patterns that bind the names.
 use Prim.Native.Nat.{ℕ, _+_}
 use mathlib.Core.Bool.{false}
-use mathlib.Core.List.{List, [], _∷_, _++_}
 use Rattle.rules.specs.Patterns.{Mark, Pat, Pats, discard, variable, assign, integer, bytestring, listed, tailed, constructor, opened, pnil, pcons, many}
 use Rattle.rules.specs.Rows.{Step, constr, list, listtail, Path, into, opening, Binding, Cell, columnsOf, columnsOfEach, openedColumns}
 use Rattle.rules.specs.SplittingLaws.{All}

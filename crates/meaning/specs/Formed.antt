@@ -1,26 +1,26 @@
 -- The switches of a built tree: what stands at their paths, their cases' kinds and where their texts start. First for any sheet whose
 -- patterns are typed; hoisting keeps it.
-use Prim.Native.Nat.{ℕ, zero, suc, _+_, _≤_, _<_}
+use Prim.Native.Nat.{ℕ, suc, _+_, _≤_}
 use native.Mathlib.Omega.{arith}
-use mathlib.Core.Path.{_≡_, refl, sym, ap, _∙_, subst}
-use mathlib.Core.Bool.{Bool, true, false, not, true≢false, false≢true}
-use mathlib.Core.List.{List, [], _∷_, _++_}
+use mathlib.Core.Path.{_≡_, refl, sym, _∙_}
+use mathlib.Core.Bool.{Bool, true, false, true≢false, false≢true}
+use mathlib.Core.List.{List, [], _∷_}
 use mathlib.Core.Option.{Option, none, some}
 use lib.Dec.{eqb}
 use borrow.Author.Tests.{not-true}
 use Rattle.words.specs.Words.{either, pick}
-use Rattle.words.specs.WordsLaws.{either-true, either-false}
+use Rattle.words.specs.WordsLaws.{either-false}
 use Rattle.rules.specs.Limits.{childrenMost}
 use Rattle.rules.specs.SheetFile.{typeKind, pool}
 use Rattle.rules.specs.Patterns.{Pat, discard, variable, assign, integer, bytestring, listed, tailed, constructor, opened, many}
-use Rattle.rules.specs.Rows.{Path, Cell, Row, openedColumns, clauseRow, clauseRows}
+use Rattle.rules.specs.Rows.{Path, Row, openedColumns, clauseRow, clauseRows}
 use Rattle.rules.specs.Columns.{columns, without, testAt, choice}
 use Rattle.rules.specs.Splitting.{Test, Constr, Int, Bytes, ListOf, ListWithTail, taillessLength, tailedLength, longest, column, withoutTest, openRow, textStart, Met, isMet, casesOf, covers, defaultRows, caseRows}
 use Rattle.rules.specs.SplittingLaws.{sameTest-sound, InRange, All}
 use Rattle.rules.specs.Building.{Tree, Cases, absent, leaf, hoist, switch, listswitch, cnil, ccons, leafOf, isList, hasList, plainTree}
 use Rattle.filing.specs.Writable.{testKind, TextStarts, AllOfKind}
 use Rattle.matching.specs.Lists.{all-append, all-map, all-both}
-use Rattle.matching.specs.Tests.{isTest, TestRow, cell, take-test, taken-has, others-have, row-test, default-all, case-all, clauseRows-test}
+use Rattle.matching.specs.Tests.{isTest, TestRow, take-test, taken-has, others-have, row-test, default-all, case-all, clauseRows-test}
 use Rattle.matching.specs.Depth.{choice-nothing, choice-first, casesOn, isTail, isExact, only, nodeOn, caseColumns, met-here, met-there, only-met, matrixTree, plainTree-matrix, tree-induction}
 use Rattle.matching.specs.ColumnTypes.{Resolved, Sound, Meets, at-root, in-case, in-default, met-sound}
 use Rattle.meaning.specs.Stands.{Used}

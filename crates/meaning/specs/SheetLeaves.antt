@@ -4,29 +4,29 @@ use Prim.Native.Nat.{ℕ, zero, suc, _+_, _≤_, _<_}
 use native.Mathlib.Omega.{arith}
 use native.Mathlib.Nat.{zero-add}
 use mathlib.Core.Path.{_≡_, refl, sym, ap, _∙_, subst}
-use mathlib.Core.Logic.{_⊎_, inl, inr}
-use mathlib.Core.List.{List, [], _∷_, _++_, map}
-use mathlib.Core.Option.{Option, none, some}
+use mathlib.Core.Logic.{inl, inr}
+use mathlib.Core.List.{List, [], _∷_, _++_}
+use mathlib.Core.Option.{Option, some}
 use lib.ListN.{length}
 use Rattle.rules.specs.Limits.{nodeBindingsMost}
 use Rattle.rules.specs.SheetFile.{clauses, patterns, patternA}
 use Rattle.rules.specs.Patterns.{Pat, clausePattern, clausePatterns, names}
 use Rattle.rules.specs.Rows.{Binding}
-use Rattle.rules.specs.SheetRefusals.{repeats}
 use Rattle.rules.specs.Building.{Tree, Cases, absent, leaf, hoist, switch, listswitch, cnil, ccons, plainTree}
 use Rattle.rules.specs.Hoisting.{wholeTree}
 use Rattle.rules.specs.Calls.{sheetPatterns, sheetTree}
 use Rattle.rules.specs.SplittingLaws.{All}
 use Rattle.facts.specs.SheetFacts.{Accepted}
-use Rattle.hoisting.specs.Trees.{Plain, unhoisted, unhoistedOf, EachHoist, EachHoistOf, Leaf, leafWith, leavesOf, leavesOfEach, Among}
+use Rattle.hoisting.specs.Trees.{unhoisted, unhoistedOf, EachHoist, EachHoistOf, Leaf, leafWith, leavesOf, leavesOfEach, Among}
 use Rattle.hoisting.specs.UnhoistedLaws.{hoistAll-unhoisted, plain-unhoisted}
 use Rattle.hoisting.specs.BuiltLaws.{plainTree-plain}
 use Rattle.hoisting.specs.WholeTreeLaws.{wholeTree-bind}
-use Rattle.matching.specs.Lists.{all-append, all-map}
-use Rattle.matching.specs.Bindings.{SameUpToOrder, allBindings}
+use Rattle.matching.specs.Lists.{all-append}
+use Rattle.matching.specs.Bindings.{allBindings}
 use Rattle.matching.specs.Leaves.{AllLeaves, AllLeavesOf, clauseAt, LeafOf, boundNames, allBindings-names, leaves-bind}
+use Rattle.meaning.specs.Said.{OfClause}
 use Rattle.meaning.specs.Stands.{Used}
-use Rattle.meaning.specs.EachPattern.{Everywhere, allBindings-everywhere}
+use Rattle.meaning.specs.EachPattern.{allBindings-everywhere}
 use Rattle.meaning.specs.SheetPatterns.{FieldA, Facts, clause-everywhere}
 use Rattle.meaning.specs.Counting.{distinct-most, same-bindings-all}
 
@@ -129,12 +129,7 @@ pub clauseAt-sheet : (s : List ℕ) (c : ℕ) → c < clauses s → clauseAt (sh
 unfolding sheetPatterns
 clauseAt-sheet s c h = clauseAt-from s 0 (clauses s) c h ∙ ap (λ k. some (clausePattern s k)) (zero-add c)
 
--- ---- the bindings of a leaf or a hoist of clause c
-pub record OfClause (s : List ℕ) (c : ℕ) (bs : List Binding) : Type 0 where
-  pub clause : c < clauses s
-  pub binds : SameUpToOrder bs (allBindings [] (clausePattern s c))
-  pub as-many : length bs ≡ length (names (clausePattern s c))
-
+-- ---- the bindings of a leaf or a hoist of a clause
 leaf-of-clause : (s : List ℕ) (c : ℕ) (bs : List Binding) → LeafOf (sheetPatterns s) c bs → OfClause s c bs
 leaf-of-clause s c bs l =
     let number : c < clauses s = omega (arith, length-sheetPatterns s, l .number) in

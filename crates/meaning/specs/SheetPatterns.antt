@@ -2,24 +2,24 @@
 -- pattern's, and what is tested at a path is of its type's kind. So a clause has no more names than the sheet has patterns.
 use Prim.Native.Nat.{ℕ, zero, suc, _+_, _-_, _*_, _≤_, _<_}
 use native.Mathlib.Omega.{arith}
-use mathlib.Core.Path.{_≡_, refl, sym, ap, ap₂, _∙_}
+use mathlib.Core.Path.{_≡_, refl, ap, _∙_}
 use mathlib.Core.Bool.{Bool, true, false}
-use mathlib.Core.List.{List, [], _∷_}
-use lib.Dec.{eqb, leb}
+use mathlib.Core.List.{List, []}
+use lib.Dec.{eqb}
 use lib.ListN.{length, getD}
 use borrow.Author.Tests.{eqb-true, eq-eqb, ne-eqb}
-use Rattle.words.specs.Words.{both, pick, textAt}
+use Rattle.words.specs.Words.{both, textAt}
 use Rattle.words.specs.WordsLaws.{both-true, length-textAt, getD-textAt, texts-agree}
 use Rattle.rules.specs.Limits.{patternsMost, childrenMost}
-use Rattle.rules.specs.SheetFile.{subject, clauses, patterns, children, poolAt, poolSize, typeKind, typeFirst, typeCount, constructorFirst, entry, patternKind, patternA, patternFirst, patternCount, child, root, poolText, pool}
-use Rattle.rules.specs.Patterns.{PatternKind, Discard, Variable, Assign, Integer, ByteString, ListOfAll, ListWithRest, Constructor, Pair, Tuple, Unknown, patternKindOf, Mark, pairs, tuples, fields, Pat, Pats, discard, variable, assign, integer, bytestring, listed, tailed, constructor, opened, many, oneConstructor, decorated, constructorOf, along, ofConstructor, ofKind, patternTo, pattern, clausePattern, clausePatterns, takesArguments, opensInto, fits, fitAll}
+use Rattle.rules.specs.SheetFile.{subject, clauses, patterns, poolAt, poolSize, typeKind, typeFirst, constructorFirst, entry, patternKind, patternA, patternFirst, patternCount, child, root, poolText, pool}
+use Rattle.rules.specs.Patterns.{PatternKind, Discard, Variable, Assign, Integer, ByteString, ListOfAll, ListWithRest, Constructor, Pair, Tuple, Unknown, pairs, tuples, Pat, Pats, discard, variable, assign, integer, bytestring, listed, tailed, constructor, opened, many, oneConstructor, decorated, constructorOf, along, ofConstructor, ofKind, patternTo, pattern, clausePattern, clausePatterns, takesArguments, opensInto, fits, fitAll}
 use Rattle.rules.specs.Rows.{Step, pair, tuple, constr, list, listtail, Path, into, opening}
 use Rattle.rules.specs.SheetRefusals.{hasChildren}
 use Rattle.rules.specs.Calls.{sheetPatterns}
 use Rattle.rules.specs.SplittingLaws.{All}
 use Rattle.facts.specs.RunsLaws.{Run}
 use Rattle.facts.specs.KindsLaws.{pattern-byte}
-use Rattle.facts.specs.SheetFacts.{Laid, text-inside, Parent, Owns, Shaped, owned-pattern, Accepted}
+use Rattle.facts.specs.SheetFacts.{Laid, text-inside, Parent, owned-pattern, Accepted}
 use Rattle.facts.specs.PatternsLaws.{many-along}
 use Rattle.filing.specs.Writable.{InPool}
 use Rattle.matching.specs.Typing.{takes}

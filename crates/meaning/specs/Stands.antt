@@ -3,21 +3,21 @@
 use Prim.Native.Nat.{ℕ, zero, suc, _+_, _-_, _≤_, _<_}
 use native.Mathlib.Omega.{arith}
 use native.Mathlib.Nat.{eq-or-lt-of-le, le-of-suc-le}
-use mathlib.Core.Path.{_≡_, refl, sym, ap, ap₂, _∙_}
+use mathlib.Core.Path.{_≡_, refl, sym, ap, _∙_}
 use mathlib.Core.Logic.{⊎-elim}
 use mathlib.Core.Bool.{Bool, true, false, false≢true}
-use mathlib.Core.List.{List, [], _∷_, _++_}
+use mathlib.Core.List.{List, [], _∷_}
 use lib.Dec.{eqb}
 use lib.ListN.{length, length-append}
 use Rattle.words.specs.Words.{both, pick, Bytes}
 use Rattle.words.specs.WordsLaws.{wordAt-small}
 use Rattle.rules.specs.Limits.{depthMost}
-use Rattle.rules.specs.SheetFile.{subject, clauses, patterns, children, typeFirst, constructorFirst, entry, patternKind, patternA, patternFirst, patternCount, child, root}
+use Rattle.rules.specs.SheetFile.{subject, clauses, patterns, typeFirst, constructorFirst, entry, patternKind, patternA, patternFirst, patternCount, child, root}
 use Rattle.rules.specs.Patterns.{PatternKind, Discard, Variable, Assign, Integer, ByteString, ListOfAll, ListWithRest, Constructor, Pair, Tuple, Unknown, patternKindOf, oneConstructor, decorated, constructorOf}
 use Rattle.rules.specs.Rows.{Step, pair, tuple, constr, list, listtail, Path, into}
 use Rattle.rules.specs.SheetRefusals.{within}
 use Rattle.rules.specs.TreeFile.{isAmong}
-use Rattle.facts.specs.SheetFacts.{Owns, Shaped, Counted, Accepted, owned-entry, owned-pattern, one-entry, one-clause, entry-no-root, root-or-entry, within-child}
+use Rattle.facts.specs.SheetFacts.{Owns, Shaped, Accepted, owned-entry, one-entry, entry-no-root, root-or-entry, within-child}
 use Rattle.filing.specs.Writable.{SmallStep, SmallPath}
 use Rattle.filing.specs.PathsLaws.{isAmong-first, isAmong-rest}
 
