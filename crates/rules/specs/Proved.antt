@@ -249,6 +249,20 @@ P16 : sheetTree sheet16
 unfolding sheetTree
 P16 = refl
 
+-- ---- one more: [5,2,7] at a list switch with ListWithTail(1), (3), (2) and (4) goes to ListWithTail(3), the largest not above its
+-- length, wherever it stands.
+P17 : walk
+    (listswitch [] cnil
+    (ccons (ListWithTail 1) 0 (leaf 1 [])
+    (ccons (ListWithTail 3) 0 (leaf 3 [])
+    (ccons (ListWithTail 2) 0 (leaf 2 [])
+    (ccons (ListWithTail 4) 0 (leaf 4 []) cnil))))
+    absent)
+    panel5
+    ≡ reached 3 []
+unfolding walk
+P17 = refl
+
 -- ---- refusal 1: a buffer one byte, or one u16, too small
 P1-room : buildAnswer sheet1 65535 workRoom ≡ refuses 1 0
 unfolding buildAnswer
