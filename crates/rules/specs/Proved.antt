@@ -1,4 +1,4 @@
--- 01, "Proved cases": P1 to P12 over the definitions, from the bytes of sheets and panels; four sheets more (P13 to P16), and refusal 1.
+-- 01, "Proved cases": P1 to P12 over the definitions, from the bytes of sheets and panels; four sheets and a list switch more (P13 to P17), and refusal 1.
 -- Each holds by computing; the bytes are in Samples.
 use Prim.Native.Nat.{ℕ}
 use mathlib.Core.Path.{_≡_, refl}
