@@ -14,7 +14,7 @@ broken-requires c κs = search needs
 returns : tie.Need-returns
 returns c =
     let a = c .before .before .before .before .args in
-    part-low (a .v .now) (a .t3) (a .r) (a .j) (c .before .before .part-at .result) (c .before .before .part-at .ensures) (c .broken .result) (c .before .if1 .taken) (c .broken .ensures)
+    part-low (a .v .now) (a .t3) (a .r) (a .j) (c .before .before .part-at .result) (c .before .before .part-at .ensures) (c .broken .result) (omega (arith, c .before .if1 .taken)) (c .broken .ensures)
 
 broken-requires-2 : tie.Need-broken-requires-2
 broken-requires-2 c κs = search needs
@@ -44,7 +44,7 @@ broken-requires-4 c κs = search needs
 returns-4 : tie.Need-returns-4
 returns-4 c =
     let a = c .before .before .before .before .before .before .before .before .before .before .args in
-    part-deep (a .v .now) (a .t3) (a .r) (a .j) (c .before .before .before .before .before .before .before .before .part-at .result) (c .before .before .before .before .before .before .before .before .part-at .ensures) (c .broken4 .result) (c .before .if4 .taken) (c .broken4 .ensures)
+    part-deep (a .v .now) (a .t3) (a .r) (a .j) (c .before .before .before .before .before .before .before .before .part-at .result) (c .before .before .before .before .before .before .before .before .part-at .ensures) (c .broken4 .result) (omega (arith, c .before .if4 .taken)) (c .broken4 .ensures)
 
 add-next : tie.Need-add-next
 add-next c = search needs
@@ -55,8 +55,8 @@ element-write-next c = search needs
 returns-5 : tie.Need-returns-5
 returns-5 c =
     let a = c .before .before .before .before .before .before .before .before .before .args in
-    part-enters (a .v .now) (a .t3) (a .r) (a .j) (c .before .before .before .before .before .before .before .part-at .result) (c .before .before .before .before .before .before .before .part-at .ensures) (c .before .before .before .before .before .before .if1 .left) (omega (arith, c .before .before .before .before .if2 .left)) (c .before .before .if3 .left)
-    (c .if4 .left)
+    part-enters (a .v .now) (a .t3) (a .r) (a .j) (c .before .before .before .before .before .before .before .part-at .result) (c .before .before .before .before .before .before .before .part-at .ensures) (omega (arith, c .before .before .before .before .before .before .if1 .left)) (omega (arith, c .before .before .before .before .if2 .left)) (c .before .before .if3 .left)
+    (omega (arith, c .if4 .left))
 
 pub enter-part-spec : {M : Type 1} → statement M
 enter-part-spec =
