@@ -8,6 +8,7 @@ pub mod SheetRefusals
 pub mod Rows
 pub mod Columns
 pub mod Splitting
+pub mod SplittingLaws
 pub mod Building
 pub mod Hoisting
 pub mod TreeFile
@@ -17,3 +18,6 @@ pub mod Fitting
 pub mod Walking
 pub mod Meaning
 pub mod Calls
+pub mod Listing
+pub mod Samples
+pub mod Proved

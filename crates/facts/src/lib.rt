@@ -1,0 +1,1 @@
+// What accepted files give to the crates above: this crate is its specs/.
