@@ -3,3 +3,7 @@ pub mod Reading
 pub mod ReadingLaws
 pub mod PreOrder
 pub mod PreOrderLaws
+pub mod RecordsLaws
+pub mod NodesLaws
+pub mod OrderLaws
+pub mod CheckLaws

@@ -82,9 +82,9 @@ module _ (t : List ℕ) (inside : (k : ℕ) → k < nodes t → AllBelow (nodes 
   end-bounds (suc n) k h hn =
       ⊎-elim
       (λ l.
-        let e = end-of-last k h l in
-        let b = end-bounds n (lastChild t k) (last-in k h) (omega arith) in
-        (omega (arith, b .0), omega (arith, b .1)))
+      let e = end-of-last k h l in
+      let b = end-bounds n (lastChild t k) (last-in k h) (omega arith) in
+      (omega (arith, b .0), omega (arith, b .1)))
       (λ g. let e = end-at-leaf t k g in (omega arith, omega arith))
       (less-or-not k (lastChild t k))
 
@@ -207,19 +207,21 @@ module _ (t : List ℕ) (inside : (k : ℕ) → k < nodes t → AllBelow (nodes 
       let y : inPreOrder t d (nodes t - d) (d ∷ ds ++ cs) ≡ true = ap (λ (i : ℕ). inPreOrder t i (nodes t - i) (d ∷ ds ++ cs)) q ∙ x in
       let in-nodes : d < nodes t = omega (arith, p .0) in
       let s = ih d (omega arith) in-nodes (ds ++ cs) y in
-      let r = forest-follows k ih ds (endOf t d) (omega (arith, end-above d in-nodes)) cs (s .1) in
-      (both-make (eqb d e) (chained t (endOf t d) ds) (eq-eqb d e q) (r .0),
-       follow-join e (endOf t d) (endAfter (endOf t d) ds) (λ j low high. s .0 j (omega arith) high) (r .1),
-       r .2)
+      let r = forest-follows k ih ds (endOf t d) (omega (arith, end-above d in-nodes)) cs (s .1) in (
+        both-make (eqb d e) (chained t (endOf t d) ds) (eq-eqb d e q) (r .0),
+        follow-join e (endOf t d) (endAfter (endOf t d) ds) (λ j low high. s .0 j (omega arith) high) (r .1),
+        r .2,
+      )
 
   subtree-follows : (n k : ℕ) → k < nodes t → nodes t ≤ k + n → (cs : List ℕ) → inPreOrder t k (nodes t - k) (k ∷ cs) ≡ true → Subtree k cs
   unfolding childrenFollow
   subtree-follows zero k h hn cs x = absurd (omega arith)
   subtree-follows (suc n) k h hn cs x =
       let r = forest-follows k (λ c l q ds y. subtree-follows n c q (omega arith) ds y) (nodeChildren t k) (k + 1) (omega arith) cs (sym (read-one k cs h) ∙ x) in
-      let e = children-end k (nodeChildren t k) refl h (inside k h) (r .0) in
-      (follow-join k (k + 1) (endOf t k) (λ j low high. let d : j ≡ k = omega arith in rw d (r .0)) (λ j low high. r .1 j low (omega arith)),
-       ap (λ (i : ℕ). inPreOrder t i (nodes t - i) cs) (sym e) ∙ r .2)
+      let e = children-end k (nodeChildren t k) refl h (inside k h) (r .0) in (
+        follow-join k (k + 1) (endOf t k) (λ j low high. let d : j ≡ k = omega arith in rw d (r .0)) (λ j low high. r .1 j low (omega arith)),
+        ap (λ (i : ℕ). inPreOrder t i (nodes t - i) cs) (sym e) ∙ r .2,
+      )
 
   -- ---- the two say the same
   follow-reads : allFollow t ≡ true → nodesInPreOrder t ≡ true

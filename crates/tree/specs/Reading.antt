@@ -2,11 +2,17 @@
 -- Each is the field of the same name in the rules' definitions of the tree file.
 use Prim.Native.Nat.{ℕ, _+_, _-_, _*_, _/_, _≤_}
 use mathlib.Core.Path.{_≡_}
+use mathlib.Core.Bool.{Bool, true, false}
 use mathlib.Core.List.{List}
 use lib.ListN.{length}
-use Rattle.rules.specs.TreeReader.{nodesAt, casesAt, bindingsAt, pathsAt, stepsAt, treePoolAt, nodes, cases, bindings, paths, steps, treePoolSize, nodeKind, nodeWord, nodePath, nodeFirstCase, nodeCases, nodeTailCases, nodeDefault, nodeClause, nodeFirstBinding, nodeBindings, nodeChild, NodeKind, Switch, List-switch, Leaf, Hoist-node, Unknown-node, nodeKindOf, caseKind, caseNumber, caseLength, caseChild, CaseKind, Constr-case, Int-case, Bytes-case, List-case, List-with-tail-case, Unknown-case, caseKindOf, bindingName, bindingPath, pathFirst, pathCount, stepKind, stepFlag, stepIndexAt, stepType}
+use Rattle.words.specs.Words.{both}
+use Rattle.rules.specs.Searching.{every}
+use Rattle.rules.specs.TreeReader.{nodesAt, casesAt, bindingsAt, pathsAt, stepsAt, treePoolAt, nodes, cases, bindings, paths, steps, treePoolSize, nodeKind, nodeWord, nodePath, nodeFirstCase, nodeCases, nodeTailCases, nodeDefault, nodeClause, nodeFirstBinding, nodeBindings, nodeChild, NodeKind, Switch, List-switch, Leaf, Hoist-node, Unknown-node, nodeKindOf, caseKind, caseNumber, caseLength, caseChild, CaseKind, Constr-case, Int-case, Bytes-case, List-case, List-with-tail-case, Unknown-case, caseKindOf, bindingName, bindingPath, pathFirst, pathCount, stepKind, stepFlag, stepIndexAt, stepType, nodeKeepsRules, caseKeepsRules, bindingKeepsRules, pathKeepsRules, stepKeepsRules, treeFits}
+use Rattle.facts.specs.TreeFacts.{TreeRuled}
 use Rattle.tree.specs.declared.layout.Section.{Section}
 use Rattle.tree.specs.declared.layout.Map.{Map}
+use Rattle.tree.specs.declared.Checked.{Checked}
+use Rattle.tree.specs.declared.Checked.the-variants.{Accepted, Refused}
 use Rattle.tree.specs.declared.reading.Node.{Node}
 use Rattle.tree.specs.declared.reading.Test.{Test}
 use Rattle.tree.specs.declared.reading.Case.{Case}
@@ -39,6 +45,11 @@ pub record Mapped (t : List ℕ) (m : Map) : Type 0 where
   pub pool-end : m .pool .start + m .pool .count + 14 ≡ length t
   pub short : length t ≤ 65535
 
+-- a mapped file whose records keep the rules
+pub record Ruled (t : List ℕ) (m : Map) : Type 0 where
+  pub mapped : Mapped t m
+  pub rules : TreeRuled t
+
 unfoldable pub nodeOfFields : List ℕ → ℕ → NodeKind → Node
 nodeOfFields t k Switch = Node.Switch (nodePath t k) (nodeFirstCase t k) (nodeCases t k) (nodeDefault t k)
 nodeOfFields t k List-switch = Node.ListSwitch (nodePath t k) (nodeFirstCase t k) (nodeCases t k) (nodeTailCases t k) (nodeDefault t k)
@@ -70,3 +81,20 @@ pathOf t p = record { first = pathFirst t p; count = pathCount t p }
 
 abbrev pub stepOf : List ℕ → ℕ → Step
 stepOf t i = record { kind = stepKind t i; flag = stepFlag t i; index = stepIndexAt t i; of = stepType t i }
+
+-- 31 unless the file keeps every rule
+abbrev pub checkedBy : Bool → List ℕ → Checked
+checkedBy true t = Accepted (mapOf t)
+checkedBy false t = Refused
+
+unfoldable pub checked : List ℕ → Checked
+checked t = checkedBy (treeFits t) t
+
+-- the rules of records, all of them
+unfoldable pub recordsKeepRules : List ℕ → Bool
+recordsKeepRules t =
+    both (every (nodeKeepsRules t) 0 (nodes t))
+    (both (every (caseKeepsRules t) 0 (cases t))
+    (both (every (bindingKeepsRules t) 0 (bindings t))
+    (both (every (pathKeepsRules t) 0 (paths t))
+    (every (stepKeepsRules t) 0 (steps t)))))

@@ -6,13 +6,12 @@ use mathlib.Core.List.{List}
 use Prim.Native.Nat.{ℕ, zero, suc, _+_, _-_, _*_, _/_, _%_, _≤_, _<_}
 use native.Mathlib.Omega.{arith}
 use native.Mathlib.Nat.{zero-add, div-one}
-use borrow.Author.Tests.{leb-true, eqb-true}
 use lib.ListN.{length, getD}
-use lib.Dec.{eqb, leb}
+use lib.Dec.{eqb}
 use Rattle.words.specs.Words.{wordAt, Bytes, both}
-use Rattle.words.specs.WordsLaws.{both-true, wordAt-small}
 use Rattle.rules.specs.SheetRefusals.{wholeRecords}
-use Rattle.rules.specs.TreeReader.{treeStart, treeLength, treePoolEnd, nodesAt, casesAt, bindingsAt, pathsAt, stepsAt, treePoolAt, nodes, cases, bindings, paths, steps, treePoolSize, nodeKind, nodeZero, nodeWord, caseKind, caseZero, caseNumber, caseLength, caseChild, bindingName, bindingPath, pathFirst, pathCount, stepKind, stepFlag, stepIndexAt, stepType, lengthTrue, startsRise}
+use Rattle.rules.specs.TreeReader.{treeStart, treePoolEnd, nodesAt, casesAt, bindingsAt, pathsAt, stepsAt, treePoolAt, nodes, cases, bindings, paths, steps, treePoolSize, nodeKind, nodeZero, nodeWord, caseKind, caseZero, caseNumber, caseLength, caseChild, bindingName, bindingPath, pathFirst, pathCount, stepKind, stepFlag, stepIndexAt, stepType, startsRise}
+use Rattle.facts.specs.TreeFacts.{TreeLaid, tree-length-small}
 use Rattle.tree.specs.declared.layout.Section.{Section}
 use Rattle.tree.specs.declared.layout.Map.{Map}
 use Rattle.tree.specs.Reading.{sectionOf, mapOf, Mapped}
@@ -120,45 +119,7 @@ module _ {t : List ℕ} {m : Map} (w : Mapped t m) where
   unfolding stepType
   step-type-is i = rw (steps-start)
 
--- ---- the map of a file whose length is true and whose starts rise
-pub record Whole (size from to : ℕ) : Type 0 where
-  pub rises : from ≤ to
-  pub whole : (to - from) % size ≡ 0
-
-whole-true : (size from to : ℕ) → wholeRecords size from to ≡ true → Whole size from to
-unfolding wholeRecords
-whole-true size from to h =
-    let b = both-true (leb from to) (eqb ((to - from) % size) 0) h in
-    record { rises = leb-true from to (b .0); whole = eqb-true ((to - from) % size) 0 (b .1) }
-
-pub record Starts (t : List ℕ) : Type 0 where
-  pub from-zero : nodesAt t ≡ 0
-  pub nodes-whole : Whole 12 (nodesAt t) (casesAt t)
-  pub cases-whole : Whole 8 (casesAt t) (bindingsAt t)
-  pub bindings-whole : Whole 4 (bindingsAt t) (pathsAt t)
-  pub paths-whole : Whole 4 (pathsAt t) (stepsAt t)
-  pub steps-whole : Whole 6 (stepsAt t) (treePoolAt t)
-  pub pool-whole : Whole 1 (treePoolAt t) (treePoolEnd t)
-
-pub starts : (t : List ℕ) → startsRise t ≡ true → Starts t
-unfolding startsRise
-starts t h =
-    let p0 = both-true _ _ h in
-    let p1 = both-true _ _ (p0 .1) in
-    let p2 = both-true _ _ (p1 .1) in
-    let p3 = both-true _ _ (p2 .1) in
-    let p4 = both-true _ _ (p3 .1) in
-    let p5 = both-true _ _ (p4 .1) in
-    record {
-      from-zero = eqb-true (nodesAt t) 0 (p0 .0);
-      nodes-whole = whole-true 12 (nodesAt t) (casesAt t) (p1 .0);
-      cases-whole = whole-true 8 (casesAt t) (bindingsAt t) (p2 .0);
-      bindings-whole = whole-true 4 (bindingsAt t) (pathsAt t) (p3 .0);
-      paths-whole = whole-true 4 (pathsAt t) (stepsAt t) (p4 .0);
-      steps-whole = whole-true 6 (stepsAt t) (treePoolAt t) (p5 .0);
-      pool-whole = whole-true 1 (treePoolAt t) (treePoolEnd t) (p5 .1);
-    }
-
+-- ---- the layout, as functions read it
 -- the starts a to f and the end of the pool, as a function reads them one by one
 abbrev pub startsWhole : ℕ → ℕ → ℕ → ℕ → ℕ → ℕ → ℕ → Bool
 startsWhole a b c d e f end =
@@ -176,16 +137,6 @@ pub starts-rise-is : (t : List ℕ) (a b c d e f : ℕ)
 unfolding startsRise nodesAt casesAt bindingsAt pathsAt stepsAt treePoolAt treePoolEnd
 starts-rise-is t a b c d e f ea eb ec ed ee ef = rw (ea, eb, ec, ed, ee, ef)
 
-pub long-enough : (t : List ℕ) → lengthTrue t ≡ true → 14 ≤ length t
-unfolding lengthTrue
-long-enough t h = leb-true 14 (length t) (both-true _ _ h .0)
-
-length-short : (t : List ℕ) → Bytes t → lengthTrue t ≡ true → length t ≤ 65535
-unfolding lengthTrue treeLength
-length-short t bytes h =
-    let e = eqb-true (wordAt t (length t - 2)) (length t) (both-true (leb 14 (length t)) (eqb (wordAt t (length t - 2)) (length t)) h .1) in
-    omega (arith, wordAt-small bytes (length t - 2))
-
 -- the map, made of sections from one start to the next
 pub map-is : (t : List ℕ) (a b c d e f : ℕ)
     → a ≡ treeStart t 0 → b ≡ treeStart t 1 → c ≡ treeStart t 2 → d ≡ treeStart t 3 → e ≡ treeStart t 4 → f ≡ treeStart t 5
@@ -193,34 +144,18 @@ pub map-is : (t : List ℕ) (a b c d e f : ℕ)
     → sa ≡ sectionOf e f 6 → po ≡ sectionOf f (length t - 14) 1
     → _≡_ {A = Map} (record { nodes = na; cases = ca; bindings = ba; paths = pa; steps = sa; pool = po }) (mapOf t)
 unfolding nodesAt casesAt bindingsAt pathsAt stepsAt treePoolAt treePoolEnd nodes cases bindings paths steps treePoolSize
-map-is t a b c d e f ea eb ec ed ee ef na ca ba pa sa po en ek eb2 ep es eo = simp (en, ek, eb2, ep, es, eo, ea, eb, ec, ed, ee, ef, div-one)
+map-is t a b c d e f ea eb ec ed ee ef na ca ba pa sa po en ek em ep es eo = simp (en, ek, em, ep, es, eo, ea, eb, ec, ed, ee, ef, div-one)
 
--- whole records of a size from a start on end where the next section starts
-ends-12 : (from to : ℕ) → Whole 12 from to → from + 12 * ((to - from) / 12) ≡ to
-ends-12 from to w = omega arith
-
-ends-8 : (from to : ℕ) → Whole 8 from to → from + 8 * ((to - from) / 8) ≡ to
-ends-8 from to w = omega arith
-
-ends-6 : (from to : ℕ) → Whole 6 from to → from + 6 * ((to - from) / 6) ≡ to
-ends-6 from to w = omega arith
-
-ends-4 : (from to : ℕ) → Whole 4 from to → from + 4 * ((to - from) / 4) ≡ to
-ends-4 from to w = omega arith
-
-pub mapped : (t : List ℕ) → Bytes t → lengthTrue t ≡ true → startsRise t ≡ true → Mapped t (mapOf t)
-unfolding nodes cases bindings paths steps treePoolSize treePoolEnd
-mapped t bytes true-length rise =
-    let s = starts t rise in
-    let e = ends-12 (nodesAt t) (casesAt t) (s .nodes-whole) in
-    record {
-      is = refl;
-      from-zero = s .from-zero;
-      nodes-end = omega (arith, e, s .from-zero);
-      cases-end = ends-8 (casesAt t) (bindingsAt t) (s .cases-whole);
-      bindings-end = ends-4 (bindingsAt t) (pathsAt t) (s .bindings-whole);
-      paths-end = ends-4 (pathsAt t) (stepsAt t) (s .paths-whole);
-      steps-end = ends-6 (stepsAt t) (treePoolAt t) (s .steps-whole);
-      pool-end = omega (arith, s .pool-whole .rises, long-enough t true-length);
-      short = length-short t bytes true-length;
-    }
+-- the map of a file whose starts rise by whole records
+pub mapped : (t : List ℕ) → Bytes t → TreeLaid t → Mapped t (mapOf t)
+mapped t bytes laid = record {
+  is = refl;
+  from-zero = laid .nodes-start;
+  nodes-end = omega (arith, laid .nodes-start, laid .nodes-end);
+  cases-end = laid .cases-end;
+  bindings-end = laid .bindings-end;
+  paths-end = laid .paths-end;
+  steps-end = laid .steps-end;
+  pool-end = omega (arith, laid .pool-end, laid .trailer-end);
+  short = omega (arith, tree-length-small laid bytes);
+}

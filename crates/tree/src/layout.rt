@@ -4,16 +4,21 @@ use words::word_at;
 ghost use mathlib.Core.Path.{_≡_};
 ghost use Prim.Native.Nat.{_+_, _*_, _/_, _-_, _<_, _≤_};
 ghost use lib.ListN.{length};
-ghost use mathlib.Core.Bool.{true};
 ghost use Rattle.rules.specs.SheetRefusals.{wholeRecords};
 ghost use Rattle.rules.specs.TreeReader.{treeStart, lengthTrue, startsRise};
+ghost use Rattle.facts.specs.TreeFacts.{TreeLaid};
 ghost use Rattle.tree.specs.Reading.{sectionOf, mapOf};
 
 pub const NODE_SIZE: usize = 12;
+
 pub const CASE_SIZE: usize = 8;
+
 pub const BINDING_SIZE: usize = 4;
+
 pub const PATH_SIZE: usize = 4;
+
 pub const STEP_SIZE: usize = 6;
+
 pub const TRAILER: usize = 14;
 
 // Where a section starts, and how many records it has; of the pool, how many bytes.
@@ -96,12 +101,15 @@ fn section_of(start: usize, end: usize, size: usize) -> Section
     requires { ⌜ (start ≤ end) × (0 < size) ⌝ }
     ensures { λ r. ⌜ r ≡ sectionOf start end size ⌝ }
 {
-    Section { start, count: (end - start) / size }
+    Section {
+        start,
+        count: (end - start) / size,
+    }
 }
 
 // The sections of a file whose starts rise.
 pub fn sections(t: &[u8]) -> Map
-    requires { ⌜ (14 ≤ length (now t)) × (startsRise (now t) ≡ true) ⌝ }
+    requires { ⌜ TreeLaid (now t) ⌝ }
     ensures { λ r. ⌜ r ≡ mapOf (now (t .entry)) ⌝ }
 {
     let nodes_at = start(t, 0);
@@ -116,5 +124,12 @@ pub fn sections(t: &[u8]) -> Map
     let paths = section_of(paths_at, steps_at, PATH_SIZE);
     let steps = section_of(steps_at, pool_at, STEP_SIZE);
     let pool = section_of(pool_at, t.len() - TRAILER, 1);
-    Map { nodes, cases, bindings, paths, steps, pool }
+    Map {
+        nodes,
+        cases,
+        bindings,
+        paths,
+        steps,
+        pool,
+    }
 }

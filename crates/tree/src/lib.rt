@@ -1,7 +1,19 @@
-// The reader of a tree file.
-use layout::{length_true, sections, starts_rise, Map};
+// The reader of a tree file: every condition of "A reader asks, else 31", and the reading of its records.
+// A check reads each record once, and nodes and cases once more for their order; it takes no memory but a few words. Each condition
+// is the rules' definition of its name; what is read of an accepted file rests on the facts of the crate facts.
+use layout::Map;
+use layout::length_true;
+use layout::sections;
+use layout::starts_rise;
 use order::nodes_in_pre_order;
-use records::{bindings_keep_rules, cases_keep_rules, nodes_keep_rules, paths_keep_rules, steps_keep_rules};
+use records::bindings_keep_rules;
+use records::cases_keep_rules;
+use records::nodes_keep_rules;
+use records::paths_keep_rules;
+use records::steps_keep_rules;
+ghost use mathlib.Core.Path.{_≡_};
+ghost use Rattle.tree.specs.Reading.{Mapped, recordsKeepRules, checked};
+
 pub mod layout;
 mod order;
 pub mod reading;
@@ -12,7 +24,10 @@ pub enum Checked {
     Refused,
 }
 
-fn records_keep_rules(t: &[u8], m: Map) -> bool {
+fn records_keep_rules(t: &[u8], m: Map) -> bool
+    requires { ⌜ Mapped (now t) m ⌝ }
+    ensures { λ r. ⌜ r ≡ recordsKeepRules (now (t .entry)) ⌝ }
+{
     if !nodes_keep_rules(t, m) {
         return false;
     }
@@ -28,7 +43,10 @@ fn records_keep_rules(t: &[u8], m: Map) -> bool {
     steps_keep_rules(t, m)
 }
 
-pub fn check(t: &[u8]) -> Checked {
+// The map of a file that keeps every rule.
+pub fn check(t: &[u8]) -> Checked
+    ensures { λ r. ⌜ r ≡ checked (now (t .entry)) ⌝ }
+{
     if !length_true(t) {
         return Checked::Refused;
     }

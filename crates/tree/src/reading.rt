@@ -1,6 +1,11 @@
 // Reading one record of a tree file whose sections are mapped: a node, a case with its test, a binding, a path, a step.
 // Rests on the words of a file, and on what a map says of the sections.
-use crate::layout::{BINDING_SIZE, CASE_SIZE, Map, NODE_SIZE, PATH_SIZE, STEP_SIZE};
+use crate::layout::BINDING_SIZE;
+use crate::layout::CASE_SIZE;
+use crate::layout::Map;
+use crate::layout::NODE_SIZE;
+use crate::layout::PATH_SIZE;
+use crate::layout::STEP_SIZE;
 use words::word_at;
 ghost use mathlib.Core.Path.{_≡_};
 ghost use Prim.Native.Nat.{_+_, _<_, _≤_};
@@ -9,10 +14,30 @@ ghost use Rattle.tree.specs.Reading.{Mapped, nodeOf, caseOf, bindingOf, 
 
 // A node with its fields. A default is one more than its node's number, and 0 where there is none.
 pub enum Node {
-    Switch { path: u16, first: u16, cases: u16, default: u16 },
-    ListSwitch { path: u16, first: u16, cases: u16, tails: u16, default: u16 },
-    Leaf { clause: u16, first: u16, count: u16 },
-    Hoist { clause: u16, first: u16, count: u16, child: u16 },
+    Switch {
+        path: u16,
+        first: u16,
+        cases: u16,
+        default: u16,
+    },
+    ListSwitch {
+        path: u16,
+        first: u16,
+        cases: u16,
+        tails: u16,
+        default: u16,
+    },
+    Leaf {
+        clause: u16,
+        first: u16,
+        count: u16,
+    },
+    Hoist {
+        clause: u16,
+        first: u16,
+        count: u16,
+        child: u16,
+    },
 }
 
 // What a case asks. A text is Int's where its kind is 1 and Bytes' where it is 2; it starts so far into the pool.
@@ -80,10 +105,30 @@ pub fn node_at(t: &[u8], m: Map, k: usize) -> Node
     let d = node_word(t, m, k, 3);
     let e = node_word(t, m, k, 4);
     match kind {
-        0 => Node::Switch { path: a, first: b, cases: c, default: e },
-        1 => Node::ListSwitch { path: a, first: b, cases: c, tails: d, default: e },
-        2 => Node::Leaf { clause: a, first: b, count: c },
-        _ => Node::Hoist { clause: a, first: b, count: c, child: d },
+        0 => Node::Switch {
+            path: a,
+            first: b,
+            cases: c,
+            default: e,
+        },
+        1 => Node::ListSwitch {
+            path: a,
+            first: b,
+            cases: c,
+            tails: d,
+            default: e,
+        },
+        2 => Node::Leaf {
+            clause: a,
+            first: b,
+            count: c,
+        },
+        _ => Node::Hoist {
+            clause: a,
+            first: b,
+            count: c,
+            child: d,
+        },
     }
 }
 
@@ -134,11 +179,34 @@ pub fn case_at(t: &[u8], m: Map, i: usize) -> Case
     let b = case_length(t, m, i);
     let child = case_child(t, m, i);
     match kind {
-        0 => Case { test: Test::Constr(a), child },
-        1 => Case { test: Test::Text { kind: 1, start: a, count: b }, child },
-        2 => Case { test: Test::Text { kind: 2, start: a, count: b }, child },
-        3 => Case { test: Test::List(a), child },
-        _ => Case { test: Test::Tailed(a), child },
+        0 => Case {
+            test: Test::Constr(a),
+            child,
+        },
+        1 => Case {
+            test: Test::Text {
+                kind: 1,
+                start: a,
+                count: b,
+            },
+            child,
+        },
+        2 => Case {
+            test: Test::Text {
+                kind: 2,
+                start: a,
+                count: b,
+            },
+            child,
+        },
+        3 => Case {
+            test: Test::List(a),
+            child,
+        },
+        _ => Case {
+            test: Test::Tailed(a),
+            child,
+        },
     }
 }
 
@@ -187,5 +255,10 @@ pub fn step_at(t: &[u8], m: Map, i: usize) -> Step
     let flag = step_flag(t, m, i);
     let index = word_at(t, at + 2);
     let of = word_at(t, at + 4);
-    Step { kind, flag, index, of }
+    Step {
+        kind,
+        flag,
+        index,
+        of,
+    }
 }

@@ -1,7 +1,18 @@
 // The rules of single records: "known kinds, zero bytes and unused fields 0, .. parts inside their sections; at most 192 bindings a
 // node". Each function is the rules' condition of its name; a record that nothing uses is asked all the same.
 use crate::layout::Map;
-use crate::reading::{binding_at, case_child, case_kind, case_length, case_number, case_zero, node_kind, node_word, node_zero, path_at, step_flag, step_kind};
+use crate::reading::binding_at;
+use crate::reading::case_child;
+use crate::reading::case_kind;
+use crate::reading::case_length;
+use crate::reading::case_number;
+use crate::reading::case_zero;
+use crate::reading::node_kind;
+use crate::reading::node_word;
+use crate::reading::node_zero;
+use crate::reading::path_at;
+use crate::reading::step_flag;
+use crate::reading::step_kind;
 ghost use mathlib.Core.Path.{_≡_};
 ghost use mathlib.Core.Bool.{true};
 ghost use Prim.Native.Nat.{_+_, _<_, _≤_};
@@ -14,10 +25,12 @@ pub const NODE_BINDINGS_MOST: usize = 192;
 
 // The run from first on lies in a section of n records, and first is 0 where count is 0.
 fn run_in(first: usize, count: usize, n: usize) -> bool
-    requires { ⌜ first + count < 131072 ⌝ }
     ensures { λ r. ⌜ r ≡ runIn first count n ⌝ }
 {
-    if n < first + count {
+    if n < count {
+        return false;
+    }
+    if n - count < first {
         return false;
     }
     if 0 < count {

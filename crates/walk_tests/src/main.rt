@@ -1,5 +1,6 @@
 // Reads a tree file on standard input.
-use tree::{check, Checked};
+use tree::Checked;
+use tree::check;
 
 fn main() {
     let mut buffer = [0u8; 65536];

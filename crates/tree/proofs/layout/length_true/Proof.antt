@@ -3,28 +3,20 @@ use borrow.Author.Tests.{le-leb, lt-leb}
 use Rattle.rules.specs.TreeReader.{lengthTrue, treeLength}
 use Rattle.tree.proofs.layout.length_true.Statement.{statement}
 use Rattle.tree.proofs.layout.length_true.Tie as tie
-use Rattle.tree.proofs.layout.length_true.Reads as reads
-use Rattle.tree.proofs.layout.length_true.Lts as lts
-use Rattle.words.proofs.word_at.Reads as word-at-reads
 
--- src/layout.rt:48:9
 returns : tie.Need-returns
 unfolding lengthTrue
 returns c = simp (lt-leb _ _ (c .if1 .taken))
 
--- src/layout.rt:50:16
 sub-word-at : tie.Need-sub-word-at
 sub-word-at c = search needs
 
--- src/layout.rt:50:5
 word-at-requires : tie.Need-word-at-requires
 word-at-requires c κs = search needs
 
--- src/layout.rt:50:5
 cast-result : tie.Need-cast-result
 cast-result c = search needs
 
--- src/layout.rt:43:1
 returns-2 : tie.Need-returns-2
 unfolding lengthTrue treeLength
 returns-2 c = simp (le-leb _ _ (c .before .if1 .left), ← c .word-at .ensures)

@@ -1,33 +1,23 @@
 use borrow.Author.Needs.{needs}
-use mathlib.Core.Path.{_≡_, refl, sym, ap, _∙_}
 use Rattle.rules.specs.TreeReader.{treeStart}
 use Rattle.tree.proofs.layout.start.Statement.{statement}
 use Rattle.tree.proofs.layout.start.Tie as tie
-use Rattle.tree.proofs.layout.start.Reads as reads
-use Rattle.tree.proofs.layout.start.Lts as lts
-use Rattle.words.proofs.word_at.Reads as word-at-reads
 
--- src/layout.rt:39:16
 sub-word-at : tie.Need-sub-word-at
 sub-word-at c = search needs
 
--- src/layout.rt:39:36
 mul-word-at : tie.Need-mul-word-at
 mul-word-at c = search needs
 
--- src/layout.rt:39:16
 add-word-at : tie.Need-add-word-at
 add-word-at c = search needs
 
--- src/layout.rt:39:5
 word-at-requires : tie.Need-word-at-requires
 word-at-requires c κs = search needs
 
--- src/layout.rt:39:5
 cast-result : tie.Need-cast-result
 cast-result c = search needs
 
--- src/layout.rt:35:1
 returns : tie.Need-returns
 unfolding treeStart
 returns c = c .word-at .ensures

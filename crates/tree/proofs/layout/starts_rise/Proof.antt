@@ -9,10 +9,6 @@ use mathlib.Core.Bool.{true}
 use mathlib.Core.Path.{_≡_, sym, _∙_}
 use Rattle.tree.proofs.layout.starts_rise.Statement.{statement}
 use Rattle.tree.proofs.layout.starts_rise.Tie as tie
-use Rattle.tree.proofs.layout.starts_rise.Reads as reads
-use Rattle.tree.proofs.layout.starts_rise.Lts as lts
-use Rattle.tree.proofs.layout.start.Reads as start-reads
-use Rattle.tree.proofs.layout.whole_records.Reads as whole-records-reads
 
 -- the starts, as they were read
 read : (c : tie.After-start6) → startsRise (c .before .before .before .before .before .before .before .args .t .now) ≡ startsWhole (c .before .before .before .before .before .start .result) (c .before .before .before .before .start2 .result) (c .before .before .before .start3 .result) (c .before .before .start4 .result) (c .before .start5 .result) (c .start6 .result) (length (c .before .before .before .before .before .before .before .args .t .now) - 14)
@@ -33,83 +29,63 @@ whole-4 c = sym (c .before .whole-records4 .ensures) ∙ not-false _ (c .if5 .le
 whole-5 : (c : tie.Else6) → wholeRecords 6 (c .before .before .before .before .before .before .before .before .before .before .before .before .start5 .result) (c .before .before .before .before .before .before .before .before .before .before .before .start6 .result) ≡ true
 whole-5 c = sym (c .before .whole-records5 .ensures) ∙ not-false _ (c .if6 .left)
 
--- src/layout.rt:68:9
 start-requires : tie.Need-start-requires
 start-requires c κs = search needs
 
--- src/layout.rt:69:9
 start-requires-2 : tie.Need-start-requires-2
 start-requires-2 c κs = search needs
 
--- src/layout.rt:70:9
 start-requires-3 : tie.Need-start-requires-3
 start-requires-3 c κs = search needs
 
--- src/layout.rt:71:9
 start-requires-4 : tie.Need-start-requires-4
 start-requires-4 c κs = search needs
 
--- src/layout.rt:72:9
 start-requires-5 : tie.Need-start-requires-5
 start-requires-5 c κs = search needs
 
--- src/layout.rt:73:9
 start-requires-6 : tie.Need-start-requires-6
 start-requires-6 c κs = search needs
 
--- src/layout.rt:75:9
 returns : tie.Need-returns
 returns c = sym (read (c .before) ∙ simp (ne-eqb _ _ (c .if1 .taken)))
 
--- src/layout.rt:77:9
 whole-records-requires : tie.Need-whole-records-requires
 whole-records-requires c κs = search needs
 
--- src/layout.rt:78:9
 returns-2 : tie.Need-returns-2
 returns-2 c = sym (read (c .before .before .before) ∙ simp (eq-eqb _ _ (c .before .before .if1 .left), sym (c .before .whole-records .ensures) ∙ not-true _ (c .if2 .taken)))
 
--- src/layout.rt:80:9
 whole-records-requires-2 : tie.Need-whole-records-requires-2
 whole-records-requires-2 c κs = search needs
 
--- src/layout.rt:81:9
 returns-3 : tie.Need-returns-3
 returns-3 c = sym (read (c .before .before .before .before .before) ∙ simp (eq-eqb _ _ (c .before .before .before .before .if1 .left), whole-1 (c .before .before), sym (c .before .whole-records2 .ensures) ∙ not-true _ (c .if3 .taken)))
 
--- src/layout.rt:83:9
 whole-records-requires-3 : tie.Need-whole-records-requires-3
 whole-records-requires-3 c κs = search needs
 
--- src/layout.rt:84:9
 returns-4 : tie.Need-returns-4
 returns-4 c = sym (read (c .before .before .before .before .before .before .before) ∙ simp (eq-eqb _ _ (c .before .before .before .before .before .before .if1 .left), whole-1 (c .before .before .before .before), whole-2 (c .before .before), sym (c .before .whole-records3 .ensures) ∙ not-true _ (c .if4 .taken)))
 
--- src/layout.rt:86:9
 whole-records-requires-4 : tie.Need-whole-records-requires-4
 whole-records-requires-4 c κs = search needs
 
--- src/layout.rt:87:9
 returns-5 : tie.Need-returns-5
 returns-5 c = sym (read (c .before .before .before .before .before .before .before .before .before) ∙ simp (eq-eqb _ _ (c .before .before .before .before .before .before .before .before .if1 .left), whole-1 (c .before .before .before .before .before .before), whole-2 (c .before .before .before .before), whole-3 (c .before .before), sym (c .before .whole-records4 .ensures) ∙ not-true _ (c .if5 .taken)))
 
--- src/layout.rt:89:9
 whole-records-requires-5 : tie.Need-whole-records-requires-5
 whole-records-requires-5 c κs = search needs
 
--- src/layout.rt:90:9
 returns-6 : tie.Need-returns-6
 returns-6 c = sym (read (c .before .before .before .before .before .before .before .before .before .before .before) ∙ simp (eq-eqb _ _ (c .before .before .before .before .before .before .before .before .before .before .if1 .left), whole-1 (c .before .before .before .before .before .before .before .before), whole-2 (c .before .before .before .before .before .before), whole-3 (c .before .before .before .before), whole-4 (c .before .before), sym (c .before .whole-records5 .ensures) ∙ not-true _ (c .if6 .taken)))
 
--- src/layout.rt:92:28
 sub-whole-records : tie.Need-sub-whole-records
 sub-whole-records c = search needs
 
--- src/layout.rt:92:5
 whole-records-requires-6 : tie.Need-whole-records-requires-6
 whole-records-requires-6 c κs = search needs
 
--- src/layout.rt:64:1
 returns-7 : tie.Need-returns-7
 returns-7 c = c .whole-records6 .ensures ∙ sym (read (c .before .before .before .before .before .before .before .before .before .before .before .before) ∙ simp (eq-eqb _ _ (c .before .before .before .before .before .before .before .before .before .before .before .if1 .left), whole-1 (c .before .before .before .before .before .before .before .before .before), whole-2 (c .before .before .before .before .before .before .before), whole-3 (c .before .before .before .before .before), whole-4 (c .before .before .before), whole-5 (c .before)))
 

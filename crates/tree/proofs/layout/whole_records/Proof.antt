@@ -3,19 +3,14 @@ use borrow.Author.Tests.{le-leb, lt-leb}
 use Rattle.rules.specs.SheetRefusals.{wholeRecords}
 use Rattle.tree.proofs.layout.whole_records.Statement.{statement}
 use Rattle.tree.proofs.layout.whole_records.Tie as tie
-use Rattle.tree.proofs.layout.whole_records.Reads as reads
-use Rattle.tree.proofs.layout.whole_records.Lts as lts
 
--- src/layout.rt:58:9
 returns : tie.Need-returns
 unfolding wholeRecords
 returns c = simp (lt-leb _ _ (c .if1 .taken))
 
--- src/layout.rt:60:5
 rem-result : tie.Need-rem-result
 rem-result c = search needs
 
--- src/layout.rt:53:1
 returns-2 : tie.Need-returns-2
 unfolding wholeRecords
 returns-2 c = simp (le-leb _ _ (c .if1 .left))

@@ -1,35 +1,26 @@
 use borrow.Author.Needs.{needs}
-use mathlib.Core.Path.{_≡_, refl, sym, ap, _∙_}
+use mathlib.Core.Path.{_∙_}
 use Rattle.tree.specs.ReadingLaws.{binding-name-is, binding-path-is}
 use Rattle.tree.proofs.reading.binding_at.Statement.{statement}
 use Rattle.tree.proofs.reading.binding_at.Tie as tie
-use Rattle.tree.proofs.reading.binding_at.Reads as reads
-use Rattle.tree.proofs.reading.binding_at.Lts as lts
-use Rattle.words.proofs.word_at.Reads as word-at-reads
 
--- src/reading.rt:148:33
 mul-at : tie.Need-mul-at
 mul-at c = search needs
 
--- src/reading.rt:148:14
 add-at : tie.Need-add-at
 add-at c = search needs
 
--- src/reading.rt:149:9
 word-at-requires : tie.Need-word-at-requires
 word-at-requires c κs = search needs
 
--- src/reading.rt:150:27
 add-word-at : tie.Need-add-word-at
 add-word-at c = search needs
 
--- src/reading.rt:150:9
 word-at-requires-2 : tie.Need-word-at-requires-2
 word-at-requires-2 c κs = search needs
 
--- src/reading.rt:144:1
 returns : tie.Need-returns
-returns c = 
+returns c =
     let a = c .before .before .before .before in
     let e = c .before .word-at .ensures ∙ binding-name-is (a .pre .0) (a .args .b) in
     let f = c .word-at2 .ensures ∙ binding-path-is (a .pre .0) (a .args .b) in

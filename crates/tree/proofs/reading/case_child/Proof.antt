@@ -1,29 +1,21 @@
 use borrow.Author.Needs.{needs}
-use mathlib.Core.Path.{_≡_, refl, sym, ap, _∙_}
+use mathlib.Core.Path.{_∙_}
 use Rattle.tree.specs.ReadingLaws.{case-child-is}
 use Rattle.tree.proofs.reading.case_child.Statement.{statement}
 use Rattle.tree.proofs.reading.case_child.Tie as tie
-use Rattle.tree.proofs.reading.case_child.Reads as reads
-use Rattle.tree.proofs.reading.case_child.Lts as lts
-use Rattle.words.proofs.word_at.Reads as word-at-reads
 
--- src/reading.rt:124:32
 mul-word-at : tie.Need-mul-word-at
 mul-word-at c = search needs
 
--- src/reading.rt:124:16
 add-word-at : tie.Need-add-word-at
 add-word-at c = search needs
 
--- src/reading.rt:124:16
 add-word-at-2 : tie.Need-add-word-at-2
 add-word-at-2 c = search needs
 
--- src/reading.rt:124:5
 word-at-requires : tie.Need-word-at-requires
 word-at-requires c κs = search needs
 
--- src/reading.rt:120:1
 returns : tie.Need-returns
 returns c = c .word-at .ensures ∙ case-child-is (c .before .before .before .pre .0) (c .before .before .before .args .i)
 

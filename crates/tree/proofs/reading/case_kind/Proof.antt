@@ -2,22 +2,16 @@ use borrow.Author.Needs.{needs}
 use Rattle.tree.specs.ReadingLaws.{case-kind-is}
 use Rattle.tree.proofs.reading.case_kind.Statement.{statement}
 use Rattle.tree.proofs.reading.case_kind.Tie as tie
-use Rattle.tree.proofs.reading.case_kind.Reads as reads
-use Rattle.tree.proofs.reading.case_kind.Lts as lts
 
--- src/reading.rt:94:30
 mul-at : tie.Need-mul-at
 mul-at c = search needs
 
--- src/reading.rt:94:14
 add-at : tie.Need-add-at
 add-at c = search needs
 
--- src/reading.rt:95:5
 shared-slice-read-result : tie.Need-shared-slice-read-result
 shared-slice-read-result c = search needs
 
--- src/reading.rt:90:1
 returns : tie.Need-returns
 returns c = case-kind-is (c .before .before .pre .0) (c .before .before .args .i)
 

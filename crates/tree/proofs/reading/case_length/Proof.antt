@@ -1,29 +1,21 @@
 use borrow.Author.Needs.{needs}
-use mathlib.Core.Path.{_≡_, refl, sym, ap, _∙_}
+use mathlib.Core.Path.{_∙_}
 use Rattle.tree.specs.ReadingLaws.{case-length-is}
 use Rattle.tree.proofs.reading.case_length.Statement.{statement}
 use Rattle.tree.proofs.reading.case_length.Tie as tie
-use Rattle.tree.proofs.reading.case_length.Reads as reads
-use Rattle.tree.proofs.reading.case_length.Lts as lts
-use Rattle.words.proofs.word_at.Reads as word-at-reads
 
--- src/reading.rt:117:32
 mul-word-at : tie.Need-mul-word-at
 mul-word-at c = search needs
 
--- src/reading.rt:117:16
 add-word-at : tie.Need-add-word-at
 add-word-at c = search needs
 
--- src/reading.rt:117:16
 add-word-at-2 : tie.Need-add-word-at-2
 add-word-at-2 c = search needs
 
--- src/reading.rt:117:5
 word-at-requires : tie.Need-word-at-requires
 word-at-requires c κs = search needs
 
--- src/reading.rt:113:1
 returns : tie.Need-returns
 returns c = c .word-at .ensures ∙ case-length-is (c .before .before .before .pre .0) (c .before .before .before .args .i)
 

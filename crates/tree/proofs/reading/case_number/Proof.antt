@@ -1,29 +1,21 @@
 use borrow.Author.Needs.{needs}
-use mathlib.Core.Path.{_≡_, refl, sym, ap, _∙_}
+use mathlib.Core.Path.{_∙_}
 use Rattle.tree.specs.ReadingLaws.{case-number-is}
 use Rattle.tree.proofs.reading.case_number.Statement.{statement}
 use Rattle.tree.proofs.reading.case_number.Tie as tie
-use Rattle.tree.proofs.reading.case_number.Reads as reads
-use Rattle.tree.proofs.reading.case_number.Lts as lts
-use Rattle.words.proofs.word_at.Reads as word-at-reads
 
--- src/reading.rt:110:32
 mul-word-at : tie.Need-mul-word-at
 mul-word-at c = search needs
 
--- src/reading.rt:110:16
 add-word-at : tie.Need-add-word-at
 add-word-at c = search needs
 
--- src/reading.rt:110:16
 add-word-at-2 : tie.Need-add-word-at-2
 add-word-at-2 c = search needs
 
--- src/reading.rt:110:5
 word-at-requires : tie.Need-word-at-requires
 word-at-requires c κs = search needs
 
--- src/reading.rt:106:1
 returns : tie.Need-returns
 returns c = c .word-at .ensures ∙ case-number-is (c .before .before .before .pre .0) (c .before .before .before .args .i)
 

@@ -2,26 +2,19 @@ use borrow.Author.Needs.{needs}
 use Rattle.tree.specs.ReadingLaws.{case-zero-is}
 use Rattle.tree.proofs.reading.case_zero.Statement.{statement}
 use Rattle.tree.proofs.reading.case_zero.Tie as tie
-use Rattle.tree.proofs.reading.case_zero.Reads as reads
-use Rattle.tree.proofs.reading.case_zero.Lts as lts
 
--- src/reading.rt:102:30
 mul-at : tie.Need-mul-at
 mul-at c = search needs
 
--- src/reading.rt:102:14
 add-at : tie.Need-add-at
 add-at c = search needs
 
--- src/reading.rt:102:14
 add-at-2 : tie.Need-add-at-2
 add-at-2 c = search needs
 
--- src/reading.rt:103:5
 shared-slice-read-result : tie.Need-shared-slice-read-result
 shared-slice-read-result c = search needs
 
--- src/reading.rt:98:1
 returns : tie.Need-returns
 returns c = case-zero-is (c .before .before .pre .0) (c .before .before .args .i)
 

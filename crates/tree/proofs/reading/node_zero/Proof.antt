@@ -2,22 +2,16 @@ use borrow.Author.Needs.{needs}
 use Rattle.tree.specs.ReadingLaws.{node-zero-is}
 use Rattle.tree.proofs.reading.node_zero.Statement.{statement}
 use Rattle.tree.proofs.reading.node_zero.Tie as tie
-use Rattle.tree.proofs.reading.node_zero.Reads as reads
-use Rattle.tree.proofs.reading.node_zero.Lts as lts
 
--- src/reading.rt:60:7
 mul-result : tie.Need-mul-result
 mul-result c = search needs
 
--- src/reading.rt:60:7
 add-result : tie.Need-add-result
 add-result c = search needs
 
--- src/reading.rt:60:5
 shared-slice-read-result : tie.Need-shared-slice-read-result
 shared-slice-read-result c = search needs
 
--- src/reading.rt:56:1
 returns : tie.Need-returns
 returns c = node-zero-is (c .before .pre .0) (c .before .args .k)
 

@@ -1,49 +1,35 @@
 use borrow.Author.Needs.{needs}
-use mathlib.Core.Path.{_≡_, refl, sym, ap, _∙_}
+use mathlib.Core.Path.{_∙_}
 use Rattle.tree.specs.ReadingLaws.{step-index-is, step-type-is}
 use Rattle.tree.proofs.reading.step_at.Statement.{statement}
 use Rattle.tree.proofs.reading.step_at.Tie as tie
-use Rattle.tree.proofs.reading.step_at.Reads as reads
-use Rattle.tree.proofs.reading.step_at.Lts as lts
-use Rattle.tree.proofs.reading.step_flag.Reads as step-flag-reads
-use Rattle.tree.proofs.reading.step_kind.Reads as step-kind-reads
-use Rattle.words.proofs.word_at.Reads as word-at-reads
 
--- src/reading.rt:184:30
 mul-at : tie.Need-mul-at
 mul-at c = search needs
 
--- src/reading.rt:184:14
 add-at : tie.Need-add-at
 add-at c = search needs
 
--- src/reading.rt:185:9
 step-kind-requires : tie.Need-step-kind-requires
 step-kind-requires c κs = search needs
 
--- src/reading.rt:186:9
 step-flag-requires : tie.Need-step-flag-requires
 step-flag-requires c κs = search needs
 
--- src/reading.rt:187:28
 add-word-at : tie.Need-add-word-at
 add-word-at c = search needs
 
--- src/reading.rt:187:9
 word-at-requires : tie.Need-word-at-requires
 word-at-requires c κs = search needs
 
--- src/reading.rt:188:25
 add-word-at-2 : tie.Need-add-word-at-2
 add-word-at-2 c = search needs
 
--- src/reading.rt:188:9
 word-at-requires-2 : tie.Need-word-at-requires-2
 word-at-requires-2 c κs = search needs
 
--- src/reading.rt:180:1
 returns : tie.Need-returns
-returns c = 
+returns c =
     let a = c .before .before .before .before .before .before in
     let e = c .before .word-at .ensures ∙ step-index-is (a .pre .0) (a .args .i) in
     let f = c .word-at2 .ensures ∙ step-type-is (a .pre .0) (a .args .i) in

@@ -2,26 +2,19 @@ use borrow.Author.Needs.{needs}
 use Rattle.tree.specs.ReadingLaws.{step-flag-is}
 use Rattle.tree.proofs.reading.step_flag.Statement.{statement}
 use Rattle.tree.proofs.reading.step_flag.Tie as tie
-use Rattle.tree.proofs.reading.step_flag.Reads as reads
-use Rattle.tree.proofs.reading.step_flag.Lts as lts
 
--- src/reading.rt:176:30
 mul-at : tie.Need-mul-at
 mul-at c = search needs
 
--- src/reading.rt:176:14
 add-at : tie.Need-add-at
 add-at c = search needs
 
--- src/reading.rt:176:14
 add-at-2 : tie.Need-add-at-2
 add-at-2 c = search needs
 
--- src/reading.rt:177:5
 shared-slice-read-result : tie.Need-shared-slice-read-result
 shared-slice-read-result c = search needs
 
--- src/reading.rt:172:1
 returns : tie.Need-returns
 returns c = step-flag-is (c .before .before .pre .0) (c .before .before .args .i)
 

@@ -2,22 +2,16 @@ use borrow.Author.Needs.{needs}
 use Rattle.tree.specs.ReadingLaws.{step-kind-is}
 use Rattle.tree.proofs.reading.step_kind.Statement.{statement}
 use Rattle.tree.proofs.reading.step_kind.Tie as tie
-use Rattle.tree.proofs.reading.step_kind.Reads as reads
-use Rattle.tree.proofs.reading.step_kind.Lts as lts
 
--- src/reading.rt:168:30
 mul-at : tie.Need-mul-at
 mul-at c = search needs
 
--- src/reading.rt:168:14
 add-at : tie.Need-add-at
 add-at c = search needs
 
--- src/reading.rt:169:5
 shared-slice-read-result : tie.Need-shared-slice-read-result
 shared-slice-read-result c = search needs
 
--- src/reading.rt:164:1
 returns : tie.Need-returns
 returns c = step-kind-is (c .before .before .pre .0) (c .before .before .args .i)
 
