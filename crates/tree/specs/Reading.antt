@@ -63,8 +63,8 @@ nodeOf t k = nodeOfFields t k (nodeKindOf (nodeKind t k))
 
 unfoldable pub testOfFields : List ℕ → ℕ → CaseKind → Test
 testOfFields t i Constr-case = Test.Constr (caseNumber t i)
-testOfFields t i Int-case = Test.Text 1 (caseNumber t i) (caseLength t i)
-testOfFields t i Bytes-case = Test.Text 2 (caseNumber t i) (caseLength t i)
+testOfFields t i Int-case = Test.Text true (caseNumber t i) (caseLength t i)
+testOfFields t i Bytes-case = Test.Text false (caseNumber t i) (caseLength t i)
 testOfFields t i List-case = Test.List (caseNumber t i)
 testOfFields t i List-with-tail-case = Test.Tailed (caseNumber t i)
 testOfFields t i Unknown-case = Test.Tailed (caseNumber t i)

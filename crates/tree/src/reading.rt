@@ -40,10 +40,10 @@ pub enum Node {
     },
 }
 
-// What a case asks. A text is Int's where its kind is 1 and Bytes' where it is 2; it starts so far into the pool.
+// What a case asks. A text is an integer's or a byte string's, and starts so far into the pool.
 pub enum Test {
     Constr(u16),
-    Text { kind: u8, start: u16, count: u16 },
+    Text { integer: bool, start: u16, count: u16 },
     List(u16),
     Tailed(u16),
 }
@@ -184,16 +184,14 @@ pub fn case_at(t: &[u8], m: Map, i: usize) -> Case
             child,
         },
         1 => Case {
-            test: Test::Text {
-                kind: 1,
+            test: Test::Text { integer: true,
                 start: a,
                 count: b,
             },
             child,
         },
         2 => Case {
-            test: Test::Text {
-                kind: 2,
+            test: Test::Text { integer: false,
                 start: a,
                 count: b,
             },
