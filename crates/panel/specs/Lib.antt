@@ -9,3 +9,5 @@ pub mod ShapePass
 pub mod ShapeSteps
 pub mod TextsLaws
 pub mod AnswersLaws
+pub mod Fit
+pub mod FitLaws

@@ -1,20 +1,19 @@
 -- The pass of refusal 23 one step at a time; and the tests of 23 from facts of each record and each part, in the other direction
 -- than the crate facts gives them. Rests on the laws of `every`.
 use mathlib.Core.Path.{_≡_, refl, sym, ap, _∙_}
-use mathlib.Core.Bool.{Bool, true, false, true≢false}
+use mathlib.Core.Bool.{Bool, true, false}
 use mathlib.Core.List.{List}
 use Prim.Native.Nat.{ℕ, zero, suc, _+_, _-_, _≤_, _<_}
 use native.Mathlib.Omega.{arith}
-use borrow.Author.Tests.{leb-true, ltb-true, eq-eqb, lt-ltb}
-use lib.Dec.{eqb, leb, ltb}
-use Rattle.words.specs.Words.{both, pick, either}
+use borrow.Author.Tests.{ltb-true, eq-eqb, lt-ltb}
+use lib.Dec.{eqb, ltb}
+use Rattle.words.specs.Words.{both, pick}
 use Rattle.words.specs.WordsLaws.{both-true, both-make}
 use Rattle.rules.specs.Limits.{panelDepthMost}
 use Rattle.rules.specs.Searching.{every, times}
 use Rattle.rules.specs.SearchingLaws.{every-true, every-make}
-use Rattle.rules.specs.SheetFile.{runIn}
-use Rattle.rules.specs.PanelFile.{records, parts, recordKind, recordZero, recordA, recordFirst, recordCount, part, RecordKind, Integer-record, Bytes-record, List-record, Pair-record, Tuple-record, Constructor-record, Unknown-record, recordKindOf, hasParts, recordFieldsFit, isHigher, partsHigher, recordKeepsRules, isPart, isOnePart, holds, partKeepsRules, recordWithin, panelShapeFits}
-use Rattle.facts.specs.PanelFacts.{Holds}
+use Rattle.rules.specs.PanelFile.{records, parts, recordKind, recordZero, recordFirst, recordCount, part, recordKindOf, hasParts, recordFieldsFit, isHigher, partsHigher, recordKeepsRules, isPart, isOnePart, holds, partKeepsRules, recordWithin, panelShapeFits}
+use Rattle.facts.specs.PanelFacts.{Holds, holder-kind, fields-kind, fields-run}
 use Rattle.panel.specs.declared.shape.Seen.{Seen}
 use Rattle.panel.specs.Shape.{fieldsFit, enterPart, enterParts, enterRecord, enterRecords}
 
@@ -52,20 +51,13 @@ module _ (v : List ℕ) where
 
   -- the list of a record whose fields fit lies among the parts
   pub list-inside : (r : ℕ) → fieldsFit v r ≡ true → listed v r ≡ true → recordFirst v r + recordCount v r ≤ parts v
-  unfolding fieldsFit runIn recordFieldsFit hasParts
-  list-inside r f h = go (recordKindOf (recordKind v r)) (both-true (eqb (recordZero v r) 0) (recordFieldsFit v r (recordKindOf (recordKind v r))) f .1) h
-    where
-      run : runIn (recordFirst v r) (recordCount v r) (parts v) ≡ true → recordFirst v r + recordCount v r ≤ parts v
-      run x = leb-true _ _ (both-true (leb (recordFirst v r + recordCount v r) (parts v)) (either (ltb 0 (recordCount v r)) (eqb (recordFirst v r) 0)) x .0)
+  unfolding fieldsFit
+  list-inside r f h =
+      fields-run v r (both-true (eqb (recordZero v r) 0) (recordFieldsFit v r (recordKindOf (recordKind v r))) f .1) (holder-kind v r h .0) .inside
 
-      go : (k : RecordKind) → recordFieldsFit v r k ≡ true → hasParts k ≡ true → recordFirst v r + recordCount v r ≤ parts v
-      go Integer-record x y = absurd (true≢false (sym y))
-      go Bytes-record x y = absurd (true≢false (sym y))
-      go List-record x y = run (both-true (eqb (recordA v r) 0) _ x .1)
-      go Pair-record x y = run (both-true (eqb (recordCount v r) 2) _ (both-true (eqb (recordA v r) 0) _ x .1) .1)
-      go Tuple-record x y = run (both-true (eqb (recordA v r) 0) _ x .1)
-      go Constructor-record x y = run x
-      go Unknown-record x y = absurd (true≢false (sym y))
+  pub fit-kind : (r : ℕ) → fieldsFit v r ≡ true → recordKind v r ≤ 5
+  unfolding fieldsFit
+  fit-kind r f = fields-kind v r (both-true (eqb (recordZero v r) 0) (recordFieldsFit v r (recordKindOf (recordKind v r))) f .1)
 
   -- each part of a record within `deep` levels, the record within one more
   pub within-make : (deep r : ℕ) → ((j : ℕ) → Holds v r j → recordWithin deep v (part v j) ≡ true) → recordWithin (suc deep) v r ≡ true

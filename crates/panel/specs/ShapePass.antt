@@ -13,10 +13,11 @@ use lib.ListN.{length, getD, set, length-set, length-replicate}
 use lib.Seq.{getD-set-same, getD-set-other}
 use Rattle.words.specs.Words.{both, pick, zeros}
 use Rattle.words.specs.WordsLaws.{both-true, both-make}
-use Rattle.rules.specs.Searching.{every, times}
+use Rattle.rules.specs.Limits.{recordsMost, panelDepthMost}
+use Rattle.rules.specs.Searching.{times}
 use Rattle.rules.specs.SearchingLaws.{times-some, times-found, times-one}
 use Rattle.rules.specs.PanelFile.{records, parts, recordKind, recordFirst, recordCount, part, recordKindOf, hasParts, isHigher, isPart, holds, recordWithin, panelShapeFits}
-use Rattle.facts.specs.PanelFacts.{Holds, holds-listed, listed-holds, recordWithin-part, PanelShaped, panel-shaped, held-entry, held-record, one-part, record-is-part}
+use Rattle.facts.specs.PanelFacts.{Holds, holds-listed, listed-holds, recordWithin-part, PanelShaped, panel-shaped, panel-shape-depth, held-entry, held-record, one-part, record-is-part}
 use Rattle.panel.specs.declared.shape.Seen.{Seen}
 use Rattle.panel.specs.Sums.{sum, bit, same-or-not, sum-same, sum-none, sum-exchange, sum-more, sum-each-one, sum-all-one, times-sum, times-alone, sum-run}
 use Rattle.panel.specs.Shape.{fieldsFit, broken, entersFirst, enterPart, enterParts, recordMet, enterRecord, enterRecords, atRoot, shapePasses}
@@ -48,12 +49,12 @@ met D n = sum (λ p. bit (ltb 0 (D p))) n
 -- before entry j of record r, with depth D p for each record p that was met, 0 for the others, and c parts passed
 pub record Good (v : List ℕ) (r j c : ℕ) (D : ℕ → ℕ) : Type 0 where
   pub root : D 0 ≡ 1
-  pub most : (p : ℕ) → D p ≤ 32
+  pub most : (p : ℕ) → D p ≤ panelDepthMost
   pub came : (p : ℕ) → 1 ≤ D p → (p ≡ 0) ⊎ Met v r j p
   pub marked : (r' j' : ℕ) → Passed v r j r' j' → Deeper v D r' j'
   pub alone : (r₁ j₁ r₂ j₂ : ℕ) → Passed v r j r₁ j₁ → Passed v r j r₂ j₂ → part v j₁ ≡ part v j₂ → (r₁ ≡ r₂) × (j₁ ≡ j₂)
   pub done : (r' : ℕ) → r' < r → (1 ≤ D r') × (fieldsFit v r' ≡ true)
-  pub reach : recordWithin 32 v 0 ≡ true → (p : ℕ) → 1 ≤ D p → recordWithin (33 - D p) v p ≡ true
+  pub reach : recordWithin panelDepthMost v 0 ≡ true → (p : ℕ) → 1 ≤ D p → recordWithin (panelDepthMost + 1 - D p) v p ≡ true
   pub many : met D (records v) ≡ c + 1
 
 module _ (v : List ℕ) where
@@ -73,7 +74,7 @@ module _ (v : List ℕ) where
 
 -- ---- one entry
 module _ (v : List ℕ) (r j c : ℕ) (D E : ℕ → ℕ) (good : Good v r j c D) (held : Holds v r j) (some : 1 ≤ D r)
-    (low : r < part v j) (high : part v j < records v) (new : D (part v j) ≡ 0) (shallow : D r < 32)
+    (low : r < part v j) (high : part v j < records v) (new : D (part v j) ≡ 0) (shallow : D r < panelDepthMost)
     (here : E (part v j) ≡ D r + 1) (there : (p : ℕ) → (p ≡ part v j → ⊥) → E p ≡ D p) where
   -- a record with a depth is not the part that enters
   kept : (p : ℕ) → 1 ≤ D p → E p ≡ D p
@@ -117,23 +118,23 @@ module _ (v : List ℕ) (r j c : ℕ) (D E : ℕ → ℕ) (good : Good v r j c D
       go (inr a) (inl b) = absurd (not-passed r₂ j₂ b (sym e ∙ ap (part v) (a .1)))
       go (inr a) (inr b) = (a .0 ∙ sym (b .0), a .1 ∙ sym (b .1))
 
-  enter-reach : recordWithin 32 v 0 ≡ true → (p : ℕ) → 1 ≤ E p → recordWithin (33 - E p) v p ≡ true
+  enter-reach : recordWithin panelDepthMost v 0 ≡ true → (p : ℕ) → 1 ≤ E p → recordWithin (panelDepthMost + 1 - E p) v p ≡ true
   enter-reach w p h = ⊎-elim is-new is-old (same-or-not p (part v j))
     where
-      deep : recordWithin (32 - D r) v (part v j) ≡ true
+      deep : recordWithin (panelDepthMost - D r) v (part v j) ≡ true
       deep =
-          let e : 33 - D r ≡ suc (32 - D r) = omega arith in
-          recordWithin-part v (32 - D r) r j (rw e at (good .reach w r some)) held
+          let e : panelDepthMost + 1 - D r ≡ suc (panelDepthMost - D r) = omega arith in
+          recordWithin-part v (panelDepthMost - D r) r j (rw e at (good .reach w r some)) held
 
-      is-new : p ≡ part v j → recordWithin (33 - E p) v p ≡ true
+      is-new : p ≡ part v j → recordWithin (panelDepthMost + 1 - E p) v p ≡ true
       is-new e =
-          let f : 33 - (D r + 1) ≡ 32 - D r = omega arith in
+          let f : panelDepthMost + 1 - (D r + 1) ≡ panelDepthMost - D r = omega arith in
           rw (e, here, f) deep
 
-      is-old : (p ≡ part v j → ⊥) → recordWithin (33 - E p) v p ≡ true
+      is-old : (p ≡ part v j → ⊥) → recordWithin (panelDepthMost + 1 - E p) v p ≡ true
       is-old d = let same = there p d in rw same (good .reach w p (omega arith))
 
-  enter-most : (p : ℕ) → E p ≤ 32
+  enter-most : (p : ℕ) → E p ≤ panelDepthMost
   enter-most p =
       ⊎-elim (λ e. let d : E p ≡ E (part v j) = ap E e in omega arith) (λ d. omega (arith, there p d, good .most p)) (same-or-not p (part v j))
 
@@ -164,10 +165,10 @@ depthOf s p = getD (s .depths) p 0
 -- what the pass knows, with the list that holds the depths
 pub record Sound (v : List ℕ) (r j c : ℕ) (s : Seen) : Type 0 where
   pub sound : s .sound ≡ true
-  pub long : length (s .depths) ≡ 512
+  pub long : length (s .depths) ≡ recordsMost
   pub good : Good v r j c (depthOf s)
 
-module _ (v : List ℕ) (few : records v ≤ 512) where
+module _ (v : List ℕ) (few : records v ≤ recordsMost) where
   enters-true : (s : Seen) (r j c : ℕ) → Sound v r j c s → Holds v r j → 1 ≤ depthOf s r → entersFirst v (s .depths) r j ≡ true
       → Sound v r (j + 1) (c + 1) (enterPart v s r j)
   unfolding enterPart entersFirst
@@ -329,7 +330,7 @@ module _ (v : List ℕ) (few : records v ≤ 512) where
       go false e ih = absurd (true≢false (sym h ∙ ap (λ (x : Seen). x .sound) (records-stop v s r n e) ∙ e))
 
   -- ---- where the shape fits, nothing breaks
-  module _ (sh : PanelShaped v) (fields : (r : ℕ) → r < records v → fieldsFit v r ≡ true) where
+  module _ (sh : PanelShaped v) (deep : recordWithin panelDepthMost v 0 ≡ true) (fields : (r : ℕ) → r < records v → fieldsFit v r ≡ true) where
     -- an entry's part was not met before
     not-met : (r j : ℕ) → r < records v → Holds v r j → Met v r j (part v j) → ⊥
     not-met r j l held m = ⊎-elim (λ a. omega (arith, same-owner)) (λ b. omega (arith, b .1, same-entry)) (m .passed .before)
@@ -341,7 +342,7 @@ module _ (v : List ℕ) (few : records v ≤ 512) where
         same-entry = one-part sh (m .entry) j (held-entry sh (m .owner) (m .entry) owner-below (m .passed .held)) (held-entry sh r j l held) (m .is)
 
         same-owner : m .owner ≡ r
-        same-owner = sh .one-holder (m .owner) r j owner-below l (held-entry sh r j l held) (rw same-entry at (m .passed .held)) held
+        same-owner = sh .one-holder (m .owner) r j owner-below l (rw same-entry at (m .passed .held)) held
 
     part-allowed : (s : Seen) (r j c : ℕ) → Sound v r j c s → r < records v → Holds v r j → 1 ≤ depthOf s r → entersFirst v (s .depths) r j ≡ true
     unfolding entersFirst recordWithin
@@ -358,11 +359,11 @@ module _ (v : List ℕ) (few : records v ≤ 512) where
             (λ d. absurd (⊎-elim (λ e. omega (arith, up .0)) (not-met r j l held) (sd .good .came (part v j) (omega arith))))
             (same-or-not (depthOf s (part v j)) 0)
 
-        too-deep : depthOf s r ≡ 32 → ⊥
-        too-deep e = true≢false (sym (recordWithin-part v 0 r j (rw e at (sd .good .reach (sh .root-depth) r some)) held))
+        too-deep : depthOf s r ≡ panelDepthMost → ⊥
+        too-deep e = true≢false (sym (recordWithin-part v 0 r j (rw e at (sd .good .reach deep r some)) held))
 
-        shallow : depthOf s r < 32
-        shallow = ⊎-elim (λ e. absurd (too-deep e)) (λ d. omega (arith, sd .good .most r)) (same-or-not (depthOf s r) 32)
+        shallow : depthOf s r < panelDepthMost
+        shallow = ⊎-elim (λ e. absurd (too-deep e)) (λ d. omega (arith, sd .good .most r)) (same-or-not (depthOf s r) panelDepthMost)
 
     enter-allowed : (s : Seen) (r j c : ℕ) → Sound v r j c s → r < records v → Holds v r j → 1 ≤ depthOf s r → (enterPart v s r j) .sound ≡ true
     unfolding enterPart
@@ -495,22 +496,22 @@ module _ (v : List ℕ) (few : records v ≤ 512) where
             sd .good .alone (o₁ .0) j₁ (o₂ .0) j₂ (end-passed j₁ (o₁ .0) (o₁ .1) (o₁ .2)) (end-passed j₂ (o₂ .0) (o₂ .1) (o₂ .2))
             (eqb-true (part v j₁) r x ∙ sym (eqb-true (part v j₂) r y)) .1)
 
-    -- from a record down to the deepest below it there are as many levels as 32 leaves
-    end-reach : (k r : ℕ) → r < records v → records v ≤ r + k → recordWithin (33 - depthOf s r) v r ≡ true
+    -- from a record down to the deepest below it there are as many levels as panelDepthMost leaves
+    end-reach : (k r : ℕ) → r < records v → records v ≤ r + k → recordWithin (panelDepthMost + 1 - depthOf s r) v r ≡ true
     end-reach zero r l h = absurd (omega arith)
     end-reach (suc k) r l h =
         let most = sd .good .most r in
-        let e : 33 - depthOf s r ≡ suc (32 - depthOf s r) = omega arith in
+        let e : panelDepthMost + 1 - depthOf s r ≡ suc (panelDepthMost - depthOf s r) = omega arith in
         rw e
-        (within-make v (32 - depthOf s r) r
+        (within-make v (panelDepthMost - depthOf s r) r
         (λ j held.
         let d = sd .good .marked r j (end-passed j r l held) in
-        let f : 32 - depthOf s r ≡ 33 - depthOf s (part v j) = omega (arith, d .deeper) in
+        let f : panelDepthMost - depthOf s r ≡ panelDepthMost + 1 - depthOf s (part v j) = omega (arith, d .deeper) in
         rw f (end-reach k (part v j) (d .inside) (omega (arith, d .higher)))))
 
     end-fits : 1 ≤ records v → panelShapeFits v ≡ true
     end-fits least =
-        let e : 33 - depthOf s 0 ≡ 32 = omega (arith, sd .good .root) in
+        let e : panelDepthMost + 1 - depthOf s 0 ≡ panelDepthMost = omega (arith, sd .good .root) in
         shape-make v end-fields end-higher end-once (λ j l. (end-inside j l, end-owned j l)) (rw e at (end-reach (records v) 0 (omega arith) (omega arith)))
 
 -- ---- the whole pass
@@ -519,14 +520,14 @@ getD-zeros zero k = refl
 getD-zeros (suc n) zero = refl
 getD-zeros (suc n) (suc k) = getD-zeros n k
 
-module _ (v : List ℕ) (least : 1 ≤ records v) (few : records v ≤ 512) where
+module _ (v : List ℕ) (least : 1 ≤ records v) (few : records v ≤ recordsMost) where
   root-depth : depthOf atRoot 0 ≡ 1
   unfolding atRoot
-  root-depth = getD-set-same (zeros 512) 0 1 0 (simp length-replicate (omega arith))
+  root-depth = getD-set-same (zeros recordsMost) 0 1 0 (simp length-replicate (omega arith))
 
   other-depth : (p : ℕ) → (p ≡ 0 → ⊥) → depthOf atRoot p ≡ 0
   unfolding atRoot
-  other-depth p d = getD-set-other (zeros 512) 0 p 1 0 d ∙ getD-zeros 512 p
+  other-depth p d = getD-set-other (zeros recordsMost) 0 p 1 0 d ∙ getD-zeros recordsMost p
 
   only-root : (p : ℕ) → 1 ≤ depthOf atRoot p → p ≡ 0
   only-root p h = ⊎-elim (λ e. e) (λ d. absurd (omega (arith, other-depth p d))) (same-or-not p 0)
@@ -549,7 +550,7 @@ module _ (v : List ℕ) (least : 1 ≤ records v) (few : records v ≤ 512) wher
 
   begun : Sound v 0 0 (sum (entries v few) 0) atRoot
   unfolding sum atRoot
-  begun = record { sound = refl; long = length-set (zeros 512) 0 1 ∙ length-replicate {A = ℕ} 512 0; good = start }
+  begun = record { sound = refl; long = length-set (zeros recordsMost) 0 1 ∙ length-replicate {A = ℕ} recordsMost 0; good = start }
 
   abbrev end : Seen
   end = enterRecords v atRoot 0 (records v)
@@ -559,13 +560,13 @@ module _ (v : List ℕ) (least : 1 ≤ records v) (few : records v ≤ 512) wher
 
   -- where the shape fits, the pass goes through, and there is one part fewer than there are records
   goes-through : panelShapeFits v ≡ true → end .sound ≡ true
-  goes-through h = records-allowed v few (panel-shaped v h) (shape-fields v h) (records v) atRoot 0 begun (omega arith)
+  goes-through h = records-allowed v few (panel-shaped v h) (panel-shape-depth v h) (shape-fields v h) (records v) atRoot 0 begun (omega arith)
 
   held-once : (sh : PanelShaped v) (j : ℕ) → j < parts v → times (holds v j) 0 (records v) ≡ 1
   held-once sh j l =
       let o = sh .its-holder j l in
       let some = times-some (holds v j) 0 (records v) (o .0) (omega arith) (omega (arith, o .1)) (listed-holds v (o .0) j (o .2)) in
-      let one = times-alone (holds v j) 0 (records v) (λ q r a b c d x y. sh .one-holder q r j (omega arith) (omega arith) l (holds-listed v q j x) (holds-listed v r j y)) in
+      let one = times-alone (holds v j) 0 (records v) (λ q r a b c d x y. sh .one-holder q r j (omega arith) (omega arith) (holds-listed v q j x) (holds-listed v r j y)) in
       omega arith
 
   counted : panelShapeFits v ≡ true → parts v + 1 ≡ records v

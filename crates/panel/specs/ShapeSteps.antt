@@ -2,27 +2,27 @@
 -- Rests on Shape, and on the tables of kinds.
 use mathlib.Core.Path.{_≡_, refl, sym, ap, ap₂, _∙_}
 use mathlib.Core.Logic.{_⊎_, inl, inr, ⊎-elim}
-use mathlib.Core.Bool.{Bool, true, false, true≢false}
+use mathlib.Core.Bool.{Bool, true, false}
 use mathlib.Core.List.{List}
 use Prim.Native.Nat.{ℕ, zero, suc, _+_, _-_, _*_, _≤_, _<_}
 use native.Mathlib.Omega.{arith}
-use borrow.Author.Tests.{leb-true, leb-false, eq-eqb, ne-eqb, lt-ltb, le-ltb}
-use lib.Dec.{eqb, leb, ltb}
-use lib.ListN.{length, getD, set}
-use Rattle.words.specs.Words.{wordAt, both, pick}
-use Rattle.words.specs.WordsLaws.{both-true, both-make, both-first-false, both-second-false}
+use borrow.Author.Tests.{eq-eqb, ne-eqb, lt-ltb, le-ltb}
+use lib.Dec.{eqb, ltb}
+use lib.ListN.{getD, set}
+use Rattle.words.specs.Words.{wordAt, both}
+use Rattle.words.specs.WordsLaws.{both-make, both-first-false, both-second-false}
 use Rattle.rules.specs.Limits.{partSize, panelDepthMost}
 use Rattle.rules.specs.SheetFile.{runIn}
 use Rattle.rules.specs.PanelFile.{records, parts, partsAt, panelPoolSize, recordKind, recordZero, recordA, recordFirst, recordCount, part, RecordKind, Integer-record, Bytes-record, List-record, Pair-record, Tuple-record, Constructor-record, Unknown-record, recordKindOf, hasParts, recordFieldsFit, isHigher}
 use Rattle.facts.specs.KindsLaws.{record-unknown}
-use Rattle.facts.specs.PanelFacts.{Holder, kind-holder, holder-kind}
+use Rattle.facts.specs.PanelFacts.{kind-holder}
 use Rattle.panel.specs.declared.Map.{Map}
 use Rattle.panel.specs.declared.Record.{Record}
 use Rattle.panel.specs.declared.shape.Seen.{Seen}
 use Rattle.panel.specs.Opened.{Opened, recordOf}
 use Rattle.panel.specs.Sums.{same-or-not}
 use Rattle.panel.specs.Shape.{fieldsFit, broken, entersFirst, enterPart, enterParts, recordMet, enterRecord, enterRecords}
-use Rattle.panel.specs.ShapeLaws.{listed, parts-on, parts-stop, records-on, records-stop, higher-make, list-inside}
+use Rattle.panel.specs.ShapeLaws.{listed, parts-on, parts-stop, records-on, records-stop, higher-make, list-inside, fit-kind}
 
 -- ---- the fields of a record, by its kind byte
 pub past-kinds : (k : ℕ) → 2 ≤ k → ((k ≡ 2) ⊎ (k ≡ 4) → ⊥) → (k ≡ 3 → ⊥) → (k ≡ 5 → ⊥) → 6 ≤ k
@@ -141,18 +141,6 @@ module _ (v : List ℕ) (s : Seen) (r : ℕ) where
   text-unlisted h =
       ⊎-elim (λ e. rw e) (λ n. let e : recordKind v r ≡ 1 = omega arith in rw e) (same-or-not (recordKind v r) 0)
 
-  -- fields that fit are those of a known kind
-  pub fit-kind : fieldsFit v r ≡ true → recordKind v r ≤ 5
-  unfolding fieldsFit recordFieldsFit
-  fit-kind f = go (leb (recordKind v r) 5) refl
-    where
-      go : (b : Bool) → leb (recordKind v r) 5 ≡ b → recordKind v r ≤ 5
-      go true e = leb-true _ _ e
-      go false e =
-          absurd
-          (true≢false
-          (sym (rw (record-unknown (recordKind v r) (leb-false _ _ e)) at (both-true (eqb (recordZero v r) 0) (recordFieldsFit v r (recordKindOf (recordKind v r))) f .1))))
-
   -- x is record r as it was read
   module _ (x : Record) (read : x ≡ recordOf v r) (fit : fieldsFit v r ≡ true) where
     kind-read : x .kind ≡ recordKind v r
@@ -163,7 +151,7 @@ module _ (v : List ℕ) (s : Seen) (r : ℕ) where
     record-text d h = rw (enterRecord, met-fit d fit, text-unlisted (omega (arith, kind-read)))
 
     holds-parts : 2 ≤ x .kind → listed v r ≡ true
-    holds-parts h = kind-holder v r (omega (arith, kind-read)) (fit-kind fit)
+    holds-parts h = kind-holder v r (omega (arith, kind-read)) (fit-kind v r fit)
 
     pub parts-inside : 2 ≤ x .kind → x .first + x .count ≤ parts v
     parts-inside h = rw read (list-inside v r fit (holds-parts h))

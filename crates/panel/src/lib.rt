@@ -2,13 +2,14 @@
 use words::word_at;
 ghost use mathlib.Core.Path.{_≡_};
 ghost use Prim.Native.Nat.{_<_, _≤_};
-ghost use Rattle.rules.specs.PanelFile.{records, panelVerdict};
+ghost use Rattle.rules.specs.PanelFile.{records, parts, part, panelVerdict};
 ghost use Rattle.rules.specs.SheetRefusals.{accepted};
 ghost use Rattle.rules.specs.Calls.{textPart};
 ghost use Rattle.facts.specs.PanelFacts.{PanelLaid};
-ghost use Rattle.panel.specs.Opened.{mapOf, recordOf};
+ghost use Rattle.panel.specs.Opened.{Opened, mapOf, recordOf};
 ghost use Rattle.panel.specs.Answers.{checked, located};
 
+mod fitting;
 mod layout;
 mod limits;
 mod shape;
@@ -17,6 +18,7 @@ mod texts;
 use layout::layout_fits;
 use layout::length_fits;
 use layout::map_of;
+use limits::PART_SIZE;
 use limits::RECORD_SIZE;
 use shape::shape_fits;
 use texts::texts_fit;
@@ -63,6 +65,14 @@ pub fn record_at(v: &[u8], r: usize) -> Record
         first: word_at(v, at + 4) as usize,
         count: word_at(v, at + 6) as usize,
     }
+}
+
+// Part j of a panel: the number of a record.
+pub fn part_at(v: &[u8], m: Map, j: usize) -> usize
+    requires { ⌜ Opened (now v) m × (j < parts (now v)) ⌝ }
+    ensures { λ res. ⌜ res ≡ part (now (v .entry)) j ⌝ }
+{
+    word_at(v, m.parts_at + PART_SIZE * j) as usize
 }
 
 // The check of a panel: 21 length, 22 layout and count of records, 23 shape, 24 text.

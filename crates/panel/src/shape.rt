@@ -3,13 +3,12 @@
 use crate::Map;
 use crate::Record;
 use crate::limits::PANEL_DEPTH_MOST;
-use crate::limits::PART_SIZE;
+use crate::part_at;
 use crate::record_at;
-use words::word_at;
+use sheet::records::run_in;
 ghost use mathlib.Core.Path.{_≡_};
 ghost use mathlib.Core.List.{List};
 ghost use Prim.Native.Nat.{ℕ, _+_, _<_, _≤_};
-ghost use Rattle.rules.specs.SheetFile.{runIn};
 ghost use Rattle.rules.specs.PanelFile.{records, parts, panelPoolSize, panelShapeFits};
 ghost use Rattle.panel.specs.Opened.{Opened, recordOf};
 ghost use Rattle.panel.specs.Shape.{fieldsFit, enterPart, enterParts, enterRecord, enterRecords};
@@ -27,22 +26,6 @@ fn broken(s: Seen) -> Seen
     let mut next = s;
     next.sound = false;
     next
-}
-
-// The run of `count` from `first` on lies among n, and starts at 0 where it is empty.
-fn run_in(first: usize, count: usize, n: usize) -> bool
-    ensures { λ r. ⌜ r ≡ runIn first count n ⌝ }
-{
-    if n < count {
-        return false;
-    }
-    if n - count < first {
-        return false;
-    }
-    if 0 < count {
-        return true;
-    }
-    first == 0
 }
 
 // The zero byte and the fields of a record by its kind, in a panel of so many parts and so many bytes of text.
@@ -88,7 +71,7 @@ fn enter_part(v: &[u8], m: Map, s: Seen, r: usize, j: usize) -> Seen
     requires { ⌜ Opened (now v) m × (r < records (now v)) × (j < parts (now v)) ⌝ }
     ensures { λ res. ⌜ res ≡ enterPart (now (v .entry)) s r j ⌝ }
 {
-    let p = word_at(v, m.parts_at + PART_SIZE * j) as usize;
+    let p = part_at(v, m, j);
     if p <= r {
         return broken(s);
     }
