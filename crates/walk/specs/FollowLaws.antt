@@ -22,9 +22,10 @@ use Rattle.panel.specs.declared.Record.{Record}
 use Rattle.panel.specs.Opened.{recordOf}
 use Rattle.tree.specs.declared.reading.Step.{Step as StepRead}
 use Rattle.tree.specs.declared.reading.Path.{Path as PathRead}
+use Rattle.tree.specs.declared.reading.Binding.{Binding as BindingRead}
 use Rattle.tree.specs.declared.layout.Map.{Map}
-use Rattle.tree.specs.Reading.{Mapped, Ruled, stepOf, pathOf}
-use Rattle.tree.specs.ReadingLaws.{paths-count, steps-count}
+use Rattle.tree.specs.Reading.{Mapped, Ruled, stepOf, pathOf, bindingOf}
+use Rattle.tree.specs.ReadingLaws.{paths-count, steps-count, bindings-count}
 use Rattle.walk.specs.declared.follow.Position.{Position}
 use Rattle.walk.specs.declared.follow.Found.{Found}
 use Rattle.walk.specs.declared.follow.Found.the-variants.{At, Stuck}
@@ -234,6 +235,13 @@ module _ (v t : List ℕ) (first count : ℕ) where
   pub path-end : (k : ℕ) (x : Place) → count ≤ k → some x ≡ follow v (stepsFrom t (first + k) (count - k)) x
   unfolding follow stepsFrom
   path-end k x h = let e : count - k ≡ 0 = omega arith in rw e
+
+-- the path of a binding that was read
+pub binding-path-in : {t : List ℕ} {m : Map} → Mapped t m → TreeRuled t → (b : ℕ) (x : BindingRead) → b < m .bindings .count → x ≡ bindingOf t b → x .path < m .paths .count
+binding-path-in w rules b x h e =
+    let n = bindings-count w in
+    let p = ap (λ (y : BindingRead). y .path) e in
+    omega (arith, rules .binding-path b (omega arith), paths-count w)
 
 -- ---- where a path was followed to
 module _ {t : List ℕ} {m : Map} {v : List ℕ} {n : PanelMap} (ready : Ready t m v n) where
