@@ -1,0 +1,1 @@
+// Where each pattern of a sheet stands: one table.
