@@ -76,6 +76,21 @@ pattern-number k =
 pub pattern-byte : (k : ℕ) (kind : PatternKind) → patternKindOf k ≡ kind → patternNumber kind < 10 → k ≡ patternNumber kind
 pattern-byte k kind = chain-byte patternNumber 10 patternKindOf k kind (pattern-number k)
 
+-- from the byte, the kind: `byte-pattern k Integer e`, where e : k ≡ 3
+pub byte-pattern : (k : ℕ) (kind : PatternKind) → k ≡ patternNumber kind → patternKindOf k ≡ kind
+unfolding patternKindOf
+byte-pattern k Discard e = rw e
+byte-pattern k Variable e = rw e
+byte-pattern k Assign e = rw e
+byte-pattern k Integer e = rw e
+byte-pattern k ByteString e = rw e
+byte-pattern k ListOfAll e = rw e
+byte-pattern k ListWithRest e = rw e
+byte-pattern k Constructor e = rw e
+byte-pattern k Pair e = rw e
+byte-pattern k Tuple e = rw e
+byte-pattern k Unknown e = rw e
+
 pub pattern-unknown : (k : ℕ) → 10 ≤ k → patternKindOf k ≡ Unknown
 unfolding patternKindOf chain
 pattern-unknown k h = chain-past 0 patternKinds Unknown k h
@@ -104,6 +119,16 @@ record-number k =
 pub record-byte : (k : ℕ) (kind : RecordKind) → recordKindOf k ≡ kind → recordNumber kind < 6 → k ≡ recordNumber kind
 record-byte k kind = chain-byte recordNumber 6 recordKindOf k kind (record-number k)
 
+pub byte-record : (k : ℕ) (kind : RecordKind) → k ≡ recordNumber kind → recordKindOf k ≡ kind
+unfolding recordKindOf
+byte-record k Integer-record e = rw e
+byte-record k Bytes-record e = rw e
+byte-record k List-record e = rw e
+byte-record k Pair-record e = rw e
+byte-record k Tuple-record e = rw e
+byte-record k Constructor-record e = rw e
+byte-record k Unknown-record e = rw e
+
 pub record-unknown : (k : ℕ) → 6 ≤ k → recordKindOf k ≡ Unknown-record
 unfolding recordKindOf chain
 record-unknown k h = chain-past 0 recordKinds Unknown-record k h
@@ -128,6 +153,14 @@ node-number k = chain-number nodeNumber 0 nodeKinds Unknown-node k (refl, (refl,
 
 pub node-byte : (k : ℕ) (kind : NodeKind) → nodeKindOf k ≡ kind → nodeNumber kind < 4 → k ≡ nodeNumber kind
 node-byte k kind = chain-byte nodeNumber 4 nodeKindOf k kind (node-number k)
+
+pub byte-node : (k : ℕ) (kind : NodeKind) → k ≡ nodeNumber kind → nodeKindOf k ≡ kind
+unfolding nodeKindOf
+byte-node k Switch e = rw e
+byte-node k List-switch e = rw e
+byte-node k Leaf e = rw e
+byte-node k Hoist-node e = rw e
+byte-node k Unknown-node e = rw e
 
 pub node-unknown : (k : ℕ) → 4 ≤ k → nodeKindOf k ≡ Unknown-node
 unfolding nodeKindOf chain
@@ -154,6 +187,15 @@ case-number k = chain-number caseKindNumber 0 caseKinds Unknown-case k (refl, (r
 
 pub case-byte : (k : ℕ) (kind : CaseKind) → caseKindOf k ≡ kind → caseKindNumber kind < 5 → k ≡ caseKindNumber kind
 case-byte k kind = chain-byte caseKindNumber 5 caseKindOf k kind (case-number k)
+
+pub byte-case : (k : ℕ) (kind : CaseKind) → k ≡ caseKindNumber kind → caseKindOf k ≡ kind
+unfolding caseKindOf
+byte-case k Constr-case e = rw e
+byte-case k Int-case e = rw e
+byte-case k Bytes-case e = rw e
+byte-case k List-case e = rw e
+byte-case k List-with-tail-case e = rw e
+byte-case k Unknown-case e = rw e
 
 pub case-unknown : (k : ℕ) → 5 ≤ k → caseKindOf k ≡ Unknown-case
 unfolding caseKindOf chain

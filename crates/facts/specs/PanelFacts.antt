@@ -212,39 +212,50 @@ module _ (v : List ℕ) (j : ℕ) (once : times (holds v j) 0 (records v) ≡ 1)
   holder-one q r hq hr oq or =
       times-one (holds v j) 0 (records v) q r (omega arith) (omega arith) (omega arith) (listed-holds v q j oq) (omega arith) (omega arith) (listed-holds v r j or)
 
+-- the tests of one record and of one child entry, each by itself
+record RecordRules (v : List ℕ) (r : ℕ) : Type 0 where
+  zero-byte : recordZero v r ≡ 0
+  fit : recordFieldsFit v r (recordKindOf (recordKind v r)) ≡ true
+  above : partsHigher v r (recordKindOf (recordKind v r)) ≡ true
+
+record-rules : (v : List ℕ) (r : ℕ) → recordKeepsRules v r ≡ true → RecordRules v r
+unfolding recordKeepsRules
+record-rules v r keeps =
+    let k1 = both-true _ _ keeps in
+    let k2 = both-true _ _ (k1 .1) in
+    record { zero-byte = eqb-true _ _ (k1 .0); fit = k2 .0; above = k2 .1 }
+
+record PartRules (v : List ℕ) (j : ℕ) : Type 0 where
+  known : part v j < records v
+  once : times (holds v j) 0 (records v) ≡ 1
+
+part-rules : (v : List ℕ) (j : ℕ) → partKeepsRules v j ≡ true → PartRules v j
+unfolding partKeepsRules
+part-rules v j keeps = let k = both-true _ _ keeps in record { known = ltb-true _ _ (k .0); once = eqb-true _ _ (k .1) }
+
 -- from the rules of records and child entries; the depth is asked after these
 pub panel-shaped-by-rules : (v : List ℕ) → every (recordKeepsRules v) 0 (records v) ≡ true → every (isOnePart v) 1 (records v - 1) ≡ true
     → every (partKeepsRules v) 0 (parts v) ≡ true → PanelShaped v
-unfolding recordKeepsRules isOnePart partKeepsRules
-panel-shaped-by-rules v keep-records each-once keep-parts =
-    let first : (r : ℕ) → r < records v → (eqb (recordZero v r) 0 ≡ true) × (both (recordFieldsFit v r (recordKindOf (recordKind v r))) (partsHigher v r (recordKindOf (recordKind v r))) ≡ true) =
-    λ r h. both-true _ _ (every-below (recordKeepsRules v) (records v) keep-records r h)
-    in
-    let second : (r : ℕ) → r < records v → (recordFieldsFit v r (recordKindOf (recordKind v r)) ≡ true) × (partsHigher v r (recordKindOf (recordKind v r)) ≡ true) =
-    λ r h. both-true _ _ (first r h .1)
-    in
-    let once : (r : ℕ) → 1 ≤ r → r < records v → eqb (times (isPart v r) 0 (parts v)) 1 ≡ true =
-    λ r low h. every-true (isOnePart v) 1 (records v - 1) each-once r low (below r h)
-    in
-    let entries : (j : ℕ) → j < parts v → (ltb (part v j) (records v) ≡ true) × (eqb (times (holds v j) 0 (records v)) 1 ≡ true) =
-    λ j h. both-true _ _ (every-below (partKeepsRules v) (parts v) keep-parts j h)
-    in
-    record {
-      zero-byte = λ r h. eqb-true _ _ (first r h .0);
-      record-kind = λ r h. fields-kind v r (second r h .0);
-      a-unused = λ r h. fields-a-unused v r (second r h .0);
-      pair-two = λ r h. fields-pair v r (second r h .0);
-      text-run = λ r h. fields-text v r (second r h .0);
-      parts-run = λ r h. fields-run v r (second r h .0);
-      part-above = λ r j h. above-held v r j (second r h .1);
-      part-record = λ j h. ltb-true _ _ (entries j h .0);
-      its-holder = λ j h. holder-found v j (eqb-true _ _ (entries j h .1));
-      one-holder = λ q r j hq hr o. holder-one v j (eqb-true _ _ (entries j (run-entry v q j (second q hq .0) o) .1)) q r hq hr o;
-      is-part-once = λ r low h. eqb-true _ _ (once r low h);
-    }
+unfolding isOnePart
+panel-shaped-by-rules v keep-records each-once keep-parts = record {
+  zero-byte = λ r h. kept r h .zero-byte;
+  record-kind = λ r h. fields-kind v r (kept r h .fit);
+  a-unused = λ r h. fields-a-unused v r (kept r h .fit);
+  pair-two = λ r h. fields-pair v r (kept r h .fit);
+  text-run = λ r h. fields-text v r (kept r h .fit);
+  parts-run = λ r h. fields-run v r (kept r h .fit);
+  part-above = λ r j h. above-held v r j (kept r h .above);
+  part-record = λ j h. listed j h .known;
+  its-holder = λ j h. holder-found v j (listed j h .once);
+  one-holder = λ q r j hq hr o. holder-one v j (listed j (run-entry v q j (kept q hq .fit) o) .once) q r hq hr o;
+  is-part-once = λ r low h. eqb-true _ _ (every-true (isOnePart v) 1 (records v - 1) each-once r low (omega arith));
+}
   where
-    below : (r : ℕ) → r < records v → r < 1 + (records v - 1)
-    below r h = omega arith
+    kept : (r : ℕ) → r < records v → RecordRules v r
+    kept r h = record-rules v r (every-below (recordKeepsRules v) (records v) keep-records r h)
+
+    listed : (j : ℕ) → j < parts v → PartRules v j
+    listed j h = part-rules v j (every-below (partKeepsRules v) (parts v) keep-parts j h)
 
 pub panel-shaped : (v : List ℕ) → panelShapeFits v ≡ true → PanelShaped v
 unfolding panelShapeFits

@@ -195,24 +195,27 @@ typed s keeps =
     let k1 = both-true _ _ keeps in
     let k2 = both-true _ _ (k1 .1) in
     let k3 = both-true _ _ (k2 .1) in
-    let each : (t : ℕ) → t < types s → (typeParts s t ≡ true) × (typeFlags s t ≡ true) =
-    λ t h. both-true (typeParts s t) (typeFlags s t) (every-below (typeKeepsRules s) (types s) (k1 .0) t h)
-    in
     record {
-      type-kind = λ t h. parts-kind s t (each t h .0);
-      plain-empty = λ t h. parts-plain s t (each t h .0);
-      list-one = λ t h e. parts-list s t (each t h .0) e .0;
-      pair-two = λ t h e. parts-pair s t (each t h .0) e .0;
-      tuple-more = λ t h e. parts-tuple s t (each t h .0) e .0;
-      data-some = λ t h e. parts-data s t (each t h .0) e .0;
-      type-entries = λ t h. parts-entries s t (each t h .0);
-      type-constructors = λ t h e. parts-data s t (each t h .0) e .1 .inside;
-      flag-most = λ t h. flags-most s t (each t h .1);
-      flag-data = λ t h. flags-data s t (each t h .1);
+      type-kind = λ t h. parts-kind s t (parts (k1 .0) t h);
+      plain-empty = λ t h. parts-plain s t (parts (k1 .0) t h);
+      list-one = λ t h e. parts-list s t (parts (k1 .0) t h) e .0;
+      pair-two = λ t h e. parts-pair s t (parts (k1 .0) t h) e .0;
+      tuple-more = λ t h e. parts-tuple s t (parts (k1 .0) t h) e .0;
+      data-some = λ t h e. parts-data s t (parts (k1 .0) t h) e .0;
+      type-entries = λ t h. parts-entries s t (parts (k1 .0) t h);
+      type-constructors = λ t h e. parts-data s t (parts (k1 .0) t h) e .1 .inside;
+      flag-most = λ t h. flags-most s t (flags (k1 .0) t h);
+      flag-data = λ t h. flags-data s t (flags (k1 .0) t h);
       constructor-entries = λ c h. run-in _ _ _ (every-below (constructorKeepsRules s) (constructors s) (k2 .0) c h);
       entry-type = λ e h. ltb-true _ _ (every-below (entryKeepsRules s) (entries s) (k3 .0) e h);
       subject-type = ltb-true _ _ (k3 .1);
     }
+  where
+    parts : every (typeKeepsRules s) 0 (types s) ≡ true → (t : ℕ) → t < types s → typeParts s t ≡ true
+    parts all t h = both-true (typeParts s t) (typeFlags s t) (every-below (typeKeepsRules s) (types s) all t h) .0
+
+    flags : every (typeKeepsRules s) 0 (types s) ≡ true → (t : ℕ) → t < types s → typeFlags s t ≡ true
+    flags all t h = both-true (typeParts s t) (typeFlags s t) (every-below (typeKeepsRules s) (types s) all t h) .1
 
 -- the type numbers that a type's or a constructor's own run of entries holds, and the constructors of a Data type
 module _ {s : List ℕ} (ty : Typed s) where
@@ -378,41 +381,57 @@ module _ (s : List ℕ) (j : ℕ) (once : times (lists s j) 0 (patterns s) ≡ 1
   owner-one p q hp hq op oq =
       times-one (lists s j) 0 (patterns s) p q (omega arith) (omega arith) (omega arith) (listed-owns s p j op) (omega arith) (omega arith) (listed-owns s q j oq)
 
+-- the tests of one pattern and of one child entry, each by itself
+record PatternRules (s : List ℕ) (p : ℕ) : Type 0 where
+  zero-byte : patternZero s p ≡ 0
+  fit : fieldsFit s p (patternKindOf (patternKind s p)) ≡ true
+  above : childrenAbove s p (patternKindOf (patternKind s p)) ≡ true
+  once : times (isRoot s p) 0 (clauses s) + times (isEntry s p) 0 (children s) ≡ 1
+
+pattern-rules : (s : List ℕ) (p : ℕ) → patternKeepsRules s p ≡ true → PatternRules s p
+unfolding patternKeepsRules standsOnce
+pattern-rules s p keeps =
+    let k1 = both-true _ _ keeps in
+    let k2 = both-true _ _ (k1 .1) in
+    let k3 = both-true _ _ (k2 .1) in
+    record { zero-byte = eqb-true _ _ (k1 .0); fit = k2 .0; above = k3 .0; once = eqb-true _ _ (k3 .1) }
+
+record EntryRules (s : List ℕ) (j : ℕ) : Type 0 where
+  known : child s j < patterns s
+  once : times (lists s j) 0 (patterns s) ≡ 1
+
+entry-rules : (s : List ℕ) (j : ℕ) → childKeepsRules s j ≡ true → EntryRules s j
+unfolding childKeepsRules
+entry-rules s j keeps = let k = both-true _ _ keeps in record { known = ltb-true _ _ (k .0); once = eqb-true _ _ (k .1) }
+
 -- from the rules of patterns, child entries and roots; the depth is asked after these
 pub shaped-by-rules : (s : List ℕ) → every (patternKeepsRules s) 0 (patterns s) ≡ true → every (childKeepsRules s) 0 (children s) ≡ true
     → every (rootKeepsRules s) 0 (clauses s) ≡ true → Shaped s
-unfolding patternKeepsRules standsOnce childKeepsRules rootKeepsRules
-shaped-by-rules s keep-patterns keep-children keep-roots =
-    let first : (p : ℕ) → p < patterns s → (eqb (patternZero s p) 0 ≡ true) × (both (fieldsFit s p (patternKindOf (patternKind s p))) (both (childrenAbove s p (patternKindOf (patternKind s p))) (standsOnce s p)) ≡ true) =
-    λ p h. both-true _ _ (every-below (patternKeepsRules s) (patterns s) keep-patterns p h)
-    in
-    let second : (p : ℕ) → p < patterns s → (fieldsFit s p (patternKindOf (patternKind s p)) ≡ true) × (both (childrenAbove s p (patternKindOf (patternKind s p))) (standsOnce s p) ≡ true) =
-    λ p h. both-true _ _ (first p h .1)
-    in
-    let third : (p : ℕ) → p < patterns s → (childrenAbove s p (patternKindOf (patternKind s p)) ≡ true) × (standsOnce s p ≡ true) =
-    λ p h. both-true _ _ (second p h .1)
-    in
-    let entries : (j : ℕ) → j < children s → (ltb (child s j) (patterns s) ≡ true) × (eqb (times (lists s j) 0 (patterns s)) 1 ≡ true) =
-    λ j h. both-true _ _ (every-below (childKeepsRules s) (children s) keep-children j h)
-    in
-    record {
-      zero-byte = λ p h. eqb-true _ _ (first p h .0);
-      pattern-kind = λ p h. fields-kind s p (second p h .0);
-      a-unused = λ p h. fields-a-unused s p (second p h .0);
-      plain-empty = λ p h. fields-plain s p (second p h .0);
-      assign-one = λ p h. fields-assign s p (second p h .0);
-      tail-after-some = λ p h e. fields-tail s p (second p h .0) e .0;
-      tail-plain = λ p h e. fields-tail s p (second p h .0) e .1;
-      pair-two = λ p h. fields-pair s p (second p h .0);
-      text-run = λ p h. fields-text s p (second p h .0);
-      children-run = λ p h. fields-run s p (second p h .0);
-      child-above = λ p j h. above-owned s p j (third p h .0);
-      child-pattern = λ j h. ltb-true _ _ (entries j h .0);
-      owner = λ j h. owner-found s j (eqb-true _ _ (entries j h .1));
-      one-owner = λ p q j hp hq o. owner-one s j (eqb-true _ _ (entries j (run-entry s p j (second p hp .0) o) .1)) p q hp hq o;
-      stands-once = λ p h. eqb-true _ _ (third p h .1);
-      root-pattern = λ c h. ltb-true _ _ (every-below (rootKeepsRules s) (clauses s) keep-roots c h);
-    }
+unfolding rootKeepsRules
+shaped-by-rules s keep-patterns keep-children keep-roots = record {
+  zero-byte = λ p h. kept p h .zero-byte;
+  pattern-kind = λ p h. fields-kind s p (kept p h .fit);
+  a-unused = λ p h. fields-a-unused s p (kept p h .fit);
+  plain-empty = λ p h. fields-plain s p (kept p h .fit);
+  assign-one = λ p h. fields-assign s p (kept p h .fit);
+  tail-after-some = λ p h e. fields-tail s p (kept p h .fit) e .0;
+  tail-plain = λ p h e. fields-tail s p (kept p h .fit) e .1;
+  pair-two = λ p h. fields-pair s p (kept p h .fit);
+  text-run = λ p h. fields-text s p (kept p h .fit);
+  children-run = λ p h. fields-run s p (kept p h .fit);
+  child-above = λ p j h. above-owned s p j (kept p h .above);
+  child-pattern = λ j h. listed j h .known;
+  owner = λ j h. owner-found s j (listed j h .once);
+  one-owner = λ p q j hp hq o. owner-one s j (listed j (run-entry s p j (kept p hp .fit) o) .once) p q hp hq o;
+  stands-once = λ p h. kept p h .once;
+  root-pattern = λ c h. ltb-true _ _ (every-below (rootKeepsRules s) (clauses s) keep-roots c h);
+}
+  where
+    kept : (p : ℕ) → p < patterns s → PatternRules s p
+    kept p h = pattern-rules s p (every-below (patternKeepsRules s) (patterns s) keep-patterns p h)
+
+    listed : (j : ℕ) → j < children s → EntryRules s j
+    listed j h = entry-rules s j (every-below (childKeepsRules s) (children s) keep-children j h)
 
 pub shaped : (s : List ℕ) → shapeFits s ≡ true → Shaped s
 unfolding shapeFits
@@ -439,7 +458,7 @@ numbers-with-children : (kind : PatternKind) → 5 ≤ patternNumber kind → pa
 unfolding hasChildren
 numbers-with-children Discard low high = absurd (omega arith)
 numbers-with-children Variable low high = absurd (omega arith)
-numbers-with-children Assign low high = refl
+numbers-with-children Assign low high = absurd (omega arith)
 numbers-with-children Integer low high = absurd (omega arith)
 numbers-with-children ByteString low high = absurd (omega arith)
 numbers-with-children ListOfAll low high = refl

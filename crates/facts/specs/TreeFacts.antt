@@ -327,49 +327,68 @@ module _ (t : List ℕ) where
       go zero e = absurd (true≢false (sym e))
       go (suc n) e = omega arith
 
+-- the tests of one node and of one case, each by itself
+record NodeRules (t : List ℕ) (k : ℕ) : Type 0 where
+  zero-byte : nodeZero t k ≡ 0
+  fit : nodeOfKind t k (nodeKindOf (nodeKind t k)) ≡ true
+
+node-rules : (t : List ℕ) (k : ℕ) → nodeKeepsRules t k ≡ true → NodeRules t k
+unfolding nodeKeepsRules
+node-rules t k keeps = let p = both-true _ _ keeps in record { zero-byte = eqb-true _ _ (p .0); fit = p .1 }
+
+record CaseRules (t : List ℕ) (i : ℕ) : Type 0 where
+  zero-byte : caseZero t i ≡ 0
+  fit : caseOfKind t i (caseKindOf (caseKind t i)) ≡ true
+  child : caseChild t i < nodes t
+
+case-rules : (t : List ℕ) (i : ℕ) → caseKeepsRules t i ≡ true → CaseRules t i
+unfolding caseKeepsRules
+case-rules t i keeps =
+    let p = both-true _ _ keeps in
+    let q = both-true _ _ (p .1) in
+    record { zero-byte = eqb-true _ _ (p .0); fit = q .0; child = ltb-true _ _ (q .1) }
+
 pub tree-ruled : (t : List ℕ) → every (nodeKeepsRules t) 0 (nodes t) ≡ true → every (caseKeepsRules t) 0 (cases t) ≡ true
     → every (bindingKeepsRules t) 0 (bindings t) ≡ true → every (pathKeepsRules t) 0 (paths t) ≡ true → every (stepKeepsRules t) 0 (steps t) ≡ true → TreeRuled t
-unfolding nodeKeepsRules caseKeepsRules bindingKeepsRules pathKeepsRules
-tree-ruled t keep-nodes keep-cases keep-bindings keep-paths keep-steps =
-    let node : (k : ℕ) → k < nodes t → (eqb (nodeZero t k) 0 ≡ true) × (nodeOfKind t k (nodeKindOf (nodeKind t k)) ≡ true) =
-    λ k h. both-true _ _ (every-below (nodeKeepsRules t) (nodes t) keep-nodes k h)
-    in
-    let branch : (i : ℕ) → i < cases t → (eqb (caseZero t i) 0 ≡ true) × (both (caseOfKind t i (caseKindOf (caseKind t i))) (ltb (caseChild t i) (nodes t)) ≡ true) =
-    λ i h. both-true _ _ (every-below (caseKeepsRules t) (cases t) keep-cases i h)
-    in
-    let rest : (i : ℕ) → i < cases t → (caseOfKind t i (caseKindOf (caseKind t i)) ≡ true) × (ltb (caseChild t i) (nodes t) ≡ true) =
-    λ i h. both-true _ _ (branch i h .1)
-    in
-    let step : (i : ℕ) → i < steps t → stepKeepsRules t i ≡ true = every-below (stepKeepsRules t) (steps t) keep-steps in
-    record {
-      node-zero = λ k h. eqb-true _ _ (node k h .0);
-      node-kind = λ k h. known-kind t k (node k h .1);
-      switch-path = λ k h e. of-either-switch t k (node k h .1) e .path;
-      switch-run = λ k h e. of-either-switch t k (node k h .1) e .run;
-      switch-default = λ k h e. of-either-switch t k (node k h .1) e .default;
-      switch-some = λ k h e. switch-cases t k (of-switch t k (node k h .1) e .1) .some;
-      switch-no-tails = λ k h e. switch-cases t k (of-switch t k (node k h .1) e .1) .no-tails;
-      switch-kinds = λ k h e. switch-cases t k (of-switch t k (node k h .1) e .1) .kinds;
-      switch-alike = λ k i h e. switch-cases t k (of-switch t k (node k h .1) e .1) .alike i;
-      list-switch-some = λ k h e. list-switch-cases-of t k (of-list-switch t k (node k h .1) e .1) .some;
-      list-switch-cases = λ k i h e. list-switch-cases-of t k (of-list-switch t k (node k h .1) e .1) .lists i;
-      list-switch-tails = λ k i h e. list-switch-cases-of t k (of-list-switch t k (node k h .1) e .1) .tails i;
-      bindings-run = λ k h e. binding-parts t k (of-either-bound t k (node k h .1) e) .1;
-      bindings-most = λ k h e. binding-parts t k (of-either-bound t k (node k h .1) e) .0;
-      leaf-unused = λ k h e. leaf-words t k (of-leaf t k (node k h .1) e .1);
-      hoist-child = λ k h e. hoist-words t k (of-hoist t k (node k h .1) e .1) .0;
-      hoist-unused = λ k h e. hoist-words t k (of-hoist t k (node k h .1) e .1) .1;
-      case-zero = λ i h. eqb-true _ _ (branch i h .0);
-      case-kind = λ i h. known-case t i (rest i h .0);
-      case-text = λ i h. text-case t i (rest i h .0);
-      case-no-text = λ i h a b. plain-case t i (rest i h .0) a b;
-      case-child = λ i h. ltb-true _ _ (rest i h .1);
-      binding-path = λ b h. ltb-true _ _ (every-below (bindingKeepsRules t) (bindings t) keep-bindings b h);
-      path-steps = λ p h. run-in _ _ _ (every-below (pathKeepsRules t) (paths t) keep-paths p h);
-      step-kind = λ i h. known-step t i (step i h);
-      step-flag = λ i h. small-flag t i (step i h);
-      step-flag-constr = λ i h. no-flag t i (step i h);
-    }
+unfolding bindingKeepsRules pathKeepsRules
+tree-ruled t keep-nodes keep-cases keep-bindings keep-paths keep-steps = record {
+  node-zero = λ k h. node k h .zero-byte;
+  node-kind = λ k h. known-kind t k (node k h .fit);
+  switch-path = λ k h e. of-either-switch t k (node k h .fit) e .path;
+  switch-run = λ k h e. of-either-switch t k (node k h .fit) e .run;
+  switch-default = λ k h e. of-either-switch t k (node k h .fit) e .default;
+  switch-some = λ k h e. switch-cases t k (of-switch t k (node k h .fit) e .1) .some;
+  switch-no-tails = λ k h e. switch-cases t k (of-switch t k (node k h .fit) e .1) .no-tails;
+  switch-kinds = λ k h e. switch-cases t k (of-switch t k (node k h .fit) e .1) .kinds;
+  switch-alike = λ k i h e. switch-cases t k (of-switch t k (node k h .fit) e .1) .alike i;
+  list-switch-some = λ k h e. list-switch-cases-of t k (of-list-switch t k (node k h .fit) e .1) .some;
+  list-switch-cases = λ k i h e. list-switch-cases-of t k (of-list-switch t k (node k h .fit) e .1) .lists i;
+  list-switch-tails = λ k i h e. list-switch-cases-of t k (of-list-switch t k (node k h .fit) e .1) .tails i;
+  bindings-run = λ k h e. binding-parts t k (of-either-bound t k (node k h .fit) e) .1;
+  bindings-most = λ k h e. binding-parts t k (of-either-bound t k (node k h .fit) e) .0;
+  leaf-unused = λ k h e. leaf-words t k (of-leaf t k (node k h .fit) e .1);
+  hoist-child = λ k h e. hoist-words t k (of-hoist t k (node k h .fit) e .1) .0;
+  hoist-unused = λ k h e. hoist-words t k (of-hoist t k (node k h .fit) e .1) .1;
+  case-zero = λ i h. branch i h .zero-byte;
+  case-kind = λ i h. known-case t i (branch i h .fit);
+  case-text = λ i h. text-case t i (branch i h .fit);
+  case-no-text = λ i h a b. plain-case t i (branch i h .fit) a b;
+  case-child = λ i h. branch i h .child;
+  binding-path = λ b h. ltb-true _ _ (every-below (bindingKeepsRules t) (bindings t) keep-bindings b h);
+  path-steps = λ p h. run-in _ _ _ (every-below (pathKeepsRules t) (paths t) keep-paths p h);
+  step-kind = λ i h. known-step t i (step i h);
+  step-flag = λ i h. small-flag t i (step i h);
+  step-flag-constr = λ i h. no-flag t i (step i h);
+}
+  where
+    node : (k : ℕ) → k < nodes t → NodeRules t k
+    node k h = node-rules t k (every-below (nodeKeepsRules t) (nodes t) keep-nodes k h)
+
+    branch : (i : ℕ) → i < cases t → CaseRules t i
+    branch i h = case-rules t i (every-below (caseKeepsRules t) (cases t) keep-cases i h)
+
+    step : (i : ℕ) → i < steps t → stepKeepsRules t i ≡ true
+    step = every-below (stepKeepsRules t) (steps t) keep-steps
 
 pub tree-sound : (t : List ℕ) → treeFits t ≡ true → TreeSound t
 unfolding treeFits
