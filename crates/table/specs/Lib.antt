@@ -1,2 +1,5 @@
 pub mod Standing
+pub mod StandingLaws
+pub mod PathsLaws
+pub mod TypesLaws
 pub mod Examples
