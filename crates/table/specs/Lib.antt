@@ -1,5 +1,5 @@
 pub mod Standing
 pub mod StandingLaws
-pub mod PathsLaws
 pub mod TypesLaws
+pub mod PathsLaws
 pub mod Examples
