@@ -2,4 +2,5 @@ pub mod Standing
 pub mod StandingLaws
 pub mod TypesLaws
 pub mod PathsLaws
+pub mod ClassLaws
 pub mod Examples
