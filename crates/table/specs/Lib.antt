@@ -5,4 +5,5 @@ pub mod PathsLaws
 pub mod ClassLaws
 pub mod Seen
 pub mod SeenLaws
+pub mod Meets
 pub mod Examples

@@ -7,6 +7,7 @@ use mathlib.Core.Bool.{Bool, true, false, not, true≢false}
 use mathlib.Core.List.{List, [], _∷_, _++_, append-nil, append-assoc}
 use Prim.Native.Nat.{ℕ, zero, suc, _+_, _-_, _≤_, _<_, min}
 use native.Mathlib.Omega.{arith}
+use native.Mathlib.Nat.{add-zero}
 use native.Mathlib.Numerals.{add-one}
 use borrow.Author.Tests.{eqb-true, eq-eqb, leb-true, leb-false}
 use lib.Dec.{eqb, leb}
@@ -39,6 +40,17 @@ module _ (f : ℕ → List ℕ) (s : List ℕ) where
 
   pub eachOf-one : (j : ℕ) → eachOf f s j 1 ≡ f (child s j)
   eachOf-one j = eachOf-more j 0 ∙ ap (λ (l : List ℕ). f (child s j) ++ l) (eachOf-none (j + 1)) ∙ append-nil (f (child s j))
+
+-- the last one apart
+pub eachOf-last : (f : ℕ → List ℕ) (s : List ℕ) (j n : ℕ) → eachOf f s j (n + 1) ≡ eachOf f s j n ++ f (child s (j + n))
+eachOf-last f s j zero = eachOf-one f s j ∙ rw (eachOf-none f s j, add-zero)
+eachOf-last f s j (suc n) =
+    let one : suc n ≡ n + 1 = omega arith in
+    let at : j + suc n ≡ j + 1 + n = omega arith in
+    eachOf-more f s j (suc n)
+    ∙ ap (λ (l : List ℕ). f (child s j) ++ l) (ap (eachOf f s (j + 1)) one ∙ eachOf-last f s (j + 1) n)
+    ∙ sym (append-assoc (f (child s j)) (eachOf f s (j + 1) n) (f (child s (j + 1 + n))))
+    ∙ ap₂ _++_ (sym (ap (eachOf f s j) one ∙ eachOf-more f s j n)) (ap (λ (k : ℕ). f (child s k)) (sym at))
 
 pub eachOf-same : (f g : ℕ → List ℕ) (s : List ℕ) (j n : ℕ) → ((i : ℕ) → j ≤ i → i < j + n → f (child s i) ≡ g (child s i)) → eachOf f s j n ≡ eachOf g s j n
 unfolding eachOf
