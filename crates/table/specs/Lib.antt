@@ -1,0 +1,15 @@
+pub mod Standing
+pub mod StandingLaws
+pub mod TypesLaws
+pub mod PathsLaws
+pub mod ClassLaws
+pub mod Seen
+pub mod SeenLaws
+pub mod Meets
+pub mod MembersLaws
+pub mod ApartLaws
+pub mod OnceLaws
+pub mod Table
+pub mod Tabled
+pub mod PlacingLaws
+pub mod Examples
