@@ -1,2 +1,5 @@
 pub mod Standing
+pub mod StandingLaws
+pub mod TypesLaws
+pub mod PathsLaws
 pub mod Examples

@@ -145,6 +145,48 @@ unfoldable pub isTest : List ℕ → ℕ → Bool
 unfolding standing kindOf testOfKind
 isTest s p = testOfKind s (typeOf s p) (kindOf s p)
 
+-- ---- how pattern p is reached
+-- one more than the number of its parent, or 0 for a root
+unfoldable pub parentOf : List ℕ → ℕ → ℕ
+unfolding lowest isRoot clauses entryOf holderOf
+parentOf s p = elim (lowest (isRoot s p) 0 (clauses s)) [ some c ↦ 0 | none ↦ holderOf s (entryOf s p) + 1 ]
+
+-- the pattern that its path goes on from; pattern 0, which is a root, for a root
+unfoldable pub aboveOf : List ℕ → ℕ → ℕ
+unfolding parentOf
+aboveOf s p = parentOf s p - 1
+
+-- its place among its parent's children; 0 for a root
+unfoldable pub indexOf : List ℕ → ℕ → ℕ
+unfolding lowest isRoot clauses entryOf holderOf patternFirst
+indexOf s p = elim (lowest (isRoot s p) 0 (clauses s)) [ some c ↦ 0 | none ↦ entryOf s p - patternFirst s (holderOf s (entryOf s p)) ]
+
+-- the last step of its path, or none where it has the path of the pattern above
+unfoldable pub stepOf : List ℕ → ℕ → Option Step
+unfolding lowest isRoot clauses aboveOf standing kindOf indexOf stepTo
+stepOf s p =
+    elim (lowest (isRoot s p) 0 (clauses s)) [
+      | some c ↦ none
+      | none ↦ stepTo s (aboveOf s p) (typeOf s (aboveOf s p)) (kindOf s (aboveOf s p)) (indexOf s p)
+    ]
+
+-- a step's number in the tree file, or 5 for none
+unfoldable pub stepNumber : Option Step → ℕ
+stepNumber none = 5
+stepNumber (some (pair i t)) = 0
+stepNumber (some (tuple i t)) = 1
+stepNumber (some (constr i b t)) = 2
+stepNumber (some (list i t)) = 3
+stepNumber (some (listtail i t)) = 4
+
+-- the type of the part stepped from
+unfoldable pub stepType : Step → ℕ
+stepType (pair i t) = t
+stepType (tuple i t) = t
+stepType (constr i b t) = t
+stepType (list i t) = t
+stepType (listtail i t) = t
+
 -- ---- classes: the lowest pattern with the same path stands for it
 unfoldable pub pathsFrom : List ℕ → ℕ → ℕ → List Path
 unfolding standing
