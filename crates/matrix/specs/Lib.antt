@@ -1,1 +1,4 @@
 pub mod RowStates
+pub mod Numbers
+pub mod Live
+pub mod LiveLaws
