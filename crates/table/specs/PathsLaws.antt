@@ -69,7 +69,7 @@ pub record Steps (i t : ℕ) (step : Step) : Type 0 where
   pub index : stepIndex step ≡ i
   pub type : stepType step ≡ t
 
-none-some : (step : Step) → _≡_ {A = Option Step} none (some step) → ⊥
+pub none-some : (step : Step) → _≡_ {A = Option Step} none (some step) → ⊥
 none-some step e = let z : _≡_ {A = ℕ} 0 1 = cc in omega arith
 
 steps-from : (i t : ℕ) (one step : Step) → some one ≡ some step → Steps i t one → Steps i t step

@@ -100,6 +100,10 @@ abbrev pub orZero : Option ℕ → ℕ
 orZero none = 0
 orZero (some k) = k
 
+abbrev pub orSelf : Option ℕ → ℕ → ℕ
+orSelf none p = p
+orSelf (some k) p = k
+
 -- the entry that names p, and the pattern whose list has entry j
 unfoldable pub entryOf : List ℕ → ℕ → ℕ
 unfolding lowest isEntry children
@@ -200,6 +204,15 @@ sheetPaths s = pathsFrom s 0 (patterns s)
 unfoldable pub classOf : List ℕ → ℕ → ℕ
 unfolding pathNumber sheetPaths standing
 classOf s p = pathNumber (sheetPaths s) (pathOf s p)
+
+-- the same step, from patterns of the same class and type
+unfoldable pub sameStepAs : List ℕ → ℕ → ℕ → Bool
+unfolding stepNumber stepOf indexOf classOf aboveOf standing
+sameStepAs s q p =
+    both (eqb (stepNumber (stepOf s q)) (stepNumber (stepOf s p)))
+    (both (eqb (indexOf s q) (indexOf s p))
+    (both (eqb (classOf s (aboveOf s q)) (classOf s (aboveOf s p)))
+    (eqb (typeOf s (aboveOf s q)) (typeOf s (aboveOf s p)))))
 
 -- ---- the test of clause c in the column of a class: one more than its number, or 0
 unfoldable pub isCell : List ℕ → ℕ → ℕ → ℕ → Bool
