@@ -13,14 +13,11 @@ use Rattle.rules.specs.Patterns.{Pat, clausePattern}
 use Rattle.rules.specs.Rows.{Path, Cell, Binding, Row, bit, columnsOf, bindingsOf, openedColumns, openedBindings}
 use Rattle.rules.specs.Columns.{testAt}
 use Rattle.table.specs.Standing.{clauseOf, pathOf, ownerOf, patternOf, isTest, classOf, cellOf}
+use Rattle.table.specs.Seen.{cellAt}
 use Rattle.matrix.specs.declared.Held.{Held}
 use Rattle.matrix.specs.declared.Held.the-variants.{Test, Wildcard}
 use Rattle.matrix.specs.RowStates.{rowOf}
 use Rattle.matrix.specs.Numbers.{copies}
-
--- the test of pattern p in its column
-abbrev pub cellAt : List ℕ → ℕ → Cell
-cellAt s p = record { path = pathOf s p; pattern = patternOf s p }
 
 -- ---- by number
 -- p is inside no test, or inside an opened one
@@ -62,6 +59,11 @@ unfoldable pub boundBy : List ℕ → List ℕ → ℕ → ℕ → List ℕ → 
 unfolding openedTest openedBindings
 boundBy s opened c time [] = []
 boundBy s opened c time (class ∷ classes) = bindingsHeld s (openedTest s opened c time class) ++ boundBy s opened c (time + 1) classes
+
+-- k is the class of a path
+pub record IsClass (s : List ℕ) (k : ℕ) : Type 0 where
+  pub known : k < patterns s
+  pub itself : classOf s k ≡ k
 
 -- ---- a row's state: its tests are the live tests of its clause, each once, and its bindings what was opened in order
 -- p is a test of clause c

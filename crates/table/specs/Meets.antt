@@ -41,7 +41,6 @@ Meeting s of numbers at q = of (pathOf s q) (patternOf s q) ≡ map at (numbers 
 
 module _ {A : Type 0} {of : Path → Pat → List A} {ofEach : Path → (ℕ → Step) → ℕ → Pats → List A} (g : Gathers A of ofEach)
     (s : List ℕ) (numbers : ℕ → List ℕ) (at : ℕ → A) where
-
   part-meets : (path : Path) (e q : ℕ) → Part s path e q → Meeting s of numbers at q → of path (pattern s q (entry s e)) ≡ map at (numbers q)
   part-meets path e q part meets = rw (← part .stands, ← part .typed) meets
 
@@ -201,11 +200,11 @@ module _ {s : List ℕ} (sh : Shaped s) (few : Counted s) (p : ℕ) (h : p < pat
         let q = child s (patternFirst s p + n) in
         let whole : n + 1 ≡ patternCount s p = omega arith in
         let elements =
-          each-meets g s numbers at (pathOf s p) (λ i. list i t) 0 (patternFirst s p) n (typeFirst s t) 0 (element-parts e)
-          (each-of ListWithRest e refl n (omega arith))
+        each-meets g s numbers at (pathOf s p) (λ i. list i t) 0 (patternFirst s p) n (typeFirst s t) 0 (element-parts e)
+        (each-of ListWithRest e refl n (omega arith))
         in
         let last : of (into (pathOf s p) (listtail n t)) (pattern s q t) ≡ map at (numbers q) =
-          rw (← tail-path e (omega arith), ← tail-type e (omega arith)) (ih (patternFirst s p + n) (owns-part ListWithRest e refl n (omega arith)))
+        rw (← tail-path e (omega arith), ← tail-type e (omega arith)) (ih (patternFirst s p + n) (owns-part ListWithRest e refl n (omega arith)))
         in
         rw (many-along (pattern s) s (patternFirst s p) n (typeFirst s t) 0) (ap₂ _++_ elements last)
         ∙ sym (map-append at (eachOf numbers s (patternFirst s p) n) (numbers q))
