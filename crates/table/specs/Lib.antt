@@ -6,4 +6,5 @@ pub mod ClassLaws
 pub mod Seen
 pub mod SeenLaws
 pub mod Meets
+pub mod MembersLaws
 pub mod Examples

@@ -2,13 +2,14 @@
 -- the tests and names seen there, in the same order; and so of what a test opens to, and of a clause's row.
 -- Rests on SeenLaws, StandingLaws, and a pattern opened one level.
 use mathlib.Core.Path.{_≡_, refl, sym, ap, ap₂, _∙_}
+use mathlib.Core.Logic.{inl, inr}
 use mathlib.Core.Bool.{Bool, true, false, not, true≢false}
 use mathlib.Core.List.{List, [], _∷_, _++_, map, map-append, append-nil, append-assoc}
 use mathlib.Core.Option.{Option, none, some}
 use Prim.Native.Nat.{ℕ, zero, suc, _+_, _-_, _*_, _≤_, _<_}
 use native.Mathlib.Omega.{arith}
 use native.Mathlib.Nat.{add-zero, zero-add, mul-zero, one-mul}
-use borrow.Author.Tests.{eqb-true, ne-eqb, eq-eqb}
+use borrow.Author.Tests.{not-true, ne-eqb, eq-eqb}
 use lib.Dec.{eqb}
 use Rattle.words.specs.Words.{both, pick}
 use Rattle.words.specs.WordsLaws.{pick-true, pick-false}
@@ -20,9 +21,9 @@ use Rattle.facts.specs.KindsLaws.{patternNumber, pattern-byte, unknown-pattern}
 use Rattle.facts.specs.SheetFacts.{Counted, Parent, Owns, Shaped, owned-pattern}
 use Rattle.facts.specs.PatternsLaws.{along-none, along-more, many-along, pattern-of-kind}
 use Rattle.table.specs.Standing.{testOfKind, kindOf, isTail, stepTo, typeTo, follows, standing, pathOf, typeOf, patternOf, isTest}
-use Rattle.table.specs.StandingLaws.{root-path, root-type, child-path, child-type}
+use Rattle.table.specs.StandingLaws.{by-children, root-path, root-type, child-path, child-type}
 use Rattle.table.specs.Seen.{eachOf, testsOf, testsOfEach, bindsOf, bindsOfEach, openedTests, openedBinds, cellAt, bindingAt}
-use Rattle.table.specs.SeenLaws.{eachOf-last, tests-of-test, tests-of-parts, opened-tests-each, opened-binds-each, opened-tests-none, opened-binds-none, tests-plain, tests-assign, tests-text-or-list, tests-several, tests-only, tests-pair, binds-discard, binds-variable, binds-assign, binds-text-or-list, binds-several, binds-only, binds-pair}
+use Rattle.table.specs.SeenLaws.{eachOf-last, test-of-constructor, test-kind, test-kind-most, tests-of-test, tests-of-parts, opened-tests-each, opened-binds-each, opened-tests-none, opened-binds-none, tests-plain, tests-assign, tests-text-or-list, tests-several, tests-only, tests-pair, binds-discard, binds-variable, binds-assign, binds-text-or-list, binds-several, binds-only, binds-pair}
 
 -- ---- along the children
 -- pattern q stands at the path, and has the type at entry e
@@ -255,7 +256,6 @@ module _ {s : List ℕ} (sh : Shaped s) (few : Counted s) where
   -- a test is one column, with itself
   test-column : (p : ℕ) (q : Pat) → columnsOf (pathOf s p) q ≡ oneCell (pathOf s p) q → patternOf s p ≡ q → testsOf s p ≡ p ∷ []
       → columnsOf (pathOf s p) q ≡ map (cellAt s) (testsOf s p)
-  unfolding cellAt
   test-column p q a b c = a ∙ ap (oneCell (pathOf s p)) (sym b) ∙ ap (map (cellAt s)) (sym c)
 
   module _ (p : ℕ) (h : p < patterns s) (ih : (j : ℕ) → Owns s p j → Meeting s columnsOf (testsOf s) (cellAt s) (child s j)) where
@@ -264,7 +264,7 @@ module _ {s : List ℕ} (sh : Shaped s) (few : Counted s) where
         ≡ ofConstructor (record { number = p; type = typeOf s p }) (patternA s p) (decorated s (typeOf s p))
         (along (pattern s) s (patternFirst s p) (patternCount s p) (constructorFirst s (constructorOf s (typeOf s p) (patternA s p))) 1) one
         → Meeting s columnsOf (testsOf s) (cellAt s) p
-    unfolding ofConstructor columnsOf opening hasChildren testsOfEach
+    unfolding ofConstructor columnsOf opening hasChildren
     columns-of-constructor e true x y =
         ap (columnsOf (pathOf s p)) y
         ∙ gathers-fields sh few p h gathers-columns (testsOf s) (cellAt s) ih true x e
@@ -274,7 +274,7 @@ module _ {s : List ℕ} (sh : Shaped s) (few : Counted s) where
 
     columns-of-kind : (kind : PatternKind) → kindOf s p ≡ kind → patternOf s p ≡ ofKind (pattern s) s p (typeOf s p) kind
         → Meeting s columnsOf (testsOf s) (cellAt s) p
-    unfolding ofKind columnsOf testsOfEach
+    unfolding ofKind columnsOf
     columns-of-kind Discard e y =
         let k = byte sh few p h Discard e (omega arith) in
         ap (columnsOf (pathOf s p)) y ∙ ap (map (cellAt s)) (sym (tests-plain sh few p h (omega arith)))
@@ -310,3 +310,170 @@ module _ {s : List ℕ} (sh : Shaped s) (few : Counted s) where
         ∙ gathers-tuple sh few p h gathers-columns (testsOf s) (cellAt s) ih e
         ∙ ap (map (cellAt s)) (sym (tests-pair sh few p h (omega arith) (omega arith)))
     columns-of-kind Unknown e y = absurd (known-kind sh p h e)
+
+  -- what a test opens to
+  module _ (p : ℕ) (h : p < patterns s) (test : isTest s p ≡ true) (ih : (j : ℕ) → Owns s p j → Meeting s columnsOf (testsOf s) (cellAt s) (child s j)) where
+    opened-of-kind : (kind : PatternKind) → kindOf s p ≡ kind → patternOf s p ≡ ofKind (pattern s) s p (typeOf s p) kind
+        → openedColumns (pathOf s p) (patternOf s p) ≡ map (cellAt s) (openedTests s p)
+    unfolding ofKind ofConstructor openedColumns hasChildren
+    opened-of-kind Discard e y = let k = byte sh few p h Discard e (omega arith) in absurd (omega (arith, test-kind s p test))
+    opened-of-kind Variable e y = let k = byte sh few p h Variable e (omega arith) in absurd (omega (arith, test-kind s p test))
+    opened-of-kind Assign e y = let k = byte sh few p h Assign e (omega arith) in absurd (omega (arith, test-kind s p test))
+    opened-of-kind Integer e y =
+        let k = byte sh few p h Integer e (omega arith) in
+        ap (openedColumns (pathOf s p)) y ∙ ap (map (cellAt s)) (sym (opened-tests-none sh few p h (inr (omega arith, omega arith))))
+    opened-of-kind ByteString e y =
+        let k = byte sh few p h ByteString e (omega arith) in
+        ap (openedColumns (pathOf s p)) y ∙ ap (map (cellAt s)) (sym (opened-tests-none sh few p h (inr (omega arith, omega arith))))
+    opened-of-kind ListOfAll e y =
+        ap (openedColumns (pathOf s p)) y
+        ∙ gathers-list sh few p h gathers-columns (testsOf s) (cellAt s) ih e
+        ∙ ap (map (cellAt s)) (sym (opened-tests-each sh few p h (parent sh few p h ListOfAll e refl)))
+    opened-of-kind ListWithRest e y =
+        ap (openedColumns (pathOf s p)) y
+        ∙ gathers-tailed sh few p h gathers-columns (testsOf s) (cellAt s) ih e
+        ∙ ap (map (cellAt s)) (sym (opened-tests-each sh few p h (parent sh few p h ListWithRest e refl)))
+    opened-of-kind Constructor e y =
+        let several : oneConstructor s (typeOf s p) ≡ false = not-true (oneConstructor s (typeOf s p)) (sym (test-of-constructor s p (byte sh few p h Constructor e (omega arith))) ∙ test) in
+        ap (openedColumns (pathOf s p)) (y ∙ ap (ofConstructor (record { number = p; type = typeOf s p }) (patternA s p) (decorated s (typeOf s p)) (along (pattern s) s (patternFirst s p) (patternCount s p) (constructorFirst s (constructorOf s (typeOf s p) (patternA s p))) 1)) several)
+        ∙ gathers-fields sh few p h gathers-columns (testsOf s) (cellAt s) ih false several e
+        ∙ ap (map (cellAt s)) (sym (opened-tests-each sh few p h (parent sh few p h Constructor e refl)))
+    opened-of-kind Pair e y = let k = byte sh few p h Pair e (omega arith) in absurd (omega (arith, test-kind-most s p test))
+    opened-of-kind Tuple e y = let k = byte sh few p h Tuple e (omega arith) in absurd (omega (arith, test-kind-most s p test))
+    opened-of-kind Unknown e y = absurd (known-kind sh p h e)
+
+  pub columns-meet : (p : ℕ) → p < patterns s → columnsOf (pathOf s p) (patternOf s p) ≡ map (cellAt s) (testsOf s p)
+  columns-meet =
+      by-children sh (Meeting s columnsOf (testsOf s) (cellAt s))
+      (λ p h ih. columns-of-kind p h ih (kindOf s p) refl (unfold kindOf in (pattern-of-kind s sh few p (typeOf s p) h (kindOf s p) refl)))
+
+  pub opened-columns-meet : (p : ℕ) → p < patterns s → isTest s p ≡ true → openedColumns (pathOf s p) (patternOf s p) ≡ map (cellAt s) (openedTests s p)
+  opened-columns-meet p h test =
+      opened-of-kind p h test (λ j o. columns-meet (child s j) (owned-pattern sh p j h o)) (kindOf s p) refl
+      (unfold kindOf in (pattern-of-kind s sh few p (typeOf s p) h (kindOf s p) refl))
+
+-- a row of what its parts are
+abbrev rowOf : ℕ → List Binding → List Cell → Row
+rowOf c bs cs = record { clause = c; bindings = bs; tests = cs }
+
+clause-row-is : (c : ℕ) (q : Pat) → clauseRow c q ≡ rowOf c (bindingsOf [] q) (columnsOf [] q)
+unfolding clauseRow
+clause-row-is c q = refl
+
+-- ---- bindings
+gathers-bindings : Gathers Binding bindingsOf bindingsOfEach
+unfolding bindingsOf
+gathers-bindings = record { none-of = λ path step i. refl; more-of = λ path step i q qs. refl }
+
+module _ {s : List ℕ} (sh : Shaped s) (few : Counted s) where
+  module _ (p : ℕ) (h : p < patterns s) (ih : (j : ℕ) → Owns s p j → Meeting s bindingsOf (bindsOf s) (bindingAt s) (child s j)) where
+    bindings-of-constructor : kindOf s p ≡ Constructor → (one : Bool) → oneConstructor s (typeOf s p) ≡ one
+        → bindingsOf (pathOf s p)
+        (ofConstructor (record { number = p; type = typeOf s p }) (patternA s p) (decorated s (typeOf s p))
+        (along (pattern s) s (patternFirst s p) (patternCount s p) (constructorFirst s (constructorOf s (typeOf s p) (patternA s p))) 1) one)
+        ≡ map (bindingAt s) (bindsOf s p)
+    unfolding ofConstructor bindingsOf opening
+    bindings-of-constructor e true x =
+        gathers-fields sh few p h gathers-bindings (bindsOf s) (bindingAt s) ih true x e
+        ∙ ap (map (bindingAt s)) (sym (binds-only sh few p h (byte sh few p h Constructor e (omega arith)) x))
+    bindings-of-constructor e false x = ap (map (bindingAt s)) (sym (binds-several sh few p h (byte sh few p h Constructor e (omega arith)) x))
+
+    bindings-of-kind : (kind : PatternKind) → kindOf s p ≡ kind
+        → bindingsOf (pathOf s p) (ofKind (pattern s) s p (typeOf s p) kind) ≡ map (bindingAt s) (bindsOf s p)
+    unfolding ofKind bindingsOf
+    bindings-of-kind Discard e = ap (map (bindingAt s)) (sym (binds-discard sh few p h (byte sh few p h Discard e (omega arith))))
+    bindings-of-kind Variable e = ap (map (bindingAt s)) (sym (binds-variable sh few p h (byte sh few p h Variable e (omega arith))))
+    bindings-of-kind Assign e =
+        ap (λ (l : List Binding). bindingAt s p ∷ l)
+        (ap₂ (λ (path : Path) (u : ℕ). bindingsOf path (pattern s (child s (patternFirst s p)) u)) (sym (assign-path sh few p h e)) (sym (assign-type sh few p h e))
+        ∙ ih (patternFirst s p) (assign-owns sh few p h e))
+        ∙ ap (map (bindingAt s)) (sym (binds-assign sh few p h (byte sh few p h Assign e (omega arith))))
+    bindings-of-kind Integer e =
+        let k = byte sh few p h Integer e (omega arith) in
+        ap (map (bindingAt s)) (sym (binds-text-or-list sh few p h (omega arith) (omega arith)))
+    bindings-of-kind ByteString e =
+        let k = byte sh few p h ByteString e (omega arith) in
+        ap (map (bindingAt s)) (sym (binds-text-or-list sh few p h (omega arith) (omega arith)))
+    bindings-of-kind ListOfAll e =
+        let k = byte sh few p h ListOfAll e (omega arith) in
+        ap (map (bindingAt s)) (sym (binds-text-or-list sh few p h (omega arith) (omega arith)))
+    bindings-of-kind ListWithRest e =
+        let k = byte sh few p h ListWithRest e (omega arith) in
+        ap (map (bindingAt s)) (sym (binds-text-or-list sh few p h (omega arith) (omega arith)))
+    bindings-of-kind Constructor e = bindings-of-constructor e (oneConstructor s (typeOf s p)) refl
+    bindings-of-kind Pair e =
+        let k = byte sh few p h Pair e (omega arith) in
+        gathers-pair sh few p h gathers-bindings (bindsOf s) (bindingAt s) ih e
+        ∙ ap (map (bindingAt s)) (sym (binds-pair sh few p h (omega arith) (omega arith)))
+    bindings-of-kind Tuple e =
+        let k = byte sh few p h Tuple e (omega arith) in
+        gathers-tuple sh few p h gathers-bindings (bindsOf s) (bindingAt s) ih e
+        ∙ ap (map (bindingAt s)) (sym (binds-pair sh few p h (omega arith) (omega arith)))
+    bindings-of-kind Unknown e = absurd (known-kind sh p h e)
+
+    -- what a test opens to
+    opened-bindings-of-constructor : kindOf s p ≡ Constructor → (one : Bool) → oneConstructor s (typeOf s p) ≡ one → one ≡ false
+        → openedBindings (pathOf s p)
+        (ofConstructor (record { number = p; type = typeOf s p }) (patternA s p) (decorated s (typeOf s p))
+        (along (pattern s) s (patternFirst s p) (patternCount s p) (constructorFirst s (constructorOf s (typeOf s p) (patternA s p))) 1) one)
+        ≡ map (bindingAt s) (openedBinds s p)
+    unfolding ofConstructor openedBindings hasChildren
+    opened-bindings-of-constructor e true x several = absurd (true≢false several)
+    opened-bindings-of-constructor e false x several =
+        gathers-fields sh few p h gathers-bindings (bindsOf s) (bindingAt s) ih false x e
+        ∙ ap (map (bindingAt s)) (sym (opened-binds-each sh few p h (parent sh few p h Constructor e refl)))
+
+    opened-bindings-of-kind : isTest s p ≡ true → (kind : PatternKind) → kindOf s p ≡ kind
+        → openedBindings (pathOf s p) (ofKind (pattern s) s p (typeOf s p) kind) ≡ map (bindingAt s) (openedBinds s p)
+    unfolding ofKind openedBindings hasChildren
+    opened-bindings-of-kind test Discard e = let k = byte sh few p h Discard e (omega arith) in absurd (omega (arith, test-kind s p test))
+    opened-bindings-of-kind test Variable e = let k = byte sh few p h Variable e (omega arith) in absurd (omega (arith, test-kind s p test))
+    opened-bindings-of-kind test Assign e = let k = byte sh few p h Assign e (omega arith) in absurd (omega (arith, test-kind s p test))
+    opened-bindings-of-kind test Integer e =
+        let k = byte sh few p h Integer e (omega arith) in
+        ap (map (bindingAt s)) (sym (opened-binds-none sh few p h (inr (omega arith, omega arith))))
+    opened-bindings-of-kind test ByteString e =
+        let k = byte sh few p h ByteString e (omega arith) in
+        ap (map (bindingAt s)) (sym (opened-binds-none sh few p h (inr (omega arith, omega arith))))
+    opened-bindings-of-kind test ListOfAll e =
+        gathers-list sh few p h gathers-bindings (bindsOf s) (bindingAt s) ih e
+        ∙ ap (map (bindingAt s)) (sym (opened-binds-each sh few p h (parent sh few p h ListOfAll e refl)))
+    opened-bindings-of-kind test ListWithRest e =
+        gathers-tailed sh few p h gathers-bindings (bindsOf s) (bindingAt s) ih e
+        ∙ ap (map (bindingAt s)) (sym (opened-binds-each sh few p h (parent sh few p h ListWithRest e refl)))
+    opened-bindings-of-kind test Constructor e =
+        opened-bindings-of-constructor e (oneConstructor s (typeOf s p)) refl
+        (not-true (oneConstructor s (typeOf s p)) (sym (test-of-constructor s p (byte sh few p h Constructor e (omega arith))) ∙ test))
+    opened-bindings-of-kind test Pair e = let k = byte sh few p h Pair e (omega arith) in absurd (omega (arith, test-kind-most s p test))
+    opened-bindings-of-kind test Tuple e = let k = byte sh few p h Tuple e (omega arith) in absurd (omega (arith, test-kind-most s p test))
+    opened-bindings-of-kind test Unknown e = absurd (known-kind sh p h e)
+
+  pub bindings-meet : (p : ℕ) → p < patterns s → bindingsOf (pathOf s p) (patternOf s p) ≡ map (bindingAt s) (bindsOf s p)
+  unfolding kindOf
+  bindings-meet =
+      by-children sh (Meeting s bindingsOf (bindsOf s) (bindingAt s))
+      (λ p h ih. ap (bindingsOf (pathOf s p)) (pattern-of-kind s sh few p (typeOf s p) h (kindOf s p) refl) ∙ bindings-of-kind p h ih (kindOf s p) refl)
+
+  pub opened-bindings-meet : (p : ℕ) → p < patterns s → isTest s p ≡ true → openedBindings (pathOf s p) (patternOf s p) ≡ map (bindingAt s) (openedBinds s p)
+  unfolding kindOf
+  opened-bindings-meet p h test =
+      ap (openedBindings (pathOf s p)) (pattern-of-kind s sh few p (typeOf s p) h (kindOf s p) refl)
+      ∙ opened-bindings-of-kind p h (λ j o. bindings-meet (child s j) (owned-pattern sh p j h o)) test (kindOf s p) refl
+
+  -- ---- a clause's row
+  clause-pattern : (c : ℕ) → c < clauses s → clausePattern s c ≡ patternOf s (root s c)
+  unfolding clausePattern
+  clause-pattern c h = ap (pattern s (root s c)) (sym (root-type sh c h))
+
+  pub clause-columns-meet : (c : ℕ) → c < clauses s → columnsOf [] (clausePattern s c) ≡ map (cellAt s) (testsOf s (root s c))
+  clause-columns-meet c h =
+      ap₂ columnsOf (sym (root-path sh c h)) (clause-pattern c h) ∙ columns-meet sh few (root s c) (sh .root-pattern c h)
+
+  pub clause-bindings-meet : (c : ℕ) → c < clauses s → bindingsOf [] (clausePattern s c) ≡ map (bindingAt s) (bindsOf s (root s c))
+  clause-bindings-meet c h =
+      ap₂ bindingsOf (sym (root-path sh c h)) (clause-pattern c h) ∙ bindings-meet (root s c) (sh .root-pattern c h)
+
+  pub clause-row-meets : (c : ℕ) → c < clauses s
+      → clauseRow c (clausePattern s c)
+      ≡ record { clause = c; bindings = map (bindingAt s) (bindsOf s (root s c)); tests = map (cellAt s) (testsOf s (root s c)) }
+  clause-row-meets c h = clause-row-is c (clausePattern s c) ∙ ap₂ (rowOf c) (clause-bindings-meet c h) (clause-columns-meet c h)

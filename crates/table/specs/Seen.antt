@@ -58,32 +58,26 @@ unfoldable pub testsOf : List ℕ → ℕ → List ℕ
 unfolding those seen isTest
 testsOf s p = those (isTest s) (seen s p)
 
-unfoldable pub testsOfEach : List ℕ → ℕ → ℕ → List ℕ
-unfolding eachOf testsOf
+abbrev pub testsOfEach : List ℕ → ℕ → ℕ → List ℕ
 testsOfEach s j n = eachOf (testsOf s) s j n
 
 unfoldable pub bindsOf : List ℕ → ℕ → List ℕ
 unfolding those seen binds
 bindsOf s p = those (binds s) (seen s p)
 
-unfoldable pub bindsOfEach : List ℕ → ℕ → ℕ → List ℕ
-unfolding eachOf bindsOf
+abbrev pub bindsOfEach : List ℕ → ℕ → ℕ → List ℕ
 bindsOfEach s j n = eachOf (bindsOf s) s j n
 
 -- what test p opens to once its case holds
-unfoldable pub openedTests : List ℕ → ℕ → List ℕ
-unfolding insideOf testsOf
+abbrev pub openedTests : List ℕ → ℕ → List ℕ
 openedTests s p = insideOf (testsOf s) s p
 
-unfoldable pub openedBinds : List ℕ → ℕ → List ℕ
-unfolding insideOf bindsOf
+abbrev pub openedBinds : List ℕ → ℕ → List ℕ
 openedBinds s p = insideOf (bindsOf s) s p
 
 -- a test with its path, and a binding with its own
-unfoldable pub cellAt : List ℕ → ℕ → Cell
-unfolding standing
+abbrev pub cellAt : List ℕ → ℕ → Cell
 cellAt s q = record { path = pathOf s q; pattern = patternOf s q }
 
-unfoldable pub bindingAt : List ℕ → ℕ → Binding
-unfolding standing patternA
+abbrev pub bindingAt : List ℕ → ℕ → Binding
 bindingAt s q = record { name = patternA s q; path = pathOf s q }

@@ -271,7 +271,7 @@ module _ {s : List ℕ} (sh : Shaped s) (few : Counted s) (p : ℕ) (h : p < pat
   tests-of-test e = ap (those (isTest s)) (seen-test sh few p h e) ∙ those-has (isTest s) p [] e
 
   pub tests-of-parts : isTest s p ≡ false → testsOf s p ≡ openedTests s p
-  unfolding testsOf openedTests
+  unfolding testsOf
   tests-of-parts e =
       ap (those (isTest s)) (seen-parts sh few p h e) ∙ those-lacks (isTest s) p (insideOf (seen s) s p) e ∙ those-insideOf (isTest s) (seen s) s p
 
@@ -282,14 +282,14 @@ module _ {s : List ℕ} (sh : Shaped s) (few : Counted s) (p : ℕ) (h : p < pat
       ∙ those-lacks (binds s) p [] (binds-no-name s p (inr (test-kind s p e)))
 
   pub binds-of-name : isTest s p ≡ false → binds s p ≡ true → bindsOf s p ≡ p ∷ openedBinds s p
-  unfolding bindsOf openedBinds
+  unfolding bindsOf
   binds-of-name e b =
       ap (those (binds s)) (seen-parts sh few p h e)
       ∙ those-has (binds s) p (insideOf (seen s) s p) b
       ∙ ap (λ (l : List ℕ). p ∷ l) (those-insideOf (binds s) (seen s) s p)
 
   pub binds-of-parts : isTest s p ≡ false → binds s p ≡ false → bindsOf s p ≡ openedBinds s p
-  unfolding bindsOf openedBinds
+  unfolding bindsOf
   binds-of-parts e b =
       ap (those (binds s)) (seen-parts sh few p h e)
       ∙ those-lacks (binds s) p (insideOf (seen s) s p) b
@@ -297,19 +297,15 @@ module _ {s : List ℕ} (sh : Shaped s) (few : Counted s) (p : ℕ) (h : p < pat
 
   -- ---- the same by the kind byte
   pub opened-tests-none : (patternKind s p ≤ 1) ⊎ ((3 ≤ patternKind s p) × (patternKind s p ≤ 4)) → openedTests s p ≡ []
-  unfolding openedTests
   opened-tests-none k = insideOf-childless (testsOf s) s p (childless s p k)
 
   pub opened-binds-none : (patternKind s p ≤ 1) ⊎ ((3 ≤ patternKind s p) × (patternKind s p ≤ 4)) → openedBinds s p ≡ []
-  unfolding openedBinds
   opened-binds-none k = insideOf-childless (bindsOf s) s p (childless s p k)
 
   pub opened-tests-each : Parent s p → openedTests s p ≡ testsOfEach s (patternFirst s p) (patternCount s p)
-  unfolding openedTests testsOfEach
   opened-tests-each k = insideOf-parent (testsOf s) s p k
 
   pub opened-binds-each : Parent s p → openedBinds s p ≡ bindsOfEach s (patternFirst s p) (patternCount s p)
-  unfolding openedBinds bindsOfEach
   opened-binds-each k = insideOf-parent (bindsOf s) s p k
 
   opened-assign : (f : ℕ → List ℕ) → patternKind s p ≡ 2 → insideOf f s p ≡ f (child s (patternFirst s p))
@@ -322,7 +318,6 @@ module _ {s : List ℕ} (sh : Shaped s) (few : Counted s) (p : ℕ) (h : p < pat
   tests-plain k = tests-of-parts (no-test-of-plain s p (omega arith)) ∙ opened-tests-none (inl k)
 
   pub tests-assign : patternKind s p ≡ 2 → testsOf s p ≡ testsOf s (child s (patternFirst s p))
-  unfolding openedTests
   tests-assign k = tests-of-parts (no-test-of-plain s p (omega arith)) ∙ opened-assign (testsOf s) k
 
   pub tests-text-or-list : 3 ≤ patternKind s p → patternKind s p ≤ 6 → testsOf s p ≡ p ∷ []
@@ -345,7 +340,6 @@ module _ {s : List ℕ} (sh : Shaped s) (few : Counted s) (p : ℕ) (h : p < pat
       binds-of-name (no-test-of-plain s p (omega arith)) (binds-a-name s p (omega arith) (omega arith)) ∙ ap (λ (l : List ℕ). p ∷ l) (opened-binds-none (inl (omega arith)))
 
   pub binds-assign : patternKind s p ≡ 2 → bindsOf s p ≡ p ∷ bindsOf s (child s (patternFirst s p))
-  unfolding openedBinds
   binds-assign k =
       binds-of-name (no-test-of-plain s p (omega arith)) (binds-a-name s p (omega arith) (omega arith)) ∙ ap (λ (l : List ℕ). p ∷ l) (opened-assign (bindsOf s) k)
 
@@ -366,17 +360,13 @@ module _ {s : List ℕ} (sh : Shaped s) (few : Counted s) (p : ℕ) (h : p < pat
 -- of n children from entry j on
 module _ (s : List ℕ) (j : ℕ) where
   pub tests-each-none : testsOfEach s j 0 ≡ []
-  unfolding testsOfEach
   tests-each-none = eachOf-none (testsOf s) s j
 
   pub tests-each-some : (n : ℕ) → (n ≡ 0 → ⊥) → testsOfEach s j n ≡ testsOf s (child s j) ++ testsOfEach s (j + 1) (n - 1)
-  unfolding testsOfEach
   tests-each-some n h = eachOf-some (testsOf s) s j n h
 
   pub binds-each-none : bindsOfEach s j 0 ≡ []
-  unfolding bindsOfEach
   binds-each-none = eachOf-none (bindsOf s) s j
 
   pub binds-each-some : (n : ℕ) → (n ≡ 0 → ⊥) → bindsOfEach s j n ≡ bindsOf s (child s j) ++ bindsOfEach s (j + 1) (n - 1)
-  unfolding bindsOfEach
   binds-each-some n h = eachOf-some (bindsOf s) s j n h

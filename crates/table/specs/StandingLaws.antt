@@ -98,6 +98,19 @@ module _ {s : List ℕ} (sh : Shaped s) where
     pub by-standing : (p : ℕ) → p < patterns s → P p
     by-standing p h = by-standing-to (suc p) p (omega arith) h
 
+  -- what holds of a pattern if it holds of its children, holds of each pattern
+  module _ (P : ℕ → Type 0) (at-parent : (p : ℕ) → p < patterns s → ((j : ℕ) → Owns s p j → P (child s j)) → P p) where
+    by-children-to : (deep p : ℕ) → p < patterns s → patterns s ≤ deep + p → P p
+    by-children-to zero p h d = absurd (omega arith)
+    by-children-to (suc deep) p h d =
+        at-parent p h
+        (λ j o.
+        let above = sh .child-above p j h o in
+        by-children-to deep (child s j) (owned-pattern sh p j h o) (omega arith))
+
+    pub by-children : (p : ℕ) → p < patterns s → P p
+    by-children p h = by-children-to (patterns s) p h (omega arith)
+
   -- depths past the pattern's number are the same
   standingTo-enough : (k l p : ℕ) → p < k → p < l → p < patterns s → standingTo k s p ≡ standingTo l s p
   standingTo-enough zero l p a b h = absurd (omega arith)
