@@ -1,4 +1,5 @@
 pub mod RowStates
 pub mod Numbers
 pub mod Live
+pub mod MeetingLaws
 pub mod LiveLaws

@@ -71,6 +71,11 @@ unfoldable pub isTestOf : List ℕ → ℕ → ℕ → Bool
 unfolding isTest
 isTestOf s c p = both (ltb p (patterns s)) (both (isTest s p) (eqb (clauseOf s p) c))
 
+-- q is directly inside the test p
+unfoldable pub isInside : List ℕ → ℕ → ℕ → Bool
+unfolding isTest
+isInside s p q = both (ltb q (patterns s)) (both (isTest s q) (eqb (ownerOf s q) (p + 1)))
+
 unfoldable pub isLiveOf : List ℕ → List ℕ → ℕ → ℕ → Bool
 unfolding isTestOf isLive
 isLiveOf s opened c p = both (isTestOf s c p) (isLive s opened p)

@@ -30,20 +30,8 @@ use Rattle.matrix.specs.declared.Held.{Held}
 use Rattle.matrix.specs.declared.Held.the-variants.{Test, Wildcard}
 use Rattle.matrix.specs.RowStates.{rowAfter, rowOf, rowOf-wild, rowOf-test}
 use Rattle.matrix.specs.Numbers.{copies, firstWith, lessFirst, copies-append, firstWith-some, firstWith-none, copies-lessFirst, all-copies}
-use Rattle.matrix.specs.Live.{available, isLive, liveCell, liveTest, patternHeld, openedCell, openedTest, bindingsHeld, boundBy, isTestOf, isLiveOf, IsClass, Lives, State}
-
--- ---- structure meets numbers
--- q is directly inside the test p
-unfoldable pub isInside : List ℕ → ℕ → ℕ → Bool
-unfolding isTest
-isInside s p q = both (ltb q (patterns s)) (both (isTest s q) (eqb (ownerOf s q) (p + 1)))
-
-pub record Meeting (s : List ℕ) : Type 0 where
-  pub root-cells : (c : ℕ) → c < clauses s → columnsOf [] (clausePattern s c) ≡ map (cellAt s) (testsOf s (root s c))
-  pub opened-cells : (p : ℕ) → p < patterns s → isTest s p ≡ true → openedColumns (pathOf s p) (patternOf s p) ≡ map (cellAt s) (openedTests s p)
-  pub root-once : (c q : ℕ) → c < clauses s → copies q (testsOf s (root s c)) ≡ bit (both (isTestOf s c q) (eqb (ownerOf s q) 0))
-  pub opened-once : (p q : ℕ) → p < patterns s → isTest s p ≡ true → copies q (openedTests s p) ≡ bit (isInside s p q)
-  pub one-test : (p q : ℕ) → p < patterns s → q < patterns s → isTest s p ≡ true → isTest s q ≡ true → clauseOf s p ≡ clauseOf s q → classOf s p ≡ classOf s q → p ≡ q
+use Rattle.matrix.specs.Live.{available, isLive, liveCell, liveTest, patternHeld, openedCell, openedTest, bindingsHeld, boundBy, isTestOf, isInside, isLiveOf, IsClass, Lives, State}
+use Rattle.matrix.specs.MeetingLaws.{Meeting}
 
 -- ---- tests of a clause
 pub record TestOf (s : List ℕ) (c p : ℕ) : Type 0 where
@@ -91,7 +79,7 @@ Known s q = q < patterns s
 
 module _ (s : List ℕ) (k : ℕ) (known : k < patterns s) where
   testAt-numbers : (qs : List ℕ) → All (Known s) qs → testAt (pathOf s k) (map (cellAt s) qs) ≡ patternFound s (firstWith (sameClass s k) qs)
-  unfolding testAt firstWith cellAt
+  unfolding testAt firstWith
   testAt-numbers [] h = refl
   testAt-numbers (q ∷ qs) h = go (sameClass s k q) refl (testAt-numbers qs (h .1))
     where
@@ -101,7 +89,7 @@ module _ (s : List ℕ) (k : ℕ) (known : k < patterns s) where
       go false e ih = rw (samePath-class s k q known (h .0) ∙ e, testAt, e, firstWith) ih
 
   withoutTest-numbers : (qs : List ℕ) → All (Known s) qs → withoutTest (pathOf s k) (map (cellAt s) qs) ≡ map (cellAt s) (lessFirst (sameClass s k) qs)
-  unfolding withoutTest lessFirst cellAt
+  unfolding withoutTest lessFirst
   withoutTest-numbers [] h = refl
   withoutTest-numbers (q ∷ qs) h = go (sameClass s k q) refl (withoutTest-numbers qs (h .1))
     where
