@@ -7,4 +7,6 @@ pub mod Seen
 pub mod SeenLaws
 pub mod Meets
 pub mod MembersLaws
+pub mod ApartLaws
+pub mod OnceLaws
 pub mod Examples

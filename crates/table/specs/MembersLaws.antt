@@ -85,7 +85,7 @@ eachOf-isIn f s x i j (suc n) low high h =
     (λ w. isIn-right x (f (child s j)) (eachOf f s (j + 1) n) (eachOf-isIn f s x i (j + 1) n (w .0) (w .1) h))
     (first-or-rest j i n low high)
 
-isIn-eachOf : (f : ℕ → List ℕ) (s : List ℕ) (x j n : ℕ) → isIn x (eachOf f s j n) ≡ true → (i : ℕ) × (j ≤ i) × (i < j + n) × (isIn x (f (child s i)) ≡ true)
+pub isIn-eachOf : (f : ℕ → List ℕ) (s : List ℕ) (x j n : ℕ) → isIn x (eachOf f s j n) ≡ true → (i : ℕ) × (j ≤ i) × (i < j + n) × (isIn x (f (child s i)) ≡ true)
 unfolding eachOf
 isIn-eachOf f s x j zero h = absurd (isIn-nil x h)
 isIn-eachOf f s x j (suc n) h = go (isIn-append x (f (child s j)) (eachOf f s (j + 1) n) h) (isIn-eachOf f s x (j + 1) n)

@@ -144,7 +144,7 @@ module _ (f : ℕ → Bool) where
   those-eachOf g s j zero = refl
   those-eachOf g s j (suc n) = those-append (g (child s j)) (eachOf g s (j + 1) n) ∙ ap (λ (l : List ℕ). those f (g (child s j)) ++ l) (those-eachOf g s (j + 1) n)
 
-  those-insideOf : (g : ℕ → List ℕ) (s : List ℕ) (p : ℕ) → those f (insideOf g s p) ≡ insideOf (λ q. those f (g q)) s p
+  pub those-insideOf : (g : ℕ → List ℕ) (s : List ℕ) (p : ℕ) → those f (insideOf g s p) ≡ insideOf (λ q. those f (g q)) s p
   unfolding insideOf those
   those-insideOf g s p = go (hasChildren (kindOf s p))
     where

@@ -1,0 +1,13 @@
+use Rattle.sheet.proofs.fitting.asks_each.Statement.{statement}
+use Rattle.sheet.proofs.fitting.asks_each.Tie as tie
+use Rattle.sheet.proofs.fitting.asks_each.Reads as reads
+use Rattle.sheet.proofs.fitting.asks_each.Lts as lts
+
+returns : tie.Need-returns
+returns c = rw (c .if1 .taken)
+
+returns-2 : tie.Need-returns-2
+returns-2 c = rw (c .if1 .left)
+
+pub asks-each-spec : {M : Type 1} → statement M
+asks-each-spec = tie.close (tie.spec returns returns-2)

@@ -1,0 +1,24 @@
+use borrow.Author.Needs.{needs}
+use mathlib.Core.Path.{_∙_, ap}
+use native.Mathlib.Omega.{arith}
+use Rattle.rules.specs.Limits.{depthMost}
+use Rattle.rules.specs.SheetRefusals.{within as Within, depthFits}
+use Rattle.sheet.proofs.shape.depth_fits.Statement.{statement}
+use Rattle.sheet.proofs.shape.depth_fits.Tie as tie
+use Rattle.sheet.proofs.shape.depth_fits.Reads as reads
+use Rattle.sheet.proofs.shape.depth_fits.Lts as lts
+use Rattle.sheet.proofs.records.root_at.Reads as root-at-reads
+use Rattle.sheet.proofs.shape.within.Reads as within-reads
+
+root-at-requires : tie.Need-root-at-requires
+root-at-requires c κs = search needs
+
+within-requires : tie.Need-within-requires
+within-requires c κs = (c .before .before .pre .0 .0, c .before .before .pre .0 .1, c .before .before .pre .0 .2, c .before .before .pre .0 .3, omega (arith, c .root-at .ensures, c .before .before .pre .1 .0 .root-known (c .before .before .args .c) (c .before .before .pre .1 .1)))
+
+returns : tie.Need-returns
+unfolding depthFits
+returns c = c .within .ensures ∙ ap (Within depthMost (c .before .before .before .args .s .now)) (c .before .root-at .ensures)
+
+pub depth-fits-spec : {M : Type 1} → statement M
+depth-fits-spec = tie.close (tie.spec root-at-requires within-requires returns)

@@ -1,0 +1,16 @@
+use borrow.Author.Needs.{needs}
+use Rattle.sheet.specs.ShapeLaws.{above-known}
+use Rattle.sheet.proofs.shape.is_above.Statement.{statement}
+use Rattle.sheet.proofs.shape.is_above.Tie as tie
+use Rattle.sheet.proofs.shape.is_above.Reads as reads
+use Rattle.sheet.proofs.shape.is_above.Lts as lts
+use Rattle.sheet.proofs.records.child_at.Reads as child-at-reads
+
+child-at-requires : tie.Need-child-at-requires
+child-at-requires c κs = search needs
+
+returns : tie.Need-returns
+returns c = above-known (c .before .before .args .s .now) (c .before .before .pre .2) (c .before .before .args .p) (c .before .before .args .j) (c .before .before .pre .3) (c .child-at .ensures)
+
+pub is-above-spec : {M : Type 1} → statement M
+is-above-spec = tie.close (tie.spec child-at-requires returns)

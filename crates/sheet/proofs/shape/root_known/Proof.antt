@@ -1,0 +1,21 @@
+use borrow.Author.Needs.{needs}
+use mathlib.Core.Path.{ap₂}
+use Prim.Native.Nat.{ℕ}
+use lib.Dec.{ltb}
+use Rattle.rules.specs.SheetRefusals.{rootKeepsRules}
+use Rattle.sheet.specs.SectionsLaws.{mapped}
+use Rattle.sheet.proofs.shape.root_known.Statement.{statement}
+use Rattle.sheet.proofs.shape.root_known.Tie as tie
+use Rattle.sheet.proofs.shape.root_known.Reads as reads
+use Rattle.sheet.proofs.shape.root_known.Lts as lts
+use Rattle.sheet.proofs.records.root_at.Reads as root-at-reads
+
+root-at-requires : tie.Need-root-at-requires
+root-at-requires c κs = search needs
+
+returns : tie.Need-returns
+unfolding rootKeepsRules
+returns c = ap₂ ltb (c .before .root-at .ensures) (mapped (c .before .before .before .args .s .now) (c .before .before .before .args .m) (c .before .before .before .pre .1) .of-patterns)
+
+pub root-known-spec : {M : Type 1} → statement M
+root-known-spec = tie.close (tie.spec root-at-requires returns)
