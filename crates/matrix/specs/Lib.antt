@@ -3,5 +3,7 @@ pub mod Numbers
 pub mod Live
 pub mod MeetingLaws
 pub mod LiveLaws
+pub mod HeldRows
 pub mod Lists
 pub mod ListsLaws
+pub mod Ordered

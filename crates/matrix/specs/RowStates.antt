@@ -1,15 +1,13 @@
 -- Rows as states: clause c's row after the columns at some paths were tested, in order, is a function of c and of those paths.
--- So a matrix is a list of clauses and the paths tested, and rules 3 and 4 filter the clauses. Rests on the definitions of rules alone.
-use mathlib.Core.Path.{_≡_, refl, sym, ap, ap₂, _∙_}
-use mathlib.Core.Bool.{Bool, true, false}
+-- So a matrix is a list of clauses and the paths tested. Rests on the definitions of rules alone.
+use mathlib.Core.Path.{_≡_, refl, ap, _∙_}
 use mathlib.Core.List.{List, [], _∷_, _++_, map}
 use mathlib.Core.Option.{Option, none, some}
 use Prim.Native.Nat.{ℕ, zero, suc, _+_}
 use Rattle.rules.specs.Patterns.{Pat, clausePattern, clausePatterns}
-use Rattle.rules.specs.Rows.{Path, Cell, Row, clauseRow, clauseRows, openedColumns}
-use Rattle.rules.specs.Columns.{testAt, count}
-use Rattle.rules.specs.Splitting.{Test, column, openRow, covers, defaultRows, caseRows, caseOpens}
-use Rattle.rules.specs.SplittingLaws.{All}
+use Rattle.rules.specs.Rows.{Path, Row, clauseRow, clauseRows}
+use Rattle.rules.specs.Columns.{testAt}
+use Rattle.rules.specs.Splitting.{openRow}
 
 -- ---- one row
 -- the row once the column at p is tested: a wildcard stays as it is, a test opens
@@ -68,104 +66,3 @@ pub clause-rows : (s : List ℕ) (c n : ℕ) → clauseRows c (clausePatterns s 
 unfolding clauseRows clausePatterns upFrom rowOf rowAfter
 clause-rows s c zero = refl
 clause-rows s c (suc n) = ap (λ (rs : List Row). clauseRow c (clausePattern s c) ∷ rs) (clause-rows s (c + 1) n)
-
--- ---- a column by what each clause's row has in it
-unfoldable pub countOf : (ℕ → Option Pat) → List ℕ → ℕ
-countOf held [] = 0
-countOf held (c ∷ cs) = elim (held c) [ none ↦ 0 | some q ↦ suc (countOf held cs) ]
-
-unfoldable pub testsOf : (ℕ → Option Pat) → List ℕ → List Pat
-testsOf held [] = []
-testsOf held (c ∷ cs) = elim (held c) [ none ↦ testsOf held cs | some q ↦ q ∷ testsOf held cs ]
-
-unfoldable pub wildOf : (ℕ → Option Pat) → List ℕ → List ℕ
-wildOf held [] = []
-wildOf held (c ∷ cs) = elim (held c) [ none ↦ c ∷ wildOf held cs | some q ↦ wildOf held cs ]
-
--- of a case with test t: its clauses, and what they open
-unfoldable pub joinOf : (ℕ → Option Pat) → Test → List ℕ → List ℕ
-unfolding covers
-joinOf held t [] = []
-joinOf held t (c ∷ cs) =
-    elim (held c) [
-      | none ↦ c ∷ joinOf held t cs
-      | some q ↦ elim (covers q t) [ true ↦ c ∷ joinOf held t cs | false ↦ joinOf held t cs ]
-    ]
-
-unfoldable pub opensOf : (ℕ → Option Pat) → Path → Test → List ℕ → List Cell
-unfolding covers openedColumns
-opensOf held p t [] = []
-opensOf held p t (c ∷ cs) =
-    elim (held c) [
-      | none ↦ opensOf held p t cs
-      | some q ↦ elim (covers q t) [ true ↦ openedColumns p q ++ opensOf held p t cs | false ↦ opensOf held p t cs ]
-    ]
-
--- the rows of clauses of which each has in the column at p what `held` says
-module _ (s : List ℕ) (ps : List Path) (p : Path) (held : ℕ → Option Pat) where
-  abbrev pub Told : ℕ → Type 0
-  Told c = heldBy s ps p c ≡ held c
-
-  pub count-states : (cs : List ℕ) → All Told cs → count p (rowsOf s ps cs) ≡ countOf held cs
-  unfolding count countOf
-  count-states [] h = refl
-  count-states (c ∷ cs) h = go (held c) (h .0) refl (count-states cs (h .1))
-    where
-      go : (o : Option Pat) → heldBy s ps p c ≡ o → held c ≡ o → count p (rowsOf s ps cs) ≡ countOf held cs
-          → count p (rowsOf s ps (c ∷ cs)) ≡ countOf held (c ∷ cs)
-      go none e f ih = rw (e, count, f, countOf)
-      go (some q) e f ih = rw (e, count, f, countOf) (ap suc ih)
-
-  pub column-states : (cs : List ℕ) → All Told cs → column p (rowsOf s ps cs) ≡ testsOf held cs
-  unfolding column testsOf
-  column-states [] h = refl
-  column-states (c ∷ cs) h = go (held c) (h .0) refl (column-states cs (h .1))
-    where
-      go : (o : Option Pat) → heldBy s ps p c ≡ o → held c ≡ o → column p (rowsOf s ps cs) ≡ testsOf held cs
-          → column p (rowsOf s ps (c ∷ cs)) ≡ testsOf held (c ∷ cs)
-      go none e f ih = rw (e, column, f, testsOf) ih
-      go (some q) e f ih = rw (e, column, f, testsOf) (ap (λ (qs : List Pat). q ∷ qs) ih)
-
-  -- the default's rows have a wildcard, and stay as they are
-  pub default-states : (cs : List ℕ) → All Told cs → defaultRows p (rowsOf s ps cs) ≡ rowsOf s (ps ++ p ∷ []) (wildOf held cs)
-  unfolding defaultRows wildOf
-  default-states [] h = refl
-  default-states (c ∷ cs) h = go (held c) (h .0) refl (default-states cs (h .1))
-    where
-      go : (o : Option Pat) → heldBy s ps p c ≡ o → held c ≡ o → defaultRows p (rowsOf s ps cs) ≡ rowsOf s (ps ++ p ∷ []) (wildOf held cs)
-          → defaultRows p (rowsOf s ps (c ∷ cs)) ≡ rowsOf s (ps ++ p ∷ []) (wildOf held (c ∷ cs))
-      go none e f ih = rw (e, defaultRows, f, wildOf) (ap₂ (λ (r : Row) (rs : List Row). r ∷ rs) (sym (rowOf-wild s ps p c e)) ih)
-      go (some q) e f ih = rw (e, defaultRows, f, wildOf) ih
-
-  -- a case's rows have a wildcard, or a test that it opened
-  module _ (t : Test) where
-    pub case-states : (cs : List ℕ) → All Told cs → caseRows p t (rowsOf s ps cs) ≡ rowsOf s (ps ++ p ∷ []) (joinOf held t cs)
-    unfolding caseRows joinOf
-    case-states [] h = refl
-    case-states (c ∷ cs) h = go (held c) (h .0) refl (case-states cs (h .1))
-      where
-        tested : (q : Pat) → heldBy s ps p c ≡ some q → held c ≡ some q → (b : Bool) → covers q t ≡ b
-            → caseRows p t (rowsOf s ps cs) ≡ rowsOf s (ps ++ p ∷ []) (joinOf held t cs)
-            → caseRows p t (rowsOf s ps (c ∷ cs)) ≡ rowsOf s (ps ++ p ∷ []) (joinOf held t (c ∷ cs))
-        tested q e f true x ih = rw (e, caseRows, f, joinOf, x) (ap₂ (λ (r : Row) (rs : List Row). r ∷ rs) (sym (rowOf-test s ps p c q e)) ih)
-        tested q e f false x ih = rw (e, caseRows, f, joinOf, x) ih
-
-        go : (o : Option Pat) → heldBy s ps p c ≡ o → held c ≡ o → caseRows p t (rowsOf s ps cs) ≡ rowsOf s (ps ++ p ∷ []) (joinOf held t cs)
-            → caseRows p t (rowsOf s ps (c ∷ cs)) ≡ rowsOf s (ps ++ p ∷ []) (joinOf held t (c ∷ cs))
-        go none e f ih = rw (e, caseRows, f, joinOf) (ap₂ (λ (r : Row) (rs : List Row). r ∷ rs) (sym (rowOf-wild s ps p c e)) ih)
-        go (some q) e f ih = tested q e f (covers q t) refl ih
-
-    pub opens-states : (cs : List ℕ) → All Told cs → caseOpens p t (rowsOf s ps cs) ≡ opensOf held p t cs
-    unfolding caseOpens opensOf
-    opens-states [] h = refl
-    opens-states (c ∷ cs) h = go (held c) (h .0) refl (opens-states cs (h .1))
-      where
-        tested : (q : Pat) → heldBy s ps p c ≡ some q → held c ≡ some q → (b : Bool) → covers q t ≡ b
-            → caseOpens p t (rowsOf s ps cs) ≡ opensOf held p t cs → caseOpens p t (rowsOf s ps (c ∷ cs)) ≡ opensOf held p t (c ∷ cs)
-        tested q e f true x ih = rw (e, caseOpens, f, opensOf, x) (ap (λ (ds : List Cell). openedColumns p q ++ ds) ih)
-        tested q e f false x ih = rw (e, caseOpens, f, opensOf, x) ih
-
-        go : (o : Option Pat) → heldBy s ps p c ≡ o → held c ≡ o → caseOpens p t (rowsOf s ps cs) ≡ opensOf held p t cs
-            → caseOpens p t (rowsOf s ps (c ∷ cs)) ≡ opensOf held p t (c ∷ cs)
-        go none e f ih = rw (e, caseOpens, f, opensOf) ih
-        go (some q) e f ih = tested q e f (covers q t) refl ih
