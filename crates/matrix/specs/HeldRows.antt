@@ -55,12 +55,10 @@ opensOf joins held (c ∷ cs) = elim (held c) [ HeldTest p ↦ pick (joins p) (p
 
 -- the test of pattern p belongs to the case
 unfoldable pub joinsCase : List ℕ → Test → ℕ → Bool
-unfolding covers
 joinsCase s t p = covers (patternOf s p) t
 
 -- what tests of the column at a path open
 unfoldable pub openedAt : List ℕ → Path → List ℕ → List Cell
-unfolding openedColumns
 openedAt s path [] = []
 openedAt s path (p ∷ ps) = openedColumns path (patternOf s p) ++ openedAt s path ps
 

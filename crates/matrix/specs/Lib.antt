@@ -7,3 +7,5 @@ pub mod HeldRows
 pub mod Lists
 pub mod ListsLaws
 pub mod Ordered
+pub mod Matrices
+pub mod MatricesLaws

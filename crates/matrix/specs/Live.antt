@@ -25,7 +25,6 @@ unfoldable pub available : List ℕ → List ℕ → ℕ → Bool
 available s opened p = either (eqb (ownerOf s p) 0) (not (eqb (getD opened (ownerOf s p - 1) 0) 0))
 
 unfoldable pub isLive : List ℕ → List ℕ → ℕ → Bool
-unfolding available
 isLive s opened p = both (eqb (getD opened p 0) 0) (available s opened p)
 
 abbrev pub liveCell : List ℕ → List ℕ → ℕ → Held
@@ -34,8 +33,11 @@ liveCell s opened (suc p) = pick (isLive s opened p) (Test p) Wildcard
 
 -- what clause c's row has in the column of the class
 unfoldable pub liveTest : List ℕ → List ℕ → ℕ → ℕ → Held
-unfolding cellOf isLive
 liveTest s opened c class = liveCell s opened (cellOf s c class)
+
+-- the same of one column, by clause
+abbrev pub liveIn : List ℕ → List ℕ → ℕ → ℕ → Held
+liveIn s opened class c = liveTest s opened c class
 
 abbrev pub patternHeld : List ℕ → Held → Option Pat
 patternHeld s (Test p) = some (patternOf s p)
@@ -47,7 +49,6 @@ openedCell opened time zero = Wildcard
 openedCell opened time (suc p) = pick (eqb (getD opened p 0) (time + 1)) (Test p) Wildcard
 
 unfoldable pub openedTest : List ℕ → List ℕ → ℕ → ℕ → ℕ → Held
-unfolding cellOf
 openedTest s opened c time class = openedCell opened time (cellOf s c class)
 
 abbrev pub bindingsHeld : List ℕ → Held → List Binding
@@ -56,7 +57,6 @@ bindingsHeld s Wildcard = []
 
 -- what the columns of these classes opened in clause c's row, in order; the first was tested after `time` others
 unfoldable pub boundBy : List ℕ → List ℕ → ℕ → ℕ → List ℕ → List Binding
-unfolding openedTest openedBindings
 boundBy s opened c time [] = []
 boundBy s opened c time (class ∷ classes) = bindingsHeld s (openedTest s opened c time class) ++ boundBy s opened c (time + 1) classes
 
@@ -68,16 +68,13 @@ pub record IsClass (s : List ℕ) (k : ℕ) : Type 0 where
 -- ---- a row's state: its tests are the live tests of its clause, each once, and its bindings what was opened in order
 -- p is a test of clause c
 unfoldable pub isTestOf : List ℕ → ℕ → ℕ → Bool
-unfolding isTest
 isTestOf s c p = both (ltb p (patterns s)) (both (isTest s p) (eqb (clauseOf s p) c))
 
 -- q is directly inside the test p
 unfoldable pub isInside : List ℕ → ℕ → ℕ → Bool
-unfolding isTest
 isInside s p q = both (ltb q (patterns s)) (both (isTest s q) (eqb (ownerOf s q) (p + 1)))
 
 unfoldable pub isLiveOf : List ℕ → List ℕ → ℕ → ℕ → Bool
-unfolding isTestOf isLive
 isLiveOf s opened c p = both (isTestOf s c p) (isLive s opened p)
 
 pub record Lives (s opened : List ℕ) (c : ℕ) (cells : List Cell) : Type 0 where

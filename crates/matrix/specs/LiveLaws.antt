@@ -313,29 +313,27 @@ module _ {s : List ℕ} (ok : Accepted s) where
     }
 
 -- ---- opening one test
--- `after` is `opened` with test p of clause c opened at the time v
-module _ {s : List ℕ} (ok : Accepted s) (opened : List ℕ) (c p v : ℕ) (long : patterns s ≤ length opened) (some-time : v ≡ 0 → ⊥)
-    (t : TestOf s c p) (l : Live s opened p)
-    (closed : (q : ℕ) → q < patterns s → clauseOf s q ≡ c → (getD opened q 0 ≡ 0 → ⊥) → available s opened q ≡ true) where
-  after-there : getD (set opened p v) p 0 ≡ v
-  after-there = getD-set-same opened p v 0 (omega (arith, t .known))
+-- of the test p, which is not opened, at the time v
+module _ (s opened : List ℕ) (p v : ℕ) (room : p < length opened) (some-time : v ≡ 0 → ⊥) (shut : getD opened p 0 ≡ 0) where
+  pub after-there : getD (set opened p v) p 0 ≡ v
+  after-there = getD-set-same opened p v 0 room
 
-  after-other : (q : ℕ) → (q ≡ p → ⊥) → getD (set opened p v) q 0 ≡ getD opened q 0
+  pub after-other : (q : ℕ) → (q ≡ p → ⊥) → getD (set opened p v) q 0 ≡ getD opened q 0
   after-other q h = getD-set-other opened p q v 0 h
 
-  inside-shut : (q : ℕ) → ownerOf s q ≡ p + 1 → available s opened q ≡ false
+  pub inside-shut : (q : ℕ) → ownerOf s q ≡ p + 1 → available s opened q ≡ false
   unfolding available
   inside-shut q e =
       let d : p + 1 - 1 ≡ p = omega arith in
-      rw (e, ne-eqb (p + 1) 0 (λ z. omega arith), d, l .shut)
+      rw (e, ne-eqb (p + 1) 0 (λ z. omega arith), d, shut)
 
-  inside-free : (q : ℕ) → ownerOf s q ≡ p + 1 → available s (set opened p v) q ≡ true
+  pub inside-free : (q : ℕ) → ownerOf s q ≡ p + 1 → available s (set opened p v) q ≡ true
   unfolding available
   inside-free q e =
       let d : p + 1 - 1 ≡ p = omega arith in
       rw (e, ne-eqb (p + 1) 0 (λ z. omega arith), d, after-there, ne-eqb v 0 some-time)
 
-  elsewhere : (q : ℕ) → (ownerOf s q ≡ p + 1 → ⊥) → available s (set opened p v) q ≡ available s opened q
+  pub elsewhere : (q : ℕ) → (ownerOf s q ≡ p + 1 → ⊥) → available s (set opened p v) q ≡ available s opened q
   unfolding available
   elsewhere q n = go (ownerOf s q) refl
     where
@@ -345,74 +343,77 @@ module _ {s : List ℕ} (ok : Accepted s) (opened : List ℕ) (c p v : ℕ) (lon
           let d : ownerOf s q - 1 ≡ w = omega arith in
           rw (d, after-other w (λ z. n (omega arith)))
 
-  still-free : (q : ℕ) → available s opened q ≡ true → available s (set opened p v) q ≡ true
+  pub still-free : (q : ℕ) → available s opened q ≡ true → available s (set opened p v) q ≡ true
   still-free q e = go (eqb (ownerOf s q) (p + 1)) refl
     where
       go : (b : Bool) → eqb (ownerOf s q) (p + 1) ≡ b → available s (set opened p v) q ≡ true
       go true x = inside-free q (eqb-true (ownerOf s q) (p + 1) x)
       go false x = elsewhere q (eqb-false (ownerOf s q) (p + 1) x) ∙ e
 
-  not-inside : (q : ℕ) → (ownerOf s q ≡ p + 1 → ⊥) → isInside s p q ≡ false
+  pub not-inside : (q : ℕ) → (ownerOf s q ≡ p + 1 → ⊥) → isInside s p q ≡ false
   unfolding isInside
   not-inside q n =
       both-second-false (ltb q (patterns s)) (both (isTest s q) (eqb (ownerOf s q) (p + 1)))
       (both-second-false (isTest s q) (eqb (ownerOf s q) (p + 1)) (ne-eqb (ownerOf s q) (p + 1) n))
 
-  inside-true : (q : ℕ) → isInside s p q ≡ true → TestOf s c q × (ownerOf s q ≡ p + 1)
-  unfolding isInside
-  inside-true q h =
-      let a = both-true (ltb q (patterns s)) (both (isTest s q) (eqb (ownerOf s q) (p + 1))) h in
-      let b = both-true (isTest s q) (eqb (ownerOf s q) (p + 1)) (a .1) in
-      let known = ltb-true q (patterns s) (a .0) in
-      let e = eqb-true (ownerOf s q) (p + 1) (b .1) in
-      let w = owner-clause ok q p known (omega arith) in
-      (record { known = known; test = b .0; clause = sym (w .1) ∙ t .clause }, e)
+  -- p is of clause c, in whose row it is live
+  module _ (ok : Accepted s) (c : ℕ) (t : TestOf s c p) (l : Live s opened p)
+      (closed : (q : ℕ) → q < patterns s → clauseOf s q ≡ c → (getD opened q 0 ≡ 0 → ⊥) → available s opened q ≡ true) where
+    inside-true : (q : ℕ) → isInside s p q ≡ true → TestOf s c q × (ownerOf s q ≡ p + 1)
+    unfolding isInside
+    inside-true q h =
+        let a = both-true (ltb q (patterns s)) (both (isTest s q) (eqb (ownerOf s q) (p + 1))) h in
+        let b = both-true (isTest s q) (eqb (ownerOf s q) (p + 1)) (a .1) in
+        let known = ltb-true q (patterns s) (a .0) in
+        let e = eqb-true (ownerOf s q) (p + 1) (b .1) in
+        let w = owner-clause ok q p known (omega arith) in
+        (record { known = known; test = b .0; clause = sym (w .1) ∙ t .clause }, e)
 
-  inside-make : (q : ℕ) → TestOf s c q → ownerOf s q ≡ p + 1 → isInside s p q ≡ true
-  unfolding isInside
-  inside-make q u e =
-      both-make (ltb q (patterns s)) (both (isTest s q) (eqb (ownerOf s q) (p + 1))) (lt-ltb q (patterns s) (u .known))
-      (both-make (isTest s q) (eqb (ownerOf s q) (p + 1)) (u .test) (eq-eqb (ownerOf s q) (p + 1) e))
+    inside-make : (q : ℕ) → TestOf s c q → ownerOf s q ≡ p + 1 → isInside s p q ≡ true
+    unfolding isInside
+    inside-make q u e =
+        both-make (ltb q (patterns s)) (both (isTest s q) (eqb (ownerOf s q) (p + 1))) (lt-ltb q (patterns s) (u .known))
+        (both-make (isTest s q) (eqb (ownerOf s q) (p + 1)) (u .test) (eq-eqb (ownerOf s q) (p + 1) e))
 
-  no-test-inside : (q : ℕ) → isTestOf s c q ≡ false → isInside s p q ≡ false
-  no-test-inside q x = go (isInside s p q) refl
-    where
-      go : (b : Bool) → isInside s p q ≡ b → isInside s p q ≡ false
-      go true y = absurd (true≢false (sym (testOf-make s c q (inside-true q y .0)) ∙ x))
-      go false y = y
+    no-test-inside : (q : ℕ) → isTestOf s c q ≡ false → isInside s p q ≡ false
+    no-test-inside q x = go (isInside s p q) refl
+      where
+        go : (b : Bool) → isInside s p q ≡ b → isInside s p q ≡ false
+        go true y = absurd (true≢false (sym (testOf-make s c q (inside-true q y .0)) ∙ x))
+        go false y = y
 
-  -- what is inside p was not opened before p
-  inside-unopened : (q : ℕ) → TestOf s c q → ownerOf s q ≡ p + 1 → getD opened q 0 ≡ 0
-  inside-unopened q u e = go (getD opened q 0) refl
-    where
-      go : (n : ℕ) → getD opened q 0 ≡ n → getD opened q 0 ≡ 0
-      go zero x = x
-      go (suc n) x = absurd (false≢true (sym (inside-shut q e) ∙ closed q (u .known) (u .clause) (λ z. omega arith)))
+    -- what is inside p was not opened before p
+    inside-unopened : (q : ℕ) → TestOf s c q → ownerOf s q ≡ p + 1 → getD opened q 0 ≡ 0
+    inside-unopened q u e = go (getD opened q 0) refl
+      where
+        go : (n : ℕ) → getD opened q 0 ≡ n → getD opened q 0 ≡ 0
+        go zero x = x
+        go (suc n) x = absurd (false≢true (sym (inside-shut q e) ∙ closed q (u .known) (u .clause) (λ z. omega arith)))
 
-  -- the tests inside p come, p goes, the others stay
-  opening-bits : (q : ℕ) → bit (isInside s p q) + bit (isLiveOf s opened c q) ≡ bit (eqb q p) + bit (isLiveOf s (set opened p v) c q)
-  unfolding bit isLiveOf isLive
-  opening-bits q = same (eqb q p) refl
-    where
-      others : (q ≡ p → ⊥) → TestOf s c q → (b : Bool) → eqb (ownerOf s q) (p + 1) ≡ b
-          → bit (isInside s p q) + bit (isLive s opened q) ≡ bit (isLive s (set opened p v) q)
-      others n u true x =
-          let e = eqb-true (ownerOf s q) (p + 1) x in
-          rw (inside-make q u e, after-other q n, inside-unopened q u e, inside-shut q e, inside-free q e)
-      others n u false x =
-          let e = eqb-false (ownerOf s q) (p + 1) x in
-          rw (not-inside q e, after-other q n, elsewhere q e) (omega arith)
+    -- the tests inside p come, p goes, the others stay
+    opening-bits : (q : ℕ) → bit (isInside s p q) + bit (isLiveOf s opened c q) ≡ bit (eqb q p) + bit (isLiveOf s (set opened p v) c q)
+    unfolding bit isLiveOf isLive
+    opening-bits q = same (eqb q p) refl
+      where
+        others : (q ≡ p → ⊥) → TestOf s c q → (b : Bool) → eqb (ownerOf s q) (p + 1) ≡ b
+            → bit (isInside s p q) + bit (isLive s opened q) ≡ bit (isLive s (set opened p v) q)
+        others n u true x =
+            let e = eqb-true (ownerOf s q) (p + 1) x in
+            rw (inside-make q u e, after-other q n, inside-unopened q u e, inside-shut q e, inside-free q e)
+        others n u false x =
+            let e = eqb-false (ownerOf s q) (p + 1) x in
+            rw (not-inside q e, after-other q n, elsewhere q e) (omega arith)
 
-      apart : (q ≡ p → ⊥) → (b : Bool) → isTestOf s c q ≡ b → bit (isInside s p q) + bit (isLiveOf s opened c q) ≡ 0 + bit (isLiveOf s (set opened p v) c q)
-      apart n true x = let u = testOf-true s c q x in rw x (omega (arith, others n u (eqb (ownerOf s q) (p + 1)) refl))
-      apart n false x = rw (x, no-test-inside q x)
+        apart : (q ≡ p → ⊥) → (b : Bool) → isTestOf s c q ≡ b → bit (isInside s p q) + bit (isLiveOf s opened c q) ≡ 0 + bit (isLiveOf s (set opened p v) c q)
+        apart n true x = let u = testOf-true s c q x in rw x (omega (arith, others n u (eqb (ownerOf s q) (p + 1)) refl))
+        apart n false x = rw (x, no-test-inside q x)
 
-      same : (b : Bool) → eqb q p ≡ b → bit (isInside s p q) + bit (isLiveOf s opened c q) ≡ bit b + bit (isLiveOf s (set opened p v) c q)
-      same true x =
-          let d = eqb-true q p x in
-          let low = owner-below (ok .is-shaped) (ok .is-counted) p (t .known) in
-          rw (d, not-inside p (λ e. omega arith), testOf-make s c p t, live-make s opened p l, after-there, ne-eqb v 0 some-time)
-      same false x = apart (eqb-false q p x) (isTestOf s c q) refl
+        same : (b : Bool) → eqb q p ≡ b → bit (isInside s p q) + bit (isLiveOf s opened c q) ≡ bit b + bit (isLiveOf s (set opened p v) c q)
+        same true x =
+            let d = eqb-true q p x in
+            let low = owner-below (ok .is-shaped) (ok .is-counted) p (t .known) in
+            rw (d, not-inside p (λ e. omega arith), testOf-make s c p t, live-make s opened p l, after-there, ne-eqb v 0 some-time)
+        same false x = apart (eqb-false q p x) (isTestOf s c q) refl
 
 -- ---- a live test is the clause's cell, and is live
 pub live-test : (s opened : List ℕ) (c class p : ℕ) → liveTest s opened c class ≡ Test p → IsCell s c class p × Live s opened p
@@ -429,11 +430,11 @@ live-test s opened c class p e = go (cellOf s c class) refl
     go zero x = let w : Wildcard ≡ Test p = rw x at e in let z : _≡_ {A = ℕ} 0 1 = cc in absurd (omega arith)
     go (suc q) x = found q x (isLive s opened q) refl (rw x at e)
 
-paths-next : (s : List ℕ) (tested : List ℕ) (k : ℕ) → map (pathOf s) (tested ++ k ∷ []) ≡ map (pathOf s) tested ++ pathOf s k ∷ []
+pub paths-next : (s : List ℕ) (tested : List ℕ) (k : ℕ) → map (pathOf s) (tested ++ k ∷ []) ≡ map (pathOf s) tested ++ pathOf s k ∷ []
 paths-next s [] k = refl
 paths-next s (z ∷ tested) k = ap (λ (ps : List Path). pathOf s z ∷ ps) (paths-next s tested k)
 
-length-next : (tested : List ℕ) (k : ℕ) → length (tested ++ k ∷ []) ≡ length tested + 1
+pub length-next : (tested : List ℕ) (k : ℕ) → length (tested ++ k ∷ []) ≡ length tested + 1
 length-next tested k = length-append tested (k ∷ [])
 
 module _ {s : List ℕ} (ok : Accepted s) (m : Meeting s) where
@@ -494,6 +495,12 @@ module _ {s : List ℕ} (ok : Accepted s) (m : Meeting s) where
         t : TestOf s c p
         t = l .0 .test-of
 
+        room : p < length opened
+        room = omega (arith, t .known)
+
+        shut : getD opened p 0 ≡ 0
+        shut = l .1 .shut
+
         path : pathOf s k ≡ pathOf s p
         path = same-class-path s k p (class .known) (t .known) (class .itself ∙ sym (l .0 .class-of))
 
@@ -524,14 +531,14 @@ module _ {s : List ℕ} (ok : Accepted s) (m : Meeting s) where
               m .opened-once p q (t .known) (t .test),
               copies-lessFirst (sameClass s k) (st .tests .numbers) p q first,
               st .tests .once q,
-              opening-bits ok opened c p v long some-time t (l .1) (st .closed) q,
+              opening-bits s opened p v room some-time shut ok c t (l .1) (st .closed) q,
             )
 
         after : getD (set opened p v) p 0 ≡ v
-        after = after-there ok opened c p v long some-time t (l .1) (st .closed)
+        after = after-there s opened p v room some-time shut
 
         other : (q : ℕ) → (q ≡ p → ⊥) → getD (set opened p v) q 0 ≡ getD opened q 0
-        other = after-other ok opened c p v long some-time t (l .1) (st .closed)
+        other = after-other s opened p v room some-time shut
 
         -- p was not opened at an earlier time, and is opened now
         earlier : (time z : ℕ) → time < 0 + length tested → openedTest s (set opened p v) c time z ≡ openedTest s opened c time z
@@ -562,9 +569,9 @@ module _ {s : List ℕ} (ok : Accepted s) (m : Meeting s) where
             ∙ ap (λ (bs : List Binding). bindingsOf [] (clausePattern s c) ++ bs) bound
 
         still-closed : (q : ℕ) → q < patterns s → clauseOf s q ≡ c → (getD (set opened p v) q 0 ≡ 0 → ⊥) → (b : Bool) → eqb q p ≡ b → available s (set opened p v) q ≡ true
-        still-closed q h x n true y = still-free ok opened c p v long some-time t (l .1) (st .closed) q (rw (← eqb-true q p y) at (l .1 .free))
+        still-closed q h x n true y = still-free s opened p v room some-time shut q (rw (← eqb-true q p y) at (l .1 .free))
         still-closed q h x n false y =
-            still-free ok opened c p v long some-time t (l .1) (st .closed) q (st .closed q h x (λ z. n (other q (eqb-false q p y) ∙ z)))
+            still-free s opened p v room some-time shut q (st .closed q h x (λ z. n (other q (eqb-false q p y) ∙ z)))
 
         still-timely : (q : ℕ) → q < patterns s → clauseOf s q ≡ c → (b : Bool) → eqb q p ≡ b → getD (set opened p v) q 0 ≤ v
         still-timely q h x true y = let d = eqb-true q p y in rw (d, after) (omega arith)

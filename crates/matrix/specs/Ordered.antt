@@ -78,17 +78,6 @@ module _ (s : List ℕ) where
       go false e true f ih = rw (e, f, same-class s k q a (h .0) ∙ e, put, f)
       go false e false f ih = rw (e, f, same-class s k q a (h .0) ∙ e, put, f) (ap (λ (ps : List Path). pathOf s q ∷ ps) ih)
 
-  pub put-most : (first : ℕ → ℕ → Bool) (k : ℕ) (ks : List ℕ) → length (putClass first k ks) ≤ length ks + 1
-  unfolding putClass
-  put-most first k [] = omega arith
-  put-most first k (q ∷ ks) = go (eqb q k) (first k q) (put-most first k ks)
-    where
-      go : (x y : Bool) → length (putClass first k ks) ≤ length ks + 1
-          → length (pick x (q ∷ ks) (pick y (k ∷ q ∷ ks) (q ∷ putClass first k ks))) ≤ length (q ∷ ks) + 1
-      go true y ih = omega arith
-      go false true ih = omega arith
-      go false false ih = omega arith
-
   abbrev Known : ℕ → Type 0
   Known q = q < patterns s
 
@@ -124,10 +113,21 @@ module _ (s : List ℕ) where
       go true e ih = rw (e, same-class s k q a (h .0) ∙ e, without)
       go false e ih = rw (e, same-class s k q a (h .0) ∙ e, without) (ap (λ (ps : List Path). pathOf s q ∷ ps) ih)
 
+pub put-most : (first : ℕ → ℕ → Bool) (k : ℕ) (ks : List ℕ) → length (putClass first k ks) ≤ length ks + 1
+unfolding putClass
+put-most first k [] = omega arith
+put-most first k (q ∷ ks) = go (eqb q k) (first k q) (put-most first k ks)
+  where
+    go : (x y : Bool) → length (putClass first k ks) ≤ length ks + 1
+        → length (pick x (q ∷ ks) (pick y (k ∷ q ∷ ks) (q ∷ putClass first k ks))) ≤ length (q ∷ ks) + 1
+    go true y ih = omega arith
+    go false true ih = omega arith
+    go false false ih = omega arith
+
 pub each-most : (first : ℕ → ℕ → Bool) (class : ℕ → ℕ) (qs ks : List ℕ) → length (putEach first class qs ks) ≤ length qs + length ks
 unfolding putEach
 each-most first class [] ks = omega arith
-each-most first class (q ∷ qs) ks = omega (arith, put-most [] first (class q) (putEach first class qs ks), each-most first class qs ks)
+each-most first class (q ∷ qs) ks = omega (arith, put-most first (class q) (putEach first class qs ks), each-most first class qs ks)
 
 pub each-append : (first : ℕ → ℕ → Bool) (class : ℕ → ℕ) (xs ys ks : List ℕ) → putEach first class (xs ++ ys) ks ≡ putEach first class xs (putEach first class ys ks)
 unfolding putEach

@@ -12,11 +12,9 @@ use Rattle.rules.specs.Splitting.{openRow}
 -- ---- one row
 -- the row once the column at p is tested: a wildcard stays as it is, a test opens
 unfoldable pub openAt : Path → Row → Row
-unfolding testAt openRow
 openAt p r = elim (testAt p (r .tests)) [ none ↦ r | some q ↦ openRow p q r ]
 
 unfoldable pub rowAfter : List Path → Row → Row
-unfolding openAt
 rowAfter [] r = r
 rowAfter (p ∷ ps) r = rowAfter ps (openAt p r)
 
@@ -35,7 +33,6 @@ rowAfter-next (q ∷ ps) p r = rowAfter-next ps p (openAt q r)
 
 -- clause c's row, and the rows of clauses cs, after the columns at ps
 unfoldable pub rowOf : List ℕ → List Path → ℕ → Row
-unfolding rowAfter clauseRow clausePattern
 rowOf s ps c = rowAfter ps (clauseRow c (clausePattern s c))
 
 abbrev pub rowsOf : List ℕ → List Path → List ℕ → List Row
