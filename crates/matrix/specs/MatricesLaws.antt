@@ -16,7 +16,7 @@ use Rattle.rules.specs.Searching.{times}
 use Rattle.rules.specs.SheetFile.{patterns, clauses, root}
 use Rattle.rules.specs.SheetRefusals.{isIn}
 use Rattle.rules.specs.Patterns.{Pat, clausePattern, clausePatterns}
-use Rattle.rules.specs.Rows.{Path, Cell, Row, bit, clauseRows, openedColumns}
+use Rattle.rules.specs.Rows.{Path, Cell, Row, bit, clauseRow, clauseRows, openedColumns}
 use Rattle.rules.specs.Columns.{union, allTests, columns, without, choice}
 use Rattle.rules.specs.Splitting.{Test, column, defaultRows, caseRows, caseOpens}
 use Rattle.rules.specs.SplittingLaws.{All, either-none}
@@ -28,8 +28,8 @@ use Rattle.table.specs.MembersLaws.{test-at, test-inside}
 use Rattle.matrix.specs.declared.Held.{Held}
 use Rattle.matrix.specs.declared.Held.the-variants.{Test as HeldTest, Wildcard}
 use Rattle.matrix.specs.declared.Choice.the-variants.{Column, Leaf}
-use Rattle.matrix.specs.RowStates.{rowOf, rowsOf, upFrom, clause-rows}
-use Rattle.matrix.specs.Numbers.{copies, length-times, times-add, all-copies}
+use Rattle.matrix.specs.RowStates.{rowAfter, rowOf, rowsOf, upFrom, clause-rows}
+use Rattle.matrix.specs.Numbers.{copies, length-times, times-same, times-add, all-copies}
 use Rattle.matrix.specs.Live.{available, liveTest, liveIn, isTestOf, isInside, IsClass, State}
 use Rattle.matrix.specs.MeetingLaws.{Meeting, meeting, copies-in}
 use Rattle.matrix.specs.LiveLaws.{TestOf, IsCell, Live, live-test, inside-shut, inside-free, elsewhere, not-inside, state-agree, state-first, held, state-wild, state-open, paths-next, length-next}
@@ -425,3 +425,46 @@ module _ {s : List ℕ} (ok : Accepted s) where
           times-add (from c) (λ q. both (isTestOf s c q) (eqb (ownerOf s q) 0)) (from (c + 1)) (patterns s) (one-clause-less c),
           roots-few (c + 1) n (omega arith),
         )
+
+    from-all : times (from 0) 0 (patterns s) ≡ times (reached s opened) 0 (patterns s)
+    from-all = times-same (from 0) (reached s opened) (patterns s) (λ q l. whole (reached s opened q) (clauseOf s q))
+      where
+        whole : (b : Bool) (n : ℕ) → both b (leb 0 n) ≡ b
+        whole true n = le-leb 0 n (omega arith)
+        whole false n = refl
+
+    first-states : (c n : ℕ) → c + n ≤ clauses s → All (State s [] opened) (upFrom c n)
+    unfolding upFrom
+    first-states c zero h = tt
+    first-states c (suc n) h = (state-first ok (meeting ok) opened none-opened c (omega arith), first-states (c + 1) n (omega arith))
+
+    pub first-sound : length opened ≡ patternsMost
+        → Sound s (upFrom 0 (clauses s)) (putEach (pathBefore s) (classOf s) (gather (rootTests s) (upFrom 0 (clauses s))) []) [] opened
+    first-sound long = record {
+      rising = rising-up (clauses s) 0 (clauses s) (omega arith);
+      are-classes = each-classes s (gather (rootTests s) (upFrom 0 (clauses s))) [] (roots-known 0 (clauses s) (omega arith)) tt;
+      were-classes = tt;
+      long = long;
+      states = first-states 0 (clauses s) (omega arith);
+      room = omega (arith, roots-few 0 (clauses s) (omega arith), from-all, each-most (pathBefore s) (classOf s) (gather (rootTests s) (upFrom 0 (clauses s))) []);
+    }
+
+  pub first-rows : rowsAt s [] (upFrom 0 (clauses s)) ≡ clauseRows 0 (clausePatterns s 0 (clauses s))
+  first-rows = sym (clause-rows s 0 (clauses s))
+
+  root-tests : (c : ℕ) → c < clauses s → (rowOf s [] c) .tests ≡ map (cellAt s) (rootTests s c)
+  unfolding rowOf rowAfter clauseRow
+  root-tests c h = meeting ok .root-cells c h
+
+  all-tests : (c n : ℕ) → c + n ≤ clauses s → allTests (rowsOf s [] (upFrom c n)) ≡ map (cellAt s) (gather (rootTests s) (upFrom c n))
+  unfolding allTests gather upFrom
+  all-tests c zero h = refl
+  all-tests c (suc n) h =
+      ap₂ _++_ (root-tests c (omega arith)) (all-tests (c + 1) n (omega arith)) ∙ sym (map-append (cellAt s) (rootTests s c) (gather (rootTests s) (upFrom (c + 1) n)))
+
+  pub first-columns : columnsAt s (putEach (pathBefore s) (classOf s) (gather (rootTests s) (upFrom 0 (clauses s))) [])
+      ≡ columns (clauseRows 0 (clausePatterns s 0 (clauses s)))
+  unfolding columns
+  first-columns =
+      each-union s (gather (rootTests s) (upFrom 0 (clauses s))) (roots-known 0 (clauses s) (omega arith))
+      ∙ ap union (sym (ap allTests (clause-rows s 0 (clauses s)) ∙ all-tests 0 (clauses s) (omega arith)))

@@ -129,6 +129,10 @@ pub length-times : (f : ℕ → Bool) (n : ℕ) (xs : List ℕ) → All (λ x. x
 length-times f n xs h e =
     length-sum n xs h ∙ sumOf-same (λ q. copies q xs) (λ q. bit (f q)) 0 n (λ q low high. e q (omega arith)) ∙ sym (times-sum f 0 n)
 
+pub times-same : (f g : ℕ → Bool) (n : ℕ) → ((q : ℕ) → q < n → f q ≡ g q) → times f 0 n ≡ times g 0 n
+times-same f g n e =
+    times-sum f 0 n ∙ sumOf-same (λ q. bit (f q)) (λ q. bit (g q)) 0 n (λ q low high. ap bit (e q (omega arith))) ∙ sym (times-sum g 0 n)
+
 -- counts add up where the tests do
 pub times-add : (f g h : ℕ → Bool) (n : ℕ) → ((q : ℕ) → q < n → bit (f q) ≡ bit (g q) + bit (h q)) → times f 0 n ≡ times g 0 n + times h 0 n
 times-add f g h n e =
