@@ -9,4 +9,7 @@ pub mod Meets
 pub mod MembersLaws
 pub mod ApartLaws
 pub mod OnceLaws
+pub mod Table
+pub mod Tabled
+pub mod PlacingLaws
 pub mod Examples

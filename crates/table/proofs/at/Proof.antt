@@ -1,0 +1,21 @@
+use native.Mathlib.Omega.{arith}
+use borrow.Author.Needs.{needs}
+use Rattle.table.proofs.at.Statement.{statement}
+use Rattle.table.proofs.at.Tie as tie
+use Rattle.table.proofs.at.Reads as reads
+use Rattle.table.proofs.at.Lts as lts
+
+-- src/lib.rt:42:5
+shared-slice-read-result : tie.Need-shared-slice-read-result
+shared-slice-read-result c = search needs
+
+-- src/lib.rt:42:5
+cast-result : tie.Need-cast-result
+cast-result c = omega (arith, c .shared-slice-known .given (c .before .args .i))
+
+-- src/lib.rt:38:1
+returns : tie.Need-returns
+returns c = search needs
+
+pub at-spec : {M : Type 1} → statement M
+at-spec = tie.close (tie.spec shared-slice-read-result cast-result returns)
