@@ -1,0 +1,78 @@
+-- `columns::place_of`: those passed are others.
+use borrow.Author.Needs.{needs}
+use mathlib.Core.Path.{_≡_, refl, sym, ap, _∙_}
+use Prim.Native.Nat.{_+_, _-_, _<_, _≤_}
+use native.Mathlib.Omega.{arith}
+use lib.ListN.{length, take}
+use lib.Seq.{slice}
+use Rattle.matrix.specs.Lists.{firstPlace}
+use Rattle.matrix.specs.ListsLaws.{place-here, place-on, place-end}
+use Rattle.matrix.proofs.columns.place_of.Statement.{statement}
+use Rattle.matrix.proofs.columns.place_of.Tie as tie
+use Rattle.matrix.proofs.columns.place_of.Reads as reads
+use Rattle.matrix.proofs.columns.place_of.Lts as lts
+use Rattle.matrix.proofs.wide.Reads as wide-reads
+
+abbrev Inv-loop : tie.InvT-loop
+Inv-loop class cs i₀ i = (i ≤ cs .count) × (firstPlace class (take (cs .count) (cs .list)) ≡ i + firstPlace class (slice i (cs .count) (cs .list)))
+
+abbrev μ-loop : tie.MeasureT-loop
+μ-loop class cs i₀ i = cs .count - i
+
+-- src/columns.rt:49:5
+loop-holds : tie.Need-loop-holds Inv-loop μ-loop
+loop-holds c = (search needs, omega arith)
+
+-- src/columns.rt:50:17
+element-copy-out-wide : tie.Need-element-copy-out-wide Inv-loop μ-loop
+element-copy-out-wide c = search needs
+
+-- src/columns.rt:50:12
+wide-requires : tie.Need-wide-requires Inv-loop μ-loop
+wide-requires c κs = search needs
+
+-- src/columns.rt:51:13
+returns : tie.Need-returns Inv-loop μ-loop
+returns c =
+    let s = c .before .before .before .before .before in
+    let a = s .args in
+    let l = c .before .before .before .before .loop in
+    sym (place-here (a .class) (a .t1 .list) (a .t1 .count) (l .i) (omega arith) (omega (arith, s .pre)) (sym (c .before .wide .ensures) ∙ c .if1 .taken) (l .inv .1))
+
+-- src/columns.rt:53:9
+add-i : tie.Need-add-i Inv-loop μ-loop
+add-i c = search needs
+
+-- src/columns.rt:49:5
+loop-less : tie.Need-loop-less Inv-loop μ-loop
+loop-less c = search needs
+
+-- src/columns.rt:49:5
+loop-again : tie.Need-loop-again Inv-loop μ-loop
+loop-again c =
+    let s = c .before .before .before .before .before in
+    let a = s .args in
+    let l = c .before .before .before .before .loop in
+    (search needs, place-on (a .class) (a .t1 .list) (a .t1 .count) (l .i) (omega arith) (omega (arith, s .pre)) (λ e. c .if1 .left (c .before .wide .ensures ∙ e)) (l .inv .1))
+
+-- src/columns.rt:44:1
+returns-2 : tie.Need-returns-2 Inv-loop μ-loop
+returns-2 c =
+    let a = c .before .before .args in
+    let l = c .before .loop in
+    sym (place-end (a .class) (a .t1 .list) (a .t1 .count) (l .i) (omega arith) (l .inv .1))
+
+pub place-of-spec : {M : Type 1} → statement M
+place-of-spec =
+    tie.close
+    (tie.spec
+    Inv-loop
+    μ-loop
+    loop-holds
+    element-copy-out-wide
+    wide-requires
+    returns
+    add-i
+    loop-less
+    loop-again
+    returns-2)

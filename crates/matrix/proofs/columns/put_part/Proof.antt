@@ -1,0 +1,88 @@
+-- `columns::put_part`: what was appended and what is left are all.
+use borrow.Author.Needs.{needs}
+use mathlib.Core.Path.{_≡_, refl, sym, ap, _∙_}
+use mathlib.Core.List.{_++_}
+use Prim.Native.Nat.{_+_, _-_, _<_, _≤_}
+use native.Mathlib.Omega.{arith}
+use lib.ListN.{length, take, set, length-set}
+use lib.Seq.{slice, length-slice}
+use Rattle.matrix.specs.ListsLaws.{part-more, part-all}
+use Rattle.matrix.proofs.columns.put_part.Statement.{statement}
+use Rattle.matrix.proofs.columns.put_part.Tie as tie
+use Rattle.matrix.proofs.columns.put_part.Reads as reads
+use Rattle.matrix.proofs.columns.put_part.Lts as lts
+
+abbrev Inv-loop : tie.InvT-loop
+Inv-loop from to cs list₀ count₀ i₀ list count i =
+    (from ≤ i) × (i ≤ to) × (count ≡ count₀ + (i - from)) × (length list ≡ 192)
+    × (take count list ++ slice i to (cs .list) ≡ take count₀ list₀ ++ slice from to (cs .list))
+
+abbrev μ-loop : tie.MeasureT-loop
+μ-loop from to cs list₀ count₀ i₀ list count i = to - i
+
+-- src/columns.rt:35:5
+loop-holds : tie.Need-loop-holds Inv-loop μ-loop
+loop-holds c = (search needs, search needs, search needs, search needs, refl)
+
+-- src/columns.rt:36:23
+element-copy-out-list : tie.Need-element-copy-out-list Inv-loop μ-loop
+element-copy-out-list c = search needs
+
+-- src/columns.rt:36:9
+array-write-list : tie.Need-array-write-list Inv-loop μ-loop
+array-write-list c = search needs
+
+-- src/columns.rt:37:9
+add-count : tie.Need-add-count Inv-loop μ-loop
+add-count c = search needs
+
+-- src/columns.rt:38:9
+add-i : tie.Need-add-i Inv-loop μ-loop
+add-i c = search needs
+
+-- src/columns.rt:35:5
+loop-less : tie.Need-loop-less Inv-loop μ-loop
+loop-less c = search needs
+
+-- src/columns.rt:35:5
+loop-again : tie.Need-loop-again Inv-loop μ-loop
+loop-again c =
+    let s = c .before .before .before .before in
+    let a = s .args in
+    let l = c .before .before .loop in (
+      search needs,
+      search needs,
+      omega (arith, l .inv .0, l .inv .2),
+      simp length-set (l .inv .3),
+      part-more (l .list) (a .t2 .list) (take (a .o .count) (a .o .list) ++ slice (a .from) (a .to) (a .t2 .list)) (l .count) (l .i) (a .to)
+          (omega (arith, s .pre, l .inv)) (omega arith) (omega (arith, s .pre)) (l .inv .4),
+    )
+
+-- src/columns.rt:27:1
+returns : tie.Need-returns Inv-loop μ-loop
+returns c =
+    let s = c .before .before .before in
+    let a = s .args in
+    let l = c .before .loop in
+    record {
+      long = l .inv .3;
+      count = omega (arith, l .inv, s .pre, length-slice (a .from) (a .to) (a .t2 .list) (omega (arith, s .pre)));
+      classes =
+          part-all (l .list) (a .t2 .list) (take (a .o .count) (a .o .list) ++ slice (a .from) (a .to) (a .t2 .list)) (l .count) (l .i) (a .to)
+          (omega (arith, l .inv)) (l .inv .4);
+    }
+
+pub put-part-spec : {M : Type 1} → statement M
+put-part-spec =
+    tie.close
+    (tie.spec
+    Inv-loop
+    μ-loop
+    loop-holds
+    element-copy-out-list
+    array-write-list
+    add-count
+    add-i
+    loop-less
+    loop-again
+    returns)

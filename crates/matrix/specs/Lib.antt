@@ -1,0 +1,11 @@
+pub mod RowStates
+pub mod Numbers
+pub mod Live
+pub mod MeetingLaws
+pub mod LiveLaws
+pub mod HeldRows
+pub mod Lists
+pub mod ListsLaws
+pub mod Ordered
+pub mod Matrices
+pub mod MatricesLaws

@@ -1,0 +1,54 @@
+// A matrix of rules 2 to 4 by value: its rows by clause, its columns by class, the columns tested so far and when each test was opened.
+// Counting and choosing a column are in rows, putting columns in order in columns, the matrices themselves in splitting.
+pub mod columns;
+pub mod rows;
+
+ghost use mathlib.Core.Path.{_≡_};
+
+// What a row has in a column: a test, by its pattern's number, or a wildcard.
+pub enum Held {
+    Test(usize),
+    Wildcard,
+}
+
+// The column to test, by its class; or the first row's leaf.
+pub enum Choice {
+    Column(usize),
+    Leaf,
+}
+
+// A case's test; a text by where it is in the pool.
+pub enum CaseTest {
+    Constr(u16),
+    Int { start: u16, len: u16 },
+    Bytes { start: u16, len: u16 },
+    List(u16),
+    Tailed(u16),
+}
+
+// Numbers, at most one for each row.
+pub struct PerRow {
+    pub list: [u8; 32],
+    pub count: usize,
+}
+
+// Classes, at most one for each pattern.
+pub struct Classes {
+    pub list: [u8; 192],
+    pub count: usize,
+}
+
+// `opened` has of each pattern one more than the place in `tested` of the column where its test was opened, or 0.
+pub struct Matrix {
+    pub rows: PerRow,
+    pub columns: Classes,
+    pub tested: Classes,
+    pub opened: [u8; 192],
+}
+
+// A byte as an index.
+pub fn wide(x: u8) -> usize
+    ensures { λ r. ⌜ r ≡ x ⌝ }
+{
+    x as usize
+}

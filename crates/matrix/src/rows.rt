@@ -1,0 +1,1 @@
+// Rows of a matrix: what each has in a column, and the column to test.
