@@ -386,7 +386,7 @@ caseAt-there (ccons t at a cs) zero l h = h .0
 caseAt-there (ccons t at a cs) (suc i) l h = caseAt-there cs i (omega arith) (h .1)
 
 -- a default that is there, and one that is not
-defaultField-some : (k : ℕ) (d : Tree) → 0 < defaultField k d → (defaultField k d ≡ suc k) × (1 ≤ nodesIn d)
+pub defaultField-some : (k : ℕ) (d : Tree) → 0 < defaultField k d → (defaultField k d ≡ suc k) × (1 ≤ nodesIn d)
 unfolding defaultField nodesIn
 defaultField-some k absent h = absurd (omega arith)
 defaultField-some k (leaf c bs) h = (refl, omega arith)
