@@ -1,0 +1,78 @@
+-- The arena: the bytes of a tree's nodes, cases and bindings, each section at a fixed place of the work buffer, with room for as many
+-- records as a tree may have. They are those of the tree file over another table of paths.
+use Prim.Native.Nat.{ℕ, _+_, _*_, _≤_}
+use mathlib.Core.List.{List}
+use lib.ListN.{length, getD}
+use Rattle.words.specs.Words.{wordAt}
+use Rattle.rules.specs.Limits.{nodesMost, bindingsMost, nodeSize, caseSize, bindingSize}
+use Rattle.rules.specs.Rows.{Path}
+use Rattle.rules.specs.Building.{Tree, Cases}
+use Rattle.rules.specs.Hoisting.{bindingsIn, bindingsInOf}
+use Rattle.rules.specs.TreeFile.{nodesFrom, nodesFromOf, casesFrom, casesFromOf, bindingsBytes}
+use Rattle.filing.specs.StandingLaws.{Stands}
+
+-- ---- the sections
+-- nodes stand from 0 on; there is room for 1,024 of them
+abbrev pub casesStart : ℕ
+casesStart = 12288
+
+-- 1,024 cases: each has a node of its own, so that a tree has fewer cases than nodes
+abbrev pub casesMost : ℕ
+casesMost = nodesMost
+
+abbrev pub bindingsStart : ℕ
+bindingsStart = 20480
+
+abbrev pub arenaEnd : ℕ
+arenaEnd = 36864
+
+-- ---- fields of records, as a tree file has them
+unfoldable pub nodeKind : List ℕ → ℕ → ℕ
+nodeKind w k = getD w (nodeSize * k) 0
+
+unfoldable pub nodeZero : List ℕ → ℕ → ℕ
+nodeZero w k = getD w (nodeSize * k + 1) 0
+
+-- the five words of a node are numbered from 0
+unfoldable pub nodeWord : List ℕ → ℕ → ℕ → ℕ
+unfolding wordAt
+nodeWord w k i = wordAt w (nodeSize * k + 2 + 2 * i)
+
+unfoldable pub caseKind : List ℕ → ℕ → ℕ
+caseKind w i = getD w (casesStart + caseSize * i) 0
+
+unfoldable pub caseZero : List ℕ → ℕ → ℕ
+caseZero w i = getD w (casesStart + caseSize * i + 1) 0
+
+unfoldable pub caseNumber : List ℕ → ℕ → ℕ
+unfolding wordAt
+caseNumber w i = wordAt w (casesStart + caseSize * i + 2)
+
+unfoldable pub caseLength : List ℕ → ℕ → ℕ
+unfolding wordAt
+caseLength w i = wordAt w (casesStart + caseSize * i + 4)
+
+unfoldable pub caseChild : List ℕ → ℕ → ℕ
+unfolding wordAt
+caseChild w i = wordAt w (casesStart + caseSize * i + 6)
+
+unfoldable pub bindingName : List ℕ → ℕ → ℕ
+unfolding wordAt
+bindingName w b = wordAt w (bindingsStart + bindingSize * b)
+
+unfoldable pub bindingPath : List ℕ → ℕ → ℕ
+unfolding wordAt
+bindingPath w b = wordAt w (bindingsStart + bindingSize * b + 2)
+
+-- ---- a tree in the arena
+-- the records of the tree a, whose first node is k, first case c and first binding b; a path is its number in the table
+pub record Held (w : List ℕ) (table : List Path) (k c b : ℕ) (a : Tree) : Type 0 where
+  pub nodes-there : Stands w (nodeSize * k) (nodesFrom table k c b a)
+  pub cases-there : Stands w (casesStart + caseSize * c) (casesFrom k a)
+  pub bindings-there : Stands w (bindingsStart + bindingSize * b) (bindingsBytes table (bindingsIn a))
+
+-- the records below the cases cs, alike
+pub record HeldOf (w : List ℕ) (table : List Path) (k c b : ℕ) (cs : Cases) : Type 0 where
+  pub nodes-there : Stands w (nodeSize * k) (nodesFromOf table k c b cs)
+  pub cases-there : Stands w (casesStart + caseSize * c) (casesFromOf k cs)
+  pub bindings-there : Stands w (bindingsStart + bindingSize * b) (bindingsBytes table (bindingsInOf cs))
