@@ -1,0 +1,13 @@
+-- The definitions that the contracts of this crate cite, and their laws.
+pub mod Opened
+pub mod Answers
+pub mod LayoutLaws
+pub mod Sums
+pub mod Shape
+pub mod ShapeLaws
+pub mod ShapePass
+pub mod ShapeSteps
+pub mod TextsLaws
+pub mod AnswersLaws
+pub mod Fit
+pub mod FitLaws

@@ -1,0 +1,27 @@
+use Rattle.rules.specs.SheetFile.{subject}
+use borrow.Author.Needs.{needs}
+use Rattle.sheet.proofs.layout.subject_of.Statement.{statement}
+use Rattle.sheet.proofs.layout.subject_of.Tie as tie
+use Rattle.sheet.proofs.layout.subject_of.Reads as reads
+use Rattle.sheet.proofs.layout.subject_of.Lts as lts
+use Rattle.words.proofs.word_at.Reads as word-at-reads
+
+-- src/layout.rt:61:16
+sub-word-at : tie.Need-sub-word-at
+sub-word-at c = search needs
+
+-- src/layout.rt:61:5
+word-at-requires : tie.Need-word-at-requires
+word-at-requires c κs = search needs
+
+-- src/layout.rt:61:5
+cast-result : tie.Need-cast-result
+cast-result c = search needs
+
+-- src/layout.rt:57:1
+returns : tie.Need-returns
+unfolding subject
+returns c = c .word-at .ensures
+
+pub subject-of-spec : {M : Type 1} → statement M
+subject-of-spec = tie.close (tie.spec sub-word-at word-at-requires cast-result returns)

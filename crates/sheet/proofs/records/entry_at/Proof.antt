@@ -1,0 +1,27 @@
+use borrow.Author.Needs.{needs}
+use mathlib.Core.Path.{_∙_}
+use native.Mathlib.Omega.{arith}
+use Rattle.sheet.specs.RecordsLaws.{entry-room, entry-is}
+use Rattle.sheet.proofs.records.entry_at.Statement.{statement}
+use Rattle.sheet.proofs.records.entry_at.Tie as tie
+use Rattle.sheet.proofs.records.entry_at.Reads as reads
+use Rattle.sheet.proofs.records.entry_at.Lts as lts
+use Rattle.words.proofs.word_at.Reads as word-at-reads
+
+mul-word-at : tie.Need-mul-word-at
+mul-word-at c = search needs
+
+add-word-at : tie.Need-add-word-at
+add-word-at c = omega (arith, entry-room (c .before .before .pre .0) (c .before .before .pre .1) (c .before .before .args .e) (c .before .before .pre .2))
+
+word-at-requires : tie.Need-word-at-requires
+word-at-requires c κs = omega (arith, entry-room (c .before .before .pre .0) (c .before .before .pre .1) (c .before .before .args .e) (c .before .before .pre .2))
+
+cast-result : tie.Need-cast-result
+cast-result c = search needs
+
+returns : tie.Need-returns
+returns c = c .word-at .ensures ∙ entry-is (c .before .before .before .args .s .now) (c .before .before .before .pre .1) (c .before .before .before .args .e)
+
+pub entry-at-spec : {M : Type 1} → statement M
+entry-at-spec = tie.close (tie.spec mul-word-at add-word-at word-at-requires cast-result returns)

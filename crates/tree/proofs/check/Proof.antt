@@ -1,0 +1,53 @@
+use borrow.Author.Needs.{needs}
+use Rattle.tree.specs.CheckLaws.{long-enough, map-read, rules-read, refused-length, refused-starts, refused-records, refused-order, accepted-all}
+use Rattle.facts.specs.TreeFacts.{tree-laid}
+use Rattle.words.specs.WordsLaws.{bytes-of-fits}
+use borrow.Author.Tests.{not-true, not-false}
+use mathlib.Core.Path.{sym, _∙_}
+use Rattle.tree.proofs.check.Statement.{statement}
+use Rattle.tree.proofs.check.Tie as tie
+
+length-true-requires : tie.Need-length-true-requires
+length-true-requires c κs = search needs
+
+returns : tie.Need-returns
+returns c = refused-length (c .before .before .before .args .t .now) (sym (c .before .length-true .ensures) ∙ not-true _ (c .if1 .taken))
+
+starts-rise-requires : tie.Need-starts-rise-requires
+starts-rise-requires c κs = long-enough (c .before .before .before .args .t .now) (sym (c .before .length-true .ensures) ∙ not-false _ (c .if1 .left))
+
+returns-2 : tie.Need-returns-2
+returns-2 c = refused-starts (c .before .before .before .before .before .args .t .now) (sym (c .before .before .before .length-true .ensures) ∙ not-false _ (c .before .before .if1 .left)) (sym (c .before .starts-rise .ensures) ∙ not-true _ (c .if2 .taken))
+
+sections-requires : tie.Need-sections-requires
+sections-requires c κs = tree-laid (c .before .before .before .before .before .args .t .now) (sym (c .before .before .before .length-true .ensures) ∙ not-false _ (c .before .before .if1 .left)) (sym (c .before .starts-rise .ensures) ∙ not-false _ (c .if2 .left))
+
+records-keep-rules-requires : tie.Need-records-keep-rules-requires
+records-keep-rules-requires c κs = map-read (c .before .before .before .before .before .before .args .t .now) (bytes-of-fits (c .before .before .before .before .before .before .args .t .now) (c .before .before .before .before .before .shared-slice-known .given)) (sym (c .before .before .before .before .length-true .ensures) ∙ not-false _ (c .before .before .before .if1 .left)) (sym (c .before .before .starts-rise .ensures) ∙ not-false _ (c .before .if2 .left)) (c .sections .result) (c .sections .ensures)
+
+returns-3 : tie.Need-returns-3
+returns-3 c = refused-records (c .before .before .before .before .before .before .before .before .args .t .now) (sym (c .before .before .before .before .before .before .length-true .ensures) ∙ not-false _ (c .before .before .before .before .before .if1 .left)) (sym (c .before .before .before .before .starts-rise .ensures) ∙ not-false _ (c .before .before .before .if2 .left)) (sym (c .before .records-keep-rules .ensures) ∙ not-true _ (c .if3 .taken))
+
+nodes-in-pre-order-requires : tie.Need-nodes-in-pre-order-requires
+nodes-in-pre-order-requires c κs = rules-read (c .before .before .before .before .before .before .before .before .args .t .now) (bytes-of-fits (c .before .before .before .before .before .before .before .before .args .t .now) (c .before .before .before .before .before .before .before .shared-slice-known .given)) (sym (c .before .before .before .before .before .before .length-true .ensures) ∙ not-false _ (c .before .before .before .before .before .if1 .left)) (sym (c .before .before .before .before .starts-rise .ensures) ∙ not-false _ (c .before .before .before .if2 .left)) (c .before .before .sections .result) (c .before .before .sections .ensures) (sym (c .before .records-keep-rules .ensures) ∙ not-false _ (c .if3 .left))
+
+returns-4 : tie.Need-returns-4
+returns-4 c = refused-order (c .before .before .before .before .before .before .before .before .before .before .args .t .now) (sym (c .before .before .before .before .before .before .before .before .length-true .ensures) ∙ not-false _ (c .before .before .before .before .before .before .before .if1 .left)) (sym (c .before .before .before .before .before .before .starts-rise .ensures) ∙ not-false _ (c .before .before .before .before .before .if2 .left)) (sym (c .before .before .before .records-keep-rules .ensures) ∙ not-false _ (c .before .before .if3 .left)) (sym (c .before .nodes-in-pre-order .ensures) ∙ not-true _ (c .if4 .taken))
+
+returns-5 : tie.Need-returns-5
+returns-5 c = accepted-all (c .before .before .before .before .before .before .before .before .before .before .args .t .now) (sym (c .before .before .before .before .before .before .before .before .length-true .ensures) ∙ not-false _ (c .before .before .before .before .before .before .before .if1 .left)) (sym (c .before .before .before .before .before .before .starts-rise .ensures) ∙ not-false _ (c .before .before .before .before .before .if2 .left)) (sym (c .before .before .before .records-keep-rules .ensures) ∙ not-false _ (c .before .before .if3 .left)) (c .before .before .before .before .sections .result) (c .before .before .before .before .sections .ensures) (sym (c .before .nodes-in-pre-order .ensures) ∙ not-false _ (c .if4 .left))
+
+pub check-spec : {M : Type 1} → statement M
+check-spec =
+    tie.close
+    (tie.spec
+    length-true-requires
+    returns
+    starts-rise-requires
+    returns-2
+    sections-requires
+    records-keep-rules-requires
+    returns-3
+    nodes-in-pre-order-requires
+    returns-4
+    returns-5)

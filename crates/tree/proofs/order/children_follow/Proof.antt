@@ -1,0 +1,138 @@
+use borrow.Author.Needs.{needs}
+use Rattle.tree.specs.NodesLaws.{switch-node, list-switch-node, leaf-node, hoist-node, switch-node-run, list-switch-node-run, switch-node-children, list-switch-node-children, leaf-children, hoist-node-children}
+use Rattle.tree.specs.OrderLaws.{childrenFollow-is, childrenFollow-leaf, childrenFollow-hoist, in-nodes, node-kind-known}
+use Rattle.tree.specs.ReadingLaws.{cases-count}
+use Rattle.tree.specs.declared.reading.Node.{Node}
+use native.Mathlib.Omega.{arith}
+use mathlib.Core.Path.{_≡_, sym, _∙_}
+use Rattle.tree.proofs.order.children_follow.Statement.{statement}
+use Rattle.tree.proofs.order.children_follow.Tie as tie
+
+node-at-requires : tie.Need-node-at-requires
+node-at-requires c κs = (c .before .pre .0 .mapped, c .before .pre .1, node-kind-known (c .before .pre .0) (c .before .args .k) (c .before .pre .1))
+
+enum-known-node : tie.Need-enum-known-node
+enum-known-node c = search needs
+
+cast-switch-follows : tie.Need-cast-switch-follows
+cast-switch-follows c = search needs
+
+cast-switch-follows-2 : tie.Need-cast-switch-follows-2
+cast-switch-follows-2 c = search needs
+
+cast-switch-follows-3 : tie.Need-cast-switch-follows-3
+cast-switch-follows-3 c = search needs
+
+switch-follows-requires : tie.Need-switch-follows-requires
+switch-follows-requires c κs =
+    let g = c .before .node .given .0 in
+    let e : c .before .before .before .node-at .result ≡ Node.Switch (g .0) (g .1 .0) (g .1 .1 .0) (g .1 .1 .1 .0) = search needs in
+    let w = switch-node (c .before .before .before .before .before .args .t .now) (c .before .before .before .before .before .args .k) (g .0) (g .1 .0) (g .1 .1 .0) (g .1 .1 .1 .0) (sym (c .before .before .before .node-at .ensures) ∙ e) in
+    let h = in-nodes (c .before .before .before .before .before .pre .0) (c .before .before .before .before .before .args .k) (c .before .before .before .before .before .pre .1) in
+    let rules = c .before .before .before .before .before .pre .0 .rules in
+    let r = switch-node-run rules (c .before .before .before .before .before .args .k) h (g .0) (g .1 .0) (g .1 .1 .0) (g .1 .1 .1 .0) w in
+    let n = cases-count (c .before .before .before .before .before .pre .0 .mapped) in
+    (c .before .before .before .before .before .pre .0, c .before .before .before .before .before .pre .1, r .0, omega (arith, r .1))
+
+enum-known-node-2 : tie.Need-enum-known-node-2
+enum-known-node-2 c = search needs
+
+cast-switch-follows-4 : tie.Need-cast-switch-follows-4
+cast-switch-follows-4 c = search needs
+
+cast-switch-follows-5 : tie.Need-cast-switch-follows-5
+cast-switch-follows-5 c = search needs
+
+cast-switch-follows-6 : tie.Need-cast-switch-follows-6
+cast-switch-follows-6 c = search needs
+
+add-switch-follows : tie.Need-add-switch-follows
+add-switch-follows c = search needs
+
+cast-switch-follows-7 : tie.Need-cast-switch-follows-7
+cast-switch-follows-7 c = search needs
+
+switch-follows-requires-2 : tie.Need-switch-follows-requires-2
+switch-follows-requires-2 c κs =
+    let g = c .before .node2 .given .0 in
+    let e : c .before .before .before .node-at .result ≡ Node.ListSwitch (g .0) (g .1 .0) (g .1 .1 .0) (g .1 .1 .1 .0) (g .1 .1 .1 .1 .0) = search needs in
+    let w = list-switch-node (c .before .before .before .before .before .args .t .now) (c .before .before .before .before .before .args .k) (g .0) (g .1 .0) (g .1 .1 .0) (g .1 .1 .1 .0) (g .1 .1 .1 .1 .0) (sym (c .before .before .before .node-at .ensures) ∙ e) in
+    let h = in-nodes (c .before .before .before .before .before .pre .0) (c .before .before .before .before .before .args .k) (c .before .before .before .before .before .pre .1) in
+    let rules = c .before .before .before .before .before .pre .0 .rules in
+    let r = list-switch-node-run rules (c .before .before .before .before .before .args .k) h (g .0) (g .1 .0) (g .1 .1 .0) (g .1 .1 .1 .0) (g .1 .1 .1 .1 .0) w in
+    let n = cases-count (c .before .before .before .before .before .pre .0 .mapped) in
+    (c .before .before .before .before .before .pre .0, c .before .before .before .before .before .pre .1, r .0, omega (arith, r .1))
+
+enum-told : tie.Need-enum-told
+enum-told c = search needs
+
+enum-known-node-3 : tie.Need-enum-known-node-3
+enum-known-node-3 c = search needs
+
+cast-result : tie.Need-cast-result
+cast-result c = search needs
+
+add-result : tie.Need-add-result
+add-result c = search needs
+
+returns : tie.Need-returns
+returns c =
+    let g = c .before .before .node .given .0 in
+    let e : c .before .before .before .before .node-at .result ≡ Node.Switch (g .0) (g .1 .0) (g .1 .1 .0) (g .1 .1 .1 .0) = search needs in
+    let w = switch-node (c .before .before .before .before .before .before .args .t .now) (c .before .before .before .before .before .before .args .k) (g .0) (g .1 .0) (g .1 .1 .0) (g .1 .1 .1 .0) (sym (c .before .before .before .before .node-at .ensures) ∙ e) in
+    let h = in-nodes (c .before .before .before .before .before .before .pre .0) (c .before .before .before .before .before .before .args .k) (c .before .before .before .before .before .before .pre .1) in
+    let rules = c .before .before .before .before .before .before .pre .0 .rules in
+    c .switch-follows .ensures ∙ childrenFollow-is (c .before .before .before .before .before .before .args .t .now) (c .before .before .before .before .before .before .args .k) _ (switch-node-children rules (c .before .before .before .before .before .before .args .k) h (g .0) (g .1 .0) (g .1 .1 .0) (g .1 .1 .1 .0) w)
+
+returns-2 : tie.Need-returns-2
+returns-2 c =
+    let g = c .before .before .node2 .given .0 in
+    let e : c .before .before .before .before .node-at .result ≡ Node.ListSwitch (g .0) (g .1 .0) (g .1 .1 .0) (g .1 .1 .1 .0) (g .1 .1 .1 .1 .0) = search needs in
+    let w = list-switch-node (c .before .before .before .before .before .before .args .t .now) (c .before .before .before .before .before .before .args .k) (g .0) (g .1 .0) (g .1 .1 .0) (g .1 .1 .1 .0) (g .1 .1 .1 .1 .0) (sym (c .before .before .before .before .node-at .ensures) ∙ e) in
+    let h = in-nodes (c .before .before .before .before .before .before .pre .0) (c .before .before .before .before .before .before .args .k) (c .before .before .before .before .before .before .pre .1) in
+    let rules = c .before .before .before .before .before .before .pre .0 .rules in
+    c .switch-follows2 .ensures ∙ childrenFollow-is (c .before .before .before .before .before .before .args .t .now) (c .before .before .before .before .before .before .args .k) _ (list-switch-node-children rules (c .before .before .before .before .before .before .args .k) h (g .0) (g .1 .0) (g .1 .1 .0) (g .1 .1 .1 .0) (g .1 .1 .1 .1 .0) w)
+
+returns-3 : tie.Need-returns-3
+returns-3 c =
+    let g = c .enum-told .given .0 in
+    let e : c .before .before .node-at .result ≡ Node.Leaf (g .0) (g .1 .0) (g .1 .1 .0) = search needs in
+    let w = leaf-node (c .before .before .before .before .args .t .now) (c .before .before .before .before .args .k) (g .0) (g .1 .0) (g .1 .1 .0) (sym (c .before .before .node-at .ensures) ∙ e) in
+    let h = in-nodes (c .before .before .before .before .pre .0) (c .before .before .before .before .args .k) (c .before .before .before .before .pre .1) in
+    let rules = c .before .before .before .before .pre .0 .rules in
+    childrenFollow-leaf (c .before .before .before .before .args .t .now) (c .before .before .before .before .args .k) (leaf-children rules (c .before .before .before .before .args .k) h (w .kind))
+
+returns-4 : tie.Need-returns-4
+returns-4 c =
+    let g = c .before .node3 .given .0 in
+    let e : c .before .before .before .node-at .result ≡ Node.Hoist (g .0) (g .1 .0) (g .1 .1 .0) (g .1 .1 .1 .0) = search needs in
+    let w = hoist-node (c .before .before .before .before .before .args .t .now) (c .before .before .before .before .before .args .k) (g .0) (g .1 .0) (g .1 .1 .0) (g .1 .1 .1 .0) (node-kind-known (c .before .before .before .before .before .pre .0) (c .before .before .before .before .before .args .k) (c .before .before .before .before .before .pre .1)) (sym (c .before .before .before .node-at .ensures) ∙ e) in
+    let h = in-nodes (c .before .before .before .before .before .pre .0) (c .before .before .before .before .before .args .k) (c .before .before .before .before .before .pre .1) in
+    let rules = c .before .before .before .before .before .pre .0 .rules in
+    childrenFollow-hoist (c .before .before .before .before .before .args .t .now) (c .before .before .before .before .before .args .k) (g .1 .1 .1 .0) (hoist-node-children rules (c .before .before .before .before .before .args .k) h (g .1 .1 .1 .0) w)
+
+pub children-follow-spec : {M : Type 1} → statement M
+children-follow-spec =
+    tie.close
+    (tie.spec
+    node-at-requires
+    enum-known-node
+    cast-switch-follows
+    cast-switch-follows-2
+    cast-switch-follows-3
+    switch-follows-requires
+    enum-known-node-2
+    cast-switch-follows-4
+    cast-switch-follows-5
+    cast-switch-follows-6
+    add-switch-follows
+    cast-switch-follows-7
+    switch-follows-requires-2
+    enum-told
+    enum-known-node-3
+    cast-result
+    add-result
+    returns
+    returns-2
+    returns-3
+    returns-4)

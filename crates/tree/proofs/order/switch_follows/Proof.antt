@@ -1,0 +1,59 @@
+use borrow.Author.Needs.{needs}
+use Rattle.tree.specs.PreOrder.{endOf}
+use lib.Dec.{eqb}
+use Rattle.tree.specs.OrderLaws.{case-child-in, chain-before-broken, chain-no-default, chain-default}
+use Prim.Native.Nat.{_+_, _-_}
+use borrow.Author.Tests.{not-true, not-false}
+use native.Mathlib.Omega.{arith}
+use mathlib.Core.Path.{sym, ap, _∙_}
+use Rattle.tree.proofs.order.switch_follows.Statement.{statement}
+use Rattle.tree.proofs.order.switch_follows.Tie as tie
+
+cases-follow-requires : tie.Need-cases-follow-requires
+cases-follow-requires c κs = search needs
+
+returns : tie.Need-returns
+returns c = let a = c .before .before .before .args in chain-before-broken (a .t .now) (a .k + 1) (a .i) (a .n) (c .before .before .before .pre .2) (a .default) (sym (c .before .cases-follow .ensures) ∙ not-true _ (c .if1 .taken))
+
+returns-2 : tie.Need-returns-2
+returns-2 c = let a = c .before .before .before .before .args in sym (sym (c .before .before .cases-follow .ensures) ∙ not-false _ (c .before .if1 .left)) ∙ chain-no-default (a .t .now) (a .k + 1) (a .i) (a .n) (c .before .before .before .before .pre .2) (a .default) (c .if2 .taken)
+
+add-case-child : tie.Need-add-case-child
+add-case-child c = search needs
+
+sub-case-child : tie.Need-sub-case-child
+sub-case-child c = search needs
+
+case-child-requires : tie.Need-case-child-requires
+case-child-requires c κs = (c .before .before .before .before .pre .0 .mapped, omega arith)
+
+cast-before : tie.Need-cast-before
+cast-before c = search needs
+
+sub-result : tie.Need-sub-result
+sub-result c = search needs
+
+end-of-requires : tie.Need-end-of-requires
+end-of-requires c κs = let a = c .before .before .before .before .before .args in (c .before .before .before .before .before .pre .0, omega (arith, case-child-in (c .before .before .before .before .before .pre .0) (a .i + a .n - 1) (omega arith), c .case-child .ensures))
+
+returns-3 : tie.Need-returns-3
+returns-3 c =
+    let a = c .before .before .before .before .before .before .args in
+    let x = c .end-of .ensures ∙ ap (endOf (a .t .now)) (c .before .case-child .ensures) in
+    ap (eqb (a .default - 1)) x
+    ∙ chain-default (a .t .now) (a .k + 1) (a .i) (a .n) (c .before .before .before .before .before .before .pre .2) (a .default) (c .before .before .if2 .left) (sym (c .before .before .before .before .cases-follow .ensures) ∙ not-false _ (c .before .before .before .if1 .left))
+
+pub switch-follows-spec : {M : Type 1} → statement M
+switch-follows-spec =
+    tie.close
+    (tie.spec
+    cases-follow-requires
+    returns
+    returns-2
+    add-case-child
+    sub-case-child
+    case-child-requires
+    cast-before
+    sub-result
+    end-of-requires
+    returns-3)

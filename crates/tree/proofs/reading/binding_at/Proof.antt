@@ -1,0 +1,31 @@
+use borrow.Author.Needs.{needs}
+use mathlib.Core.Path.{_∙_}
+use Rattle.tree.specs.ReadingLaws.{binding-name-is, binding-path-is}
+use Rattle.tree.proofs.reading.binding_at.Statement.{statement}
+use Rattle.tree.proofs.reading.binding_at.Tie as tie
+
+mul-at : tie.Need-mul-at
+mul-at c = search needs
+
+add-at : tie.Need-add-at
+add-at c = search needs
+
+word-at-requires : tie.Need-word-at-requires
+word-at-requires c κs = search needs
+
+add-word-at : tie.Need-add-word-at
+add-word-at c = search needs
+
+word-at-requires-2 : tie.Need-word-at-requires-2
+word-at-requires-2 c κs = search needs
+
+returns : tie.Need-returns
+returns c =
+    let a = c .before .before .before .before in
+    let e = c .before .word-at .ensures ∙ binding-name-is (a .pre .0) (a .args .b) in
+    let f = c .word-at2 .ensures ∙ binding-path-is (a .pre .0) (a .args .b) in
+    simp (e, f)
+
+pub binding-at-spec : {M : Type 1} → statement M
+binding-at-spec =
+    tie.close (tie.spec mul-at add-at word-at-requires add-word-at word-at-requires-2 returns)

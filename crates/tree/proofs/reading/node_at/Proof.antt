@@ -1,0 +1,59 @@
+use borrow.Author.Needs.{needs}
+use native.Mathlib.Omega.{arith}
+use Rattle.rules.specs.TreeReader.{nodeKindOf, nodePath, nodeFirstCase, nodeCases, nodeTailCases, nodeDefault, nodeClause, nodeFirstBinding, nodeBindings, nodeChild}
+use Rattle.tree.specs.Reading.{nodeOf}
+use mathlib.Core.Path.{_≡_}
+use Rattle.tree.proofs.reading.node_at.Statement.{statement}
+use Rattle.tree.proofs.reading.node_at.Tie as tie
+
+node-kind-requires : tie.Need-node-kind-requires
+node-kind-requires c κs = search needs
+
+node-word-requires : tie.Need-node-word-requires
+node-word-requires c κs = search needs
+
+node-word-requires-2 : tie.Need-node-word-requires-2
+node-word-requires-2 c κs = search needs
+
+node-word-requires-3 : tie.Need-node-word-requires-3
+node-word-requires-3 c κs = search needs
+
+node-word-requires-4 : tie.Need-node-word-requires-4
+node-word-requires-4 c κs = search needs
+
+node-word-requires-5 : tie.Need-node-word-requires-5
+node-word-requires-5 c κs = search needs
+
+returns : tie.Need-returns
+unfolding nodeOf nodeKindOf nodePath nodeFirstCase nodeCases nodeTailCases nodeDefault nodeClause nodeFirstBinding nodeBindings nodeChild
+returns c = simp (← c .before .before .before .before .before .before .node-kind .ensures, c .match .keys1, ← c .before .before .before .before .before .node-word .ensures, ← c .before .before .before .before .node-word2 .ensures, ← c .before .before .before .node-word3 .ensures, ← c .before .node-word5 .ensures)
+
+returns-2 : tie.Need-returns-2
+unfolding nodeOf nodeKindOf nodePath nodeFirstCase nodeCases nodeTailCases nodeDefault nodeClause nodeFirstBinding nodeBindings nodeChild
+returns-2 c = simp (← c .before .before .before .before .before .before .node-kind .ensures, c .match .keys2, ← c .before .before .before .before .before .node-word .ensures, ← c .before .before .before .before .node-word2 .ensures, ← c .before .before .before .node-word3 .ensures, ← c .before .before .node-word4 .ensures, ← c .before .node-word5 .ensures)
+
+returns-3 : tie.Need-returns-3
+unfolding nodeOf nodeKindOf nodePath nodeFirstCase nodeCases nodeTailCases nodeDefault nodeClause nodeFirstBinding nodeBindings nodeChild
+returns-3 c = simp (← c .before .before .before .before .before .before .node-kind .ensures, c .match .keys3, ← c .before .before .before .before .before .node-word .ensures, ← c .before .before .before .before .node-word2 .ensures, ← c .before .before .before .node-word3 .ensures)
+
+returns-4 : tie.Need-returns-4
+unfolding nodeOf nodeKindOf nodePath nodeFirstCase nodeCases nodeTailCases nodeDefault nodeClause nodeFirstBinding nodeBindings nodeChild
+returns-4 c =
+    let r = c .before .before .before .before .before .before .node-kind .result in
+    let e : r ≡ 3 = omega (arith, c .match .rest .1, c .match .rest .0 .1, c .match .rest .0 .0 .1, c .before .before .before .before .before .before .node-kind .ensures, c .before .before .before .before .before .before .before .before .pre .2) in
+    simp (← c .before .before .before .before .before .before .node-kind .ensures, e, ← c .before .before .before .before .before .node-word .ensures, ← c .before .before .before .before .node-word2 .ensures, ← c .before .before .before .node-word3 .ensures, ← c .before .before .node-word4 .ensures)
+
+pub node-at-spec : {M : Type 1} → statement M
+node-at-spec =
+    tie.close
+    (tie.spec
+    node-kind-requires
+    node-word-requires
+    node-word-requires-2
+    node-word-requires-3
+    node-word-requires-4
+    node-word-requires-5
+    returns
+    returns-2
+    returns-3
+    returns-4)

@@ -1,0 +1,20 @@
+use borrow.Author.Needs.{needs}
+use Rattle.tree.specs.declared.reading.Binding.{Binding}
+use Rattle.rules.specs.TreeReader.{bindingKeepsRules}
+use Rattle.tree.specs.ReadingLaws.{paths-count}
+use mathlib.Core.Path.{ap}
+use Rattle.tree.proofs.records.binding_keeps_rules.Statement.{statement}
+use Rattle.tree.proofs.records.binding_keeps_rules.Tie as tie
+
+binding-at-requires : tie.Need-binding-at-requires
+binding-at-requires c κs = search needs
+
+cast-path : tie.Need-cast-path
+cast-path c = search needs
+
+returns : tie.Need-returns
+unfolding bindingKeepsRules
+returns c = let e = ap (λ (x : Binding). x .path) (c .before .before .binding-at .ensures) in simp (paths-count (c .before .before .before .before .pre .0), ← e)
+
+pub binding-keeps-rules-spec : {M : Type 1} → statement M
+binding-keeps-rules-spec = tie.close (tie.spec binding-at-requires cast-path returns)

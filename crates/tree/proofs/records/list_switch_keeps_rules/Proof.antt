@@ -1,0 +1,24 @@
+use borrow.Author.Needs.{needs}
+use Rattle.rules.specs.TreeReader.{nodeOfKind}
+use borrow.Author.Tests.{not-true, not-false}
+use mathlib.Core.Path.{sym, _∙_}
+use Rattle.tree.proofs.records.list_switch_keeps_rules.Statement.{statement}
+use Rattle.tree.proofs.records.list_switch_keeps_rules.Tie as tie
+
+switch-parts-requires : tie.Need-switch-parts-requires
+switch-parts-requires c κs = search needs
+
+returns : tie.Need-returns
+unfolding nodeOfKind
+returns c = simp (sym (c .before .switch-parts .ensures) ∙ not-true _ (c .if1 .taken))
+
+list-switch-cases-requires : tie.Need-list-switch-cases-requires
+list-switch-cases-requires c κs = (c .before .before .before .pre .0, c .before .before .before .pre .1, sym (c .before .switch-parts .ensures) ∙ not-false _ (c .if1 .left))
+
+returns-2 : tie.Need-returns-2
+unfolding nodeOfKind
+returns-2 c = simp (sym (c .before .before .switch-parts .ensures) ∙ not-false _ (c .before .if1 .left), ← c .list-switch-cases .ensures)
+
+pub list-switch-keeps-rules-spec : {M : Type 1} → statement M
+list-switch-keeps-rules-spec =
+    tie.close (tie.spec switch-parts-requires returns list-switch-cases-requires returns-2)

@@ -1,0 +1,27 @@
+use borrow.Author.Needs.{needs}
+use Rattle.tree.specs.declared.reading.Path.{Path}
+use Rattle.rules.specs.TreeReader.{pathKeepsRules}
+use Rattle.tree.specs.ReadingLaws.{steps-count}
+use mathlib.Core.Path.{ap}
+use Rattle.tree.proofs.records.path_keeps_rules.Statement.{statement}
+use Rattle.tree.proofs.records.path_keeps_rules.Tie as tie
+
+path-at-requires : tie.Need-path-at-requires
+path-at-requires c κs = search needs
+
+cast-first : tie.Need-cast-first
+cast-first c = search needs
+
+cast-count : tie.Need-cast-count
+cast-count c = search needs
+
+run-in-requires : tie.Need-run-in-requires
+run-in-requires c κs = search needs
+
+returns : tie.Need-returns
+unfolding pathKeepsRules
+returns c = let e = ap (λ (x : Path). x .first) (c .before .before .before .path-at .ensures) in let f = ap (λ (x : Path). x .count) (c .before .before .before .path-at .ensures) in simp (steps-count (c .before .before .before .before .before .pre .0), ← e, ← f, ← c .run-in .ensures)
+
+pub path-keeps-rules-spec : {M : Type 1} → statement M
+path-keeps-rules-spec =
+    tie.close (tie.spec path-at-requires cast-first cast-count run-in-requires returns)

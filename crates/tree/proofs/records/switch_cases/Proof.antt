@@ -1,0 +1,64 @@
+use borrow.Author.Needs.{needs}
+use Rattle.tree.specs.RecordsLaws.{switch-run-in}
+use Rattle.rules.specs.TreeReader.{switchCases, nodeFirstCase, nodeCases, nodeTailCases}
+use borrow.Author.Tests.{le-leb, lt-leb, eq-eqb, ne-eqb}
+use native.Mathlib.Omega.{arith}
+use Rattle.tree.proofs.records.switch_cases.Statement.{statement}
+use Rattle.tree.proofs.records.switch_cases.Tie as tie
+
+node-word-requires : tie.Need-node-word-requires
+node-word-requires c κs = search needs
+
+cast-first : tie.Need-cast-first
+cast-first c = search needs
+
+node-word-requires-2 : tie.Need-node-word-requires-2
+node-word-requires-2 c κs = search needs
+
+cast-cases : tie.Need-cast-cases
+cast-cases c = search needs
+
+node-word-requires-3 : tie.Need-node-word-requires-3
+node-word-requires-3 c κs = search needs
+
+cast-tails : tie.Need-cast-tails
+cast-tails c = search needs
+
+returns : tie.Need-returns
+unfolding switchCases nodeFirstCase nodeCases nodeTailCases
+returns c = simp (← c .before .before .node-word2 .ensures, lt-leb _ _ (c .if1 .taken))
+
+returns-2 : tie.Need-returns-2
+unfolding switchCases nodeFirstCase nodeCases nodeTailCases
+returns-2 c = simp (← c .before .before .before .node-word2 .ensures, ← c .before .before .node-word3 .ensures, le-leb _ _ (c .before .if1 .left), ne-eqb _ _ (c .if2 .taken))
+
+case-kind-requires : tie.Need-case-kind-requires
+case-kind-requires c κs = (c .before .before .before .before .before .before .pre .0, omega (arith, switch-run-in (c .before .before .before .before .before .before .pre .0) (c .before .before .before .before .before .before .args .k) (c .before .before .before .before .node-word .result) (c .before .before .before .node-word2 .result) (c .before .before .node-word3 .result) (c .before .before .before .before .before .before .pre .2) (c .before .before .before .before .node-word .ensures) (c .before .before .before .node-word2 .ensures) (c .before .before .node-word3 .ensures)))
+
+returns-3 : tie.Need-returns-3
+unfolding switchCases nodeFirstCase nodeCases nodeTailCases
+returns-3 c = simp (← c .before .before .before .before .before .before .node-word .ensures, ← c .before .before .before .before .before .node-word2 .ensures, ← c .before .before .before .before .node-word3 .ensures, le-leb _ _ (c .before .before .before .if1 .left), eq-eqb _ _ (c .before .before .if2 .left), ← c .before .case-kind .ensures, lt-leb _ _ (c .if3 .taken))
+
+cases-of-kind-requires : tie.Need-cases-of-kind-requires
+cases-of-kind-requires c κs = (c .before .before .before .before .before .before .before .before .pre .0, omega (arith, switch-run-in (c .before .before .before .before .before .before .before .before .pre .0) (c .before .before .before .before .before .before .before .before .args .k) (c .before .before .before .before .before .before .node-word .result) (c .before .before .before .before .before .node-word2 .result) (c .before .before .before .before .node-word3 .result) (c .before .before .before .before .before .before .before .before .pre .2) (c .before .before .before .before .before .before .node-word .ensures) (c .before .before .before .before .before .node-word2 .ensures) (c .before .before .before .before .node-word3 .ensures)))
+
+returns-4 : tie.Need-returns-4
+unfolding switchCases nodeFirstCase nodeCases nodeTailCases
+returns-4 c = simp (← c .before .before .before .before .before .before .before .node-word .ensures, ← c .before .before .before .before .before .before .node-word2 .ensures, ← c .before .before .before .before .before .node-word3 .ensures, le-leb _ _ (c .before .before .before .before .if1 .left), eq-eqb _ _ (c .before .before .before .if2 .left), ← c .before .before .case-kind .ensures, le-leb _ _ (c .before .if3 .left), ← c .cases-of-kind .ensures)
+
+pub switch-cases-spec : {M : Type 1} → statement M
+switch-cases-spec =
+    tie.close
+    (tie.spec
+    node-word-requires
+    cast-first
+    node-word-requires-2
+    cast-cases
+    node-word-requires-3
+    cast-tails
+    returns
+    returns-2
+    case-kind-requires
+    returns-3
+    cases-of-kind-requires
+    returns-4)

@@ -1,0 +1,57 @@
+use borrow.Author.Needs.{needs}
+use Rattle.tree.specs.Reading.{recordsKeepRules}
+use Rattle.tree.specs.ReadingLaws.{nodes-count, cases-count, bindings-count, paths-count, steps-count}
+use borrow.Author.Tests.{not-true, not-false}
+use mathlib.Core.Path.{sym, _∙_}
+use Rattle.tree.proofs.records_keep_rules.Statement.{statement}
+use Rattle.tree.proofs.records_keep_rules.Tie as tie
+
+nodes-keep-rules-requires : tie.Need-nodes-keep-rules-requires
+nodes-keep-rules-requires c κs = search needs
+
+returns : tie.Need-returns
+unfolding recordsKeepRules
+returns c = simp (nodes-count (c .before .before .before .pre), sym (c .before .nodes-keep-rules .ensures) ∙ not-true _ (c .if1 .taken))
+
+cases-keep-rules-requires : tie.Need-cases-keep-rules-requires
+cases-keep-rules-requires c κs = search needs
+
+returns-2 : tie.Need-returns-2
+unfolding recordsKeepRules
+returns-2 c = simp (nodes-count (c .before .before .before .before .before .pre), cases-count (c .before .before .before .before .before .pre), sym (c .before .before .before .nodes-keep-rules .ensures) ∙ not-false _ (c .before .before .if1 .left), sym (c .before .cases-keep-rules .ensures) ∙ not-true _ (c .if2 .taken))
+
+bindings-keep-rules-requires : tie.Need-bindings-keep-rules-requires
+bindings-keep-rules-requires c κs = search needs
+
+returns-3 : tie.Need-returns-3
+unfolding recordsKeepRules
+returns-3 c = simp (nodes-count (c .before .before .before .before .before .before .before .pre), cases-count (c .before .before .before .before .before .before .before .pre), bindings-count (c .before .before .before .before .before .before .before .pre), sym (c .before .before .before .before .before .nodes-keep-rules .ensures) ∙ not-false _ (c .before .before .before .before .if1 .left), sym (c .before .before .before .cases-keep-rules .ensures) ∙ not-false _ (c .before .before .if2 .left), sym (c .before .bindings-keep-rules .ensures) ∙ not-true _ (c .if3 .taken))
+
+paths-keep-rules-requires : tie.Need-paths-keep-rules-requires
+paths-keep-rules-requires c κs = search needs
+
+returns-4 : tie.Need-returns-4
+unfolding recordsKeepRules
+returns-4 c = simp (nodes-count (c .before .before .before .before .before .before .before .before .before .pre), cases-count (c .before .before .before .before .before .before .before .before .before .pre), bindings-count (c .before .before .before .before .before .before .before .before .before .pre), paths-count (c .before .before .before .before .before .before .before .before .before .pre), sym (c .before .before .before .before .before .before .before .nodes-keep-rules .ensures) ∙ not-false _ (c .before .before .before .before .before .before .if1 .left), sym (c .before .before .before .before .before .cases-keep-rules .ensures) ∙ not-false _ (c .before .before .before .before .if2 .left), sym (c .before .before .before .bindings-keep-rules .ensures) ∙ not-false _ (c .before .before .if3 .left), sym (c .before .paths-keep-rules .ensures) ∙ not-true _ (c .if4 .taken))
+
+steps-keep-rules-requires : tie.Need-steps-keep-rules-requires
+steps-keep-rules-requires c κs = search needs
+
+returns-5 : tie.Need-returns-5
+unfolding recordsKeepRules
+returns-5 c = simp (nodes-count (c .before .before .before .before .before .before .before .before .before .before .pre), cases-count (c .before .before .before .before .before .before .before .before .before .before .pre), bindings-count (c .before .before .before .before .before .before .before .before .before .before .pre), paths-count (c .before .before .before .before .before .before .before .before .before .before .pre), steps-count (c .before .before .before .before .before .before .before .before .before .before .pre), sym (c .before .before .before .before .before .before .before .before .nodes-keep-rules .ensures) ∙ not-false _ (c .before .before .before .before .before .before .before .if1 .left), sym (c .before .before .before .before .before .before .cases-keep-rules .ensures) ∙ not-false _ (c .before .before .before .before .before .if2 .left), sym (c .before .before .before .before .bindings-keep-rules .ensures) ∙ not-false _ (c .before .before .before .if3 .left), sym (c .before .before .paths-keep-rules .ensures) ∙ not-false _ (c .before .if4 .left), ← c .steps-keep-rules .ensures)
+
+pub records-keep-rules-spec : {M : Type 1} → statement M
+records-keep-rules-spec =
+    tie.close
+    (tie.spec
+    nodes-keep-rules-requires
+    returns
+    cases-keep-rules-requires
+    returns-2
+    bindings-keep-rules-requires
+    returns-3
+    paths-keep-rules-requires
+    returns-4
+    steps-keep-rules-requires
+    returns-5)

@@ -1,0 +1,53 @@
+-- Pre-order, said of each node alone: its first child is the next node, each later child is where the subtree of the child before it
+-- ends, and the subtree of node 0 ends where the nodes do. PreOrderLaws proves that this is the rules' condition.
+use Prim.Native.Nat.{ℕ, zero, suc, _+_, _<_}
+use mathlib.Core.Bool.{Bool, true, false}
+use mathlib.Core.List.{List, [], _∷_}
+use lib.Dec.{eqb, ltb}
+use Rattle.words.specs.Words.{both}
+use Rattle.rules.specs.Searching.{every}
+use Rattle.rules.specs.TreeReader.{nodes, nodeChildren}
+
+-- the last of the children cs, and k where there is none
+unfoldable pub lastFrom : ℕ → List ℕ → ℕ
+lastFrom k [] = k
+lastFrom k (c ∷ cs) = lastFrom c cs
+
+unfoldable pub lastChild : List ℕ → ℕ → ℕ
+unfolding lastFrom
+lastChild t k = lastFrom k (nodeChildren t k)
+
+-- the number after the last node that last children lead to from k, as far as they rise and `deep` of them
+unfoldable pub endFrom : ℕ → List ℕ → ℕ → ℕ
+unfolding lastChild
+endFrom zero t k = k + 1
+endFrom (suc deep) t k = elim (ltb k (lastChild t k)) [ true ↦ endFrom deep t (lastChild t k) | false ↦ k + 1 ]
+
+-- where the subtree of k ends; they rise, so that the number of nodes is deep enough
+unfoldable pub endOf : List ℕ → ℕ → ℕ
+unfolding endFrom
+endOf t k = endFrom (nodes t) t k
+
+-- the first of the children cs is e, and each later one is where the one before it ends
+unfoldable pub chained : List ℕ → ℕ → List ℕ → Bool
+unfolding endOf
+chained t e [] = true
+chained t e (c ∷ cs) = both (eqb c e) (chained t (endOf t c) cs)
+
+unfoldable pub childrenFollow : List ℕ → ℕ → Bool
+unfolding chained
+childrenFollow t k = chained t (k + 1) (nodeChildren t k)
+
+unfoldable pub allFollow : List ℕ → Bool
+unfolding childrenFollow
+allFollow t = both (ltb 0 (nodes t)) (both (every (childrenFollow t) 0 (nodes t)) (eqb (endOf t 0) (nodes t)))
+
+-- every one of cs is below n
+abbrev pub AllBelow : ℕ → List ℕ → Type 0
+AllBelow n [] = Unit {0}
+AllBelow n (c ∷ cs) = (c < n) × AllBelow n cs
+
+-- every one of cs is above k
+abbrev pub AllAbove : ℕ → List ℕ → Type 0
+AllAbove k [] = Unit {0}
+AllAbove k (c ∷ cs) = (k < c) × AllAbove k cs

@@ -1,0 +1,5 @@
+-- The definitions that the contracts of this crate cite, and their laws.
+pub mod Positions
+pub mod FollowLaws
+pub mod Choices
+pub mod ChoicesLaws

@@ -1,0 +1,35 @@
+-- Positions as the code has them, beside the rules' own; and what the code asks of a tree and a panel that it walks on.
+-- Rests on the rules' walk, and on what the two checks give.
+use mathlib.Core.List.{List}
+use mathlib.Core.Option.{Option, none, some}
+use Prim.Native.Nat.{ℕ, _≤_, _<_}
+use Rattle.rules.specs.PanelFile.{records, recordCount}
+use Rattle.rules.specs.Walking.{Position as Place}
+use Rattle.facts.specs.TreeFacts.{TreeSound}
+use Rattle.facts.specs.PanelFacts.{PanelAccepted}
+use Rattle.panel.specs.Opened.{Opened}
+use Rattle.panel.specs.declared.Map.{Map as PanelMap}
+use Rattle.tree.specs.declared.layout.Map.{Map}
+use Rattle.tree.specs.Reading.{Mapped, Ruled}
+use Rattle.walk.specs.declared.follow.Position.{Position}
+use Rattle.walk.specs.declared.follow.Found.{Found}
+use Rattle.walk.specs.declared.follow.Found.the-variants.{At, Stuck}
+
+abbrev pub placed : Position → Place
+placed p = record { place = p .«record»; dropped = p .dropped }
+
+abbrev pub foundOf : Option Place → Found
+foundOf none = Stuck
+foundOf (some x) = At (record { «record» = x .place; dropped = x .dropped })
+
+-- a record of the panel, and no more dropped than it has
+pub record Within (v : List ℕ) (x : Place) : Type 0 where
+  pub place-in : x .place < records v
+  pub dropped-in : x .dropped ≤ recordCount v (x .place)
+
+-- an accepted tree and an accepted panel, each with its map
+pub record Ready (t : List ℕ) (m : Map) (v : List ℕ) (n : PanelMap) : Type 0 where
+  pub mapped : Mapped t m
+  pub sound : TreeSound t
+  pub opened : Opened v n
+  pub panel : PanelAccepted v

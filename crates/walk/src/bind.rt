@@ -1,0 +1,28 @@
+// The bindings of a leaf: each path is followed, and (name, record, dropped) is written, three words a binding.
+// Rests on following a path and on stores of words.
+use crate::follow::{Found, follow};
+use panel::Map as PanelMap;
+use tree::layout::Map;
+use tree::reading::binding_at;
+use words::zero_words;
+
+fn put_bound(bound: &mut [u16], at: usize, name: u16, record: u16, dropped: u16) {
+    bound[at] = name;
+    bound[at + 1] = record;
+    bound[at + 2] = dropped;
+}
+
+// The `count` bindings from `first` on, written to the front of the buffer; all zero where one is stuck.
+pub fn bind(t: &[u8], m: Map, v: &[u8], n: PanelMap, first: usize, count: usize, bound: &mut [u16]) -> bool {
+    let mut i: usize = 0;
+    while i < count {
+        let b = binding_at(t, m, first + i);
+        let Found::At(p) = follow(t, m, v, n, b.path as usize) else {
+            zero_words(bound);
+            return false;
+        };
+        put_bound(bound, 3 * i, b.name, p.record as u16, p.dropped as u16);
+        i += 1;
+    }
+    true
+}

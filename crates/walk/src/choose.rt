@@ -1,0 +1,153 @@
+// What a part of the panel shows, and the first case of a switch that holds of it.
+// Rests on the cases of a tree file, each with its test, and on records of the panel.
+use crate::follow::Position;
+use panel::{Map as PanelMap, record_at};
+use tree::layout::Map;
+use tree::reading::{Test, case_at};
+use words::same_text;
+ghost use mathlib.Core.Path.{_≡_};
+ghost use Prim.Native.Nat.{_+_, _<_, _≤_};
+ghost use Rattle.rules.specs.Searching.{lowest};
+ghost use Rattle.rules.specs.TreeReader.{cases, caseTest};
+ghost use Rattle.rules.specs.Walking.{shownAt};
+
+
+
+// What a part shows to a test, or what is looked for among the cases of a list switch. A text stands so far into the panel.
+pub enum Part {
+    Constr(usize),
+    Text { integer: bool, start: usize, count: usize },
+    List(usize),
+    Tailed(usize),
+    Other,
+}
+
+pub enum Chosen {
+    Child(usize),
+    Nothing,
+}
+
+// What the record at a position shows.
+pub fn shown_at(v: &[u8], n: PanelMap, p: Position) -> Part {
+    let r = p.record;
+    let x = record_at(v, r);
+    let kind = x.kind;
+    let first = x.first;
+    match kind {
+        0 => Part::Text { integer: true, start: n.pool_at + first, count: x.count },
+        1 => Part::Text { integer: false, start: n.pool_at + first, count: x.count },
+        5 => Part::Constr(x.a),
+        _ => Part::Other,
+    }
+}
+
+// A part shows what cases of this kind ask.
+pub fn of_kind(s: Part, kind: u8) -> bool {
+    match s {
+        Part::Constr(_) => kind == 0,
+        Part::Text { integer, start: _, count: _ } => if integer { kind == 1 } else { kind == 2 },
+        Part::List(_) => kind == 3,
+        Part::Tailed(_) => kind == 4,
+        Part::Other => false,
+    }
+}
+
+fn is_constr(test: Test, a: usize) -> bool {
+    match test {
+        Test::Constr(b) => a == b as usize,
+        Test::Text { integer: _, start: _, count: _ } => false,
+        Test::List(_) => false,
+        Test::Tailed(_) => false,
+    }
+}
+
+fn is_list(test: Test, k: usize) -> bool {
+    match test {
+        Test::Constr(_) => false,
+        Test::Text { integer: _, start: _, count: _ } => false,
+        Test::List(j) => k == j as usize,
+        Test::Tailed(_) => false,
+    }
+}
+
+fn is_tailed(test: Test, k: usize) -> bool {
+    match test {
+        Test::Constr(_) => false,
+        Test::Text { integer: _, start: _, count: _ } => false,
+        Test::List(_) => false,
+        Test::Tailed(j) => k == j as usize,
+    }
+}
+
+// The count bytes of v from i on are a text of the tree's pool, the j-th and following, len of them.
+fn texts_same(t: &[u8], v: &[u8], i: usize, count: usize, j: usize, len: usize) -> bool {
+    if count != len {
+        return false;
+    }
+    same_text(v, i, t, j, count)
+}
+
+fn is_text(t: &[u8], m: Map, v: &[u8], test: Test, int: bool, i: usize, n: usize) -> bool {
+    match test {
+        Test::Constr(_) => false,
+        Test::Text { integer, start, count } => {
+            if int != integer {
+                return false;
+            }
+            texts_same(t, v, i, n, m.pool.start + start as usize, count as usize)
+        }
+        Test::List(_) => false,
+        Test::Tailed(_) => false,
+    }
+}
+
+fn holds(t: &[u8], m: Map, v: &[u8], s: Part, test: Test) -> bool {
+    match s {
+        Part::Constr(a) => is_constr(test, a),
+        Part::Text { integer, start, count } => is_text(t, m, v, test, integer, start, count),
+        Part::List(k) => is_list(test, k),
+        Part::Tailed(k) => is_tailed(test, k),
+        Part::Other => false,
+    }
+}
+
+// The child of the first of the n cases from i on that holds of the part.
+pub fn first_case(t: &[u8], m: Map, v: &[u8], i: usize, n: usize, s: Part) -> Chosen {
+    let mut j: usize = 0;
+    while j < n {
+        let case = case_at(t, m, i + j);
+        let test = case.test;
+        if holds(t, m, v, s, test) {
+            return Chosen::Child(case.child as usize);
+        }
+        j += 1;
+    }
+    Chosen::Nothing
+}
+
+// One more than a tail case's number if that is not above n; 0 for any other case.
+fn tail_number(test: Test, n: usize) -> usize {
+    match test {
+        Test::Constr(_) => 0,
+        Test::Text { integer: _, start: _, count: _ } => 0,
+        Test::List(_) => 0,
+        Test::Tailed(k) => if k as usize <= n { k as usize + 1 } else { 0 },
+    }
+}
+
+fn larger(a: usize, b: usize) -> usize {
+    if a < b { b } else { a }
+}
+
+// One more than the largest tail number not above n of the `tails` cases from i on; 0 where there is none.
+pub fn largest_tail(t: &[u8], m: Map, i: usize, tails: usize, n: usize) -> usize {
+    let mut best: usize = 0;
+    let mut j: usize = 0;
+    while j < tails {
+        let case = case_at(t, m, i + j);
+        let test = case.test;
+        best = larger(best, tail_number(test, n));
+        j += 1;
+    }
+    best
+}

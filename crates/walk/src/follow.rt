@@ -1,0 +1,104 @@
+// Following a path of a tree through a panel: each step asks a record of its kind that has the part, else the walk is stuck.
+// A position is a record and how many elements of its list are dropped.
+use panel::{Map as PanelMap, record_at};
+use tree::layout::Map;
+use tree::reading::{Step, path_at, step_at};
+use words::word_at;
+ghost use mathlib.Core.Path.{_≡_};
+ghost use Prim.Native.Nat.{_+_, _<_, _≤_};
+ghost use Rattle.rules.specs.PanelFile.{records, parts, part, recordCount};
+ghost use Rattle.rules.specs.TreeReader.{stepOfFields, pathAt};
+ghost use Rattle.rules.specs.Walking.{panelRoot, partOf, tailOf, takeStep};
+ghost use Rattle.rules.specs.Walking.{follow as Walking·follow};
+ghost use Rattle.facts.specs.PanelFacts.{PanelLaid, PanelShaped};
+ghost use Rattle.panel.specs.Opened.{Opened};
+ghost use Rattle.walk.specs.Positions.{placed, foundOf, Ready, Within};
+
+
+pub struct Position {
+    pub record: usize,
+    pub dropped: usize,
+}
+
+pub enum Found {
+    At(Position),
+    Stuck,
+}
+
+// Part j of a panel: the number of a record.
+fn part_at(v: &[u8], n: PanelMap, j: usize) -> usize
+    requires { ⌜ Opened (now v) n × (j < parts (now v)) ⌝ }
+    ensures { λ r. ⌜ r ≡ part (now (v .entry)) j ⌝ }
+{
+    word_at(v, n.parts_at + 2 * j) as usize
+}
+
+// Part i of record r, which must be of this kind.
+fn part_of(v: &[u8], n: PanelMap, kind: u8, r: usize, i: usize) -> Found
+    requires { ⌜ Opened (now v) n × PanelShaped (now v) × (r < records (now v)) × (2 ≤ kind) ⌝ }
+    ensures { λ res. ⌜ res ≡ foundOf (partOf (now (v .entry)) kind r i) ⌝ }
+{
+    let x = record_at(v, r);
+    if x.kind != kind {
+        return Found::Stuck;
+    }
+    if x.count <= i {
+        return Found::Stuck;
+    }
+    let record = part_at(v, n, x.first + i);
+    Found::At(Position { record, dropped: 0 })
+}
+
+// What is left of the list r after its first i elements.
+fn tail_of(v: &[u8], r: usize, i: usize) -> Found
+    requires { ⌜ PanelLaid (now v) × (r < records (now v)) ⌝ }
+    ensures { λ res. ⌜ res ≡ foundOf (tailOf (now (v .entry)) r i) ⌝ }
+{
+    let x = record_at(v, r);
+    if x.kind != 2 {
+        return Found::Stuck;
+    }
+    if x.count < i {
+        return Found::Stuck;
+    }
+    Found::At(Position { record: r, dropped: i })
+}
+
+// One step from a position. Its flag and type are not asked.
+fn take_step(v: &[u8], n: PanelMap, s: Step, p: Position) -> Found
+    requires { ⌜ Opened (now v) n × PanelShaped (now v) × Within (now v) (placed p) ⌝ }
+    ensures { λ r. ⌜ r ≡ foundOf (takeStep (now (v .entry)) (stepOfFields (s .kind) (s .flag) (s .index) (s .of)) (placed p)) ⌝ }
+{
+    let kind = s.kind;
+    let i = s.index as usize;
+    let r = p.record;
+    let dropped = p.dropped;
+    match kind {
+        0 => part_of(v, n, 3, r, i),
+        1 => part_of(v, n, 4, r, i),
+        2 => part_of(v, n, 5, r, i),
+        3 => part_of(v, n, 2, r, dropped + i),
+        _ => tail_of(v, r, dropped + i),
+    }
+}
+
+// Where path p of the tree leads from the panel's root.
+pub fn follow(t: &[u8], m: Map, v: &[u8], n: PanelMap, p: usize) -> Found
+    requires { ⌜ Ready (now t) m (now v) n × (p < m .paths .count) ⌝ }
+    ensures { λ r. ⌜ r ≡ foundOf (Walking·follow (now (v .entry)) (pathAt (now (t .entry)) p) panelRoot) ⌝ }
+{
+    let path = path_at(t, m, p);
+    let first = path.first as usize;
+    let count = path.count as usize;
+    let mut at = Position { record: 0, dropped: 0 };
+    let mut k: usize = 0;
+    while k < count {
+        let step = step_at(t, m, first + k);
+        let Found::At(next) = take_step(v, n, step, at) else {
+            return Found::Stuck;
+        };
+        at = next;
+        k += 1;
+    }
+    Found::At(at)
+}
