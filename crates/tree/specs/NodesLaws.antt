@@ -5,7 +5,7 @@ use mathlib.Core.Logic.{_⊎_, inl, inr, ⊎-elim}
 use mathlib.Core.List.{List, [], _∷_, _++_}
 use Prim.Native.Nat.{ℕ, zero, suc, _+_, _-_, _≤_, _<_}
 use native.Mathlib.Omega.{arith}
-use Rattle.rules.specs.TreeReader.{nodes, cases, nodeKind, nodePath, nodeFirstCase, nodeCases, nodeTailCases, nodeDefault, nodeClause, nodeFirstBinding, nodeBindings, nodeChild, NodeKind, Switch, List-switch, Leaf, Hoist-node, Unknown-node, nodeKindOf, caseChild, caseChildren, defaultChild, childrenOfKind, nodeChildren}
+use Rattle.rules.specs.TreeReader.{nodes, cases, paths, nodeKind, nodePath, nodeFirstCase, nodeCases, nodeTailCases, nodeDefault, nodeClause, nodeFirstBinding, nodeBindings, nodeChild, NodeKind, Switch, List-switch, Leaf, Hoist-node, Unknown-node, nodeKindOf, caseChild, caseChildren, defaultChild, childrenOfKind, nodeChildren}
 use Rattle.facts.specs.KindsLaws.{node-byte, unknown-node}
 use Rattle.facts.specs.TreeFacts.{TreeRuled, switch-children, hoist-children}
 use Rattle.tree.specs.declared.reading.Node.{Node}
@@ -101,6 +101,12 @@ module _ {t : List ℕ} (rules : TreeRuled t) (k : ℕ) (h : k < nodes t) where
       let run = rules .switch-run k h (omega arith) in
       (omega (arith, rules .switch-some k h kind), omega (arith, run .inside))
 
+  pub switch-node-path : (p f n d : ℕ) → SwitchNode t k p f n d → p < paths t
+  switch-node-path p f n d w =
+      let kind = w .kind in
+      let p-is = w .path-is in
+      omega (arith, rules .switch-path k h (omega arith))
+
   pub switch-node-children : (p f n d : ℕ) → SwitchNode t k p f n d → nodeChildren t k ≡ caseChildren t f n ++ defaultChild d
   switch-node-children p f n d w =
       let kind = w .kind in
@@ -115,6 +121,12 @@ module _ {t : List ℕ} (rules : TreeRuled t) (k : ℕ) (h : k < nodes t) where
       let kind = w .kind in
       let run = rules .switch-run k h (omega arith) in
       (omega (arith, rules .list-switch-some k h kind), omega (arith, run .inside))
+
+  pub list-switch-node-path : (p f n u d : ℕ) → ListSwitchNode t k p f n u d → p < paths t
+  list-switch-node-path p f n u d w =
+      let kind = w .kind in
+      let p-is = w .path-is in
+      omega (arith, rules .switch-path k h (omega arith))
 
   pub list-switch-node-children : (p f n u d : ℕ) → ListSwitchNode t k p f n u d → nodeChildren t k ≡ caseChildren t f (n + u) ++ defaultChild d
   list-switch-node-children p f n u d w =

@@ -1,16 +1,17 @@
 -- What a part shows and what a case asks, as the code has them, and as tests of the rules; and the case that is chosen.
 -- Rests on the rules' tests.
-use mathlib.Core.Bool.{Bool, true, false}
+use mathlib.Core.Path.{_≡_}
+use mathlib.Core.Bool.{Bool, true, false, not}
 use mathlib.Core.List.{List}
 use mathlib.Core.Option.{Option, none, some}
 use Prim.Native.Nat.{ℕ, _+_, _≤_}
-use lib.Dec.{eqb}
+use lib.Dec.{eqb, leb}
 use lib.ListN.{length}
-use Rattle.words.specs.Words.{textAt}
+use Rattle.words.specs.Words.{textAt, pick}
 use Rattle.rules.specs.Searching.{lowest}
 use Rattle.rules.specs.Splitting.{Test, Constr, Int, Bytes, ListOf, ListWithTail, sameTest}
 use Rattle.rules.specs.TreeReader.{treePoolAt, treePoolSize, caseChild, caseTest}
-use Rattle.rules.specs.Walking.{Position as Place, testKind, shownAt}
+use Rattle.rules.specs.Walking.{Position as Place, shownAt}
 use Rattle.tree.specs.declared.reading.Test.{Test as TestRead}
 use Rattle.walk.specs.declared.choose.Part.{Part}
 use Rattle.walk.specs.declared.choose.Chosen.{Chosen}
@@ -53,18 +54,52 @@ pub record Shows (v : List ℕ) (x : Place) (s : Part) : Type 0 where
   pub means : partMeans v s ≡ shownAt v x
   pub inside : Inside v s
 
-abbrev pub ofKind : Option Test → ℕ → Bool
-ofKind none kind = false
-ofKind (some x) kind = eqb (testKind x) kind
+-- ---- what the code asks of a test and of a part, by their variants
+abbrev pub isConstr : TestRead → ℕ → Bool
+isConstr (TestRead.Constr b) a = eqb a b
+isConstr (TestRead.Text i s n) a = false
+isConstr (TestRead.List k) a = false
+isConstr (TestRead.Tailed k) a = false
 
+abbrev pub isList : TestRead → ℕ → Bool
+isList (TestRead.Constr b) k = false
+isList (TestRead.Text i s n) k = false
+isList (TestRead.List j) k = eqb k j
+isList (TestRead.Tailed j) k = false
+
+abbrev pub isTailed : TestRead → ℕ → Bool
+isTailed (TestRead.Constr b) k = false
+isTailed (TestRead.Text i s n) k = false
+isTailed (TestRead.List j) k = false
+isTailed (TestRead.Tailed j) k = eqb k j
+
+-- one more than a tail case's number if that is not above n; 0 for any other case
+abbrev pub tailNumberOf : TestRead → ℕ → ℕ
+tailNumberOf (TestRead.Constr b) n = 0
+tailNumberOf (TestRead.Text i s m) n = 0
+tailNumberOf (TestRead.List j) n = 0
+tailNumberOf (TestRead.Tailed j) n = pick (leb j n) (j + 1) 0
+
+abbrev pub isOfKind : Part → ℕ → Bool
+isOfKind (Part.Constr a) kind = eqb kind 0
+isOfKind (Part.Text i s n) kind = pick i (eqb kind 1) (eqb kind 2)
+isOfKind (Part.List k) kind = eqb kind 3
+isOfKind (Part.Tailed k) kind = eqb kind 4
+isOfKind Part.Other kind = false
+
+abbrev pub alike : Bool → Bool → Bool
+alike true b = b
+alike false b = not b
+
+-- ---- choosing
 abbrev pub same : Option Test → Test → Bool
 same none u = false
 same (some x) u = sameTest x u
 
-abbrev pub chosenOf : List ℕ → Option ℕ → Chosen
-chosenOf t none = Nothing
-chosenOf t (some j) = Child (caseChild t j)
-
 -- the first of the n cases from i on that holds of the part
 unfoldable pub firstCase : List ℕ → List ℕ → Part → ℕ → ℕ → Option ℕ
 firstCase t v s i n = lowest (λ j. same (partMeans v s) (caseTest t j)) i n
+
+abbrev pub chosenOf : List ℕ → Option ℕ → Chosen
+chosenOf t none = Nothing
+chosenOf t (some j) = Child (caseChild t j)

@@ -15,15 +15,21 @@ use Rattle.rules.specs.PanelFile.{records, parts, panelPoolSize, recordKind, re
 use Rattle.rules.specs.Rows.{Step, pair, tuple, constr, list, listtail, Path}
 use Rattle.rules.specs.TreeReader.{stepAt, stepsFrom, stepOfFields, stepKind, stepFlag, stepIndexAt, stepType, pathFirst, pathCount, pathAt}
 use Rattle.rules.specs.Walking.{Position as Place, panelRoot, partOf, tailOf, takeStep, follow}
-use Rattle.facts.specs.PanelFacts.{PanelLaid, PanelShaped, PanelAccepted, Holds, kind-holder}
+use Rattle.facts.specs.TreeFacts.{TreeRuled}
+use Rattle.facts.specs.PanelFacts.{PanelLaid, PanelShaped}
+use Rattle.panel.specs.declared.Map.{Map as PanelMap}
 use Rattle.panel.specs.declared.Record.{Record}
 use Rattle.panel.specs.Opened.{recordOf}
 use Rattle.tree.specs.declared.reading.Step.{Step as StepRead}
-use Rattle.tree.specs.Reading.{stepOf}
+use Rattle.tree.specs.declared.reading.Path.{Path as PathRead}
+use Rattle.tree.specs.declared.reading.Binding.{Binding as BindingRead}
+use Rattle.tree.specs.declared.layout.Map.{Map}
+use Rattle.tree.specs.Reading.{Mapped, Ruled, stepOf, pathOf, bindingOf}
+use Rattle.tree.specs.ReadingLaws.{paths-count, steps-count, bindings-count}
 use Rattle.walk.specs.declared.follow.Position.{Position}
 use Rattle.walk.specs.declared.follow.Found.{Found}
 use Rattle.walk.specs.declared.follow.Found.the-variants.{At, Stuck}
-use Rattle.walk.specs.Positions.{placed, foundOf, Within}
+use Rattle.walk.specs.Positions.{placed, foundOf, Within, Ready}
 
 -- ---- what was found
 pub found-some : (o : Option Place) (p : Position) → foundOf o ≡ At p → o ≡ some (placed p)
@@ -156,8 +162,8 @@ module _ {v : List ℕ} (laid : PanelLaid v) (shaped : PanelShaped v) where
   follow-within (s ∷ p) x y w e = go (takeStep v s x) refl (λ z q. follow-within p z y q)
     where
       go : (o : Option Place) → takeStep v s x ≡ o → ((z : Place) → Within v z → follow v p z ≡ some y → Within v y) → Within v y
-      go none q ih = let f : none ≡ some y = rw q at e in let z : _≡_ {A = ℕ} 0 1 = cc in absurd (omega arith)
-      go (some z) q ih = ih z (step-within s x z w q) (rw q at e)
+      go none q ih = let f : none ≡ some y = rw (q, follow) at e in let z : _≡_ {A = ℕ} 0 1 = cc in absurd (omega arith)
+      go (some z) q ih = ih z (step-within s x z w q) (rw (q, follow) at e)
 
 -- ---- one step, by the fields of its record
 module _ (v : List ℕ) (s : StepRead) (p : Position) where
@@ -185,9 +191,21 @@ module _ (v : List ℕ) (s : StepRead) (p : Position) where
   step-listtail a b c d = rw (ne-eqb (s .kind) 0 a, ne-eqb (s .kind) 1 b, ne-eqb (s .kind) 2 c, ne-eqb (s .kind) 3 d)
 
 -- the step that was read is the tree's
-pub step-read : (t : List ℕ) (i : ℕ) (s : StepRead) → s ≡ stepOf t i → stepOfFields (s .kind) (s .flag) (s .index) (s .of) ≡ stepAt t i
+step-read : (t : List ℕ) (i : ℕ) (s : StepRead) → s ≡ stepOf t i → stepOfFields (s .kind) (s .flag) (s .index) (s .of) ≡ stepAt t i
 unfolding stepAt
 step-read t i s e = ap (λ (x : StepRead). stepOfFields (x .kind) (x .flag) (x .index) (x .of)) e
+
+pub step-taken : (v t : List ℕ) (i : ℕ) (s : StepRead) (p : Position) → s ≡ stepOf t i
+    → takeStep v (stepOfFields (s .kind) (s .flag) (s .index) (s .of)) (placed p) ≡ takeStep v (stepAt t i) (placed p)
+step-taken v t i s p e = ap (λ (x : Step). takeStep v x (placed p)) (step-read t i s e)
+
+-- the run of steps of a path that was read
+pub path-run : {t : List ℕ} {m : Map} → Mapped t m → TreeRuled t → (p : ℕ) (x : PathRead) → p < m .paths .count → x ≡ pathOf t p → x .first + x .count ≤ m .steps .count
+path-run w rules p x h e =
+    let n = paths-count w in
+    let f = ap (λ (y : PathRead). y .first) e in
+    let c = ap (λ (y : PathRead). y .count) e in
+    omega (arith, rules .path-steps p (omega arith) .inside, steps-count w)
 
 -- ---- a path after k of its steps
 module _ (v t : List ℕ) (first count : ℕ) where
@@ -208,12 +226,30 @@ module _ (v t : List ℕ) (first count : ℕ) where
   pub path-on : (k : ℕ) (x y : Place) → k < count → takeStep v (stepAt t (first + k)) x ≡ some y
       → follow v (stepsFrom t (first + (k + 1)) (count - (k + 1))) y ≡ follow v (stepsFrom t (first + k) (count - k)) x
   unfolding follow
-  path-on k x y h e = sym (path-next k x h ∙ rw e)
+  path-on k x y h e = sym (path-next k x h ∙ rw (e, follow))
 
   pub path-stuck : (k : ℕ) (x : Place) → k < count → takeStep v (stepAt t (first + k)) x ≡ none → none ≡ follow v (stepsFrom t (first + k) (count - k)) x
   unfolding follow
-  path-stuck k x h e = sym (path-next k x h ∙ rw e)
+  path-stuck k x h e = sym (path-next k x h ∙ rw (e, follow))
 
   pub path-end : (k : ℕ) (x : Place) → count ≤ k → some x ≡ follow v (stepsFrom t (first + k) (count - k)) x
   unfolding follow stepsFrom
   path-end k x h = let e : count - k ≡ 0 = omega arith in rw e
+
+-- the path of a binding that was read
+pub binding-path-in : {t : List ℕ} {m : Map} → Mapped t m → TreeRuled t → (b : ℕ) (x : BindingRead) → b < m .bindings .count → x ≡ bindingOf t b → x .path < m .paths .count
+binding-path-in w rules b x h e =
+    let n = bindings-count w in
+    let p = ap (λ (y : BindingRead). y .path) e in
+    omega (arith, rules .binding-path b (omega arith), paths-count w)
+
+-- ---- where a path was followed to
+module _ {t : List ℕ} {m : Map} {v : List ℕ} {n : PanelMap} (ready : Ready t m v n) where
+  pub ready-ruled : Ruled t m
+  ready-ruled = record { mapped = ready .mapped; rules = ready .sound .is-ruled }
+
+  pub found-within : (p : ℕ) (x : Position) → follow v (pathAt t p) panelRoot ≡ some (placed x) → Within v (placed x)
+  found-within p x e =
+      let laid = ready .opened .laid in
+      let shaped = ready .panel .is-shaped in
+      follow-within laid shaped (pathAt t p) panelRoot (placed x) (root-within laid shaped) e

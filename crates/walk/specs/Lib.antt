@@ -3,3 +3,9 @@ pub mod Positions
 pub mod FollowLaws
 pub mod Choices
 pub mod ChoicesLaws
+pub mod Turns
+pub mod TurnsLaws
+pub mod Bindings
+pub mod BindingsLaws
+pub mod Answers
+pub mod AnswersLaws

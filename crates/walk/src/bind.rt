@@ -5,15 +5,29 @@ use panel::Map as PanelMap;
 use tree::layout::Map;
 use tree::reading::binding_at;
 use words::zero_words;
+ghost use mathlib.Core.Path.{_≡_};
+ghost use mathlib.Core.List.{[], _∷_};
+ghost use Prim.Native.Nat.{_+_, _*_, _<_, _≤_};
+ghost use lib.ListN.{length};
+ghost use Rattle.words.specs.Stored.{stored};
+ghost use Rattle.rules.specs.TreeReader.{bindingsFrom};
+ghost use Rattle.walk.specs.Positions.{Ready};
+ghost use Rattle.walk.specs.Bindings.{Binds};
 
-fn put_bound(bound: &mut [u16], at: usize, name: u16, record: u16, dropped: u16) {
+fn put_bound(bound: &mut [u16], at: usize, name: u16, record: u16, dropped: u16)
+    requires { ⌜ at + 2 < length (now bound) ⌝ }
+    ensures { λ _. ⌜ now (bound .exit) ≡ stored (now (bound .entry)) at (name ∷ «record» ∷ dropped ∷ []) ⌝ }
+{
     bound[at] = name;
     bound[at + 1] = record;
     bound[at + 2] = dropped;
 }
 
 // The `count` bindings from `first` on, written to the front of the buffer; all zero where one is stuck.
-pub fn bind(t: &[u8], m: Map, v: &[u8], n: PanelMap, first: usize, count: usize, bound: &mut [u16]) -> bool {
+pub fn bind(t: &[u8], m: Map, v: &[u8], n: PanelMap, first: usize, count: usize, bound: &mut [u16]) -> bool
+    requires { ⌜ Ready (now t) m (now v) n × (first + count ≤ m .bindings .count) × (3 * count ≤ length (now bound)) ⌝ }
+    ensures { λ r. ⌜ Binds (now (v .entry)) (bindingsFrom (now (t .entry)) first count) (now (bound .entry)) (now (bound .exit)) r ⌝ }
+{
     let mut i: usize = 0;
     while i < count {
         let b = binding_at(t, m, first + i);

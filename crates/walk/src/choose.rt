@@ -6,10 +6,21 @@ use tree::layout::Map;
 use tree::reading::{Test, case_at};
 use words::same_text;
 ghost use mathlib.Core.Path.{_≡_};
-ghost use Prim.Native.Nat.{_+_, _<_, _≤_};
-ghost use Rattle.rules.specs.Searching.{lowest};
-ghost use Rattle.rules.specs.TreeReader.{cases, caseTest};
-ghost use Rattle.rules.specs.Walking.{shownAt};
+ghost use Prim.Native.Nat.{ℕ, _+_, _<_, _≤_, max};
+ghost use lib.ListN.{length};
+ghost use mathlib.Core.List.{List};
+ghost use Rattle.words.specs.Words.{textAt, sameText};
+ghost use Rattle.rules.specs.Building.{Tree};
+ghost use Rattle.rules.specs.PanelFile.{records};
+ghost use Rattle.rules.specs.Splitting.{sameTest};
+ghost use Rattle.rules.specs.TreeReader.{casesFor};
+ghost use Rattle.rules.specs.Walking.{largestTail};
+ghost use Rattle.facts.specs.PanelFacts.{PanelShaped};
+ghost use Rattle.panel.specs.Opened.{Opened};
+ghost use Rattle.tree.specs.Reading.{Mapped, Ruled};
+ghost use Rattle.walk.specs.Positions.{placed};
+ghost use Rattle.walk.specs.Choices.{alike as Choices·alike};
+ghost use Rattle.walk.specs.Choices.{textTest, testMeans, InPool, partMeans, Inside, Shows, isConstr, isList, isTailed, tailNumberOf, isOfKind, same, firstCase, chosenOf};
 
 
 
@@ -28,7 +39,10 @@ pub enum Chosen {
 }
 
 // What the record at a position shows.
-pub fn shown_at(v: &[u8], n: PanelMap, p: Position) -> Part {
+pub fn shown_at(v: &[u8], n: PanelMap, p: Position) -> Part
+    requires { ⌜ Opened (now v) n × PanelShaped (now v) × (p .«record» < records (now v)) ⌝ }
+    ensures { λ r. ⌜ Shows (now (v .entry)) (placed p) r ⌝ }
+{
     let r = p.record;
     let x = record_at(v, r);
     let kind = x.kind;
@@ -42,7 +56,9 @@ pub fn shown_at(v: &[u8], n: PanelMap, p: Position) -> Part {
 }
 
 // A part shows what cases of this kind ask.
-pub fn of_kind(s: Part, kind: u8) -> bool {
+pub fn of_kind(s: Part, kind: u8) -> bool
+    ensures { λ r. ⌜ r ≡ isOfKind s kind ⌝ }
+{
     match s {
         Part::Constr(_) => kind == 0,
         Part::Text { integer, start: _, count: _ } => if integer { kind == 1 } else { kind == 2 },
@@ -52,7 +68,9 @@ pub fn of_kind(s: Part, kind: u8) -> bool {
     }
 }
 
-fn is_constr(test: Test, a: usize) -> bool {
+fn is_constr(test: Test, a: usize) -> bool
+    ensures { λ r. ⌜ r ≡ isConstr test a ⌝ }
+{
     match test {
         Test::Constr(b) => a == b as usize,
         Test::Text { integer: _, start: _, count: _ } => false,
@@ -61,7 +79,9 @@ fn is_constr(test: Test, a: usize) -> bool {
     }
 }
 
-fn is_list(test: Test, k: usize) -> bool {
+fn is_list(test: Test, k: usize) -> bool
+    ensures { λ r. ⌜ r ≡ isList test k ⌝ }
+{
     match test {
         Test::Constr(_) => false,
         Test::Text { integer: _, start: _, count: _ } => false,
@@ -70,7 +90,9 @@ fn is_list(test: Test, k: usize) -> bool {
     }
 }
 
-fn is_tailed(test: Test, k: usize) -> bool {
+fn is_tailed(test: Test, k: usize) -> bool
+    ensures { λ r. ⌜ r ≡ isTailed test k ⌝ }
+{
     match test {
         Test::Constr(_) => false,
         Test::Text { integer: _, start: _, count: _ } => false,
@@ -80,18 +102,30 @@ fn is_tailed(test: Test, k: usize) -> bool {
 }
 
 // The count bytes of v from i on are a text of the tree's pool, the j-th and following, len of them.
-fn texts_same(t: &[u8], v: &[u8], i: usize, count: usize, j: usize, len: usize) -> bool {
+fn texts_same(t: &[u8], v: &[u8], i: usize, count: usize, j: usize, len: usize) -> bool
+    requires { ⌜ (i + count ≤ length (now v)) × (j + len ≤ length (now t)) ⌝ }
+    ensures { λ r. ⌜ r ≡ sameText (textAt (now (v .entry)) i count) (textAt (now (t .entry)) j len) ⌝ }
+{
     if count != len {
         return false;
     }
     same_text(v, i, t, j, count)
 }
 
-fn is_text(t: &[u8], m: Map, v: &[u8], test: Test, int: bool, i: usize, n: usize) -> bool {
+fn alike(a: bool, b: bool) -> bool
+    ensures { λ r. ⌜ r ≡ Choices·alike a b ⌝ }
+{
+    if a { b } else { !b }
+}
+
+fn is_text(t: &[u8], m: Map, v: &[u8], test: Test, int: bool, i: usize, n: usize) -> bool
+    requires { ⌜ Mapped (now t) m × (i + n ≤ length (now v)) × InPool (now t) test ⌝ }
+    ensures { λ r. ⌜ r ≡ sameTest (textTest int (textAt (now (v .entry)) i n)) (testMeans (now (t .entry)) test) ⌝ }
+{
     match test {
         Test::Constr(_) => false,
         Test::Text { integer, start, count } => {
-            if int != integer {
+            if !alike(int, integer) {
                 return false;
             }
             texts_same(t, v, i, n, m.pool.start + start as usize, count as usize)
@@ -101,7 +135,10 @@ fn is_text(t: &[u8], m: Map, v: &[u8], test: Test, int: bool, i: usize, n: usize
     }
 }
 
-fn holds(t: &[u8], m: Map, v: &[u8], s: Part, test: Test) -> bool {
+fn holds(t: &[u8], m: Map, v: &[u8], s: Part, test: Test) -> bool
+    requires { ⌜ Mapped (now t) m × Inside (now v) s × InPool (now t) test ⌝ }
+    ensures { λ r. ⌜ r ≡ same (partMeans (now (v .entry)) s) (testMeans (now (t .entry)) test) ⌝ }
+{
     match s {
         Part::Constr(a) => is_constr(test, a),
         Part::Text { integer, start, count } => is_text(t, m, v, test, integer, start, count),
@@ -112,7 +149,10 @@ fn holds(t: &[u8], m: Map, v: &[u8], s: Part, test: Test) -> bool {
 }
 
 // The child of the first of the n cases from i on that holds of the part.
-pub fn first_case(t: &[u8], m: Map, v: &[u8], i: usize, n: usize, s: Part) -> Chosen {
+pub fn first_case(t: &[u8], m: Map, v: &[u8], i: usize, n: usize, s: Part) -> Chosen
+    requires { ⌜ Ruled (now t) m × Inside (now v) s × (i + n ≤ m .cases .count) ⌝ }
+    ensures { λ r. ⌜ r ≡ chosenOf (now (t .entry)) (firstCase (now (t .entry)) (now (v .entry)) s i n) ⌝ }
+{
     let mut j: usize = 0;
     while j < n {
         let case = case_at(t, m, i + j);
@@ -126,7 +166,9 @@ pub fn first_case(t: &[u8], m: Map, v: &[u8], i: usize, n: usize, s: Part) -> Ch
 }
 
 // One more than a tail case's number if that is not above n; 0 for any other case.
-fn tail_number(test: Test, n: usize) -> usize {
+fn tail_number(test: Test, n: usize) -> usize
+    ensures { λ r. ⌜ r ≡ tailNumberOf test n ⌝ }
+{
     match test {
         Test::Constr(_) => 0,
         Test::Text { integer: _, start: _, count: _ } => 0,
@@ -135,12 +177,17 @@ fn tail_number(test: Test, n: usize) -> usize {
     }
 }
 
-fn larger(a: usize, b: usize) -> usize {
+fn larger(a: usize, b: usize) -> usize
+    ensures { λ r. ⌜ r ≡ max a b ⌝ }
+{
     if a < b { b } else { a }
 }
 
 // One more than the largest tail number not above n of the `tails` cases from i on; 0 where there is none.
-pub fn largest_tail(t: &[u8], m: Map, i: usize, tails: usize, n: usize) -> usize {
+pub fn largest_tail(t: &[u8], m: Map, i: usize, tails: usize, n: usize) -> usize
+    requires { ⌜ Ruled (now t) m × (i + tails ≤ m .cases .count) ⌝ }
+    ensures { λ r. ⌜ ((f : ℕ → Tree) → r ≡ largestTail n (casesFor f (now (t .entry)) i tails)) ⌝ }
+{
     let mut best: usize = 0;
     let mut j: usize = 0;
     while j < tails {

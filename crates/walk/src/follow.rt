@@ -1,12 +1,11 @@
 // Following a path of a tree through a panel: each step asks a record of its kind that has the part, else the walk is stuck.
 // A position is a record and how many elements of its list are dropped.
-use panel::{Map as PanelMap, record_at};
+use panel::{Map as PanelMap, part_at, record_at};
 use tree::layout::Map;
 use tree::reading::{Step, path_at, step_at};
-use words::word_at;
 ghost use mathlib.Core.Path.{_≡_};
 ghost use Prim.Native.Nat.{_+_, _<_, _≤_};
-ghost use Rattle.rules.specs.PanelFile.{records, parts, part, recordCount};
+ghost use Rattle.rules.specs.PanelFile.{records};
 ghost use Rattle.rules.specs.TreeReader.{stepOfFields, pathAt};
 ghost use Rattle.rules.specs.Walking.{panelRoot, partOf, tailOf, takeStep};
 ghost use Rattle.rules.specs.Walking.{follow as Walking·follow};
@@ -23,14 +22,6 @@ pub struct Position {
 pub enum Found {
     At(Position),
     Stuck,
-}
-
-// Part j of a panel: the number of a record.
-fn part_at(v: &[u8], n: PanelMap, j: usize) -> usize
-    requires { ⌜ Opened (now v) n × (j < parts (now v)) ⌝ }
-    ensures { λ r. ⌜ r ≡ part (now (v .entry)) j ⌝ }
-{
-    word_at(v, n.parts_at + 2 * j) as usize
 }
 
 // Part i of record r, which must be of this kind.

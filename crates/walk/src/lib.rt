@@ -1,15 +1,27 @@
-// The walk of a tree file on a panel.
+// The walk of a tree file on a panel: refusals 1, 31, 21 to 24 and 32, or the leaf's clause with its bindings, or No leaf.
+// Its cost is the reader's one pass over the tree and one over the panel, then the depth of the tree times the cases met on the way,
+// and the steps of the paths. A caller who walks one tree often pays the reader's pass each time: that is some steps for each
+// record of the tree, while the walk itself meets few of them.
 use bind::bind;
 use nodes::{Reached, reach};
 use panel::Map as PanelMap;
 use tree::layout::Map;
 use words::zero_words;
+ghost use mathlib.Core.Path.{_≡_};
+ghost use Prim.Native.Nat.{_≤_};
+ghost use lib.ListN.{length};
+ghost use Rattle.words.specs.Words.{zeros};
+ghost use Rattle.rules.specs.Calls.{walkCall};
+ghost use Rattle.tree.specs.CheckLaws.{Accept};
+ghost use Rattle.walk.specs.Positions.{Ready};
+ghost use Rattle.walk.specs.Answers.{callOf, Gives, panelEnd, treeEnd};
 
 pub mod bind;
 pub mod choose;
 pub mod follow;
 pub mod nodes;
 
+// The least binding buffer, in u16.
 pub const BOUND_ROOM: usize = 576;
 
 pub enum Walked {
@@ -18,38 +30,43 @@ pub enum Walked {
     Refused { number: u16, place: u16 },
 }
 
-fn refused(number: u16) -> Walked {
-    Walked::Refused { number, place: 0 }
-}
-
-fn walk_checked(t: &[u8], m: Map, v: &[u8], n: PanelMap, bound: &mut [u16]) -> Walked {
+// On a buffer that is all zero.
+fn walk_panel(t: &[u8], m: Map, v: &[u8], n: PanelMap, bound: &mut [u16]) -> Walked
+    requires { ⌜ Ready (now t) m (now v) n × (576 ≤ length (now bound)) × (now bound ≡ zeros (length (now bound))) ⌝ }
+    ensures { λ r. ⌜ Gives (now (t .entry)) (now (v .entry)) (panelEnd (now (t .entry)) (now (v .entry))) (now (bound .entry)) (now (bound .exit)) r ⌝ }
+{
     match reach(t, m, v, n) {
         Reached::Leaf { clause, first, count } => {
             if bind(t, m, v, n, first as usize, count as usize, bound) {
-                Walked::Leaf { clause, count }
-            } else {
-                refused(32)
+                return Walked::Leaf { clause, count };
             }
+            Walked::Refused { number: 32, place: 0 }
         }
         Reached::NoLeaf => Walked::NoLeaf,
-        Reached::Stuck => refused(32),
+        Reached::Stuck => Walked::Refused { number: 32, place: 0 },
     }
 }
 
-fn walk_panel(t: &[u8], m: Map, v: &[u8], bound: &mut [u16]) -> Walked {
+fn walk_tree(t: &[u8], m: Map, v: &[u8], bound: &mut [u16]) -> Walked
+    requires { ⌜ Accept (now t) m × (576 ≤ length (now bound)) × (now bound ≡ zeros (length (now bound))) ⌝ }
+    ensures { λ r. ⌜ Gives (now (t .entry)) (now (v .entry)) (treeEnd (now (t .entry)) (now (v .entry))) (now (bound .entry)) (now (bound .exit)) r ⌝ }
+{
     match panel::check(v) {
-        panel::Checked::Accepted(n) => walk_checked(t, m, v, n, bound),
+        panel::Checked::Accepted(n) => walk_panel(t, m, v, n, bound),
         panel::Checked::Refused { number, place } => Walked::Refused { number, place },
     }
 }
 
-pub fn walk(t: &[u8], v: &[u8], bound: &mut [u16]) -> Walked {
+// The walk call: its answer and every word of the buffer after it, for whatever tree, panel and buffer.
+pub fn walk(t: &[u8], v: &[u8], bound: &mut [u16]) -> Walked
+    ensures { λ r. ⌜ callOf r (now (bound .exit)) ≡ walkCall (now (t .entry)) (now (v .entry)) (length (now (bound .entry))) ⌝ }
+{
     zero_words(bound);
     if bound.len() < BOUND_ROOM {
-        return refused(1);
+        return Walked::Refused { number: 1, place: 0 };
     }
     let tree::Checked::Accepted(m) = tree::check(t) else {
-        return refused(31);
+        return Walked::Refused { number: 31, place: 0 };
     };
-    walk_panel(t, m, v, bound)
+    walk_tree(t, m, v, bound)
 }

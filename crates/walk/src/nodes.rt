@@ -5,6 +5,13 @@ use crate::follow::{Found, follow};
 use panel::{Map as PanelMap, record_at};
 use tree::layout::Map;
 use tree::reading::{Node, case_kind, node_at};
+ghost use mathlib.Core.Path.{_≡_};
+ghost use mathlib.Core.List.{List, _++_};
+ghost use Prim.Native.Nat.{ℕ, _+_, _<_, _≤_};
+ghost use Rattle.rules.specs.TreeReader.{caseChildren, defaultChild};
+ghost use Rattle.tree.specs.Reading.{Ruled};
+ghost use Rattle.walk.specs.Positions.{Ready};
+ghost use Rattle.walk.specs.Turns.{Turns, defaultWalk, switchWalk, listWalk, tailsWalk, lengthWalk, Steps, Arrives};
 
 pub enum Reached {
     Leaf { clause: u16, first: u16, count: u16 },
@@ -17,24 +24,25 @@ pub enum Next {
     End(Reached),
 }
 
-fn default_of(default: usize) -> Next {
+fn default_of(default: usize) -> Next
+    ensures { λ r. ⌜ ((t v : List ℕ) → Turns t v (defaultChild default) (defaultWalk v default) r) ⌝ }
+{
     if default == 0 {
         return Next::End(Reached::NoLeaf);
     }
     Next::Node(default - 1)
 }
 
-fn stuck() -> Next {
-    Next::End(Reached::Stuck)
-}
-
-fn from_switch(t: &[u8], m: Map, v: &[u8], n: PanelMap, path: usize, first: usize, cases: usize, default: usize) -> Next {
+fn from_switch(t: &[u8], m: Map, v: &[u8], n: PanelMap, path: usize, first: usize, cases: usize, default: usize) -> Next
+    requires { ⌜ Ready (now t) m (now v) n × (path < m .paths .count) × (1 ≤ cases) × (first + cases ≤ m .cases .count) ⌝ }
+    ensures { λ r. ⌜ Turns (now (t .entry)) (now (v .entry)) (caseChildren (now (t .entry)) first cases ++ defaultChild default) (switchWalk (now (t .entry)) (now (v .entry)) path first cases default) r ⌝ }
+{
     let Found::At(p) = follow(t, m, v, n, path) else {
-        return stuck();
+        return Next::End(Reached::Stuck);
     };
     let s = shown_at(v, n, p);
     if !of_kind(s, case_kind(t, m, first)) {
-        return stuck();
+        return Next::End(Reached::Stuck);
     }
     let Chosen::Child(c) = first_case(t, m, v, first, cases, s) else {
         return default_of(default);
@@ -43,7 +51,10 @@ fn from_switch(t: &[u8], m: Map, v: &[u8], n: PanelMap, path: usize, first: usiz
 }
 
 // Past the cases of the exact length.
-fn from_tails(t: &[u8], m: Map, v: &[u8], length: usize, first: usize, tails: usize, default: usize) -> Next {
+fn from_tails(t: &[u8], m: Map, v: &[u8], length: usize, first: usize, tails: usize, default: usize) -> Next
+    requires { ⌜ Ruled (now t) m × (first + tails ≤ m .cases .count) ⌝ }
+    ensures { λ r. ⌜ Turns (now (t .entry)) (now (v .entry)) (caseChildren (now (t .entry)) first tails ++ defaultChild default) (tailsWalk (now (t .entry)) (now (v .entry)) length first tails default) r ⌝ }
+{
     let k = largest_tail(t, m, first, tails, length);
     if k == 0 {
         return default_of(default);
@@ -54,26 +65,35 @@ fn from_tails(t: &[u8], m: Map, v: &[u8], length: usize, first: usize, tails: us
     Next::Node(c)
 }
 
-fn from_length(t: &[u8], m: Map, v: &[u8], length: usize, first: usize, cases: usize, tails: usize, default: usize) -> Next {
+fn from_length(t: &[u8], m: Map, v: &[u8], length: usize, first: usize, cases: usize, tails: usize, default: usize) -> Next
+    requires { ⌜ Ruled (now t) m × (first + (cases + tails) ≤ m .cases .count) ⌝ }
+    ensures { λ r. ⌜ Turns (now (t .entry)) (now (v .entry)) (caseChildren (now (t .entry)) first (cases + tails) ++ defaultChild default) (lengthWalk (now (t .entry)) (now (v .entry)) length first cases tails default) r ⌝ }
+{
     let Chosen::Child(c) = first_case(t, m, v, first, cases, Part::List(length)) else {
         return from_tails(t, m, v, length, first + cases, tails, default);
     };
     Next::Node(c)
 }
 
-fn from_list_switch(t: &[u8], m: Map, v: &[u8], n: PanelMap, path: usize, first: usize, cases: usize, tails: usize, default: usize) -> Next {
+fn from_list_switch(t: &[u8], m: Map, v: &[u8], n: PanelMap, path: usize, first: usize, cases: usize, tails: usize, default: usize) -> Next
+    requires { ⌜ Ready (now t) m (now v) n × (path < m .paths .count) × (first + (cases + tails) ≤ m .cases .count) ⌝ }
+    ensures { λ r. ⌜ Turns (now (t .entry)) (now (v .entry)) (caseChildren (now (t .entry)) first (cases + tails) ++ defaultChild default) (listWalk (now (t .entry)) (now (v .entry)) path first cases tails default) r ⌝ }
+{
     let Found::At(p) = follow(t, m, v, n, path) else {
-        return stuck();
+        return Next::End(Reached::Stuck);
     };
     let r = p.record;
     let x = record_at(v, r);
     if x.kind != 2 {
-        return stuck();
+        return Next::End(Reached::Stuck);
     }
     from_length(t, m, v, x.count - p.dropped, first, cases, tails, default)
 }
 
-fn from_node(t: &[u8], m: Map, v: &[u8], n: PanelMap, k: usize) -> Next {
+fn from_node(t: &[u8], m: Map, v: &[u8], n: PanelMap, k: usize) -> Next
+    requires { ⌜ Ready (now t) m (now v) n × (k < m .nodes .count) ⌝ }
+    ensures { λ r. ⌜ Steps (now (t .entry)) (now (v .entry)) k r ⌝ }
+{
     let node = node_at(t, m, k);
     match node {
         Node::Switch { path, first, cases, default } => {
@@ -88,7 +108,10 @@ fn from_node(t: &[u8], m: Map, v: &[u8], n: PanelMap, k: usize) -> Next {
 }
 
 // The leaf that node 0 leads to. A child's number is larger than its node's, so that the numbers end.
-pub fn reach(t: &[u8], m: Map, v: &[u8], n: PanelMap) -> Reached {
+pub fn reach(t: &[u8], m: Map, v: &[u8], n: PanelMap) -> Reached
+    requires { ⌜ Ready (now t) m (now v) n ⌝ }
+    ensures { λ r. ⌜ Arrives (now (t .entry)) (now (v .entry)) r ⌝ }
+{
     let mut k: usize = 0;
     loop {
         let next = from_node(t, m, v, n, k);

@@ -1,0 +1,106 @@
+use borrow.Author.Needs.{needs}
+use Rattle.walk.specs.declared.choose.Chosen.the-variants.{Child}
+use Rattle.tree.specs.ReadingLaws.{cases-count}
+use Rattle.walk.specs.ChoicesLaws.{case-same, case-child-read, case-in-pool, search-start, search-found, search-on, search-end}
+use Rattle.walk.specs.Choices.{partMeans, firstCase, chosenOf}
+use Prim.Native.Nat.{_+_, _-_, _≤_}
+use native.Mathlib.Omega.{arith}
+use mathlib.Core.Path.{_≡_, refl, sym, ap, _∙_}
+use Rattle.walk.proofs.choose.first_case.Statement.{statement}
+use Rattle.walk.proofs.choose.first_case.Tie as tie
+use Rattle.walk.proofs.choose.first_case.Reads as reads
+use Rattle.walk.proofs.choose.first_case.Lts as lts
+use Rattle.tree.proofs.reading.case_at.Reads as case-at-reads
+use Rattle.walk.proofs.choose.holds.Reads as holds-reads
+
+abbrev Inv-loop : tie.InvT-loop
+Inv-loop t m v i n s j₀ j = (j ≤ n) × (firstCase t v s (i + j) (n - j) ≡ firstCase t v s i n)
+
+abbrev μ-loop : tie.MeasureT-loop
+μ-loop t m v i n s j₀ j = n - j
+
+-- src/choose.rt:150:5
+loop-holds : tie.Need-loop-holds Inv-loop μ-loop
+loop-holds c = let a = c .before .before .args in (search needs, search-start (a .t .now) (a .v .now) (a .s) (a .i) (a .n))
+
+-- src/choose.rt:151:34
+add-case-at : tie.Need-add-case-at Inv-loop μ-loop
+add-case-at c = search needs
+
+-- src/choose.rt:151:13
+case-at-requires : tie.Need-case-at-requires Inv-loop μ-loop
+case-at-requires c κs = 
+    let a = c .before .before .before .before .args in
+    let w = c .before .before .before .before .pre .0 in
+    let l = c .before .loop in
+    let count = cases-count (w .mapped) in
+    let known = w .rules .case-kind (a .i + l .j) (omega arith) in
+    (w .mapped, omega arith, known)
+
+-- src/choose.rt:153:12
+holds-requires : tie.Need-holds-requires Inv-loop μ-loop
+holds-requires c κs = 
+    let a = c .before .before .before .before .before .args in
+    let w = c .before .before .before .before .before .pre .0 in
+    let l = c .before .before .loop in
+    let count = cases-count (w .mapped) in
+    let known = w .rules .case-kind (a .i + l .j) (omega arith) in
+    (w .mapped, c .before .before .before .before .before .pre .1, case-in-pool (a .t .now) (w .rules) (a .i + l .j) (c .case-at .result) (omega arith) (c .case-at .ensures))
+
+-- src/choose.rt:154:34
+cast-t13 : tie.Need-cast-t13 Inv-loop μ-loop
+cast-t13 c = search needs
+
+-- src/choose.rt:154:13
+returns : tie.Need-returns Inv-loop μ-loop
+returns c = 
+    let a = c .before .before .before .before .before .before .before .before .args in
+    let w = c .before .before .before .before .before .before .before .before .pre .0 in
+    let l = c .before .before .before .before .before .loop in
+    let count = cases-count (w .mapped) in
+    let known = w .rules .case-kind (a .i + l .j) (omega arith) in
+    let x = c .before .before .before .case-at .result in
+    let e = sym (case-same (a .t .now) (partMeans (a .v .now) (a .s)) (a .i + l .j) x known (c .before .before .before .case-at .ensures)) ∙ sym (c .before .before .holds .ensures) ∙ c .before .if1 .taken in
+    ap Child (case-child-read (a .t .now) (a .i + l .j) x (c .before .before .before .case-at .ensures))
+    ∙ ap (chosenOf (a .t .now)) (sym (search-found (a .t .now) (a .v .now) (a .s) (a .i) (l .j) (a .n) (c .before .before .before .before .loop-test .taken) e) ∙ l .inv .1)
+
+-- src/choose.rt:156:9
+add-j : tie.Need-add-j Inv-loop μ-loop
+add-j c = search needs
+
+-- src/choose.rt:150:5
+loop-less : tie.Need-loop-less Inv-loop μ-loop
+loop-less c = search needs
+
+-- src/choose.rt:150:5
+loop-again : tie.Need-loop-again Inv-loop μ-loop
+loop-again c = 
+    let a = c .before .before .before .before .before .before .before .args in
+    let w = c .before .before .before .before .before .before .before .pre .0 in
+    let l = c .before .before .before .before .loop in
+    let count = cases-count (w .mapped) in
+    let known = w .rules .case-kind (a .i + l .j) (omega arith) in
+    let x = c .before .before .case-at .result in
+    let e = sym (case-same (a .t .now) (partMeans (a .v .now) (a .s)) (a .i + l .j) x known (c .before .before .case-at .ensures)) ∙ sym (c .before .holds .ensures) ∙ c .if1 .left in
+    (search needs, search-on (a .t .now) (a .v .now) (a .s) (a .i) (l .j) (a .n) (c .before .before .before .loop-test .taken) e ∙ l .inv .1)
+
+-- src/choose.rt:145:1
+returns-2 : tie.Need-returns-2 Inv-loop μ-loop
+returns-2 c = let a = c .before .before .before .before .args in let l = c .before .loop in ap (chosenOf (a .t .now)) (search-end (a .t .now) (a .v .now) (a .s) (a .i) (l .j) (a .n) (c .loop-test .left) ∙ l .inv .1)
+
+pub first-case-spec : {M : Type 1} → statement M
+first-case-spec =
+    tie.close
+    (tie.spec
+    Inv-loop
+    μ-loop
+    loop-holds
+    add-case-at
+    case-at-requires
+    holds-requires
+    cast-t13
+    returns
+    add-j
+    loop-less
+    loop-again
+    returns-2)

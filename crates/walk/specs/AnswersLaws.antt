@@ -1,0 +1,117 @@
+-- Laws of the walk's answer, one for each way out of the call.
+-- Rests on Answers, Turns, Bindings and the laws of stores.
+use mathlib.Core.Path.{_≡_, refl, sym, ap, _∙_}
+use mathlib.Core.Bool.{Bool, true, false}
+use mathlib.Core.List.{List, [], _∷_, _++_}
+use mathlib.Core.Option.{Option, none, some}
+use Prim.Native.Nat.{ℕ, zero, suc, _+_, _-_, _*_, _≤_, _<_}
+use native.Mathlib.Omega.{arith}
+use borrow.Author.Tests.{le-leb, lt-leb}
+use lib.ListN.{length}
+use Rattle.words.specs.Words.{zeros}
+use Rattle.words.specs.Stored.{stored}
+use Rattle.words.specs.StoredLaws.{stored-zeros}
+use Rattle.rules.specs.SheetRefusals.{Verdict, accepted, refused, require}
+use Rattle.rules.specs.PanelFile.{panelVerdict}
+use Rattle.rules.specs.TreeReader.{bindingsFrom, treeFits, treeOf}
+use Rattle.rules.specs.Walking.{Bound, bound, Walked as WalkedTo, reached, noLeaf, stuck, atLeaf, walk}
+use Rattle.rules.specs.Calls.{Answer, answers, refuses, unless, WalkEnd, leafOf, withoutLeaf, walkRoom, treeFileVerdict, walkEnd, walkAnswer, boundWords, walkedWords, written, WalkCall, walkCall}
+use Rattle.facts.specs.TreeFacts.{length-bindingsFrom}
+use Rattle.facts.specs.PanelFacts.{accepted-panel}
+use Rattle.panel.specs.declared.Map.{Map as PanelMap}
+use Rattle.panel.specs.AnswersLaws.{Accepts, accepts-opened}
+use Rattle.tree.specs.declared.layout.Map.{Map}
+use Rattle.tree.specs.CheckLaws.{Accept}
+use Rattle.walk.specs.declared.Walked.{Walked}
+use Rattle.walk.specs.declared.nodes.Reached.{Reached}
+use Rattle.walk.specs.Positions.{Ready}
+use Rattle.walk.specs.Turns.{Arrives}
+use Rattle.walk.specs.Bindings.{isThere, wordsAfter, Binds}
+use Rattle.walk.specs.BindingsLaws.{length-bound}
+use Rattle.walk.specs.Answers.{answerOf, callOf, Gives, panelEnd, treeEnd}
+
+-- ---- the words of a leaf
+length-boundWords : (xs : List Bound) → length (boundWords xs) ≡ 3 * length xs
+unfolding boundWords
+length-boundWords [] = refl
+length-boundWords (x ∷ xs) = omega (arith, length-boundWords xs)
+
+-- a walk that ended at w gives its end and its words
+by-end : (t v : List ℕ) (w : WalkedTo) (l l' : List ℕ) (r : Walked) → w ≡ walk (treeOf t) v → answerOf r ≡ walkEnd w
+    → l' ≡ written (walkEnd w) (walkedWords w) (length l) → Gives t v (panelEnd t v) l l' r
+by-end t v w l l' r e a b = record {
+  answer = a ∙ ap walkEnd e;
+  words = b ∙ ap (λ (x : WalkedTo). written (walkEnd x) (walkedWords x) (length l)) e;
+}
+
+module _ (t v l : List ℕ) (clear : l ≡ zeros (length l)) where
+  pub gives-no-leaf : Arrives t v Reached.NoLeaf → Gives t v (panelEnd t v) l l Walked.NoLeaf
+  unfolding walkEnd walkedWords
+  gives-no-leaf w = by-end t v noLeaf l l Walked.NoLeaf (w .means) refl (let e : length l - 0 ≡ length l = omega arith in clear ∙ ap zeros (sym e))
+
+  pub gives-stuck : Arrives t v Reached.Stuck → Gives t v (panelEnd t v) l l (Walked.Refused 32 0)
+  unfolding walkEnd
+  gives-stuck w = by-end t v stuck l l (Walked.Refused 32 0) (w .means) refl clear
+
+  module _ (a f n : ℕ) (l' : List ℕ) (w : Arrives t v (Reached.Leaf a f n)) where
+    pub gives-unbound : (r : Bool) → Binds v (bindingsFrom t f n) l l' r → r ≡ false → Gives t v (panelEnd t v) l l' (Walked.Refused 32 0)
+    unfolding walkEnd atLeaf
+    gives-unbound r b e = go (bound v (bindingsFrom t f n)) refl
+      where
+        go : (o : Option (List Bound)) → bound v (bindingsFrom t f n) ≡ o → Gives t v (panelEnd t v) l l' (Walked.Refused 32 0)
+        go none q = by-end t v stuck l l' (Walked.Refused 32 0) (sym (ap (atLeaf a) q) ∙ w .means) refl (b .words ∙ ap (wordsAfter l 0) q)
+        go (some xs) q = let g : false ≡ true = sym e ∙ b .answer ∙ ap isThere q in let z : _≡_ {A = ℕ} 0 1 = cc in absurd (omega arith)
+
+    pub gives-leaf : (r : Bool) → 576 ≤ length l → Binds v (bindingsFrom t f n) l l' r → r ≡ true → Gives t v (panelEnd t v) l l' (Walked.Leaf a n)
+    unfolding walkEnd atLeaf walkedWords
+    gives-leaf r room b e = go (bound v (bindingsFrom t f n)) refl
+      where
+        go : (o : Option (List Bound)) → bound v (bindingsFrom t f n) ≡ o → Gives t v (panelEnd t v) l l' (Walked.Leaf a n)
+        go none q = let g : true ≡ false = sym e ∙ b .answer ∙ ap isThere q in let z : _≡_ {A = ℕ} 0 1 = cc in absurd (omega arith)
+        go (some xs) q =
+            let many : length xs ≡ n = length-bound v (bindingsFrom t f n) xs q ∙ length-bindingsFrom t f n in
+            let few : length (boundWords xs) ≤ length l = omega (arith, length-boundWords xs, w .holds .1) in
+            by-end t v (reached a xs) l l' (Walked.Leaf a n) (sym (ap (atLeaf a) q) ∙ w .means) (ap (λ (k : ℕ). answers (leafOf a k)) (sym many))
+            (b .words ∙ ap (wordsAfter l 0) q ∙ ap (λ (x : List ℕ). stored x 0 (boundWords xs)) clear ∙ stored-zeros (length l) (boundWords xs) few)
+
+-- ---- any panel
+pub gives-panel-refused : (t v l : List ℕ) → l ≡ zeros (length l) → (number place : ℕ) → panelVerdict v ≡ refused number place
+    → Gives t v (treeEnd t v) l l (Walked.Refused number place)
+gives-panel-refused t v l clear number place e = record { answer = rw e; words = clear ∙ rw e }
+
+pub gives-panel : (t v l l' : List ℕ) (r : Walked) → panelVerdict v ≡ accepted → Gives t v (panelEnd t v) l l' r → Gives t v (treeEnd t v) l l' r
+gives-panel t v l l' r e g = record { answer = g .answer ∙ rw e; words = g .words ∙ rw e }
+
+pub ready : {t : List ℕ} {m : Map} {v : List ℕ} {n : PanelMap} → Accept t m → Accepts v n → Ready t m v n
+ready {t} {m} {v} {n} a b = record {
+  mapped = a .map-is;
+  sound = a .sound;
+  opened = accepts-opened v n (b .verdict) (b .map);
+  panel = accepted-panel v (b .verdict);
+}
+
+-- ---- the call
+module _ (t v l l' : List ℕ) where
+  call-refused : (number : ℕ) → walkAnswer t v (length l) ≡ refuses number 0 → l' ≡ zeros (length l) → callOf (Walked.Refused number 0) l' ≡ walkCall t v (length l)
+  unfolding walkCall
+  call-refused number e z = rw (e, z)
+
+  pub call-no-room : length l < 576 → l' ≡ zeros (length l) → callOf (Walked.Refused 1 0) l' ≡ walkCall t v (length l)
+  unfolding walkAnswer walkRoom
+  call-no-room h z = call-refused 1 (rw (lt-leb 576 (length l) h)) z
+
+  module _ (room : 576 ≤ length l) where
+    pub call-no-tree : treeFits t ≡ false → l' ≡ zeros (length l) → callOf (Walked.Refused 31 0) l' ≡ walkCall t v (length l)
+    unfolding walkAnswer walkRoom treeFileVerdict
+    call-no-tree e z = call-refused 31 (rw (le-leb 576 (length l) room, e)) z
+
+    pub call-walks : treeFits t ≡ true → (k : List ℕ) (r : Walked) → length k ≡ length l → Gives t v (treeEnd t v) k l' r → callOf r l' ≡ walkCall t v (length l)
+    unfolding walkCall
+    call-walks e k r same g =
+        let a : walkAnswer t v (length l) ≡ treeEnd t v = whole in
+        let b : l' ≡ written (treeEnd t v) (walkedWords (walk (treeOf t) v)) (length l)
+            = g .words ∙ ap (λ (n : ℕ). written (treeEnd t v) (walkedWords (walk (treeOf t) v)) n) same in
+        rw (a, ← b) (ap (λ (x : Answer WalkEnd). record { answer = x; bound = l' }) (g .answer))
+      where
+        whole : walkAnswer t v (length l) ≡ treeEnd t v
+        whole = unfold walkAnswer walkRoom treeFileVerdict in rw (le-leb 576 (length l) room, e)

@@ -1,0 +1,75 @@
+-- Where a node leads, as the code has it, and what the walk from there on gives: for a switch or a list switch with whatever trees its
+-- children stand for, and for a node of a tree file. Rests on the rules' walk.
+use mathlib.Core.Path.{_≡_}
+use mathlib.Core.Bool.{true}
+use mathlib.Core.List.{List, _++_}
+use Prim.Native.Nat.{ℕ, _+_, _≤_, _<_}
+use Rattle.rules.specs.Limits.{nodeBindingsMost}
+use Rattle.rules.specs.SheetRefusals.{isIn}
+use Rattle.rules.specs.Splitting.{ListOf, ListWithTail}
+use Rattle.rules.specs.Building.{Tree, switch, listswitch}
+use Rattle.rules.specs.TreeReader.{nodes, bindings, pathAt, bindingsFrom, casesFor, defaultFor, treeBelow, treeOf}
+use Rattle.rules.specs.Walking.{bound, Walked, noLeaf, stuck, atLeaf, atTail, largestTail, walk, walkCases}
+use Rattle.walk.specs.declared.nodes.Reached.{Reached}
+use Rattle.walk.specs.declared.nodes.Next.{Next}
+
+abbrev pub reachedMeans : List ℕ → List ℕ → Reached → Walked
+reachedMeans t v (Reached.Leaf clause first count) = atLeaf clause (bound v (bindingsFrom t first count))
+reachedMeans t v Reached.NoLeaf = noLeaf
+reachedMeans t v Reached.Stuck = stuck
+
+-- f is the tree that a node stands for
+abbrev pub nextMeans : List ℕ → List ℕ → (ℕ → Tree) → Next → Walked
+nextMeans t v f (Next.Node c) = walk (f c) v
+nextMeans t v f (Next.End r) = reachedMeans t v r
+
+-- ---- switches
+-- a node that is gone on to is one of the children cs, and no leaf is reached
+abbrev pub Leads : List ℕ → Next → Type 0
+Leads cs (Next.Node c) = isIn c cs ≡ true
+Leads cs (Next.End (Reached.Leaf clause first count)) = ⊥
+Leads cs (Next.End Reached.NoLeaf) = Unit {0}
+Leads cs (Next.End Reached.Stuck) = Unit {0}
+
+pub record Turns (t v cs : List ℕ) (w : (ℕ → Tree) → Walked) (r : Next) : Type 0 where
+  pub means : (f : ℕ → Tree) → nextMeans t v f r ≡ w f
+  pub leads : Leads cs r
+
+abbrev pub defaultWalk : List ℕ → ℕ → (ℕ → Tree) → Walked
+defaultWalk v default f = walk (defaultFor f default) v
+
+abbrev pub switchWalk : List ℕ → List ℕ → ℕ → ℕ → ℕ → ℕ → (ℕ → Tree) → Walked
+switchWalk t v path first cases default f = walk (switch (pathAt t path) (casesFor f t first cases) (defaultFor f default)) v
+
+abbrev pub listWalk : List ℕ → List ℕ → ℕ → ℕ → ℕ → ℕ → ℕ → (ℕ → Tree) → Walked
+listWalk t v path first cases tails default f =
+    walk (listswitch (pathAt t path) (casesFor f t first cases) (casesFor f t (first + cases) tails) (defaultFor f default)) v
+
+-- past the cases of the exact length
+abbrev pub tailsWalk : List ℕ → List ℕ → ℕ → ℕ → ℕ → ℕ → (ℕ → Tree) → Walked
+tailsWalk t v long first tails default f =
+    atTail (largestTail long (casesFor f t first tails))
+    (λ k. walkCases (casesFor f t first tails) (ListWithTail k) v (λ u. walk (defaultFor f default) v)) (λ u. walk (defaultFor f default) v)
+
+abbrev pub lengthWalk : List ℕ → List ℕ → ℕ → ℕ → ℕ → ℕ → ℕ → (ℕ → Tree) → Walked
+lengthWalk t v long first cases tails default f =
+    walkCases (casesFor f t first cases) (ListOf long) v (λ u. tailsWalk t v long (first + cases) tails default f)
+
+-- ---- nodes of a tree file
+-- a node that is gone on to comes after k; a leaf's bindings are in their section, and few
+abbrev pub Reaches : List ℕ → Reached → Type 0
+Reaches t (Reached.Leaf clause first count) = (first + count ≤ bindings t) × (count ≤ nodeBindingsMost)
+Reaches t Reached.NoLeaf = Unit {0}
+Reaches t Reached.Stuck = Unit {0}
+
+abbrev pub GoesOn : List ℕ → ℕ → Next → Type 0
+GoesOn t k (Next.Node c) = (k < c) × (c < nodes t)
+GoesOn t k (Next.End r) = Reaches t r
+
+pub record Steps (t v : List ℕ) (k : ℕ) (r : Next) : Type 0 where
+  pub means : nextMeans t v (treeBelow (nodes t) t) r ≡ walk (treeBelow (nodes t) t k) v
+  pub goes : GoesOn t k r
+
+pub record Arrives (t v : List ℕ) (r : Reached) : Type 0 where
+  pub means : reachedMeans t v r ≡ walk (treeOf t) v
+  pub holds : Reaches t r
