@@ -69,8 +69,8 @@ module _ {before middle : List ℕ} {at seam : ℕ} {s : List ℕ} (w : Writes b
           }
 
 -- ---- a loop that writes a text part by part
-pub begun : (l : List ℕ) (at : ℕ) (whole : List ℕ) → Begun l l at at whole whole
-begun l at whole = record { as-long = refl; ends = λ after end w. w }
+pub begun : (l : List ℕ) (at : ℕ) (whole rest : List ℕ) → rest ≡ whole → Begun l l at at whole rest
+begun l at whole rest e = record { as-long = refl; ends = λ after end w. writes-as w e }
 
 module _ {before now : List ℕ} {from at : ℕ} {whole rest : List ℕ} (b : Begun before now from at whole rest) where
   pub begun-more : {next : List ℕ} {to : ℕ} {s : List ℕ} → Writes now next at to s → (others : List ℕ) → rest ≡ s ++ others

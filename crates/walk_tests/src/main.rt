@@ -1,5 +1,6 @@
 // Reads a tree file and a panel on standard input.
-use walk::{Walked, walk};
+use walk::Walked;
+use walk::walk;
 
 fn main() {
     let mut buffer = [0u8; 65536];
@@ -11,7 +12,17 @@ fn main() {
     let mut bound = [7u16; 577];
     match walk(&buffer[..322], &buffer[322..n], &mut bound) {
         Walked::Leaf { clause, count } => {
-            let out = [clause as u8 + 48, 32, count as u8 + 48, 32, bound[0] as u8 + 48, bound[1] as u8 + 48, bound[2] as u8 + 48, bound[3] as u8 + 48, 10];
+            let out = [
+                clause as u8 + 48,
+                32,
+                count as u8 + 48,
+                32,
+                bound[0] as u8 + 48,
+                bound[1] as u8 + 48,
+                bound[2] as u8 + 48,
+                bound[3] as u8 + 48,
+                10,
+            ];
             io::write_all(1, &out);
         }
         Walked::NoLeaf => {

@@ -1,3 +1,4 @@
+use mathlib.Core.Path.{refl}
 use Rattle.listing.specs.TextsLaws.{bytes-none}
 use Prim.Native.Nat.{_≤_, _-_}
 use mathlib.Core.List.{[]}
@@ -21,7 +22,7 @@ abbrev μ-loop : tie.MeasureT-loop
 
 -- src/texts.rt:24:5
 loop-holds : tie.Need-loop-holds Inv-loop μ-loop
-loop-holds c = (search needs, begun _ _ _)
+loop-holds c = (search needs, begun _ _ _ _ refl)
 
 -- src/texts.rt:25:29
 shared-slice-read-put : tie.Need-shared-slice-read-put Inv-loop μ-loop
