@@ -48,7 +48,7 @@ returns-2 c = let a = c .before .before .before .before .before .before .before 
 
 -- src/lib.rt:71:5
 walk-tree-requires : tie.Need-walk-tree-requires
-walk-tree-requires c κs = 
+walk-tree-requires c κs =
     let a = c .before .before .before .before .before .before .before .before .before .before .before .before .before .args in
     let m = c .before .before .m .given .0 .0 in
     let e : c .before .before .before .before .check .result ≡ Checked.Accepted m = search needs in
@@ -61,7 +61,7 @@ same-length-3 c = c .before .before .walk-tree .kept .1 .1 .1 .0 ∙ c .before .
 
 -- src/lib.rt:61:1
 returns-3 : tie.Need-returns-3
-returns-3 c = 
+returns-3 c =
     let a = c .before .before .before .before .before .before .before .before .before .before .before .before .before .before .before .before .args in
     let m = c .before .before .before .before .before .m .given .0 .0 in
     let e : c .before .before .before .before .before .before .before .check .result ≡ Checked.Accepted m = search needs in

@@ -30,7 +30,7 @@ cast-bind-2 c = search needs
 
 -- src/lib.rt:40:16
 bind-requires : tie.Need-bind-requires
-bind-requires c κs = 
+bind-requires c κs =
     let a = c .before .before .before .before .before .before .before .before .args in
     let g = c .before .before .clause .given .0 in
     let e : c .before .before .before .before .reach .result ≡ Reached.Leaf (g .0) (g .1 .0) (g .1 .1 .0) = search needs in
@@ -43,7 +43,7 @@ same-length c = c .before .before .before .bind .kept .1 .1 .1 .1 .1 .1 .0
 
 -- src/lib.rt:41:17
 returns : tie.Need-returns
-returns c = 
+returns c =
     let a = c .before .before .before .before .before .before .before .before .before .before .before .before .args in
     let g = c .before .before .before .before .before .before .clause .given .0 in
     let e : c .before .before .before .before .before .before .before .before .reach .result ≡ Reached.Leaf (g .0) (g .1 .0) (g .1 .1 .0) = search needs in
@@ -64,7 +64,7 @@ same-length-2 c = c .before .before .before .bind .kept .1 .1 .1 .1 .1 .1 .0
 
 -- src/lib.rt:34:1
 returns-2 : tie.Need-returns-2
-returns-2 c = 
+returns-2 c =
     let a = c .before .before .before .before .before .before .before .before .before .before .before .before .args in
     let g = c .before .before .before .before .before .before .clause .given .0 in
     let e : c .before .before .before .before .before .before .before .before .reach .result ≡ Reached.Leaf (g .0) (g .1 .0) (g .1 .1 .0) = search needs in

@@ -21,7 +21,7 @@ enum-known-n c = search needs
 
 -- src/lib.rt:55:40
 walk-panel-requires : tie.Need-walk-panel-requires
-walk-panel-requires c κs = 
+walk-panel-requires c κs =
     let a = c .before .before .before .before .before .before .before .before .args in
     let n = c .before .before .n .given .0 .0 in
     let e : c .before .before .before .before .check .result ≡ Checked.Accepted n = search needs in
@@ -38,7 +38,7 @@ same-length c = c .before .before .walk-panel .kept .1 .1 .1 .1 .0
 
 -- src/lib.rt:50:1
 returns : tie.Need-returns
-returns c = 
+returns c =
     let a = c .before .before .before .before .before .before .before .before .before .before .before .args in
     let n = c .before .before .before .before .before .n .given .0 .0 in
     let e : c .before .before .before .before .before .before .before .check .result ≡ Checked.Accepted n = search needs in
@@ -47,7 +47,7 @@ returns c =
 
 -- src/lib.rt:50:1
 returns-2 : tie.Need-returns-2
-returns-2 c = 
+returns-2 c =
     let a = c .before .before .before .before .before .before .before .args in
     let g = c .before .number .given .0 in
     let e : c .before .before .before .check .result ≡ Checked.Refused (g .0) (g .1 .0) = search needs in

@@ -31,7 +31,7 @@ abbrev μ-loop : tie.MeasureT-loop
 
 -- src/bind.rt:32:5
 loop-holds : tie.Need-loop-holds Inv-loop μ-loop
-loop-holds c = 
+loop-holds c =
     let a = c .before .before .before .args in
     let e = bindings-start (a .t .now) (a .v .now) (a .first) (a .count) in
     (search needs, refl, ap isThere e, ap (wordsAfter (a .bound .now) 0) e)
@@ -50,7 +50,7 @@ cast-follow c = search needs
 
 -- src/bind.rt:34:28
 follow-requires : tie.Need-follow-requires Inv-loop μ-loop
-follow-requires c κs = 
+follow-requires c κs =
     let ready = c .before .before .before .before .before .before .before .pre .0 in
     (ready, binding-path-in (ready .mapped) (ready .sound .is-ruled) (c .before .before .before .before .before .before .before .args .first + c .before .before .before .loop .i) (c .before .binding-at .result) (omega (arith, c .before .before .before .before .before .before .before .pre .1, c .before .before .loop-test .taken)) (c .before .binding-at .ensures))
 
@@ -72,7 +72,7 @@ same-length c = c .before .before .zero-words .kept .0 ∙ c .before .before .be
 
 -- src/bind.rt:36:13
 returns : tie.Need-returns Inv-loop μ-loop
-returns c = 
+returns c =
     let a = c .before .before .before .before .before .before .before .before .before .before .before .before .before .before .args in
     let l = c .before .before .before .before .before .before .before .before .before .before .loop in
     let b = c .before .before .before .before .before .before .before .before .binding-at .result in
@@ -90,7 +90,7 @@ mul-put-bound c = omega (arith, c .before .before .before .before .before .befor
 
 -- src/bind.rt:38:41
 cast-put-bound : tie.Need-cast-put-bound Inv-loop μ-loop
-cast-put-bound c = 
+cast-put-bound c =
     let a = c .before .before .before .before .before .before .before .before .before .before .before .before .before .args in
     let ready = c .before .before .before .before .before .before .before .before .before .before .before .before .before .pre .0 in
     let l = c .before .before .before .before .before .before .before .before .before .loop in
@@ -103,7 +103,7 @@ cast-put-bound c =
 
 -- src/bind.rt:38:58
 cast-put-bound-2 : tie.Need-cast-put-bound-2 Inv-loop μ-loop
-cast-put-bound-2 c = 
+cast-put-bound-2 c =
     let a = c .before .before .before .before .before .before .before .before .before .before .before .before .before .before .args in
     let ready = c .before .before .before .before .before .before .before .before .before .before .before .before .before .before .pre .0 in
     let l = c .before .before .before .before .before .before .before .before .before .before .loop in
@@ -128,7 +128,7 @@ loop-less c = search needs
 
 -- src/bind.rt:32:5
 loop-again : tie.Need-loop-again Inv-loop μ-loop
-loop-again c = 
+loop-again c =
     let a = c .before .before .before .before .before .before .before .before .before .before .before .before .before .before .before .before .before .args in
     let ready = c .before .before .before .before .before .before .before .before .before .before .before .before .before .before .before .before .before .pre .0 in
     let l = c .before .before .before .before .before .before .before .before .before .before .before .before .before .loop in
@@ -137,7 +137,7 @@ loop-again c =
     let r : c .before .before .before .before .before .before .before .before .before .follow .result ≡ At p = search needs in
     let found = found-some (follow (a .v .now) (pathAt (a .t .now) (b .path)) panelRoot) p (sym (c .before .before .before .before .before .before .before .before .before .follow .ensures) ∙ r) in
     let within = found-within ready (b .path) p found in
-    let path = ap (λ (x : Binding). x .path) (c .before .before .before .before .before .before .before .before .before .before .before .binding-at .ensures) in 
+    let path = ap (λ (x : Binding). x .path) (c .before .before .before .before .before .before .before .before .before .before .before .binding-at .ensures) in
     let name = ap (λ (x : Binding). x .name) (c .before .before .before .before .before .before .before .before .before .before .before .binding-at .ensures) in
     let there = ap (λ (k : ℕ). follow (a .v .now) (pathAt (a .t .now) k) panelRoot) (sym path) ∙ found in
     let h = c .before .before .before .before .before .before .before .before .before .before .before .before .loop-test .taken in
@@ -146,8 +146,9 @@ loop-again c =
       c .before .before .put-bound .kept .0 ∙ l .inv .1,
       there-on (a .t .now) (a .v .now) (a .first) (a .count) (l .i) (placed p) h there ∙ l .inv .2,
       ap (λ (x : List ℕ). wordsAfter x (3 * (l .i + 1)) (left (a .t .now) (a .v .now) (a .first) (a .count) (l .i + 1))) stores
-      ∙ words-on (a .t .now) (a .v .now) (a .first) (a .count) (l .bound) (l .i) (b .name) (placed p) h there name
-      ∙ l .inv .3)
+          ∙ words-on (a .t .now) (a .v .now) (a .first) (a .count) (l .bound) (l .i) (b .name) (placed p) h there name
+          ∙ l .inv .3,
+    )
 
 -- src/bind.rt:27:1
 same-length-2 : tie.Need-same-length-2 Inv-loop μ-loop
@@ -155,7 +156,7 @@ same-length-2 c = c .before .loop .inv .1
 
 -- src/bind.rt:27:1
 returns-2 : tie.Need-returns-2 Inv-loop μ-loop
-returns-2 c = 
+returns-2 c =
     let a = c .before .before .before .before .before .args in
     let l = c .before .loop in
     record {

@@ -29,7 +29,7 @@ add-case-at c = search needs
 
 -- src/choose.rt:151:13
 case-at-requires : tie.Need-case-at-requires Inv-loop μ-loop
-case-at-requires c κs = 
+case-at-requires c κs =
     let a = c .before .before .before .before .args in
     let w = c .before .before .before .before .pre .0 in
     let l = c .before .loop in
@@ -39,7 +39,7 @@ case-at-requires c κs =
 
 -- src/choose.rt:153:12
 holds-requires : tie.Need-holds-requires Inv-loop μ-loop
-holds-requires c κs = 
+holds-requires c κs =
     let a = c .before .before .before .before .before .args in
     let w = c .before .before .before .before .before .pre .0 in
     let l = c .before .before .loop in
@@ -53,7 +53,7 @@ cast-t13 c = search needs
 
 -- src/choose.rt:154:13
 returns : tie.Need-returns Inv-loop μ-loop
-returns c = 
+returns c =
     let a = c .before .before .before .before .before .before .before .before .args in
     let w = c .before .before .before .before .before .before .before .before .pre .0 in
     let l = c .before .before .before .before .before .loop in
@@ -74,7 +74,7 @@ loop-less c = search needs
 
 -- src/choose.rt:150:5
 loop-again : tie.Need-loop-again Inv-loop μ-loop
-loop-again c = 
+loop-again c =
     let a = c .before .before .before .before .before .before .before .args in
     let w = c .before .before .before .before .before .before .before .pre .0 in
     let l = c .before .before .before .before .loop in

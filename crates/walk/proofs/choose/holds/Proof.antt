@@ -27,7 +27,7 @@ enum-known-s-2 c = search needs
 
 -- src/choose.rt:137:49
 is-text-requires : tie.Need-is-text-requires
-is-text-requires c κs = 
+is-text-requires c κs =
     let a = c .before .before .before .before .before .args in
     let g = c .before .s2 .given .0 in
     let e : a .s ≡ Part.Text (g .0) (g .1 .0) (g .1 .1 .0) = search needs in
@@ -55,7 +55,7 @@ enum-told c = search needs
 
 -- src/choose.rt:131:1
 returns : tie.Need-returns
-returns c = 
+returns c =
     let a = c .before .before .before .before .before .before .args in
     let g = c .before .before .s .given .0 in
     let e : a .s ≡ Part.Constr (g .0) = search needs in
@@ -63,7 +63,7 @@ returns c =
 
 -- src/choose.rt:131:1
 returns-2 : tie.Need-returns-2
-returns-2 c = 
+returns-2 c =
     let a = c .before .before .before .before .before .before .args in
     let g = c .before .before .s2 .given .0 in
     let e : a .s ≡ Part.Text (g .0) (g .1 .0) (g .1 .1 .0) = search needs in
@@ -71,7 +71,7 @@ returns-2 c =
 
 -- src/choose.rt:131:1
 returns-3 : tie.Need-returns-3
-returns-3 c = 
+returns-3 c =
     let a = c .before .before .before .before .before .before .args in
     let g = c .before .before .s3 .given .0 in
     let e : a .s ≡ Part.List (g .0) = search needs in
@@ -79,7 +79,7 @@ returns-3 c =
 
 -- src/choose.rt:131:1
 returns-4 : tie.Need-returns-4
-returns-4 c = 
+returns-4 c =
     let a = c .before .before .before .before .before .before .args in
     let g = c .before .before .s4 .given .0 in
     let e : a .s ≡ Part.Tailed (g .0) = search needs in

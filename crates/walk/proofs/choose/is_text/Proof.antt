@@ -32,7 +32,7 @@ alike-requires c κs = search needs
 
 -- src/choose.rt:129:17
 returns : tie.Need-returns
-returns c = 
+returns c =
     let a = c .before .before .before .before .before .before .before .args in
     let g = c .before .before .before .test .given .0 in
     let e : a .test ≡ Test.Text (g .0) (g .1 .0) (g .1 .1 .0) = search needs in
@@ -56,7 +56,7 @@ cast-texts-same-2 c = search needs
 
 -- src/choose.rt:131:13
 texts-same-requires : tie.Need-texts-same-requires
-texts-same-requires c κs = 
+texts-same-requires c κs =
     let a = c .before .before .before .before .before .before .before .before .args in
     let g = c .before .before .before .before .test .given .0 in
     let e : a .test ≡ Test.Text (g .0) (g .1 .0) (g .1 .1 .0) = search needs in
@@ -74,7 +74,7 @@ enum-told-3 c = search needs
 
 -- src/choose.rt:121:1
 returns-2 : tie.Need-returns-2
-returns-2 c = 
+returns-2 c =
     let a = c .before .before .before .before .args in
     let text = textTest (a .int) (textAt (a .v .now) (a .i) (a .n)) in
     let e : a .test ≡ Test.Constr (c .enum-told .given .0 .0) = search needs in
@@ -82,7 +82,7 @@ returns-2 c =
 
 -- src/choose.rt:121:1
 returns-3 : tie.Need-returns-3
-returns-3 c = 
+returns-3 c =
     let a = c .before .before .before .before .before .before .before .before .before .args in
     let g = c .before .before .before .before .before .test .given .0 in
     let e : a .test ≡ Test.Text (g .0) (g .1 .0) (g .1 .1 .0) = search needs in
@@ -98,7 +98,7 @@ returns-3 c =
 
 -- src/choose.rt:121:1
 returns-4 : tie.Need-returns-4
-returns-4 c = 
+returns-4 c =
     let a = c .before .before .before .before .args in
     let text = textTest (a .int) (textAt (a .v .now) (a .i) (a .n)) in
     let e : a .test ≡ Test.List (c .enum-told2 .given .0 .0) = search needs in
@@ -106,7 +106,7 @@ returns-4 c =
 
 -- src/choose.rt:121:1
 returns-5 : tie.Need-returns-5
-returns-5 c = 
+returns-5 c =
     let a = c .before .before .before .before .args in
     let text = textTest (a .int) (textAt (a .v .now) (a .i) (a .n)) in
     let e : a .test ≡ Test.Tailed (c .enum-told3 .given .0 .0) = search needs in

@@ -31,7 +31,7 @@ add-case-at c = search needs
 
 -- src/choose.rt:187:13
 case-at-requires : tie.Need-case-at-requires Inv-loop μ-loop
-case-at-requires c κs = 
+case-at-requires c κs =
     let a = c .before .before .before .args in
     let w = c .before .before .before .pre .0 in
     let l = c .before .loop in
@@ -57,18 +57,20 @@ loop-less c = search needs
 
 -- src/choose.rt:186:5
 loop-again : tie.Need-loop-again Inv-loop μ-loop
-loop-again c = 
+loop-again c =
     let a = c .before .before .before .before .before .before .args in
     let w = c .before .before .before .before .before .before .pre .0 in
     let l = c .before .before .before .before .loop in
     let count = cases-count (w .mapped) in
     let known = w .rules .case-kind (a .i + l .j) (omega arith) in
     let x = c .before .before .case-at .result in
-    let e = c .before .tail-number .ensures ∙ case-tail-number (a .t .now) (a .n) (a .i + l .j) x known (c .before .before .case-at .ensures) in
-    (search needs, λ f.
-      ap (λ (k : ℕ). max k (largestTail (a .n) (casesFor f (a .t .now) (a .i + (l .j + 1)) (a .tails - (l .j + 1))))) (c .larger .ensures)
-      ∙ largest-on (a .t .now) (a .n) f (a .i) (l .j) (a .tails) (l .best) (c .before .tail-number .result) (c .before .before .before .loop-test .taken) e
-      ∙ l .inv .1 f)
+    let e = c .before .tail-number .ensures ∙ case-tail-number (a .t .now) (a .n) (a .i + l .j) x known (c .before .before .case-at .ensures) in (
+      search needs,
+      λ f.
+          ap (λ (k : ℕ). max k (largestTail (a .n) (casesFor f (a .t .now) (a .i + (l .j + 1)) (a .tails - (l .j + 1))))) (c .larger .ensures)
+          ∙ largest-on (a .t .now) (a .n) f (a .i) (l .j) (a .tails) (l .best) (c .before .tail-number .result) (c .before .before .before .loop-test .taken) e
+          ∙ l .inv .1 f,
+    )
 
 -- src/choose.rt:180:1
 returns : tie.Need-returns Inv-loop μ-loop

@@ -34,7 +34,7 @@ returns c = let a = c .before .before .args in let e : a .s ≡ Part.Constr (c .
 
 -- src/choose.rt:58:1
 returns-2 : tie.Need-returns-2
-returns-2 c = 
+returns-2 c =
     let a = c .before .before .before .before .args in
     let g = c .before .before .s .given .0 in
     let e : a .s ≡ Part.Text (g .0) (g .1 .0) (g .1 .1 .0) = search needs in
@@ -42,7 +42,7 @@ returns-2 c =
 
 -- src/choose.rt:58:1
 returns-3 : tie.Need-returns-3
-returns-3 c = 
+returns-3 c =
     let a = c .before .before .before .before .args in
     let g = c .before .before .s .given .0 in
     let e : a .s ≡ Part.Text (g .0) (g .1 .0) (g .1 .1 .0) = search needs in

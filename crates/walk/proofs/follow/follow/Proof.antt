@@ -36,18 +36,18 @@ cast-count c = search needs
 
 -- src/follow.rt:86:5
 loop-holds : tie.Need-loop-holds Inv-loop μ-loop
-loop-holds c = 
+loop-holds c =
     let a = c .before .before .before .before .before .args in
     let w = c .before .before .before .before .before .pre .0 in
-    let x = c .before .before .path-at .result in
-    (
+    let x = c .before .before .path-at .result in (
       search needs,
       root-within (w .opened .laid) (w .panel .is-shaped),
-      path-start (a .v .now) (a .t .now) (x .first) (x .count) (a .p) panelRoot (ap (λ (y : Path). y .first) (c .before .before .path-at .ensures)) (ap (λ (y : Path). y .count) (c .before .before .path-at .ensures)))
+      path-start (a .v .now) (a .t .now) (x .first) (x .count) (a .p) panelRoot (ap (λ (y : Path). y .first) (c .before .before .path-at .ensures)) (ap (λ (y : Path). y .count) (c .before .before .path-at .ensures)),
+    )
 
 -- src/follow.rt:87:34
 add-step-at : tie.Need-add-step-at Inv-loop μ-loop
-add-step-at c = 
+add-step-at c =
     let a = c .before .before .before .before .before .before .before .args in
     let w = c .before .before .before .before .before .before .before .pre .0 in
     let x = c .before .before .before .before .path-at .result in
@@ -55,7 +55,7 @@ add-step-at c =
 
 -- src/follow.rt:87:13
 step-at-requires : tie.Need-step-at-requires Inv-loop μ-loop
-step-at-requires c κs = 
+step-at-requires c κs =
     let a = c .before .before .before .before .before .before .before .args in
     let w = c .before .before .before .before .before .before .before .pre .0 in
     let x = c .before .before .before .before .path-at .result in
@@ -75,7 +75,7 @@ enum-told c = search needs
 
 -- src/follow.rt:89:13
 returns : tie.Need-returns Inv-loop μ-loop
-returns c = 
+returns c =
     let a = c .before .before .before .before .before .before .before .before .before .before .before .args in
     let w = c .before .before .before .before .before .before .before .before .before .before .before .pre .0 in
     let x = c .before .before .before .before .before .before .before .before .path-at .result in
@@ -96,7 +96,7 @@ loop-less c = search needs
 
 -- src/follow.rt:86:5
 loop-again : tie.Need-loop-again Inv-loop μ-loop
-loop-again c = 
+loop-again c =
     let a = c .before .before .before .before .before .before .before .before .before .before .before .before .args in
     let w = c .before .before .before .before .before .before .before .before .before .before .before .before .pre .0 in
     let x = c .before .before .before .before .before .before .before .before .before .path-at .result in
@@ -109,11 +109,12 @@ loop-again c =
     let e = sym u ∙ found-some q y (sym (c .before .before .before .take-step .ensures) ∙ r) in (
       search needs,
       step-within (w .opened .laid) (w .panel .is-shaped) (stepAt (a .t .now) (x .first + l .k)) (placed (l .at)) (placed y) (l .inv .1) e,
-      path-on (a .v .now) (a .t .now) (x .first) (x .count) (l .k) (placed (l .at)) (placed y) (c .before .before .before .before .before .loop-test .taken) e ∙ l .inv .2)
+      path-on (a .v .now) (a .t .now) (x .first) (x .count) (l .k) (placed (l .at)) (placed y) (c .before .before .before .before .before .loop-test .taken) e ∙ l .inv .2,
+    )
 
 -- src/follow.rt:77:1
 returns-2 : tie.Need-returns-2 Inv-loop μ-loop
-returns-2 c = 
+returns-2 c =
     let a = c .before .before .before .before .before .before .before .args in
     let w = c .before .before .before .before .before .before .before .pre .0 in
     let x = c .before .before .before .before .path-at .result in

@@ -36,7 +36,7 @@ returns c = let a = c .before .before .before .before .before .before .args in t
 
 -- src/nodes.rt:68:1
 returns-2 : tie.Need-returns-2
-returns-2 c = 
+returns-2 c =
     let a = c .before .before .before .before .before .before .args in
     let child = c .before .c .given .0 .0 in
     let chosen : c .before .before .before .first-case .result ≡ Child child = search needs in

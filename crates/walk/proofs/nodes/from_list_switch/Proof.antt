@@ -34,7 +34,7 @@ returns c = let a = c .before .before .before .before .before .args in list-no-p
 
 -- src/nodes.rt:86:9
 record-at-requires : tie.Need-record-at-requires
-record-at-requires c κs = 
+record-at-requires c κs =
     let a = c .before .before .before .before .before .before .args in
     let ready = c .before .before .before .before .before .before .pre .0 in
     let p = c .before .p .given .0 .0 in
@@ -45,7 +45,7 @@ record-at-requires c κs =
 
 -- src/nodes.rt:88:9
 returns-2 : tie.Need-returns-2
-returns-2 c = 
+returns-2 c =
     let a = c .before .before .before .before .before .before .before .before .before .args in
     let ready = c .before .before .before .before .before .before .before .before .before .pre .0 in
     let p = c .before .before .before .before .p .given .0 .0 in
@@ -56,7 +56,7 @@ returns-2 c =
 
 -- src/nodes.rt:90:26
 sub-from-length : tie.Need-sub-from-length
-sub-from-length c = 
+sub-from-length c =
     let a = c .before .before .before .before .before .before .before .before .before .before .before .args in
     let ready = c .before .before .before .before .before .before .before .before .before .before .before .pre .0 in
     let p = c .before .before .before .before .before .before .p .given .0 .0 in
@@ -71,7 +71,7 @@ from-length-requires c κs = (ready-ruled (c .before .before .before .before .be
 
 -- src/nodes.rt:78:1
 returns-3 : tie.Need-returns-3
-returns-3 c = 
+returns-3 c =
     let a = c .before .before .before .before .before .before .before .before .before .before .before .before .args in
     let ready = c .before .before .before .before .before .before .before .before .before .before .before .before .pre .0 in
     let p = c .before .before .before .before .before .before .before .p .given .0 .0 in

@@ -41,7 +41,7 @@ cast-from-switch-4 c = search needs
 
 -- src/nodes.rt:100:13
 from-switch-requires : tie.Need-from-switch-requires
-from-switch-requires c κs = 
+from-switch-requires c κs =
     let a = c .before .before .before .before .before .before .args in
     let ready = c .before .before .before .before .before .before .pre .0 in
     let ruled = ready-ruled ready in
@@ -79,7 +79,7 @@ cast-from-list-switch-5 c = search needs
 
 -- src/nodes.rt:103:13
 from-list-switch-requires : tie.Need-from-list-switch-requires
-from-list-switch-requires c κs = 
+from-list-switch-requires c κs =
     let a = c .before .before .before .before .before .before .args in
     let ready = c .before .before .before .before .before .before .pre .0 in
     let ruled = ready-ruled ready in
@@ -105,7 +105,7 @@ cast-t31 c = search needs
 
 -- src/nodes.rt:93:1
 returns : tie.Need-returns
-returns c = 
+returns c =
     let a = c .before .before .before .before .before .before .before .args in
     let ready = c .before .before .before .before .before .before .before .pre .0 in
     let ruled = ready-ruled ready in
@@ -117,7 +117,7 @@ returns c =
 
 -- src/nodes.rt:93:1
 returns-2 : tie.Need-returns-2
-returns-2 c = 
+returns-2 c =
     let a = c .before .before .before .before .before .before .before .args in
     let ready = c .before .before .before .before .before .before .before .pre .0 in
     let ruled = ready-ruled ready in
@@ -129,7 +129,7 @@ returns-2 c =
 
 -- src/nodes.rt:93:1
 returns-3 : tie.Need-returns-3
-returns-3 c = 
+returns-3 c =
     let a = c .before .before .before .before .before .before .args in
     let ready = c .before .before .before .before .before .before .pre .0 in
     let ruled = ready-ruled ready in
@@ -141,7 +141,7 @@ returns-3 c =
 
 -- src/nodes.rt:93:1
 returns-4 : tie.Need-returns-4
-returns-4 c = 
+returns-4 c =
     let a = c .before .before .before .before .before .before .args in
     let ready = c .before .before .before .before .before .before .pre .0 in
     let ruled = ready-ruled ready in

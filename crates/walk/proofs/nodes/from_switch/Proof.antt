@@ -42,7 +42,7 @@ returns c = let a = c .before .before .before .before .before .args in switch-no
 
 -- src/nodes.rt:43:9
 shown-at-requires : tie.Need-shown-at-requires
-shown-at-requires c κs = 
+shown-at-requires c κs =
     let a = c .before .before .before .before .before .before .args in
     let ready = c .before .before .before .before .before .before .pre .0 in
     let p = c .before .p .given .0 .0 in
@@ -61,7 +61,7 @@ of-kind-requires c κs = search needs
 
 -- src/nodes.rt:45:9
 returns-2 : tie.Need-returns-2
-returns-2 c = 
+returns-2 c =
     let a = c .before .before .before .before .before .before .before .before .before .before .args in
     let ready = c .before .before .before .before .before .before .before .before .before .before .pre .0 in
     let p = c .before .before .before .before .before .p .given .0 .0 in
@@ -91,7 +91,7 @@ default-of-requires c κs = search needs
 
 -- src/nodes.rt:48:9
 returns-3 : tie.Need-returns-3
-returns-3 c = 
+returns-3 c =
     let a = c .before .before .before .before .before .before .before .before .before .before .before .before .before .before .args in
     let ready = c .before .before .before .before .before .before .before .before .before .before .before .before .before .before .pre .0 in
     let p = c .before .before .before .before .before .before .before .before .before .p .given .0 .0 in
@@ -107,7 +107,7 @@ returns-3 c =
 
 -- src/nodes.rt:36:1
 returns-4 : tie.Need-returns-4
-returns-4 c = 
+returns-4 c =
     let a = c .before .before .before .before .before .before .before .before .before .before .before .before .before .before .args in
     let ready = c .before .before .before .before .before .before .before .before .before .before .before .before .before .before .pre .0 in
     let p = c .before .before .before .before .before .before .before .before .before .p .given .0 .0 in

@@ -27,7 +27,7 @@ default-of-requires c κs = search needs
 
 -- src/nodes.rt:60:9
 returns : tie.Need-returns
-returns c = 
+returns c =
     let a = c .before .before .before .before .before .args in
     let k = c .before .before .largest-tail .result in
     turns-no-tail (a .t .now) (a .v .now) (a .length) (a .first) (a .tails) (a .default) (c .default-of .result) k (c .before .before .largest-tail .ensures) (c .before .if1 .taken) (c .default-of .ensures (a .t .now) (a .v .now))
@@ -54,7 +54,7 @@ default-of-requires-2 c κs = search needs
 
 -- src/nodes.rt:63:9
 returns-2 : tie.Need-returns-2
-returns-2 c = 
+returns-2 c =
     let a = c .before .before .before .before .before .before .before .before .args in
     let k = c .before .before .before .before .before .largest-tail .result in
     let rest = c .default-of2 .result in
@@ -63,7 +63,7 @@ returns-2 c =
 
 -- src/nodes.rt:54:1
 returns-3 : tie.Need-returns-3
-returns-3 c = 
+returns-3 c =
     let a = c .before .before .before .before .before .before .before .before .args in
     let k = c .before .before .before .before .before .largest-tail .result in
     let child = c .before .c .given .0 .0 in

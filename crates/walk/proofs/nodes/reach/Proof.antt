@@ -33,7 +33,7 @@ enum-known-next c = search needs
 
 -- src/nodes.rt:116:5
 loop-less : tie.Need-loop-less Inv-loop μ-loop
-loop-less c = 
+loop-less c =
     let a = c .before .before .before .before .before .before .before .args in
     let l = c .before .before .before .before .loop in
     let y = c .before .next .given .0 .0 in
@@ -43,7 +43,7 @@ loop-less c =
 
 -- src/nodes.rt:116:5
 loop-again : tie.Need-loop-again Inv-loop μ-loop
-loop-again c = 
+loop-again c =
     let a = c .before .before .before .before .before .before .before .args in
     let l = c .before .before .before .before .loop in
     let y = c .before .next .given .0 .0 in
@@ -57,7 +57,7 @@ enum-known-next-2 c = search needs
 
 -- src/nodes.rt:120:29
 returns : tie.Need-returns Inv-loop μ-loop
-returns c = 
+returns c =
     let a = c .before .before .before .before .before .before .before .args in
     let l = c .before .before .before .before .loop in
     let y = c .before .next2 .given .0 .0 in

@@ -1,0 +1,6 @@
+-- The definitions that the contracts of this crate cite, and their laws.
+pub mod Writing
+pub mod WritingLaws
+pub mod TextsLaws
+pub mod Records
+pub mod RecordsLaws
