@@ -19,7 +19,8 @@ use Rattle.rules.specs.Calls.{Answer, answers, refuses, unless, WalkEnd, leafOf
 use Rattle.facts.specs.TreeFacts.{length-bindingsFrom}
 use Rattle.facts.specs.PanelFacts.{accepted-panel}
 use Rattle.panel.specs.declared.Map.{Map as PanelMap}
-use Rattle.panel.specs.AnswersLaws.{Accepts, accepts-opened}
+use Rattle.panel.specs.Answers.{Accepts}
+use Rattle.panel.specs.AnswersLaws.{accepts-opened}
 use Rattle.tree.specs.declared.layout.Map.{Map}
 use Rattle.tree.specs.CheckLaws.{Accept}
 use Rattle.walk.specs.declared.Walked.{Walked}
@@ -86,7 +87,7 @@ pub ready : {t : List ℕ} {m : Map} {v : List ℕ} {n : PanelMap} → Accept t 
 ready {t} {m} {v} {n} a b = record {
   mapped = a .map-is;
   sound = a .sound;
-  opened = accepts-opened v n (b .verdict) (b .map);
+  opened = accepts-opened v n b;
   panel = accepted-panel v (b .verdict);
 }
 

@@ -23,7 +23,7 @@ use Rattle.facts.specs.KindsLaws.{case-byte, unknown-case}
 use Rattle.facts.specs.TreeFacts.{TreeRuled, casesFor-some}
 use Rattle.facts.specs.PanelFacts.{PanelLaid, PanelShaped}
 use Rattle.panel.specs.declared.Map.{Map as PanelMap}
-use Rattle.panel.specs.declared.Record.{Record}
+use Rattle.panel.specs.declared.records.Record.{Record}
 use Rattle.panel.specs.Opened.{recordOf, Opened}
 use Rattle.tree.specs.declared.reading.Test.{Test as TestRead}
 use Rattle.tree.specs.declared.reading.Case.{Case}

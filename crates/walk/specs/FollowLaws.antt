@@ -18,7 +18,7 @@ use Rattle.rules.specs.Walking.{Position as Place, panelRoot, partOf, tailOf, t
 use Rattle.facts.specs.TreeFacts.{TreeRuled}
 use Rattle.facts.specs.PanelFacts.{PanelLaid, PanelShaped}
 use Rattle.panel.specs.declared.Map.{Map as PanelMap}
-use Rattle.panel.specs.declared.Record.{Record}
+use Rattle.panel.specs.declared.records.Record.{Record}
 use Rattle.panel.specs.Opened.{recordOf}
 use Rattle.tree.specs.declared.reading.Step.{Step as StepRead}
 use Rattle.tree.specs.declared.reading.Path.{Path as PathRead}

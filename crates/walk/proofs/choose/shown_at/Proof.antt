@@ -6,7 +6,7 @@ use Rattle.walk.proofs.choose.shown_at.Statement.{statement}
 use Rattle.walk.proofs.choose.shown_at.Tie as tie
 use Rattle.walk.proofs.choose.shown_at.Reads as reads
 use Rattle.walk.proofs.choose.shown_at.Lts as lts
-use Rattle.panel.proofs.record_at.Reads as record-at-reads
+use Rattle.panel.proofs.records.record_at.Reads as record-at-reads
 
 -- src/choose.rt:46:9
 record-at-requires : tie.Need-record-at-requires

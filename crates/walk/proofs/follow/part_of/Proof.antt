@@ -6,8 +6,8 @@ use Rattle.walk.proofs.follow.part_of.Statement.{statement}
 use Rattle.walk.proofs.follow.part_of.Tie as tie
 use Rattle.walk.proofs.follow.part_of.Reads as reads
 use Rattle.walk.proofs.follow.part_of.Lts as lts
-use Rattle.panel.proofs.part_at.Reads as part-at-reads
-use Rattle.panel.proofs.record_at.Reads as record-at-reads
+use Rattle.panel.proofs.records.part_at.Reads as part-at-reads
+use Rattle.panel.proofs.records.record_at.Reads as record-at-reads
 
 -- src/follow.rt:32:9
 record-at-requires : tie.Need-record-at-requires

@@ -5,7 +5,7 @@ use Rattle.walk.proofs.follow.tail_of.Statement.{statement}
 use Rattle.walk.proofs.follow.tail_of.Tie as tie
 use Rattle.walk.proofs.follow.tail_of.Reads as reads
 use Rattle.walk.proofs.follow.tail_of.Lts as lts
-use Rattle.panel.proofs.record_at.Reads as record-at-reads
+use Rattle.panel.proofs.records.record_at.Reads as record-at-reads
 
 -- src/follow.rt:48:9
 record-at-requires : tie.Need-record-at-requires

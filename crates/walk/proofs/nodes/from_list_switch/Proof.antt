@@ -1,5 +1,5 @@
 use borrow.Author.Needs.{needs}
-use Rattle.panel.specs.declared.Record.{Record}
+use Rattle.panel.specs.declared.records.Record.{Record}
 use Rattle.walk.specs.TurnsLaws.{list-no-part, list-wrong-kind, list-turns}
 use Rattle.walk.specs.FollowLaws.{found-some, found-none, found-within, ready-ruled}
 use Rattle.walk.specs.Positions.{placed}
@@ -12,7 +12,7 @@ use Rattle.walk.proofs.nodes.from_list_switch.Statement.{statement}
 use Rattle.walk.proofs.nodes.from_list_switch.Tie as tie
 use Rattle.walk.proofs.nodes.from_list_switch.Reads as reads
 use Rattle.walk.proofs.nodes.from_list_switch.Lts as lts
-use Rattle.panel.proofs.record_at.Reads as record-at-reads
+use Rattle.panel.proofs.records.record_at.Reads as record-at-reads
 use Rattle.walk.proofs.follow.follow.Reads as follow-reads
 use Rattle.walk.proofs.nodes.from_length.Reads as from-length-reads
 
