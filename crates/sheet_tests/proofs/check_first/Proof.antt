@@ -1,0 +1,24 @@
+-- `sheet_tests::check_first` is safe: the part is as long as its end says.
+use borrow.Author.Needs.{needs}
+use native.Mathlib.Omega.{arith}
+use lib.ListN.{length-take}
+use Rattle.sheet_tests.proofs.check_first.Statement.{statement}
+use Rattle.sheet_tests.proofs.check_first.Tie as tie
+use Rattle.sheet_tests.proofs.check_first.Reads as reads
+use Rattle.sheet_tests.proofs.check_first.Lts as lts
+use Rattle.sheet_tests.proofs.check.Reads as check-reads
+
+slice-aggregate-check : tie.Need-slice-aggregate-check
+slice-aggregate-check c = simp length-take (omega arith)
+
+check-requires : tie.Need-check-requires
+check-requires c κs = search needs
+
+returns : tie.Need-returns
+returns c = search needs
+
+returns-2 : tie.Need-returns-2
+returns-2 c = search needs
+
+pub check-first-spec : {M : Type 1} → statement M
+check-first-spec = tie.close (tie.spec slice-aggregate-check check-requires returns returns-2)
