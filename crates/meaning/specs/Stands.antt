@@ -225,6 +225,10 @@ module _ (s : List ℕ) where
   unfolding into
   length-into x u = omega (arith, length-append x (u ∷ []))
 
+  length-pick : (b : Bool) (x : Path) (u w : Step) → length (pick b (into x u) (into x w)) ≤ suc (length x)
+  length-pick true x u w = length-into x u
+  length-pick false x u w = length-into x w
+
   length-partPath : (p t : ℕ) (x : Path) (i : ℕ) (kind : PatternKind) → length (partPath p t x i kind) ≤ suc (length x)
   unfolding partPath
   length-partPath p t x i Discard = omega arith
@@ -233,11 +237,7 @@ module _ (s : List ℕ) where
   length-partPath p t x i Integer = omega arith
   length-partPath p t x i ByteString = omega arith
   length-partPath p t x i ListOfAll = length-into x (list i t)
-  length-partPath p t x i ListWithRest = go (eqb (i + 1) (patternCount s p))
-    where
-      go : (b : Bool) → length (pick b (into x (listtail i t)) (into x (list i t))) ≤ suc (length x)
-      go true = length-into x (listtail i t)
-      go false = length-into x (list i t)
+  length-partPath p t x i ListWithRest = length-pick (eqb (i + 1) (patternCount s p)) x _ _
   length-partPath p t x i Constructor = length-into x (constr i (both (oneConstructor s t) (decorated s t)) t)
   length-partPath p t x i Pair = length-into x (pair i t)
   length-partPath p t x i Tuple = length-into x (tuple i t)
@@ -281,6 +281,10 @@ module _ (s : List ℕ) where
     into-small [] u h k = (k, tt)
     into-small (w ∷ x) u h k = (h .0, into-small x u (h .1) k)
 
+    pick-small : (b : Bool) (x : Path) (u w : Step) → SmallPath x → SmallStep u → SmallStep w → SmallPath (pick b (into x u) (into x w))
+    pick-small true x u w h k m = into-small x u h k
+    pick-small false x u w h k m = into-small x w h m
+
     path-small : (p t : ℕ) (x : Path) (i : ℕ) (kind : PatternKind) → i < patternCount s p → t < 65536 → SmallPath x → SmallPath (partPath p t x i kind)
     unfolding partPath SmallStep
     path-small p t x i Discard l k h = h
@@ -289,11 +293,7 @@ module _ (s : List ℕ) where
     path-small p t x i Integer l k h = h
     path-small p t x i ByteString l k h = h
     path-small p t x i ListOfAll l k h = into-small x (list i t) h (omega (arith, count-small p), k)
-    path-small p t x i ListWithRest l k h = go (eqb (i + 1) (patternCount s p))
-      where
-        go : (b : Bool) → SmallPath (pick b (into x (listtail i t)) (into x (list i t)))
-        go true = into-small x (listtail i t) h (omega (arith, count-small p), k)
-        go false = into-small x (list i t) h (omega (arith, count-small p), k)
+    path-small p t x i ListWithRest l k h = pick-small (eqb (i + 1) (patternCount s p)) x _ _ h (omega (arith, count-small p), k) (omega (arith, count-small p), k)
     path-small p t x i Constructor l k h = into-small x (constr i (both (oneConstructor s t) (decorated s t)) t) h (omega (arith, count-small p), k)
     path-small p t x i Pair l k h = into-small x (pair i t) h (omega (arith, count-small p), k)
     path-small p t x i Tuple l k h = into-small x (tuple i t) h (omega (arith, count-small p), k)
