@@ -8,3 +8,4 @@ pub mod MarksLaws
 pub mod ReadyLaws
 pub mod WayLaws
 pub mod Scoped
+pub mod ScopedLaws

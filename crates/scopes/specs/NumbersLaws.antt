@@ -339,7 +339,7 @@ module _ (node : ℕ → ℕ) (bs ds : ℕ → List Binding) (n : ℕ) (same : (
         record {
           one = λ c l h. omega (arith, one-child c s (not-scope (f c) (isScope c s) h), childrenWith-switch c s sw);
           at = λ c j l i.
-          reached-child c j (hitOf c (k + 1) (casesUnder s) j) l (omega (arith, i .0)) (omega (arith, i .1, nodesIn-switch s sw)) (λ e. hit-among c k s sw pc pd j e i);
+              reached-child c j (hitOf c (k + 1) (casesUnder s) j) l (omega (arith, i .0)) (omega (arith, i .1, nodesIn-switch s sw)) (λ e. hit-among c k s sw pc pd j e i);
         }
       where
         not-scope : (x y : Bool) → both x (not y) ≡ true → y ≡ false
@@ -360,8 +360,8 @@ module _ (node : ℕ → ℕ) (bs ds : ℕ → List Binding) (n : ℕ) (same : (
         record {
           one = λ c l h. omega (arith, r .one c l h, casesWith-joined c cs ts);
           at = λ c j l i.
-          r .at c j l (omega (arith, i .0), omega (arith, i .1, nodesInOf-joined cs ts))
-          ∙ both-where (f c) (hitOf c k (joined cs ts) j) (hitOf c (k + nodesInOf cs) ts j) (λ h. hit-tailed c k cs ts pc pt j i (r .one c l h));
+              r .at c j l (omega (arith, i .0), omega (arith, i .1, nodesInOf-joined cs ts))
+              ∙ both-where (f c) (hitOf c k (joined cs ts) j) (hitOf c (k + nodesInOf cs) ts j) (λ h. hit-tailed c k cs ts pc pt j i (r .one c l h));
         }
 
   module _ (f : ℕ → Bool) (k : ℕ) (t : Rattle.rules.specs.Splitting.Test) (at : ℕ) (a : Tree) (cs : Cases) (pa : Plain a) (pc : PlainOf cs) (r : ReachedOf f k (ccons t at a cs)) where
@@ -375,8 +375,8 @@ module _ (node : ℕ → ℕ) (bs ds : ℕ → List Binding) (n : ℕ) (same : (
         record {
           one = λ c l h. omega (arith, r .one c l h);
           at = λ c j l i.
-          r .at c j l (omega (arith, i .0), omega (arith, i .1))
-          ∙ both-where (f c) (hitOf c k (ccons t at a cs) j) (hitOf c (k + nodesIn a) cs j) (λ h. hit-rest c k t at a cs pa pc j i (r .one c l h));
+              r .at c j l (omega (arith, i .0), omega (arith, i .1))
+              ∙ both-where (f c) (hitOf c k (ccons t at a cs) j) (hitOf c (k + nodesIn a) cs j) (λ h. hit-rest c k t at a cs pa pc j i (r .one c l h));
         }
 
   wrap-number : (f : ℕ → Bool) (k : ℕ) (s a b : Tree) → ((c : ℕ) → c < n → here f s c ≡ eqb (node c) k) → a ≡ b

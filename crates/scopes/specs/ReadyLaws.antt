@@ -51,15 +51,14 @@ module _ (n : ℕ) where
     each-good (switch p cs d) k pl m = (
       record { plain = pl; made = m; there = refl },
       each-append IsGood (k + 1) (k + 1 + length (subtreesOf cs)) (subtreesOf cs) (subtrees d) refl (each-goodOf cs (k + 1) (pl .0) (m .1))
-      (each-good d (k + 1 + length (subtreesOf cs)) (pl .1) (m .2)),
+          (each-good d (k + 1 + length (subtreesOf cs)) (pl .1) (m .2)),
     )
     each-good (listswitch p cs ts d) k pl m =
         let k₂ = k + 1 + length (subtreesOf cs) in
-        let k₃ = k₂ + length (subtreesOf ts) in
-        (
+        let k₃ = k₂ + length (subtreesOf ts) in (
           record { plain = pl; made = m; there = refl },
           each-append IsGood (k + 1) k₂ (subtreesOf cs) (subtreesOf ts ++ subtrees d) refl (each-goodOf cs (k + 1) (pl .0) (m .1))
-          (each-append IsGood k₂ k₃ (subtreesOf ts) (subtrees d) refl (each-goodOf ts k₂ (pl .1) (m .2)) (each-good d k₃ (pl .2) (m .3))),
+              (each-append IsGood k₂ k₃ (subtreesOf ts) (subtrees d) refl (each-goodOf ts k₂ (pl .1) (m .2)) (each-good d k₃ (pl .2) (m .3))),
         )
 
     each-goodOf : (cs : Cases) (k : ℕ) → PlainOf cs → WellMadeOf n cs → Each IsGood k (subtreesOf cs)

@@ -1,6 +1,7 @@
 // For one clause with a leaf, the node above which it is hoisted and its first leaf in building order, each by one way down from the
 // root. A way down reads each node on it and that node's cases once.
-use crate::marks::{first_child, marked_children};
+use crate::marks::first_child;
+use crate::marks::marked_children;
 use arena::reading::node_kind;
 ghost use mathlib.Core.Path.{_≡_};
 ghost use lib.ListN.{length};

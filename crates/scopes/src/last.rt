@@ -1,7 +1,9 @@
 // For each node the clause of the leaf that is visited last at or below it, on which the step-back notes turn: a byte by node.
 // One pass over the nodes from the last to the first: a switch has the byte of its last child, which has a larger number.
 use crate::marks::children_of;
-use arena::reading::{case_child, node_kind, node_word};
+use arena::reading::case_child;
+use arena::reading::node_kind;
+use arena::reading::node_word;
 ghost use mathlib.Core.Path.{_≡_};
 ghost use Prim.Native.Nat.{_≤_};
 ghost use lib.ListN.{length};

@@ -1,9 +1,11 @@
 // Where each clause is hoisted, and its first leaf in building order: rules 5 to 7 of the scope document over the tree in the arena.
 // Scopes are found from the root down, with no places written out. For each clause one pass over the nodes and the cases marks where it
 // has a leaf, so the cost is that of nodes times clauses, and the memory two bytes a node.
-use descent::{first_leaf, get_hoist_path};
+use descent::first_leaf;
+use descent::get_hoist_path;
 use last::mark_last;
-use marks::{mark, NODES_MOST};
+use marks::NODES_MOST;
+use marks::mark;
 ghost use mathlib.Core.Path.{_≡_};
 ghost use Prim.Native.Nat.{_<_, _≤_};
 ghost use Rattle.rules.specs.Limits.{clausesMost};
@@ -52,7 +54,12 @@ pub fn get_hoist_paths(w: &[u8], nodes: usize, clauses: usize) -> Scopes
     let mut last = [0u8; 1024];
     mark_last(w, nodes, &mut last);
     let none = NODES_MOST as u16;
-    let mut x = Scopes { node: [none; 32], leaf: [none; 32], hoists: 0, idle: CLAUSES_MOST };
+    let mut x = Scopes {
+        node: [none; 32],
+        leaf: [none; 32],
+        hoists: 0,
+        idle: CLAUSES_MOST,
+    };
     let mut c = clauses;
     while 0 < c {
         c -= 1;

@@ -1,7 +1,9 @@
 // For one clause, which nodes have a leaf of it at or below them: a byte by node, 1 or 0.
 // A child has a larger number than its parent, so one pass over the nodes from the last to the first marks them all; it reads each
 // node and each case once.
-use arena::reading::{case_child, node_kind, node_word};
+use arena::reading::case_child;
+use arena::reading::node_kind;
+use arena::reading::node_word;
 ghost use mathlib.Core.Path.{_≡_};
 ghost use Prim.Native.Nat.{_<_, _≤_};
 ghost use lib.ListN.{length};
@@ -27,7 +29,11 @@ pub fn children_of(w: &[u8], k: usize) -> Children
     let cases = node_word(w, k, 2) as usize;
     let tails = node_word(w, k, 3) as usize;
     let default = node_word(w, k, 4) as usize;
-    Children { first, count: cases + tails, default }
+    Children {
+        first,
+        count: cases + tails,
+        default,
+    }
 }
 
 // How many of the n cases from i on have a marked child.

@@ -1,56 +1,74 @@
+-- `scopes::get_hoist_paths` meets its contract. The loop's invariant: the answer is right for the clauses from c on, for every tree that is there.
 use borrow.Author.Needs.{needs}
+use Rattle.scopes.specs.ScopedLaws.{ScopedFrom, scoped-start, hoists-few, scoped-more, scoped-end, last-ready, nodes-few}
+use Rattle.scopes.specs.Marks.{ReadyWith}
+use Prim.Native.Nat.{_+_, _-_, _≤_}
+use mathlib.Core.Path.{_≡_, subst}
+use native.Mathlib.Omega.{arith}
 use Rattle.scopes.proofs.get_hoist_paths.Statement.{statement}
 use Rattle.scopes.proofs.get_hoist_paths.Tie as tie
-use Rattle.scopes.proofs.get_hoist_paths.Reads as reads
-use Rattle.scopes.proofs.get_hoist_paths.Lts as lts
-use Rattle.scopes.proofs.last.mark_last.Reads as mark-last-reads
-use Rattle.scopes.proofs.with_clause.Reads as with-clause-reads
 
 abbrev Inv-loop : tie.InvT-loop
-Inv-loop w nodes clauses last none x₀ c₀ x c = ?
+Inv-loop w nodes clauses last none x₀ c₀ x c = (c ≤ clauses) × ((h : ReadyWith w nodes) → ScopedFrom (h .tree) clauses c x)
 
 abbrev μ-loop : tie.MeasureT-loop
-μ-loop w nodes clauses last none x₀ c₀ x c = ?
+μ-loop w nodes clauses last none x₀ c₀ x c = c
 
--- src/lib.rt:53:25
 slice-aggregate-mark-last : tie.Need-slice-aggregate-mark-last Inv-loop μ-loop
 slice-aggregate-mark-last c = search needs
 
--- src/lib.rt:53:5
 mark-last-requires : tie.Need-mark-last-requires Inv-loop μ-loop
-mark-last-requires c κs = search needs
+mark-last-requires c κs =
+    let s = c .before .before in
+    let a = s .args in
+    (s .pre .0, nodes-few (a .w .now) (a .nodes) (s .pre .0))
 
--- src/lib.rt:54:16
 cast-none : tie.Need-cast-none Inv-loop μ-loop
 cast-none c = search needs
 
--- src/lib.rt:57:5
 loop-holds : tie.Need-loop-holds Inv-loop μ-loop
-loop-holds c = search needs
+loop-holds c =
+    let s = c .before .before .before .before in
+    let a = s .args in
+    (omega arith, λ h. scoped-start (h .tree) (a .clauses) (s .pre .1))
 
--- src/lib.rt:58:9
 sub-c : tie.Need-sub-c Inv-loop μ-loop
 sub-c c = search needs
 
--- src/lib.rt:59:38
 slice-aggregate-with-clause : tie.Need-slice-aggregate-with-clause Inv-loop μ-loop
 slice-aggregate-with-clause c = search needs
 
--- src/lib.rt:59:9
 with-clause-requires : tie.Need-with-clause-requires Inv-loop μ-loop
-with-clause-requires c κs = search needs
+with-clause-requires c κs =
+    let s = c .before .before .before .before .before .before .before in
+    let a = s .args in
+    let m = c .before .before .before .before .mark-last in
+    let l = c .before .before .loop in
+    let t = c .before .loop-test .taken in
+    ((last-ready (a .w .now) (a .nodes) (m .last .1 .1 .0) (m .ensures) (omega (arith, m .kept .1 .1 .0, nodes-few (a .w .now) (a .nodes) (s .pre .0))) (s .pre .0)), omega (arith, s .pre .1, l .inv .0, t), hoists-few (s .pre .0 .tree) (a .clauses) (l .c) (l .x) t (s .pre .1) (l .inv .0) (l .inv .1 (s .pre .0)))
 
--- src/lib.rt:57:5
 loop-less : tie.Need-loop-less Inv-loop μ-loop
-loop-less c = search needs
+loop-less c = omega (arith, c .before .before .loop-test .taken)
 
--- src/lib.rt:57:5
 loop-again : tie.Need-loop-again Inv-loop μ-loop
-loop-again c = search needs
+loop-again c =
+    let s = c .before .before .before .before .before .before .before .before in
+    let a = s .args in
+    let m = c .before .before .before .before .before .mark-last in
+    let l = c .before .before .before .loop in
+    let t = c .before .before .loop-test .taken in
+    let down : l .c ≡ l .c - 1 + 1 = omega arith in (
+      omega (arith, l .inv .0),
+      λ h.
+          scoped-more (h .tree) (a .clauses) (l .c - 1) (l .x) (omega (arith, l .inv .0, t)) (s .pre .1) (subst (λ z. ScopedFrom (h .tree) (a .clauses) z (l .x)) down (l .inv .1 h)) (c .with-clause .result) (c .with-clause .ensures (last-ready (a .w .now) (a .nodes) (m .last .1 .1 .0) (m .ensures) (omega (arith, m .kept .1 .1 .0, nodes-few (a .w .now) (a .nodes) h)) h)),
+    )
 
--- src/lib.rt:48:1
 returns : tie.Need-returns Inv-loop μ-loop
-returns c = search needs
+returns c =
+    let s = c .before .before .before .before .before .before in
+    let a = s .args in
+    let l = c .before .loop in
+    λ h. scoped-end (h .tree) (a .clauses) (l .c) (l .x) (omega (arith, c .loop-test .left)) (l .inv .1 h)
 
 pub get-hoist-paths-spec : {M : Type 1} → statement M
 get-hoist-paths-spec =

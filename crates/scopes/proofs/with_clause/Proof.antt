@@ -1,75 +1,88 @@
+-- `scopes::with_clause` meets its contract: a root without a mark is an idle clause, else the two ways down give its numbers.
 use borrow.Author.Needs.{needs}
+use Rattle.scopes.specs.ScopedLaws.{ready-with, nodes-small, clause-marks, scope-marks, idle-clause, busy-clause, scope-small, leaf-small}
+use native.Mathlib.Omega.{arith}
 use Rattle.scopes.proofs.with_clause.Statement.{statement}
 use Rattle.scopes.proofs.with_clause.Tie as tie
-use Rattle.scopes.proofs.with_clause.Reads as reads
-use Rattle.scopes.proofs.with_clause.Lts as lts
-use Rattle.scopes.proofs.descent.first_leaf.Reads as first-leaf-reads
-use Rattle.scopes.proofs.descent.get_hoist_path.Reads as get-hoist-path-reads
-use Rattle.scopes.proofs.marks.mark.Reads as mark-reads
 
--- src/lib.rt:34:23
 slice-aggregate-mark : tie.Need-slice-aggregate-mark
 slice-aggregate-mark c = search needs
 
--- src/lib.rt:34:5
 mark-requires : tie.Need-mark-requires
-mark-requires c κs = search needs
+mark-requires c κs =
+    let s = c .before .before .before in
+    let a = s .args in
+    (ready-with (a .w .now) (a .nodes) (a .last .now) (s .pre .0), nodes-small (a .w .now) (a .nodes) (a .last .now) (s .pre .0))
 
--- src/lib.rt:36:8
 array-read-if1 : tie.Need-array-read-if1
 array-read-if1 c = search needs
 
--- src/lib.rt:38:9
 returns : tie.Need-returns
-returns c = search needs
+returns c =
+    let s = c .before .before .before .before .before .before in
+    let a = s .args in
+    let m = c .before .before .mark in
+    λ h. idle-clause (a .w .now) (a .nodes) (a .last .now) h (a .c) (m .last .1 .1 .1 .0) (m .ensures (ready-with (a .w .now) (a .nodes) (a .last .now) h)) (a .x) (c .if1 .taken)
 
--- src/lib.rt:40:43
 slice-aggregate-get-hoist-path : tie.Need-slice-aggregate-get-hoist-path
 slice-aggregate-get-hoist-path c = search needs
 
--- src/lib.rt:40:9
 get-hoist-path-requires : tie.Need-get-hoist-path-requires
-get-hoist-path-requires c κs = search needs
+get-hoist-path-requires c κs =
+    let s = c .before .before .before .before .before .before .before in
+    let a = s .args in
+    let m = c .before .before .before .mark in
+    scope-marks (a .w .now) (a .nodes) (a .last .now) (s .pre .0) (a .c) (m .last .1 .1 .1 .0) (m .ensures (ready-with (a .w .now) (a .nodes) (a .last .now) (s .pre .0))) (omega (arith, m .kept .1 .1 .1 .0)) (c .before .if1 .left)
 
--- src/lib.rt:41:33
 slice-aggregate-first-leaf : tie.Need-slice-aggregate-first-leaf
 slice-aggregate-first-leaf c = search needs
 
--- src/lib.rt:41:9
 first-leaf-requires : tie.Need-first-leaf-requires
-first-leaf-requires c κs = search needs
+first-leaf-requires c κs =
+    let s = c .before .before .before .before .before .before .before .before .before in
+    let a = s .args in
+    let m = c .before .before .before .before .before .mark in
+    clause-marks (a .w .now) (a .nodes) (a .last .now) (s .pre .0) (a .c) (m .last .1 .1 .1 .0) (m .ensures (ready-with (a .w .now) (a .nodes) (a .last .now) (s .pre .0))) (omega (arith, m .kept .1 .1 .1 .0)) (c .before .before .before .if1 .left)
 
--- src/lib.rt:42:17
 cast-y : tie.Need-cast-y
-cast-y c = search needs
+cast-y c =
+    let s = c .before .before .before .before .before .before .before .before .before .before in
+    let a = s .args in
+    let m = c .before .before .before .before .before .before .mark in
+    let n = scope-small (a .w .now) (a .nodes) (a .last .now) (s .pre .0) (a .c) (m .last .1 .1 .1 .0) (m .ensures (ready-with (a .w .now) (a .nodes) (a .last .now) (s .pre .0))) (c .before .before .before .before .if1 .left) (c .before .before .get-hoist-path .result) (c .before .before .get-hoist-path .ensures (scope-marks (a .w .now) (a .nodes) (a .last .now) (s .pre .0) (a .c) (m .last .1 .1 .1 .0) (m .ensures (ready-with (a .w .now) (a .nodes) (a .last .now) (s .pre .0))) (omega (arith, m .kept .1 .1 .1 .0)) (c .before .before .before .before .if1 .left))) in
+    omega arith
 
--- src/lib.rt:42:5
 mul-y : tie.Need-mul-y
 mul-y c = search needs
 
--- src/lib.rt:42:5
 element-write-y : tie.Need-element-write-y
 element-write-y c = search needs
 
--- src/lib.rt:43:17
 cast-y-2 : tie.Need-cast-y-2
-cast-y-2 c = search needs
+cast-y-2 c =
+    let s = c .before .before .before .before .before .before .before .before .before .before in
+    let a = s .args in
+    let m = c .before .before .before .before .before .before .mark in
+    let n = leaf-small (a .w .now) (a .nodes) (a .last .now) (s .pre .0) (a .c) (m .last .1 .1 .1 .0) (m .ensures (ready-with (a .w .now) (a .nodes) (a .last .now) (s .pre .0))) (c .before .before .before .before .if1 .left) (c .first-leaf .result) (c .first-leaf .ensures (clause-marks (a .w .now) (a .nodes) (a .last .now) (s .pre .0) (a .c) (m .last .1 .1 .1 .0) (m .ensures (ready-with (a .w .now) (a .nodes) (a .last .now) (s .pre .0))) (omega (arith, m .kept .1 .1 .1 .0)) (c .before .before .before .before .if1 .left))) in
+    omega arith
 
--- src/lib.rt:43:5
 mul-y-2 : tie.Need-mul-y-2
 mul-y-2 c = search needs
 
--- src/lib.rt:43:5
 element-write-y-2 : tie.Need-element-write-y-2
 element-write-y-2 c = search needs
 
--- src/lib.rt:44:16
 add-y : tie.Need-add-y
 add-y c = search needs
 
--- src/lib.rt:29:1
 returns-2 : tie.Need-returns-2
-returns-2 c = search needs
+returns-2 c =
+    let s = c .before .before .before .before .before .before .before .before .before .before .before in
+    let a = s .args in
+    let m = c .before .before .before .before .before .before .before .mark in
+    λ h.
+    busy-clause (a .w .now) (a .nodes) (a .last .now) h (a .c) (m .last .1 .1 .1 .0) (m .ensures (ready-with (a .w .now) (a .nodes) (a .last .now) h)) (a .x) (c .before .before .before .get-hoist-path .result) (c .before .first-leaf .result) (c .before .before .before .before .before .if1 .left)
+    (c .before .before .before .get-hoist-path .ensures (scope-marks (a .w .now) (a .nodes) (a .last .now) h (a .c) (m .last .1 .1 .1 .0) (m .ensures (ready-with (a .w .now) (a .nodes) (a .last .now) h)) (omega (arith, m .kept .1 .1 .1 .0)) (c .before .before .before .before .before .if1 .left))) (c .before .first-leaf .ensures (clause-marks (a .w .now) (a .nodes) (a .last .now) h (a .c) (m .last .1 .1 .1 .0) (m .ensures (ready-with (a .w .now) (a .nodes) (a .last .now) h)) (omega (arith, m .kept .1 .1 .1 .0)) (c .before .before .before .before .before .if1 .left)))
 
 pub with-clause-spec : {M : Type 1} → statement M
 with-clause-spec =

@@ -1,63 +1,52 @@
+-- `scopes::last::last_child` meets its contract: the default, or the child of the last case.
 use borrow.Author.Needs.{needs}
 use Rattle.scopes.specs.MarksLaws.{cases-run, lastChild-case, lastChild-default}
 use native.Mathlib.Omega.{arith}
 use Rattle.scopes.proofs.last.last_child.Statement.{statement}
 use Rattle.scopes.proofs.last.last_child.Tie as tie
-use Rattle.scopes.proofs.last.last_child.Reads as reads
-use Rattle.scopes.proofs.last.last_child.Lts as lts
-use Rattle.arena.proofs.reading.case_child.Reads as case-child-reads
-use Rattle.scopes.proofs.marks.children_of.Reads as children-of-reads
 
--- src/last.rt:15:9
 children-of-requires : tie.Need-children-of-requires
 children-of-requires c κs = search needs
 
--- src/last.rt:17:30
 add-case-child : tie.Need-add-case-child
-add-case-child c = 
+add-case-child c =
     let a = c .before .before .before .before .before .args in
     let x = c .before .before .before .children-of .result in
     let e = c .before .before .before .children-of .ensures in
     let n = cases-run (a .w .now) (a .k) (a .nodes) x e (c .before .before .before .before .before .pre) in
     omega (arith, n .1)
 
--- src/last.rt:17:30
 sub-case-child : tie.Need-sub-case-child
-sub-case-child c = 
+sub-case-child c =
     let a = c .before .before .before .before .before .args in
     let x = c .before .before .before .children-of .result in
     let e = c .before .before .before .children-of .ensures in
     let n = cases-run (a .w .now) (a .k) (a .nodes) x e (c .before .before .before .before .before .pre) in
     omega (arith, n .0)
 
--- src/last.rt:17:16
 case-child-requires : tie.Need-case-child-requires
-case-child-requires c κs = 
+case-child-requires c κs =
     let a = c .before .before .before .before .before .args in
     let x = c .before .before .before .children-of .result in
     let e = c .before .before .before .children-of .ensures in
     let n = cases-run (a .w .now) (a .k) (a .nodes) x e (c .before .before .before .before .before .pre) in
     (c .before .before .before .before .before .pre .cases .room, omega (arith, n .0, n .1))
 
--- src/last.rt:17:16
 cast-result : tie.Need-cast-result
 cast-result c = search needs
 
--- src/last.rt:17:9
 returns : tie.Need-returns
-returns c = 
+returns c =
     let a = c .before .before .before .before .before .before .args in
     let x = c .before .before .before .before .children-of .result in
     let e = c .before .before .before .before .children-of .ensures in
     lastChild-case (a .w .now) (a .k) (a .nodes) x e (c .case-child .result) (c .before .before .if1 .taken) (c .case-child .ensures)
 
--- src/last.rt:19:5
 sub-result : tie.Need-sub-result
 sub-result c = search needs
 
--- src/last.rt:11:1
 returns-2 : tie.Need-returns-2
-returns-2 c = 
+returns-2 c =
     let a = c .before .before .before .before .before .args in
     let x = c .before .before .before .children-of .result in
     let e = c .before .before .before .children-of .ensures in

@@ -1,3 +1,4 @@
+-- `scopes::last::mark_last` meets its contract. The loop's invariant: the nodes from k on have their last leaf, for every tree that is there.
 use borrow.Author.Needs.{needs}
 use Rattle.scopes.specs.WayLaws.{last-none, last-more}
 use Rattle.scopes.specs.ReadyLaws.{node-inside}
@@ -8,9 +9,6 @@ use mathlib.Core.Path.{_≡_, refl, sym, subst}
 use native.Mathlib.Omega.{arith}
 use Rattle.scopes.proofs.last.mark_last.Statement.{statement}
 use Rattle.scopes.proofs.last.mark_last.Tie as tie
-use Rattle.scopes.proofs.last.mark_last.Reads as reads
-use Rattle.scopes.proofs.last.mark_last.Lts as lts
-use Rattle.scopes.proofs.last.last_of.Reads as last-of-reads
 
 abbrev Inv-loop : tie.InvT-loop
 Inv-loop w nodes last₀ k₀ last k = (k ≤ nodes) × (length last ≡ length last₀) × ((h : ReadyWith w nodes) → LastMarked (h .tree) k last)
@@ -18,52 +16,43 @@ Inv-loop w nodes last₀ k₀ last k = (k ≤ nodes) × (length last ≡ length 
 abbrev μ-loop : tie.MeasureT-loop
 μ-loop w nodes last₀ k₀ last k = k
 
--- src/last.rt:39:5
 loop-holds : tie.Need-loop-holds Inv-loop μ-loop
-loop-holds c = 
+loop-holds c =
     let a = c .before .before .args in
     (omega arith, refl, λ h. last-none (h .tree) (a .nodes) (a .last .now) (omega (arith, h .count)))
 
--- src/last.rt:40:9
 sub-k : tie.Need-sub-k Inv-loop μ-loop
 sub-k c = search needs
 
--- src/last.rt:41:13
 last-of-requires : tie.Need-last-of-requires Inv-loop μ-loop
-last-of-requires c κs = 
-    let s = c .before .before .before .before .before  in
+last-of-requires c κs =
+    let s = c .before .before .before .before .before in
     let l = c .before .before .loop in
     let h = s .pre .0 in
     node-inside (s .args .w .now) (h .tree) (h .ready) (l .k - 1) (omega (arith, h .count, l .inv .0, c .before .loop-test .taken)) (length (l .last)) (omega (arith, h .count, l .inv .1, s .pre .1))
 
--- src/last.rt:42:9
 slice-write-last : tie.Need-slice-write-last Inv-loop μ-loop
 slice-write-last c = omega (arith, c .before .before .before .loop .inv .0, c .before .before .before .loop .inv .1, c .before .before .before .before .before .before .pre .1, c .before .before .loop-test .taken)
 
--- src/last.rt:39:5
 loop-less : tie.Need-loop-less Inv-loop μ-loop
 loop-less c = search needs
 
--- src/last.rt:39:5
 loop-again : tie.Need-loop-again Inv-loop μ-loop
-loop-again c = 
-    let s = c .before .before .before .before .before .before  in
+loop-again c =
+    let s = c .before .before .before .before .before .before in
     let l = c .before .before .before .loop in
-    let down : l .k - 1 + 1 ≡ l .k = omega (arith, c .before .before .loop-test .taken) in
-    (
+    let down : l .k - 1 + 1 ≡ l .k = omega (arith, c .before .before .loop-test .taken) in (
       omega (arith, l .inv .0),
       simp length-set (l .inv .1),
       λ h.
-      last-more (s .args .w .now) (h .tree) (h .ready) (l .k - 1) (omega (arith, h .count, l .inv .0, c .before .before .loop-test .taken)) (l .last) (c .last-of .result) (omega (arith, l .inv .0, l .inv .1, s .pre .1, c .before .before .loop-test .taken)) (c .last-of .ensures) (subst (λ z. LastMarked (h .tree) z (l .last)) (sym down) (l .inv .2 h)),
+          last-more (s .args .w .now) (h .tree) (h .ready) (l .k - 1) (omega (arith, h .count, l .inv .0, c .before .before .loop-test .taken)) (l .last) (c .last-of .result) (omega (arith, l .inv .0, l .inv .1, s .pre .1, c .before .before .loop-test .taken)) (c .last-of .ensures) (subst (λ z. LastMarked (h .tree) z (l .last)) (sym down) (l .inv .2 h)),
     )
 
--- src/last.rt:34:1
 same-length : tie.Need-same-length Inv-loop μ-loop
 same-length c = c .before .loop .inv .1
 
--- src/last.rt:34:1
 returns : tie.Need-returns Inv-loop μ-loop
-returns c = 
+returns c =
     let l = c .before .loop in
     let e : l .k ≡ 0 = omega (arith, c .loop-test .left) in
     λ h. subst (λ z. LastMarked (h .tree) z (l .last)) e (l .inv .2 h)

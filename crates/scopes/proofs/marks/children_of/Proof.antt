@@ -1,47 +1,35 @@
+-- `scopes::marks::children_of` meets its contract: each field is the word read, the cases with the tail cases one run.
 use borrow.Author.Needs.{needs}
 use Rattle.scopes.proofs.marks.children_of.Statement.{statement}
 use Rattle.scopes.proofs.marks.children_of.Tie as tie
-use Rattle.scopes.proofs.marks.children_of.Reads as reads
-use Rattle.scopes.proofs.marks.children_of.Lts as lts
-use Rattle.arena.proofs.reading.node_word.Reads as node-word-reads
 
--- src/marks.rt:25:17
 node-word-requires : tie.Need-node-word-requires
 node-word-requires c κs = search needs
 
--- src/marks.rt:25:17
 cast-first : tie.Need-cast-first
 cast-first c = search needs
 
--- src/marks.rt:26:17
 node-word-requires-2 : tie.Need-node-word-requires-2
 node-word-requires-2 c κs = search needs
 
--- src/marks.rt:26:17
 cast-cases : tie.Need-cast-cases
 cast-cases c = search needs
 
--- src/marks.rt:27:17
 node-word-requires-3 : tie.Need-node-word-requires-3
 node-word-requires-3 c κs = search needs
 
--- src/marks.rt:27:17
 cast-tails : tie.Need-cast-tails
 cast-tails c = search needs
 
--- src/marks.rt:28:19
 node-word-requires-4 : tie.Need-node-word-requires-4
 node-word-requires-4 c κs = search needs
 
--- src/marks.rt:28:19
 cast-default : tie.Need-cast-default
 cast-default c = search needs
 
--- src/marks.rt:29:30
 add-t8 : tie.Need-add-t8
 add-t8 c = search needs
 
--- src/marks.rt:21:1
 returns : tie.Need-returns
 returns c = simp (← c .before .before .before .node-word .ensures, ← c .before .before .node-word2 .ensures, ← c .before .node-word3 .ensures, ← c .node-word4 .ensures)
 

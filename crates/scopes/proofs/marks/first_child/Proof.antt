@@ -1,54 +1,43 @@
+-- `scopes::marks::first_child` meets its contract: the default where it is marked, else the first marked case.
 use borrow.Author.Needs.{needs}
 use Rattle.scopes.specs.MarksLaws.{default-asked, default-there, firstChild-default, cases-asked, firstChild-case}
 use lib.ListN.{length}
-use native.Mathlib.Omega.{arith}
 use Rattle.scopes.proofs.marks.first_child.Statement.{statement}
 use Rattle.scopes.proofs.marks.first_child.Tie as tie
-use Rattle.scopes.proofs.marks.first_child.Reads as reads
-use Rattle.scopes.proofs.marks.first_child.Lts as lts
-use Rattle.scopes.proofs.marks.children_of.Reads as children-of-reads
-use Rattle.scopes.proofs.marks.first_marked.Reads as first-marked-reads
-use Rattle.scopes.proofs.marks.marked_default.Reads as marked-default-reads
 
--- src/marks.rt:88:9
 children-of-requires : tie.Need-children-of-requires
 children-of-requires c κs = search needs
 
--- src/marks.rt:89:12
 marked-default-requires : tie.Need-marked-default-requires
-marked-default-requires c κs = 
+marked-default-requires c κs =
     let a = c .before .before .before .args in
     let x = c .children-of .result in
     let e = c .children-of .ensures in
     default-asked (a .w .now) (a .k) (length (a .has .now)) x e (c .before .before .before .pre)
 
--- src/marks.rt:90:16
 sub-result : tie.Need-sub-result
-sub-result c = 
+sub-result c =
     let a = c .before .before .before .before .before .before .args in
     let x = c .before .before .before .children-of .result in
     let e = c .before .before .before .children-of .ensures in
     default-there (a .w .now) (a .k) (length (a .has .now)) x e (a .has .now) (c .before .before .marked-default .result) (c .before .before .marked-default .ensures) (c .before .if1 .taken)
 
--- src/marks.rt:90:9
 returns : tie.Need-returns
-returns c = 
+returns c =
     let a = c .before .before .before .before .before .before .args in
     let x = c .before .before .before .children-of .result in
     let e = c .before .before .before .children-of .ensures in
     firstChild-default (a .w .now) (a .k) (length (a .has .now)) x e (a .has .now) (c .before .before .marked-default .result) (c .before .before .marked-default .ensures) (c .before .if1 .taken)
 
--- src/marks.rt:92:5
 first-marked-requires : tie.Need-first-marked-requires
-first-marked-requires c κs = 
+first-marked-requires c κs =
     let a = c .before .before .before .before .before .args in
     let x = c .before .before .children-of .result in
     let e = c .before .before .children-of .ensures in
     cases-asked (a .w .now) (a .k) (length (a .has .now)) x e (c .before .before .before .before .before .pre)
 
--- src/marks.rt:84:1
 returns-2 : tie.Need-returns-2
-returns-2 c = 
+returns-2 c =
     let a = c .before .before .before .before .before .before .args in
     let x = c .before .before .before .children-of .result in
     let e = c .before .before .before .children-of .ensures in

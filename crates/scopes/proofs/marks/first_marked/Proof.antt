@@ -1,3 +1,4 @@
+-- `scopes::marks::first_marked` meets its contract. The loop's invariant: the first marked child from case i + j on is the whole's.
 use borrow.Author.Needs.{needs}
 use Rattle.scopes.specs.MarksLaws.{firstMarked-start, firstMarked-found, firstMarked-on, firstMarked-end}
 use Rattle.scopes.specs.Marks.{firstMarked}
@@ -6,9 +7,6 @@ use mathlib.Core.Path.{_≡_, _∙_}
 use native.Mathlib.Omega.{arith}
 use Rattle.scopes.proofs.marks.first_marked.Statement.{statement}
 use Rattle.scopes.proofs.marks.first_marked.Tie as tie
-use Rattle.scopes.proofs.marks.first_marked.Reads as reads
-use Rattle.scopes.proofs.marks.first_marked.Lts as lts
-use Rattle.arena.proofs.reading.case_child.Reads as case-child-reads
 
 abbrev Inv-loop : tie.InvT-loop
 Inv-loop w i n has j₀ j = (j ≤ n) × (firstMarked w has (i + j) (n - j) ≡ firstMarked w has i n)
@@ -16,51 +14,41 @@ Inv-loop w i n has j₀ j = (j ≤ n) × (firstMarked w has (i + j) (n - j) ≡ 
 abbrev μ-loop : tie.MeasureT-loop
 μ-loop w i n has j₀ j = n - j
 
--- src/marks.rt:53:5
 loop-holds : tie.Need-loop-holds Inv-loop μ-loop
 loop-holds c = let a = c .before .before .args in (omega arith, firstMarked-start (a .w .now) (a .has .now) (a .i) (a .n))
 
--- src/marks.rt:54:35
 add-case-child : tie.Need-add-case-child Inv-loop μ-loop
 add-case-child c = search needs
 
--- src/marks.rt:54:21
 case-child-requires : tie.Need-case-child-requires Inv-loop μ-loop
 case-child-requires c κs = omega (arith, c .before .before .before .before .pre .room, c .before .before .before .before .pre .inside)
 
--- src/marks.rt:54:21
 cast-child : tie.Need-cast-child Inv-loop μ-loop
 cast-child c = search needs
 
--- src/marks.rt:55:12
 shared-slice-read-if1 : tie.Need-shared-slice-read-if1 Inv-loop μ-loop
 shared-slice-read-if1 c = omega (arith, c .before .before .before .before .before .before .pre .children (c .before .before .before .loop .j) (c .before .before .loop-test .taken), c .before .case-child .ensures)
 
--- src/marks.rt:56:13
 returns : tie.Need-returns Inv-loop μ-loop
-returns c = 
+returns c =
     let a = c .before .before .before .before .before .before .before .args in
     let l = c .before .before .before .before .loop in
     firstMarked-found (a .w .now) (a .has .now) (a .i) (a .n) (l .j) (c .before .before .case-child .result) (c .before .before .before .loop-test .taken) (c .before .before .case-child .ensures) (c .if1 .taken) ∙ l .inv .1
 
--- src/marks.rt:58:9
 add-j : tie.Need-add-j Inv-loop μ-loop
 add-j c = search needs
 
--- src/marks.rt:53:5
 loop-less : tie.Need-loop-less Inv-loop μ-loop
 loop-less c = search needs
 
--- src/marks.rt:53:5
 loop-again : tie.Need-loop-again Inv-loop μ-loop
-loop-again c = 
+loop-again c =
     let a = c .before .before .before .before .before .before .before .args in
     let l = c .before .before .before .before .loop in
     (omega arith, firstMarked-on (a .w .now) (a .has .now) (a .i) (a .n) (l .j) (c .before .before .case-child .result) (c .before .before .before .loop-test .taken) (c .before .before .case-child .ensures) (c .if1 .left) ∙ l .inv .1)
 
--- src/marks.rt:48:1
 returns-2 : tie.Need-returns-2 Inv-loop μ-loop
-returns-2 c = 
+returns-2 c =
     let a = c .before .before .before .before .args in
     let l = c .before .loop in
     firstMarked-end (a .w .now) (a .has .now) (a .i) (a .n) (l .j) (c .loop-test .left) ∙ l .inv .1

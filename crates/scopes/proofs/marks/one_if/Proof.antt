@@ -1,17 +1,13 @@
-use borrow.Author.Needs.{needs}
+-- `scopes::marks::one_if` meets its contract: each answer is the test's bit.
 use Rattle.rules.specs.Rows.{bit}
 use mathlib.Core.Path.{sym, ap}
 use Rattle.scopes.proofs.marks.one_if.Statement.{statement}
 use Rattle.scopes.proofs.marks.one_if.Tie as tie
-use Rattle.scopes.proofs.marks.one_if.Reads as reads
-use Rattle.scopes.proofs.marks.one_if.Lts as lts
 
--- src/marks.rt:111:9
 returns : tie.Need-returns
 unfolding bit
 returns c = sym (ap bit (c .if1 .taken))
 
--- src/marks.rt:107:1
 returns-2 : tie.Need-returns-2
 unfolding bit
 returns-2 c = sym (ap bit (c .if1 .left))
