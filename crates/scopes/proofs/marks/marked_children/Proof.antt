@@ -1,0 +1,50 @@
+-- `scopes::marks::marked_children` meets its contract: the marks of the cases and of the default, added.
+use borrow.Author.Needs.{needs}
+use Rattle.scopes.specs.MarksLaws.{cases-asked, default-asked, markedChildren-small, markedChildren-is}
+use Rattle.words.specs.WordsLaws.{bytes-of-fits}
+use lib.ListN.{length}
+use native.Mathlib.Omega.{arith}
+use Rattle.scopes.proofs.marks.marked_children.Statement.{statement}
+use Rattle.scopes.proofs.marks.marked_children.Tie as tie
+
+children-of-requires : tie.Need-children-of-requires
+children-of-requires c κs = search needs
+
+marked-cases-requires : tie.Need-marked-cases-requires
+marked-cases-requires c κs =
+    let a = c .before .before .before .args in
+    let x = c .children-of .result in
+    let e = c .children-of .ensures in
+    cases-asked (a .w .now) (a .k) (length (a .has .now)) x e (c .before .before .before .pre)
+
+marked-default-requires : tie.Need-marked-default-requires
+marked-default-requires c κs =
+    let a = c .before .before .before .before .args in
+    let x = c .before .children-of .result in
+    let e = c .before .children-of .ensures in
+    default-asked (a .w .now) (a .k) (length (a .has .now)) x e (c .before .before .before .before .pre)
+
+add-result : tie.Need-add-result
+add-result c =
+    let a = c .before .before .before .before .before .args in
+    let x = c .before .before .children-of .result in
+    let e = c .before .before .children-of .ensures in
+    let n = markedChildren-small (a .w .now) (a .k) (length (a .has .now)) x e (a .has .now) (c .before .marked-cases .result) (c .marked-default .result) (c .before .before .before .before .before .pre) (bytes-of-fits (a .has .now) (c .before .before .before .shared-slice-known2 .given)) (c .before .marked-cases .ensures) (c .marked-default .ensures) in
+    omega arith
+
+returns : tie.Need-returns
+returns c =
+    let a = c .before .before .before .before .before .args in
+    let x = c .before .before .children-of .result in
+    let e = c .before .before .children-of .ensures in
+    markedChildren-is (a .w .now) (a .k) (length (a .has .now)) x e (a .has .now) (c .before .marked-cases .result) (c .marked-default .result) (c .before .marked-cases .ensures) (c .marked-default .ensures)
+
+pub marked-children-spec : {M : Type 1} → statement M
+marked-children-spec =
+    tie.close
+    (tie.spec
+    children-of-requires
+    marked-cases-requires
+    marked-default-requires
+    add-result
+    returns)
