@@ -20,7 +20,7 @@ use Rattle.facts.specs.PanelFacts.{PanelShaped, panel-text-inside}
 use Rattle.panel.specs.declared.Map.{Map}
 use Rattle.panel.specs.declared.records.Record.{Record}
 use Rattle.panel.specs.Opened.{Opened, recordOf}
-use Rattle.panel.specs.Sums.{same-or-not}
+use Rattle.panel.specs.CountingLaws.{same-or-not}
 
 module _ (v : List ℕ) where
   -- a text of some bytes is its first byte and the rest
