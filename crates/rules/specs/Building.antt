@@ -55,7 +55,7 @@ unfoldable pub casesBy : (Group → Tree) → List Group → Cases
 casesBy f [] = cnil
 casesBy f (g ∷ gs) = ccons (g .test) (g .start) (f g) (casesBy f gs)
 
--- a switch on the column at p: the default, then cases, then tail cases
+-- a switch on the column at p, or a list switch with its tail cases apart
 unfoldable pub nodeBy : Path → Bool → (Group → Tree) → List Group → Tree → Tree
 unfolding isTailCase select casesBy
 nodeBy p true f gs d = listswitch p (casesBy f (select (λ g. not (isTailCase g)) gs)) (casesBy f (select isTailCase gs)) d

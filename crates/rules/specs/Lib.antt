@@ -15,6 +15,7 @@ pub mod TreeFile
 pub mod TreeReader
 pub mod PanelFile
 pub mod Fitting
+pub mod Positions
 pub mod Walking
 pub mod Meaning
 pub mod Calls

@@ -7,7 +7,7 @@ use lib.Dec.{eqb, leb}
 use Rattle.words.specs.Words.{both, sameText}
 use Rattle.rules.specs.Patterns.{Mark, Opens, pairs, tuples, fields, Pat, Pats, discard, variable, assign, integer, bytestring, listed, tailed, constructor, opened, pnil, pcons, many}
 use Rattle.rules.specs.PanelFile.{recordKind, recordA, recordFirst, recordCount, part, recordText}
-use Rattle.rules.specs.Walking.{Position, Bound, panelRoot, Walked, reached, noLeaf}
+use Rattle.rules.specs.Positions.{Position, Bound, panelRoot, Walked, reached, noLeaf}
 
 -- the part with child entry j of a panel
 abbrev pub partAt : List ℕ → ℕ → Position
@@ -30,9 +30,15 @@ openKind pairs = 3
 openKind tuples = 4
 openKind (fields a decorated) = 5
 
+-- a constructor's number is asked also where its type has no other
+unfoldable pub hasNumber : Opens → ℕ → Bool
+hasNumber pairs n = true
+hasNumber tuples n = true
+hasNumber (fields a decorated) n = eqb n a
+
 -- the pattern matches what stands at the position
 unfoldable mutual
-  unfolding sameText many openKind elementsAt elements after recordKind recordA recordFirst recordCount recordText part
+  unfolding sameText many openKind hasNumber elementsAt elements after recordKind recordA recordFirst recordCount recordText part
 
   pub matches : Pat → List ℕ → Position → Bool
   matches (discard m) v x = true
@@ -53,8 +59,9 @@ unfoldable mutual
       (matchEach qs v (recordFirst v (x .place)))))
   matches (opened m o qs) v x =
       both (eqb (recordKind v (x .place)) (openKind o))
+      (both (hasNumber o (recordA v (x .place)))
       (both (eqb (recordCount v (x .place)) (many qs))
-      (matchEach qs v (recordFirst v (x .place))))
+      (matchEach qs v (recordFirst v (x .place)))))
 
   -- each pattern matches its part: the first at child entry j, each next at the next
   pub matchEach : Pats → List ℕ → ℕ → Bool
@@ -80,8 +87,8 @@ unfoldable mutual
   givesEach pnil v j = []
   givesEach (pcons q qs) v j = gives q v (partAt v j) ++ givesEach qs v (j + 1)
 
--- "the first clause whose pattern matches, each name bound to the part the pattern gives it; if none matches, without a leaf":
--- of clauses c, c + 1, ..
+-- Of clauses c, c + 1, .. the first whose pattern matches, each name bound to the part that the pattern gives it; without a leaf if
+-- none matches. A meaning is never stuck.
 unfoldable pub firstMatch : ℕ → List Pat → List ℕ → Walked
 unfolding matches gives
 firstMatch c [] v = noLeaf

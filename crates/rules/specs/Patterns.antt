@@ -11,7 +11,8 @@ use Rattle.rules.specs.SheetFile.{subject, typeKind, typeFlag, typeFirst
 abbrev pub Text : Type 0
 Text = List ℕ
 
--- "Kinds: 0 discard, 1 variable, 2 assign, 3 integer and 4 byte string, 5 list, 6 list with tail, 7 constructor, 8 pair, 9 tuple"
+-- "Kinds: 0 discard, 1 variable (..), 2 assign (..), 3 integer and 4 byte string (..), 5 list, 6 list with tail (..), 7 constructor (..),
+-- 8 pair (..), 9 tuple"
 pub data PatternKind : Type 0 where
   Discard Variable Assign Integer ByteString ListOfAll ListWithRest Constructor Pair Tuple Unknown : PatternKind
 
@@ -72,7 +73,7 @@ unfoldable pub decorated : List ℕ → ℕ → Bool
 unfolding typeFlag
 decorated s t = leb 2 (typeFlag s t)
 
--- "A constructor's number": its place among its own type's constructors, from 0
+-- a constructor's number is its place among its own type's constructors, from 0
 unfoldable pub constructorOf : List ℕ → ℕ → ℕ → ℕ
 unfolding typeFirst
 constructorOf s t a = typeFirst s t + a

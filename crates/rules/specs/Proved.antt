@@ -1,9 +1,10 @@
--- 01, "Proved cases": P1 to P12 over the definitions, from the bytes of sheets and panels, and one case more.
+-- 01, "Proved cases": P1 to P12 over the definitions, from the bytes of sheets and panels; four sheets more (P13 to P16), and refusal 1.
 -- Each holds by computing; the bytes are in Samples.
 use Prim.Native.Nat.{ℕ}
 use mathlib.Core.Path.{_≡_, refl}
 use mathlib.Core.Bool.{Bool, true, false}
 use mathlib.Core.List.{List, [], _∷_}
+use Rattle.words.specs.Words.{zeros}
 use Rattle.rules.specs.Limits.{treeRoom, workRoom, boundRoom}
 use Rattle.rules.specs.SheetRefusals.{Verdict, accepted, refused, verdict}
 use Rattle.rules.specs.Rows.{Step, pair, tuple, constr, list, listtail, Path, Binding}
@@ -11,9 +12,9 @@ use Rattle.rules.specs.Splitting.{Test, Constr, Int, Bytes, ListOf, List
 use Rattle.rules.specs.Building.{Tree, Cases, absent, leaf, hoist, switch, listswitch, cnil, ccons}
 use Rattle.rules.specs.TreeReader.{treeFits, treeOf}
 use Rattle.rules.specs.Walking.{Position, Bound, Walked, reached, noLeaf, stuck, walk}
-use Rattle.rules.specs.Calls.{Answer, answers, refuses, Built, WalkEnd, leafOf, withoutLeaf, sheetTree, sheetTreeFile, buildAnswer, fitCall, walkAnswer, walkedWords, textPart, meaning}
+use Rattle.rules.specs.Calls.{Answer, answers, refuses, Built, WalkEnd, leafOf, withoutLeaf, sheetTree, sheetTreeFile, buildAnswer, fitCall, walkCall, textPart, meaning}
 use Rattle.rules.specs.Listing.{listing, sheetListing}
-use Rattle.rules.specs.Samples.{sheet1, panel2, panel3, panel4, panel5, sheet6, sheet7, panel7, sheet8, sheet9, sheet10, sheet11, sheet12, sheet13, sheet14, sheet15, file1, listing1}
+use Rattle.rules.specs.Samples.{sheet1, panel2, panel3, panel4, panel5, sheet6, sheet7, panel7, sheet8, sheet9, sheet10, sheet11, sheet12, sheet13, sheet14, sheet15, sheet16, file1, listing1}
 
 -- ---- P1 "this tree"
 abbrev n1 : List Binding
@@ -64,35 +65,27 @@ P1-listing : sheetListing sheet1 ≡ listing1
 unfolding sheetListing
 P1-listing = refl
 
--- ---- P2 to P5, "walks on it": the answer, what is bound, and what the sheet means on the panel
-P2 : walkAnswer file1 panel2 boundRoom ≡ answers (leafOf 0 1)
-unfolding walkAnswer
+-- ---- P2 to P5, "walks on it": the answer and every word of the binding buffer, and what the sheet means on the panel
+-- "n1 the root less one"
+P2 : walkCall file1 panel2 boundRoom ≡ record { answer = answers (leafOf 0 1); bound = 1 ∷ 0 ∷ 1 ∷ zeros 573 }
+unfolding walkCall
 P2 = refl
 
--- "n1 the root less one"
-P2-bound : walkedWords (walk tree1 panel2) ≡ 1 ∷ 0 ∷ 1 ∷ []
-unfolding walk walkedWords
-P2-bound = refl
-
-P3 : walkAnswer file1 panel3 boundRoom ≡ answers (leafOf 1 1)
-unfolding walkAnswer
-P3 = refl
-
 -- "n2 its first element", which the panel shows as 5
-P3-bound : walkedWords (walk tree1 panel3) ≡ 2 ∷ 1 ∷ 0 ∷ []
-unfolding walk walkedWords
-P3-bound = refl
+P3 : walkCall file1 panel3 boundRoom ≡ record { answer = answers (leafOf 1 1); bound = 2 ∷ 1 ∷ 0 ∷ zeros 573 }
+unfolding walkCall
+P3 = refl
 
 P3-text : textPart panel3 1 0 ≡ 53 ∷ []
 unfolding textPart
 P3-text = refl
 
-P4 : walkAnswer file1 panel4 boundRoom ≡ answers (leafOf 2 0)
-unfolding walkAnswer
+P4 : walkCall file1 panel4 boundRoom ≡ record { answer = answers (leafOf 2 0); bound = zeros 576 }
+unfolding walkCall
 P4 = refl
 
-P5 : walkAnswer file1 panel5 boundRoom ≡ answers (leafOf 2 0)
-unfolding walkAnswer
+P5 : walkCall file1 panel5 boundRoom ≡ record { answer = answers (leafOf 2 0); bound = zeros 576 }
+unfolding walkCall
 P5 = refl
 
 P2-meaning : walk tree1 panel2 ≡ meaning sheet1 panel2
@@ -121,8 +114,8 @@ unfolding sheetTree
 P6 = refl
 
 -- ---- P7 "`7` alone on 8: no leaf"
-P7 : walkAnswer (sheetTreeFile sheet7) panel7 boundRoom ≡ answers withoutLeaf
-unfolding walkAnswer sheetTreeFile
+P7 : walkCall (sheetTreeFile sheet7) panel7 boundRoom ≡ record { answer = answers withoutLeaf; bound = zeros 576 }
+unfolding walkCall sheetTreeFile
 P7 = refl
 
 P7-meaning : meaning sheet7 panel7 ≡ noLeaf
@@ -218,11 +211,49 @@ P15 : buildAnswer sheet15 treeRoom workRoom ≡ refuses 14 2
 unfolding buildAnswer
 P15 = refl
 
+-- ---- one more: (1,_,C1 5), (2,C0 5,_), (_,C0 n1,C1 n2). Clause 2's hoist has n1 before n2, as its leaf that is built first, in the
+-- default; its leaf that is listed first has n2 before n1.
+abbrev C0-part : Path
+C0-part = tuple 1 0 ∷ constr 0 false 2 ∷ []
+
+abbrev C1-part : Path
+C1-part = tuple 2 0 ∷ constr 0 false 2 ∷ []
+
+abbrev n1-n2 : List Binding
+n1-n2 = record { name = 1; path = C0-part } ∷ record { name = 2; path = C1-part } ∷ []
+
+abbrev n2-n1 : List Binding
+n2-n1 = record { name = 2; path = C1-part } ∷ record { name = 1; path = C0-part } ∷ []
+
+P16 : sheetTree sheet16
+    ≡ hoist 2 n1-n2
+    (switch (tuple 0 0 ∷ [])
+    (ccons (Int (49 ∷ [])) 0
+    (switch (tuple 2 0 ∷ [])
+    (ccons (Constr 1) 0
+    (switch C1-part (ccons (Int (53 ∷ [])) 1 (hoist 0 [] (leaf 0 [])) cnil)
+    (switch (tuple 1 0 ∷ []) (ccons (Constr 0) 0 (leaf 2 n2-n1) cnil) absent))
+    cnil)
+    absent)
+    (ccons (Int (50 ∷ [])) 2
+    (switch (tuple 1 0 ∷ [])
+    (ccons (Constr 0) 0
+    (switch C0-part (ccons (Int (53 ∷ [])) 1 (hoist 1 [] (leaf 1 [])) cnil)
+    (switch (tuple 2 0 ∷ []) (ccons (Constr 1) 0 (leaf 2 n1-n2) cnil) absent))
+    cnil)
+    absent)
+    cnil))
+    (switch (tuple 1 0 ∷ [])
+    (ccons (Constr 0) 0 (switch (tuple 2 0 ∷ []) (ccons (Constr 1) 0 (leaf 2 n1-n2) cnil) absent) cnil)
+    absent))
+unfolding sheetTree
+P16 = refl
+
 -- ---- refusal 1: a buffer one byte, or one u16, too small
 P1-room : buildAnswer sheet1 65535 workRoom ≡ refuses 1 0
 unfolding buildAnswer
 P1-room = refl
 
-P2-room : walkAnswer file1 panel2 575 ≡ refuses 1 0
-unfolding walkAnswer
+P2-room : walkCall file1 panel2 575 ≡ record { answer = refuses 1 0; bound = zeros 575 }
+unfolding walkCall
 P2-room = refl

@@ -1,4 +1,4 @@
--- The sheets and panels of 01's proved cases P1 to P12, and one more, as bytes.
+-- The sheets and panels of 01's proved cases P1 to P12 and of four cases more, the tree file of P1's sheet and its listing, as bytes.
 -- A comment says what each run of bytes is; Proved has what is proved of them.
 use Prim.Native.Nat.{ℕ}
 use mathlib.Core.List.{List, [], _∷_}
@@ -308,6 +308,62 @@ sheet14 =
     49 ∷ 50 ∷ 51 ∷
     -- the seven starts, the subject's type, the length
     0 ∷ 0 ∷ 12 ∷ 0 ∷ 12 ∷ 0 ∷ 16 ∷ 0 ∷ 88 ∷ 0 ∷ 100 ∷ 0 ∷ 106 ∷ 0 ∷ 0 ∷ 0 ∷ 127 ∷ 0 ∷ []
+
+-- one more, for the order of a hoist's bindings: (1,_,C1 5), (2,C0 5,_), (_,C0 n1,C1 n2)
+abbrev pub sheet16 : List ℕ
+sheet16 =
+    -- type 0: Tuple, entries 0 to 2
+    4 ∷ 0 ∷ 0 ∷ 0 ∷ 3 ∷ 0 ∷
+    -- type 1: Int
+    0 ∷ 0 ∷ 0 ∷ 0 ∷ 0 ∷ 0 ∷
+    -- type 2: Data, constructors 0 to 1
+    5 ∷ 0 ∷ 0 ∷ 0 ∷ 2 ∷ 0 ∷
+    -- constructor 0: fields
+    0 ∷ 0 ∷ 1 ∷ 0 ∷
+    -- constructor 1: fields
+    0 ∷ 0 ∷ 1 ∷ 0 ∷
+    -- the type list
+    1 ∷ 0 ∷ 2 ∷ 0 ∷ 2 ∷ 0 ∷
+    -- pattern 0: tuple, children 1, 2, 3
+    9 ∷ 0 ∷ 0 ∷ 0 ∷ 0 ∷ 0 ∷ 3 ∷ 0 ∷
+    -- pattern 1: integer 1
+    3 ∷ 0 ∷ 0 ∷ 0 ∷ 0 ∷ 0 ∷ 1 ∷ 0 ∷
+    -- pattern 2: discard
+    0 ∷ 0 ∷ 0 ∷ 0 ∷ 0 ∷ 0 ∷ 0 ∷ 0 ∷
+    -- pattern 3: constructor 1, children 4
+    7 ∷ 0 ∷ 1 ∷ 0 ∷ 3 ∷ 0 ∷ 1 ∷ 0 ∷
+    -- pattern 4: integer 5
+    3 ∷ 0 ∷ 0 ∷ 0 ∷ 1 ∷ 0 ∷ 1 ∷ 0 ∷
+    -- pattern 5: tuple, children 6, 7, 9
+    9 ∷ 0 ∷ 0 ∷ 0 ∷ 4 ∷ 0 ∷ 3 ∷ 0 ∷
+    -- pattern 6: integer 2
+    3 ∷ 0 ∷ 0 ∷ 0 ∷ 2 ∷ 0 ∷ 1 ∷ 0 ∷
+    -- pattern 7: constructor 0, children 8
+    7 ∷ 0 ∷ 0 ∷ 0 ∷ 7 ∷ 0 ∷ 1 ∷ 0 ∷
+    -- pattern 8: integer 5
+    3 ∷ 0 ∷ 0 ∷ 0 ∷ 1 ∷ 0 ∷ 1 ∷ 0 ∷
+    -- pattern 9: discard
+    0 ∷ 0 ∷ 0 ∷ 0 ∷ 0 ∷ 0 ∷ 0 ∷ 0 ∷
+    -- pattern 10: tuple, children 11, 12, 14
+    9 ∷ 0 ∷ 0 ∷ 0 ∷ 8 ∷ 0 ∷ 3 ∷ 0 ∷
+    -- pattern 11: discard
+    0 ∷ 0 ∷ 0 ∷ 0 ∷ 0 ∷ 0 ∷ 0 ∷ 0 ∷
+    -- pattern 12: constructor 0, children 13
+    7 ∷ 0 ∷ 0 ∷ 0 ∷ 11 ∷ 0 ∷ 1 ∷ 0 ∷
+    -- pattern 13: variable n1
+    1 ∷ 0 ∷ 1 ∷ 0 ∷ 0 ∷ 0 ∷ 0 ∷ 0 ∷
+    -- pattern 14: constructor 1, children 15
+    7 ∷ 0 ∷ 1 ∷ 0 ∷ 12 ∷ 0 ∷ 1 ∷ 0 ∷
+    -- pattern 15: variable n2
+    1 ∷ 0 ∷ 2 ∷ 0 ∷ 0 ∷ 0 ∷ 0 ∷ 0 ∷
+    -- the child list
+    1 ∷ 0 ∷ 2 ∷ 0 ∷ 3 ∷ 0 ∷ 4 ∷ 0 ∷ 6 ∷ 0 ∷ 7 ∷ 0 ∷ 9 ∷ 0 ∷ 8 ∷ 0 ∷ 11 ∷ 0 ∷ 12 ∷ 0 ∷ 14 ∷ 0 ∷ 13 ∷ 0 ∷ 15 ∷ 0 ∷
+    -- the clauses' roots
+    0 ∷ 0 ∷ 5 ∷ 0 ∷ 10 ∷ 0 ∷
+    -- the pool: 1 5 2
+    49 ∷ 53 ∷ 50 ∷
+    -- the seven starts, the subject's type, the length
+    0 ∷ 0 ∷ 18 ∷ 0 ∷ 26 ∷ 0 ∷ 32 ∷ 0 ∷ 160 ∷ 0 ∷ 186 ∷ 0 ∷ 192 ∷ 0 ∷ 0 ∷ 0 ∷ 213 ∷ 0 ∷ []
 
 -- one more, for a new case: `1`, discard, `2`
 abbrev pub sheet15 : List ℕ

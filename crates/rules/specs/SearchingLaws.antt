@@ -1,5 +1,5 @@
 -- Laws of `every`, `lowest` and `times`: what a loop over i, i + 1, .. uses, and what their answers say of each number.
--- The `-next` laws have "n - i are left from i on", as a loop's invariant does.
+-- In the `-next` laws n - i numbers are left from i on, as in a loop's invariant.
 use mathlib.Core.Path.{_≡_, refl, ap, ap₂, _∙_, sym}
 use mathlib.Core.Logic.{_⊎_, inl, inr, ⊎-elim}
 use mathlib.Core.Bool.{Bool, true, false}

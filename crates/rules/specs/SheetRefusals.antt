@@ -73,7 +73,7 @@ unfoldable pub typeKeepsRules : List ℕ → ℕ → Bool
 unfolding typeParts typeFlags
 typeKeepsRules s t = both (typeParts s t) (typeFlags s t)
 
--- "constructor: first, count in the type list (count 0 allowed)"
+-- "constructor, 4 bytes: first, count in the type list (count 0 allowed)"
 unfoldable pub constructorKeepsRules : List ℕ → ℕ → Bool
 unfolding entries constructorFirst constructorCount runIn
 constructorKeepsRules s c = runIn (constructorFirst s c) (constructorCount s c) (entries s)

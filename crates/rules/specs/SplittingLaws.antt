@@ -62,9 +62,13 @@ pub either-none : (a : Bool) → either a false ≡ a
 either-none true = refl
 either-none false = refl
 
-either-assoc : (a b c : Bool) → either (either a b) c ≡ either a (either b c)
+pub either-assoc : (a b c : Bool) → either (either a b) c ≡ either a (either b c)
 either-assoc true b c = refl
 either-assoc false b c = refl
+
+pub both-end : (a : Bool) → both a true ≡ a
+both-end true = refl
+both-end false = refl
 
 either-absorb : (a b c : Bool) → (b ≡ true → a ≡ true) → either a c ≡ either a (either b c)
 either-absorb true b c h = refl
@@ -81,20 +85,20 @@ unfolding sameTest
 among t [] = false
 among t (u ∷ us) = either (sameTest t u) (among t us)
 
-among-append : (t : Test) (us ws : List Test) → among t (us ++ ws) ≡ either (among t us) (among t ws)
+pub among-append : (t : Test) (us ws : List Test) → among t (us ++ ws) ≡ either (among t us) (among t ws)
 unfolding among
 among-append t [] ws = refl
 among-append t (u ∷ us) ws = rw (among-append t us ws) (sym (either-assoc (sameTest t u) (among t us) (among t ws)))
 
-abbrev metAt : ℕ → Test → Met
+abbrev pub metAt : ℕ → Test → Met
 metAt start t = record { test = t; start = start }
 
-isMet-append : (t : Test) (ms : List Met) (m : Met) → isMet t (ms ++ m ∷ []) ≡ either (isMet t ms) (sameTest t (m .test))
+pub isMet-append : (t : Test) (ms : List Met) (m : Met) → isMet t (ms ++ m ∷ []) ≡ either (isMet t ms) (sameTest t (m .test))
 unfolding isMet
 isMet-append t [] m = either-none (sameTest t (m .test))
 isMet-append t (n ∷ ms) m = rw (isMet-append t ms m) (sym (either-assoc (sameTest t (n .test)) (isMet t ms) (sameTest t (m .test))))
 
-isMet-meet : (t : Test) (start : ℕ) (ms : List Met) (us : List Test) → isMet t (meet start ms us) ≡ either (isMet t ms) (among t us)
+pub isMet-meet : (t : Test) (start : ℕ) (ms : List Met) (us : List Test) → isMet t (meet start ms us) ≡ either (isMet t ms) (among t us)
 unfolding meet among
 isMet-meet t start ms [] = sym (either-none (isMet t ms))
 isMet-meet t start ms (u ∷ us) = go (isMet u ms) refl (λ ns. isMet-meet t start ns us)
@@ -113,12 +117,12 @@ isMet-meet t start ms (u ∷ us) = go (isMet u ms) refl (λ ns. isMet-meet t sta
 
 -- ---- rising tests: f k, f (k + 1), .. , n of them
 module _ (f : ℕ → Test) where
-  rising-other : (t : Test) → ((i : ℕ) → sameTest t (f i) ≡ false) → (k n : ℕ) → among t (rising f k n) ≡ false
+  pub rising-other : (t : Test) → ((i : ℕ) → sameTest t (f i) ≡ false) → (k n : ℕ) → among t (rising f k n) ≡ false
   unfolding among rising
   rising-other t h k zero = refl
   rising-other t h k (suc n) = rw (h k) (rising-other t h (k + 1) n)
 
-  rising-same : ((i j : ℕ) → sameTest (f i) (f j) ≡ eqb i j) → (j k n : ℕ) → among (f j) (rising f k n) ≡ both (leb k j) (ltb j (k + n))
+  pub rising-same : ((i j : ℕ) → sameTest (f i) (f j) ≡ eqb i j) → (j k n : ℕ) → among (f j) (rising f k n) ≡ both (leb k j) (ltb j (k + n))
   unfolding among rising
   rising-same h j k zero = sym (empty (leb k j) refl)
     where
@@ -144,19 +148,11 @@ module _ (f : ℕ → Test) where
 
 list-same : (i j : ℕ) → sameTest (ListOf i) (ListOf j) ≡ eqb i j
 unfolding sameTest
-list-same i j = end (eqb i j)
-  where
-    end : (b : Bool) → both b true ≡ b
-    end true = refl
-    end false = refl
+list-same i j = both-end (eqb i j)
 
 tail-same : (i j : ℕ) → sameTest (ListWithTail i) (ListWithTail j) ≡ eqb i j
 unfolding sameTest
-tail-same i j = end (eqb i j)
-  where
-    end : (b : Bool) → both b true ≡ b
-    end true = refl
-    end false = refl
+tail-same i j = both-end (eqb i j)
 
 list-not-tail : (i j : ℕ) → sameTest (ListOf i) (ListWithTail j) ≡ false
 unfolding sameTest
@@ -199,7 +195,7 @@ module _ (tailless tails : ℕ) where
       among-append t (rising ListOf k (tailless - k)) (rising ListWithTail k (tails - k))
       ∙ ap₂ either (rising-other ListOf t h k (tailless - k)) (rising-other ListWithTail t g k (tails - k))
 
-  covers-joined : (q : Pat) (t : Test) → InRange tailless tails t → covers q t ≡ among t (joined tailless tails q)
+  pub covers-joined : (q : Pat) (t : Test) → InRange tailless tails t → covers q t ≡ among t (joined tailless tails q)
   unfolding covers joined among sameTest
   covers-joined (discard m) t h = refl
   covers-joined (variable m x) t h = refl
@@ -223,7 +219,7 @@ module _ (tailless tails : ℕ) where
       let (l, g) = both-true (leb k j) (ltb j (k + (end - k))) e in
       omega (arith, leb-true k j l, ltb-true j (k + (end - k)) g)
 
-  joined-in-range : (q : Pat) (t : Test) → taillessLength q ≤ tailless → among t (joined tailless tails q) ≡ true → InRange tailless tails t
+  pub joined-in-range : (q : Pat) (t : Test) → taillessLength q ≤ tailless → among t (joined tailless tails q) ≡ true → InRange tailless tails t
   unfolding joined among taillessLength
   joined-in-range (discard m) t l e = absurd (false≢true e)
   joined-in-range (variable m x) t l e = absurd (false≢true e)
@@ -240,11 +236,11 @@ module _ (tailless tails : ℕ) where
   joined-in-range (opened m o qs) t l e = absurd (false≢true e)
 
 -- ---- no test twice
-abbrev Distinct : List Test → Type 0
+abbrev pub Distinct : List Test → Type 0
 Distinct [] = Unit {0}
 Distinct (t ∷ ts) = (among t ts ≡ false) × Distinct ts
 
-abbrev DistinctMet : List Met → Type 0
+abbrev pub DistinctMet : List Met → Type 0
 DistinctMet [] = Unit {0}
 DistinctMet (m ∷ ms) = (isMet (m .test) ms ≡ false) × DistinctMet ms
 
@@ -258,7 +254,7 @@ rising-distinct f same ts apart d k (suc n) = (
   rising-distinct f same ts apart d (k + 1) n,
 )
 
-joined-distinct : (tailless tails : ℕ) (q : Pat) → Distinct (joined tailless tails q)
+pub joined-distinct : (tailless tails : ℕ) (q : Pat) → Distinct (joined tailless tails q)
 unfolding joined among
 joined-distinct tailless tails (discard m) = tt
 joined-distinct tailless tails (variable m x) = tt
@@ -335,7 +331,7 @@ module _ (tailless tails : ℕ) where
       go (inl x) ih = joined-in-range tailless tails q t (l .0) x
       go (inr x) ih = ih x
 
-  abbrev met : List Pat → List Met
+  abbrev pub met : List Pat → List Met
   met qs = meetAll tailless tails [] qs
 
   isMet-met : (t : Test) (qs : List Pat) → isMet t (met qs) ≡ anyJoins t qs
@@ -348,14 +344,14 @@ module _ (tailless tails : ℕ) where
   met-covers : (t : Test) (qs : List Pat) → InRange tailless tails t → isMet t (met qs) ≡ anyCovers t qs
   met-covers t qs h = isMet-met t qs ∙ anyJoins-covers t qs h
 
-  meetAll-append : (ms : List Met) (qs : List Pat) (q : Pat)
+  pub meetAll-append : (ms : List Met) (qs : List Pat) (q : Pat)
       → meetAll tailless tails ms (qs ++ q ∷ []) ≡ meet (textStart q) (meetAll tailless tails ms qs) (joined tailless tails q)
   unfolding meetAll
   meetAll-append ms [] q = refl
   meetAll-append ms (z ∷ qs) q = meetAll-append (meet (textStart z) ms (joined tailless tails z)) qs q
 
 -- ---- rows at the end
-column-append : (p : Path) (rs ss : List Row) → column p (rs ++ ss) ≡ column p rs ++ column p ss
+pub column-append : (p : Path) (rs ss : List Row) → column p (rs ++ ss) ≡ column p rs ++ column p ss
 unfolding column
 column-append p [] ss = refl
 column-append p (r ∷ rs) ss = go (testAt p (r .tests)) refl (column-append p rs ss)
@@ -364,7 +360,7 @@ column-append p (r ∷ rs) ss = go (testAt p (r .tests)) refl (column-append p r
     go none x ih = rw (x, column) ih
     go (some q) x ih = rw (x, column) (ap (λ z. q ∷ z) ih)
 
-default-append : (p : Path) (rs ss : List Row) → defaultRows p (rs ++ ss) ≡ defaultRows p rs ++ defaultRows p ss
+pub default-append : (p : Path) (rs ss : List Row) → defaultRows p (rs ++ ss) ≡ defaultRows p rs ++ defaultRows p ss
 unfolding defaultRows
 default-append p [] ss = refl
 default-append p (r ∷ rs) ss = go (testAt p (r .tests)) refl (default-append p rs ss)
@@ -375,7 +371,7 @@ default-append p (r ∷ rs) ss = go (testAt p (r .tests)) refl (default-append p
     go (some q) x ih = rw (x, defaultRows) ih
 
 module _ (p : Path) (t : Test) where
-  rows-append : (rs ss : List Row) → caseRows p t (rs ++ ss) ≡ caseRows p t rs ++ caseRows p t ss
+  pub rows-append : (rs ss : List Row) → caseRows p t (rs ++ ss) ≡ caseRows p t rs ++ caseRows p t ss
   unfolding caseRows
   rows-append [] ss = refl
   rows-append (r ∷ rs) ss = go (testAt p (r .tests)) refl (rows-append rs ss)
@@ -389,7 +385,7 @@ module _ (p : Path) (t : Test) where
           test true y = rw (x, y, caseRows) (ap (λ z. openRow p q r ∷ z) ih)
           test false y = rw (x, y, caseRows) ih
 
-  opens-append : (rs ss : List Row) → caseOpens p t (rs ++ ss) ≡ caseOpens p t rs ++ caseOpens p t ss
+  pub opens-append : (rs ss : List Row) → caseOpens p t (rs ++ ss) ≡ caseOpens p t rs ++ caseOpens p t ss
   unfolding caseOpens
   opens-append [] ss = refl
   opens-append (r ∷ rs) ss = go (testAt p (r .tests)) refl (opens-append rs ss)
@@ -406,7 +402,7 @@ module _ (p : Path) (t : Test) where
           test false y = rw (x, y, caseOpens) ih
 
   -- where no pattern of the column belongs to the case: "a new case starts with the default rows so far"
-  rows-new : (rs : List Row) → anyCovers t (column p rs) ≡ false → caseRows p t rs ≡ defaultRows p rs
+  pub rows-new : (rs : List Row) → anyCovers t (column p rs) ≡ false → caseRows p t rs ≡ defaultRows p rs
   unfolding caseRows defaultRows column anyCovers
   rows-new [] e = refl
   rows-new (r ∷ rs) e = go (testAt p (r .tests)) refl (rows-new rs)
@@ -418,7 +414,7 @@ module _ (p : Path) (t : Test) where
           let (c, f) = either-false (covers q t) (anyCovers t (column p rs)) (rw (x, column) at e) in
           rw (x, caseRows, defaultRows) (rw c (ih f))
 
-  opens-new : (rs : List Row) → anyCovers t (column p rs) ≡ false → caseOpens p t rs ≡ []
+  pub opens-new : (rs : List Row) → anyCovers t (column p rs) ≡ false → caseOpens p t rs ≡ []
   unfolding caseOpens column anyCovers
   opens-new [] e = refl
   opens-new (r ∷ rs) e = go (testAt p (r .tests)) refl (opens-new rs)
@@ -607,7 +603,7 @@ wildcard-row p done r (m ∷ ms) x = λ i. first i ∷ wildcard-row p done r ms 
         }
 
 module _ (tailless tails : ℕ) (p : Path) where
-  abbrev Short : Pat → Type 0
+  abbrev pub Short : Pat → Type 0
   Short q = taillessLength q ≤ tailless
 
   tested-row : (done : List Row) (r : Row) (q : Pat) → testAt p (r .tests) ≡ some q → All Short (column p done) → Short q
@@ -644,11 +640,11 @@ module _ (tailless tails : ℕ) (p : Path) where
   all-back [] ys h = (tt, h)
   all-back (x ∷ xs) ys h = let (a, b) = all-back xs ys (h .1) in ((h .0, a), b)
 
-  abbrev byFilters : List Row → Split
+  abbrev pub byFilters : List Row → Split
   byFilters rs = record { rest = defaultRows p rs; groups = filtered p rs (met tailless tails (column p rs)) }
 
   -- after the rows `done`, the pass has what the filters make of them
-  goDown-filters : (rs done : List Row) → All Short (column p (done ++ rs))
+  pub goDown-filters : (rs done : List Row) → All Short (column p (done ++ rs))
       → goDown tailless tails p rs (defaultRows p done) (filtered p done (met tailless tails (column p done))) ≡ byFilters (done ++ rs)
   unfolding goDown
   goDown-filters [] done l = ap byFilters (sym (append-nil done))

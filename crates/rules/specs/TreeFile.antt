@@ -86,7 +86,7 @@ defaultField k (switch p cs d) = suc k
 defaultField k (listswitch p cs ts d) = suc k
 
 -- The nodes of a tree whose first node is number k, whose first case is c and whose first binding is b; table has the paths.
--- "Nodes in pre-order (hoist before its child; cases, tail cases, default). 0 switch and 1 list switch: path, first case, cases,
+-- "Nodes in pre-order (hoist before its child; cases, tail cases, default), .. 0 switch and 1 list switch: path, first case, cases,
 -- tail cases, default node + 1 or 0. 2 leaf: clause, first binding, count. 3 hoist: clause, first binding, count, child"
 unfoldable mutual
   unfolding pathNumber nodeBytes firstOf defaultField howMany nodesIn nodesInOf casesIn casesInOf bindingsIn bindingsInOf

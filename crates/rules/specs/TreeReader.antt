@@ -296,7 +296,8 @@ unfoldable pub stepKeepsRules : List ℕ → ℕ → Bool
 unfolding stepKind stepFlag
 stepKeepsRules t i = both (leb (stepKind t i) 4) (either (eqb (stepFlag t i) 0) (both (eqb (stepFlag t i) 1) (eqb (stepKind t i) 2)))
 
--- "node 0 there, each other node a child exactly once, in pre-order (hoist before its child; cases, tail cases, default)"
+-- "node 0 there, each other node a child exactly once, in pre-order"; the order is the writer's, "(hoist before its child; cases, tail
+-- cases, default)"
 -- the children of the n cases from i on; of a default field; of a node, in order
 unfoldable pub caseChildren : List ℕ → ℕ → ℕ → List ℕ
 unfolding caseChild

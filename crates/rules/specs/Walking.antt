@@ -7,18 +7,10 @@ use mathlib.Core.Option.{Option, none, some}
 use lib.Dec.{eqb, leb, ltb}
 use Rattle.words.specs.Words.{both, pick}
 use Rattle.rules.specs.PanelFile.{recordKind, recordA, recordFirst, recordCount, part, recordText, RecordKind, Integer-record, Bytes-record, List-record, Pair-record, Tuple-record, Constructor-record, Unknown-record, recordKindOf}
+pub use Rattle.rules.specs.Positions.{Position, panelRoot, Bound, Walked, reached, noLeaf, stuck}
 use Rattle.rules.specs.Rows.{Step, pair, tuple, constr, list, listtail, Path, Binding}
 use Rattle.rules.specs.Splitting.{Test, Constr, Int, Bytes, ListOf, ListWithTail, sameTest}
 use Rattle.rules.specs.Building.{Tree, Cases, absent, leaf, hoist, switch, listswitch, cnil, ccons}
-
--- "A position is a record and a number of list elements dropped"
-pub record Position : Type 0 where
-  pub place : ℕ
-  pub dropped : ℕ
-
--- the panel itself: "Record 0 is the root"
-abbrev pub panelRoot : Position
-panelRoot = record { place = 0; dropped = 0 }
 
 -- ---- following a path: "Wrong kind or missing part: 32" is none
 -- part i of record r, which must be of this kind and have it
@@ -46,11 +38,7 @@ unfolding takeStep
 follow v [] x = some x
 follow v (s ∷ p) x = elim (takeStep v s x) [ none ↦ none | some y ↦ follow v p y ]
 
--- ---- bindings at a leaf: "(name, record, dropped) for each binding"
-pub record Bound : Type 0 where
-  pub name : ℕ
-  pub position : Position
-
+-- ---- bindings at a leaf
 unfoldable pub bound : List ℕ → List Binding → Option (List Bound)
 unfolding follow
 bound v [] = some []
@@ -59,12 +47,6 @@ bound v (b ∷ bs) =
       | none ↦ none
       | some x ↦ elim (bound v bs) [ none ↦ none | some xs ↦ some (record { name = b .name; position = x } ∷ xs) ]
     ]
-
--- "The answer is a clause with (name, record, dropped) for each binding, or No leaf with no bindings", or 32
-pub data Walked : Type 0 where
-  reached : ℕ → List Bound → Walked
-  noLeaf : Walked
-  stuck : Walked
 
 unfoldable pub atLeaf : ℕ → Option (List Bound) → Walked
 atLeaf c none = stuck
@@ -153,12 +135,12 @@ unfoldable mutual
   walk absent v = noLeaf
   walk (leaf c bs) v = atLeaf c (bound v bs)
   walk (hoist c bs a) v = walk a v
-  walk (switch p cs d) v = atPart v (firstKind cs) (follow v p panelRoot) (λ t. walkCases cs t v (λ u. walk d v))
+  walk (switch p cs d) v = atPart v (firstKind cs) (follow v p panelRoot) (λ t. walkCases cs t v (λ else. walk d v))
   walk (listswitch p cs ts d) v =
       atList v (follow v p panelRoot)
-      (λ n. walkCases cs (ListOf n) v (λ u. atTail (largestTail n ts) (λ k. walkCases ts (ListWithTail k) v (λ u. walk d v)) (λ u. walk d v)))
+      (λ n. walkCases cs (ListOf n) v (λ else. atTail (largestTail n ts) (λ k. walkCases ts (ListWithTail k) v (λ else. walk d v)) (λ else. walk d v)))
 
   -- the first case of this test, or else
   pub walkCases : Cases → Test → List ℕ → (Unit {0} → Walked) → Walked
   walkCases cnil t v otherwise = otherwise tt
-  walkCases (ccons u at a cs) t v otherwise = ifSame (sameTest t u) (λ u. walk a v) (λ u. walkCases cs t v otherwise)
+  walkCases (ccons u at a cs) t v otherwise = ifSame (sameTest t u) (λ go. walk a v) (λ on. walkCases cs t v otherwise)

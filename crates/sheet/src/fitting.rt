@@ -25,7 +25,7 @@ ghost use Rattle.sheet.specs.Fitting.{Ready, Room, asksFor, argumentsFit
 // What is left to ask of a pattern whose own kind and count were held against its type: nothing, it fits or does not; that the
 // one pattern inside it fits the same type; or that each of `count` children from entry `first` on fits the type at its own type
 // entry, the first at `entry`, each next one `step` further on.
-pub enum Question {
+enum Question {
     Settled(bool),
     Inside(usize),
     Each {
@@ -100,7 +100,7 @@ fn asks(s: &[u8], m: Map, p: usize, t: usize) -> Question
 }
 
 // Pattern p fits type t.
-pub fn fits(s: &[u8], m: Map, p: usize, t: usize) -> bool
+fn fits(s: &[u8], m: Map, p: usize, t: usize) -> bool
     requires { ⌜ Ready (now s) m × (p < patterns (now s)) × (t < types (now s)) ⌝ }
     ensures { λ r. ⌜ r ≡ Fits (pattern (now (s .entry)) p t) (now (s .entry)) ⌝ }
 {
@@ -140,7 +140,7 @@ fn misfits(s: &[u8], m: Map, c: usize) -> bool
 }
 
 // 10.
-pub fn lowest_misfit(s: &[u8], m: Map) -> Found
+pub(crate) fn lowest_misfit(s: &[u8], m: Map) -> Found
     requires { ⌜ Ready (now s) m ⌝ }
     ensures { λ r. ⌜ r ≡ foundOf (lowestMisfit (now (s .entry))) ⌝ }
 {

@@ -27,7 +27,7 @@ ghost use Rattle.rules.specs.SheetRefusals.{lengthFits, wholeRecords};
 ghost use Rattle.sheet.specs.Sections.{startsOf, startsFit, countsBetween, fewEnough};
 
 // 2: from 18 to 8,192 bytes, and the trailer's length is the sheet's.
-pub fn length_fits(s: &[u8]) -> bool
+pub(crate) fn length_fits(s: &[u8]) -> bool
     ensures { λ r. ⌜ r ≡ lengthFits (now (s .entry)) ⌝ }
 {
     let n = s.len();
@@ -50,7 +50,7 @@ fn start(s: &[u8], k: usize) -> usize
 }
 
 // The trailer's seven starts, and where the trailer itself begins.
-pub fn starts_of(s: &[u8]) -> Starts
+pub(crate) fn starts_of(s: &[u8]) -> Starts
     requires { ⌜ sheetTrailer ≤ length (now s) ⌝ }
     ensures { λ r. ⌜ r ≡ startsOf (now (s .entry)) ⌝ }
 {
@@ -67,7 +67,7 @@ pub fn starts_of(s: &[u8]) -> Starts
 }
 
 // The subject's type number.
-pub fn subject_of(s: &[u8]) -> usize
+pub(crate) fn subject_of(s: &[u8]) -> usize
     requires { ⌜ sheetTrailer ≤ length (now s) ⌝ }
     ensures { λ r. ⌜ r ≡ subject (now (s .entry)) ⌝ }
 {
@@ -86,7 +86,7 @@ fn whole_records(size: usize, from: usize, to: usize) -> bool
 }
 
 // 3: the starts rise from 0, pass not the trailer, and cut no record.
-pub fn layout_fits(at: Starts) -> bool
+pub(crate) fn layout_fits(at: Starts) -> bool
     ensures { λ r. ⌜ r ≡ startsFit at ⌝ }
 {
     if at.types != 0 {
@@ -114,7 +114,7 @@ pub fn layout_fits(at: Starts) -> bool
 }
 
 // How many records each section has, where the starts rise.
-pub fn counts_of(at: Starts) -> Counts
+pub(crate) fn counts_of(at: Starts) -> Counts
     requires { ⌜ startsFit at ≡ true ⌝ }
     ensures { λ r. ⌜ r ≡ countsBetween at ⌝ }
 {
@@ -130,7 +130,7 @@ pub fn counts_of(at: Starts) -> Counts
 }
 
 // 5: no section has more records than it may.
-pub fn counts_fit(n: Counts) -> bool
+pub(crate) fn counts_fit(n: Counts) -> bool
     ensures { λ r. ⌜ r ≡ fewEnough n ⌝ }
 {
     if TYPES_MOST < n.types {

@@ -1,11 +1,19 @@
-// The check of a sheet: refusals 2 to 11 of document 01.
+// The check of a sheet: refusals 2 to 11 of document 01, over a plain slice. It answers the refusal with its number and place, or
+// where each section starts and how many records it has; every crate that reads a checked sheet asks for that map.
+//
+// Cost: every record and entry is read a fixed number of times, and the whole is linear in the sheet but for what 01 implies: texts
+// may overlap in the pool, so that a byte is read once for each integer that has it (at most 192, of at most 64 bytes each), and
+// each name of a clause is looked for among those after it. What 01 asks of each pattern and each entry (refusal 8) is counted in an
+// array, not searched for. Calls go at most 12 levels deep for the depth, and at most one level for each pattern and each entry in
+// fitting, where 192 less the pattern number falls.
 mod fitting;
 mod layout;
 mod limits;
 mod names;
 pub mod records;
 mod shape;
-mod texts;
+mod standing;
+pub mod texts;
 mod types;
 
 use fitting::lowest_misfit;

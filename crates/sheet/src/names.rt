@@ -3,9 +3,9 @@
 use crate::Found;
 use crate::Map;
 use crate::records::child_at;
+use crate::records::children_of;
 use crate::records::pattern_at;
 use crate::records::root_at;
-use crate::shape::children_of;
 ghost use mathlib.Core.Path.{_≡_};
 ghost use mathlib.Core.List.{[], _∷_};
 ghost use Prim.Native.Nat.{_+_, _-_, _<_, _≤_};
@@ -17,9 +17,9 @@ ghost use Rattle.sheet.specs.Found.{foundOf};
 ghost use Rattle.sheet.specs.Fitting.{Ready};
 ghost use Rattle.sheet.specs.Names.{ownName, namesIn, held, Adds};
 
-pub struct Names {
-    pub found: [u16; 192],
-    pub count: usize,
+struct Names {
+    found: [u16; 192],
+    count: usize,
 }
 
 // One name more.
@@ -106,7 +106,7 @@ fn name_twice(s: &[u8], m: Map, c: usize) -> bool
 }
 
 // 11.
-pub fn lowest_name_twice(s: &[u8], m: Map) -> Found
+pub(crate) fn lowest_name_twice(s: &[u8], m: Map) -> Found
     requires { ⌜ Ready (now s) m ⌝ }
     ensures { λ r. ⌜ r ≡ foundOf (lowestNameTwice (now (s .entry))) ⌝ }
 {

@@ -13,9 +13,12 @@ ghost use Prim.Native.Nat.{_+_, _<_, _≤_};
 ghost use lib.ListN.{length};
 ghost use Rattle.rules.specs.Limits.{typeSize, constructorSize, patternSize};
 ghost use Rattle.rules.specs.SheetFile.{types, constructors, entries, patterns, children, clauses, entry, child, root, runIn};
+ghost use Rattle.rules.specs.Patterns.{patternKindOf};
+ghost use Rattle.rules.specs.SheetRefusals.{hasChildren};
 ghost use Rattle.facts.specs.SheetFacts.{Laid};
 ghost use Rattle.sheet.specs.Sections.{mapOf};
 ghost use Rattle.sheet.specs.Records.{typeFrom, typeOf, runFrom, constructorOf, patternFrom, patternOf, noRun};
+ghost use Rattle.sheet.specs.Shape.{childrenOf};
 
 pub struct TypeRecord {
     pub kind: u8,
@@ -146,4 +149,32 @@ pub fn no_run(first: usize, count: usize) -> bool
         return false;
     }
     count == 0
+}
+
+fn has_children(kind: u8) -> bool
+    ensures { λ r. ⌜ r ≡ hasChildren (patternKindOf kind) ⌝ }
+{
+    if kind == 2 {
+        return true;
+    }
+    if kind < 5 {
+        return false;
+    }
+    kind <= 9
+}
+
+// The children of pattern p: none where its kind has none.
+pub fn children_of(s: &[u8], m: Map, p: usize) -> Run
+    requires { ⌜ Laid (now s) × (m ≡ mapOf (now s)) × (p < patterns (now s)) ⌝ }
+    ensures { λ r. ⌜ r ≡ childrenOf (now (s .entry)) p ⌝ }
+{
+    let r = pattern_at(s, m, p);
+    if has_children(r.kind) {
+        Run {
+            first: r.first,
+            count: r.count,
+        }
+    } else {
+        Run { first: 0, count: 0 }
+    }
 }

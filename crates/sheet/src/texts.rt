@@ -88,7 +88,7 @@ fn bad_text(s: &[u8], m: Map, p: usize) -> bool
 }
 
 // 9.
-pub fn lowest_bad_text(s: &[u8], m: Map) -> Found
+pub(crate) fn lowest_bad_text(s: &[u8], m: Map) -> Found
     requires { ⌜ Laid (now s) × (m ≡ mapOf (now s)) × Counted (now s) × Shaped (now s) ⌝ }
     ensures { λ r. ⌜ r ≡ foundOf (lowestBadText (now (s .entry))) ⌝ }
 {

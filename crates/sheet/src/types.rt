@@ -134,7 +134,7 @@ fn entries_keep_rules(s: &[u8], m: Map) -> bool
 }
 
 // 6.
-pub fn types_fit(s: &[u8], m: Map) -> bool
+pub(crate) fn types_fit(s: &[u8], m: Map) -> bool
     requires { ⌜ Laid (now s) × (m ≡ mapOf (now s)) ⌝ }
     ensures { λ r. ⌜ r ≡ typesFit (now (s .entry)) ⌝ }
 {
@@ -170,7 +170,7 @@ fn transparent(s: &[u8], m: Map, t: usize) -> bool
 }
 
 // 7.
-pub fn lowest_transparent(s: &[u8], m: Map) -> Found
+pub(crate) fn lowest_transparent(s: &[u8], m: Map) -> Found
     requires { ⌜ Laid (now s) × Counted (now s) × Typed (now s) × (m ≡ mapOf (now s)) ⌝ }
     ensures { λ r. ⌜ r ≡ foundOf (lowestTransparent (now (s .entry))) ⌝ }
 {

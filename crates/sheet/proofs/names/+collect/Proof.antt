@@ -12,7 +12,7 @@ use Rattle.sheet.proofs.names.collect.Kinds as collect-kinds
 use Rattle.sheet.proofs.names.+collect.Lts-collect as collect-lts
 use Rattle.sheet.proofs.names.add_own.Reads as add-own-reads
 use Rattle.sheet.proofs.records.child_at.Reads as child-at-reads
-use Rattle.sheet.proofs.shape.children_of.Reads as children-of-reads
+use Rattle.sheet.proofs.records.children_of.Reads as children-of-reads
 use Rattle.sheet.proofs.names.+collect.{statement}
 use Rattle.sheet.proofs.names.+collect.Tie.{close}
 

@@ -13,7 +13,7 @@ use Rattle.sheet.proofs.shape.within.Reads as within
 use Rattle.sheet.proofs.shape.within.Kinds as within-kinds
 use Rattle.sheet.proofs.shape.+within.Lts-within as within-lts
 use Rattle.sheet.proofs.records.child_at.Reads as child-at-reads
-use Rattle.sheet.proofs.shape.children_of.Reads as children-of-reads
+use Rattle.sheet.proofs.records.children_of.Reads as children-of-reads
 use Rattle.sheet.proofs.shape.+within.{statement}
 use Rattle.sheet.proofs.shape.+within.Tie.{close}
 

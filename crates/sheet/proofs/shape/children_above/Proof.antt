@@ -12,7 +12,7 @@ use Rattle.sheet.proofs.shape.children_above.Statement.{statement}
 use Rattle.sheet.proofs.shape.children_above.Tie as tie
 use Rattle.sheet.proofs.shape.children_above.Reads as reads
 use Rattle.sheet.proofs.shape.children_above.Lts as lts
-use Rattle.sheet.proofs.shape.children_of.Reads as children-of-reads
+use Rattle.sheet.proofs.records.children_of.Reads as children-of-reads
 use Rattle.sheet.proofs.shape.is_above.Reads as is-above-reads
 
 abbrev Inv-loop : tie.InvT-loop

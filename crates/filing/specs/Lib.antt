@@ -1,0 +1,17 @@
+pub mod Writable
+pub mod PathsLaws
+pub mod StandingLaws
+pub mod LengthLaws
+pub mod SectionsLaws
+pub mod FileLaws
+pub mod RecordsLaws
+pub mod RunLaws
+pub mod TableLaws
+pub mod PlacedLaws
+pub mod ReadLaws
+pub mod RulesLaws
+pub mod OrderLaws
+pub mod FitsLaws
+pub mod BoundLaws
+pub mod BytesLaws
+pub mod Examples

@@ -1,0 +1,1 @@
+// The laws of the tree file: this crate is its specs/.

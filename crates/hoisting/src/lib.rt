@@ -1,0 +1,1 @@
+// The theorems of hoisting: this crate is its specs/.

@@ -1,0 +1,1 @@
+// Theorems about the definitions of rules: this crate is its specs/.

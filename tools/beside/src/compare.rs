@@ -1,0 +1,233 @@
+//! The comparison at scale: random sheets given to the reference and to the oracle, walks of random
+//! panels held against the direct matcher, and counts of what was reached.
+
+use std::collections::BTreeMap;
+
+use crate::files::Panel;
+use crate::generate::panels::Panels;
+use crate::generate::{damage, sheets};
+use crate::oracle;
+use crate::random::Random;
+use crate::reached;
+use crate::reference::panel::{Position, whole};
+use crate::reference::sheet::Checked;
+use crate::reference::walk::Reached;
+use crate::reference::{Refusal, build, calls, matcher, sheet, tree_file, walk};
+use crate::tree::{Node, listing};
+
+/// How often each refusal number was given; 0 stands for none.
+type Numbers = BTreeMap<u16, usize>;
+
+#[derive(Default)]
+pub struct Counts {
+    sheets: Numbers,
+    compared: usize,
+    compared_idle: usize,
+    nodes: usize,
+    bindings: usize,
+    /// Trees of under 10, under 100, under 500 and more nodes.
+    sizes: [usize; 4],
+    largest: usize,
+    reached: BTreeMap<&'static str, usize>,
+    fitting: usize,
+    leaves: usize,
+    no_leaves: usize,
+    panels: Numbers,
+    any_walks: Numbers,
+    trees: Numbers,
+    tree_walks: Numbers,
+    texts: Numbers,
+    pub differences: Vec<String>,
+}
+
+fn number<T>(answer: &Result<T, Refusal>) -> u16 {
+    answer.as_ref().err().map_or(0, |refusal| refusal.number)
+}
+
+/// Compares `cases` random sheets and their panels.
+pub fn run(cases: usize, seed: u64) -> Counts {
+    let mut counts = Counts::default();
+    for case in 0..cases {
+        let mut random = Random::of_case(seed, case as u64);
+        let bytes = sheets::any(&mut random);
+        if let Err(what) = one(&mut random, &bytes, &mut counts) {
+            let decimal: Vec<String> = bytes.iter().map(u8::to_string).collect();
+            counts.differences.push(format!("case {case}: {what}\nsheet: {}", decimal.join(" ")));
+        }
+    }
+    counts
+}
+
+/// One sheet: what differs, if something does.
+fn one(random: &mut Random, bytes: &[u8], counts: &mut Counts) -> Result<(), String> {
+    let checked = sheet::check(bytes);
+    let answer = checked.as_ref().map_err(|r| *r).and_then(build::build);
+    *counts.sheets.entry(number(&answer)).or_default() += 1;
+    let Ok(checked) = checked else {
+        return Ok(());
+    };
+    let Ok(built) = answer else {
+        return idle(&checked, counts);
+    };
+    counts.compared += 1;
+    counts.nodes += built.nodes;
+    counts.bindings += built.bindings;
+    counts.largest = counts.largest.max(built.nodes);
+    let size = [10, 100, 500].iter().filter(|&&limit| built.nodes >= limit).count();
+    counts.sizes[size] += 1;
+    for what in reached::of(&checked, &built.root) {
+        *counts.reached.entry(what).or_default() += 1;
+    }
+    same(&built.root, &oracle::build(&checked))?;
+
+    let file = tree_file::written(&built.root, &checked.sheet.pool);
+    let tree = tree_file::read(&file).map_err(|_| "the reader refuses a written tree")?;
+    if tree.node(0) != built.root {
+        return Err("the written tree reads otherwise".to_string());
+    }
+    let panels = Panels::of(&checked);
+    for _ in 0..8 {
+        let Some(panel) = panels.fitting(random) else {
+            break;
+        };
+        counts.fitting += 1;
+        fitting(bytes, &checked, &tree, &panel, counts)?;
+    }
+    for _ in 0..3 {
+        let panel = panels.any(random);
+        any_panel(random, bytes, &file, &panel, counts);
+    }
+    for _ in 0..2 {
+        damaged_tree(random, &file, &panels, counts);
+    }
+    Ok(())
+}
+
+/// A sheet refused by 13 or 14 still has a tree of moderate size: the Rust's is the same, but for
+/// the one-leaf tree, where the Rust hoists idle clauses too.
+fn idle(checked: &Checked, counts: &mut Counts) -> Result<(), String> {
+    let Ok(whole) = build::whole(checked) else {
+        return Ok(());
+    };
+    let one_leaf =
+        matches!(&whole.root, Node::Hoist { child, .. } if matches!(**child, Node::Leaf { .. }));
+    if one_leaf && !whole.idle.is_empty() {
+        return Ok(());
+    }
+    counts.compared_idle += 1;
+    same(&whole.root, &oracle::build(checked))
+}
+
+/// Node for node, with the types of steps; and the listings to the letter.
+fn same(reference: &Node, oracle: &Node) -> Result<(), String> {
+    let (ours, theirs) = (listing(reference), listing(oracle));
+    if ours != theirs {
+        return Err(format!("listings differ\nreference:\n{ours}oracle:\n{theirs}"));
+    }
+    if reference != oracle {
+        return Err(format!(
+            "types of steps differ\nreference:\n{reference:?}\noracle:\n{oracle:?}"
+        ));
+    }
+    Ok(())
+}
+
+/// The walk against the direct matcher: the same clause, and each name once at the same position.
+fn fitting(
+    sheet: &[u8],
+    checked: &Checked,
+    tree: &tree_file::Tree,
+    panel: &Panel,
+    counts: &mut Counts,
+) -> Result<(), String> {
+    let bytes = panel.to_bytes();
+    calls::fit(sheet, &bytes).map_err(|r| format!("a fitting panel refused by {}", r.number))?;
+    let sorted = |reached: Option<Reached>| {
+        reached.map(|mut reached| {
+            reached.bound.sort();
+            reached
+        })
+    };
+    let walked = walk::walk(tree, panel).map_err(|_| "a fitting panel is stuck")?;
+    for (_, at) in walked.iter().flat_map(|reached| &reached.bound) {
+        let text = calls::text(&bytes, *at);
+        *counts.texts.entry(number(&text)).or_default() += 1;
+        if text.is_ok() && calls::text_part(&bytes, *at) != panel.text(at.record) {
+            return Err("the text of a binding differs".to_string());
+        }
+    }
+    match walked {
+        Some(_) => counts.leaves += 1,
+        None => counts.no_leaves += 1,
+    }
+    let (walked, matched) = (sorted(walked), sorted(matcher::first_match(checked, panel)));
+    if walked != matched {
+        return Err(format!("walk {walked:?}, matcher {matched:?}\npanel: {bytes:?}"));
+    }
+    Ok(())
+}
+
+/// A panel of any kind: counts what the fit check, the walk and the text call answer.
+fn any_panel(random: &mut Random, sheet: &[u8], tree: &[u8], panel: &[u8], counts: &mut Counts) {
+    *counts.panels.entry(number(&calls::fit(sheet, panel))).or_default() += 1;
+    let walked = calls::walk(tree, panel, &mut [0; 576]);
+    *counts.any_walks.entry(number(&walked)).or_default() += 1;
+    let at = if random.chance(2, 3) {
+        whole(random.below(6) as u16)
+    } else {
+        Position { record: random.below(600) as u16, dropped: random.below(3) as u16 }
+    };
+    *counts.texts.entry(number(&calls::text(panel, at))).or_default() += 1;
+}
+
+/// A damaged tree: counts what the reader answers, and the walk where it is still read.
+fn damaged_tree(random: &mut Random, tree: &[u8], panels: &Panels, counts: &mut Counts) {
+    let damaged = damage::damaged(random, &damage::TREE, tree);
+    let read = tree_file::read(&damaged);
+    *counts.trees.entry(number(&read)).or_default() += 1;
+    if let (Ok(tree), Some(panel)) = (read, panels.fitting(random)) {
+        *counts.tree_walks.entry(number(&walk::walk(&tree, &panel))).or_default() += 1;
+    }
+}
+
+fn show(numbers: &Numbers) -> String {
+    let shown: Vec<String> = numbers
+        .iter()
+        .map(|(number, count)| match number {
+            0 => format!("accepted {count}"),
+            n => format!("{n}: {count}"),
+        })
+        .collect();
+    shown.join(", ")
+}
+
+impl std::fmt::Display for Counts {
+    fn fmt(&self, f: &mut std::fmt::Formatter) -> std::fmt::Result {
+        let c = self;
+        writeln!(f, "sheets by refusal number: {}", show(&c.sheets))?;
+        writeln!(
+            f,
+            "trees compared with the Rust: {} accepted, {} more refused by 13 or 14",
+            c.compared, c.compared_idle
+        )?;
+        let [small, medium, large, huge] = c.sizes;
+        writeln!(
+            f,
+            "their nodes: {}, bindings: {}; under 10 nodes {small}, under 100 {medium}, under 500 {large}, more {huge}, the largest {}",
+            c.nodes, c.bindings, c.largest
+        )?;
+        let reached: Vec<String> = c.reached.iter().map(|(w, n)| format!("{w} {n}")).collect();
+        writeln!(f, "accepted sheets with: {}", reached.join(", "))?;
+        writeln!(
+            f,
+            "walks of fitting panels compared with the matcher: {} ({} at a leaf, {} no leaf)",
+            c.fitting, c.leaves, c.no_leaves
+        )?;
+        writeln!(f, "fit checks of any panels: {}", show(&c.panels))?;
+        writeln!(f, "walks of any panels: {}", show(&c.any_walks))?;
+        writeln!(f, "damaged trees: {}", show(&c.trees))?;
+        writeln!(f, "walks of damaged trees that are still read: {}", show(&c.tree_walks))?;
+        writeln!(f, "text calls: {}", show(&c.texts))?;
+        writeln!(f, "differences: {}", c.differences.len())
+    }
+}
