@@ -26,7 +26,7 @@ use Rattle.panel.specs.declared.records.Record.{Record}
 use Rattle.panel.specs.declared.fitting.Below.{Below}
 use Rattle.panel.specs.declared.fitting.Below.the-variants.{Alone, Parts}
 use Rattle.panel.specs.Opened.{recordOf}
-use Rattle.panel.specs.Sums.{same-or-not}
+use Rattle.panel.specs.CountingLaws.{same-or-not}
 use Rattle.panel.specs.Fit.{fieldsBelow, belowOfKind, below, fitsBelow, Ready, Typing, EachTyped, Run}
 
 -- ---- a record fits exactly if what is left below it does

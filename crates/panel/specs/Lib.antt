@@ -2,7 +2,7 @@
 pub mod Opened
 pub mod Answers
 pub mod LayoutLaws
-pub mod Sums
+pub mod CountingLaws
 pub mod Shape
 pub mod ShapeLaws
 pub mod ShapePass

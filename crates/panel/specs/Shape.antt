@@ -1,5 +1,5 @@
 -- The pass that checks the shape of a panel (refusal 23), as the code makes it: the records in order, the parts of each in order,
--- with the depth of each record that was met. It answers what `panelShapeFits` says: that is proved in ShapePass.
+-- with the depth of each record that was met. It answers what `panelShapeFits` says: that is proved in ShapeAnswer.
 use Prim.Native.Nat.{ℕ, zero, suc, _+_}
 use mathlib.Core.Bool.{Bool, true, false}
 use mathlib.Core.List.{List}

@@ -18,7 +18,8 @@ use Rattle.rules.specs.SearchingLaws.{times-some, times-found}
 use Rattle.rules.specs.PanelFile.{records, parts, recordFirst, recordCount, part, isHigher, isPart, holds, recordWithin, panelShapeFits}
 use Rattle.facts.specs.PanelFacts.{Holds, holds-listed, listed-holds, recordWithin-part, PanelShaped, panel-shaped, panel-shape-depth, held-entry, held-record, one-part, record-is-part}
 use Rattle.panel.specs.declared.shape.Seen.{Seen}
-use Rattle.panel.specs.Sums.{sum, bit, same-or-not, sum-same, sum-none, sum-exchange, sum-more, sum-each-one, sum-all-one, times-sum, times-alone, sum-run}
+use Rattle.sheet.specs.Sums.{sum, sum-same, sum-none, sum-exchange, sum-run}
+use Rattle.panel.specs.CountingLaws.{same-or-not, sum-grows, sum-all-one, sum-each-one, times-sum, times-alone}
 use Rattle.panel.specs.Shape.{fieldsFit, entersFirst, enterPart, enterParts, recordMet, enterRecord, enterRecords, atRoot, shapePasses}
 use Rattle.panel.specs.ShapeLaws.{listed, parts-on, records-on, higher-make, list-inside, within-make, shape-fields, shape-make}
 use Rattle.panel.specs.ShapePass.{entries, Passed, Met, Good, Sound, depthOf, part-sound, owner-met, to-first, record-sound, records-sound}
@@ -105,40 +106,39 @@ module _ (v : List ℕ) (few : records v ≤ recordsMost) where
             rw (met-it, e) (parts-allowed (recordCount v r) s r (recordFirst v r) c begun l (λ k low high. record { holder = e; from = low; to = high }) some)
         go false e = rw (met-it, e) (sd .sound)
 
-    records-allowed : (n : ℕ) (s : Seen) (r : ℕ) → Sound v r 0 (sum (entries v) r) s → r + n ≤ records v → (enterRecords v s r n) .sound ≡ true
+    records-allowed : (n : ℕ) (s : Seen) (r : ℕ) → Sound v r 0 (sum (entries v) 0 r) s → r + n ≤ records v → (enterRecords v s r n) .sound ≡ true
     unfolding enterRecords
     records-allowed zero s r sd l = sd .sound
     records-allowed (suc n) s r sd l =
-        let e = record-goes s r (sum (entries v) r) sd (omega arith) in
+        let e = record-goes s r (sum (entries v) 0 r) sd (omega arith) in
         rw (records-on v s r n e) (records-allowed n (enterRecord v s r) (r + 1) (record-sound v few s r sd e) (omega arith))
 
   -- ---- at the end every entry has been passed
-  entries-held : (r : ℕ) → fieldsFit v r ≡ true → entries v r ≡ sum (λ j. bit (holds v j r)) (parts v)
+  entries-held : (r : ℕ) → fieldsFit v r ≡ true → entries v r ≡ sum (λ j. pick (holds v j r) 1 0) 0 (parts v)
   unfolding holds
   entries-held r f = go (listed v r) refl
     where
       go : (b : Bool) → listed v r ≡ b
-          → pick b (recordCount v r) 0 ≡ sum (λ j. bit (both b (both (leb (recordFirst v r) j) (ltb j (recordFirst v r + recordCount v r))))) (parts v)
+          → pick b (recordCount v r) 0 ≡ sum (λ j. pick (both b (both (leb (recordFirst v r) j) (ltb j (recordFirst v r + recordCount v r)))) 1 0) 0 (parts v)
       go true e =
-          let inside = list-inside v r f e in
-          let run = sum-run (recordFirst v r) (recordFirst v r + recordCount v r) (parts v) (omega arith) in
-          omega arith
-      go false e = sym (sum-none (parts v))
+          let run = sum-run (λ j. 1) (recordFirst v r) (recordCount v r) (parts v) (list-inside v r f e) in
+          sym (run ∙ sum-all-one (λ j. 1) (recordFirst v r) (recordCount v r) (λ k low high. refl))
+      go false e = sym (sum-none (λ j. 0) 0 (parts v) (λ k low high. refl))
 
   -- the lists' lengths add up to how often each entry is in a list
-  by-entry : ((r : ℕ) → r < records v → fieldsFit v r ≡ true) → sum (entries v) (records v) ≡ sum (λ j. times (holds v j) 0 (records v)) (parts v)
+  by-entry : ((r : ℕ) → r < records v → fieldsFit v r ≡ true) → sum (entries v) 0 (records v) ≡ sum (λ j. times (holds v j) 0 (records v)) 0 (parts v)
   by-entry fields =
-      sum-same (entries v) (λ r. sum (λ j. bit (holds v j r)) (parts v)) (records v) (λ r l. entries-held r (fields r l))
-      ∙ sum-exchange (λ r j. bit (holds v j r)) (records v) (parts v)
-      ∙ sum-same (λ j. sum (λ r. bit (holds v j r)) (records v)) (λ j. times (holds v j) 0 (records v)) (parts v) (λ j l. sym (times-sum (holds v j) (records v)))
+      sum-same (entries v) (λ r. sum (λ j. pick (holds v j r) 1 0) 0 (parts v)) 0 (records v) (λ r low l. entries-held r (fields r (omega arith)))
+      ∙ sum-exchange (λ r j. pick (holds v j r) 1 0) 0 (records v) 0 (parts v)
+      ∙ sum-same (λ j. sum (λ r. pick (holds v j r) 1 0) 0 (records v)) (λ j. times (holds v j) 0 (records v)) 0 (parts v) (λ j low l. sym (times-sum (holds v j) (records v)))
 
   -- the root is no part, and every other record is one
-  one-less : (s : Seen) → Sound v (records v) 0 (sum (entries v) (records v)) s → sum (entries v) (records v) + 1 ≡ records v
+  one-less : (s : Seen) → Sound v (records v) 0 (sum (entries v) 0 (records v)) s → sum (entries v) 0 (records v) + 1 ≡ records v
   one-less s sd =
       sym (sd .good .many)
-      ∙ sum-all-one (λ p. bit (ltb 0 (depthOf s p))) (records v) (λ p l. ap bit (lt-ltb 0 (depthOf s p) (sd .good .done p l .0)))
+      ∙ sum-all-one (λ p. pick (ltb 0 (depthOf s p)) 1 0) 0 (records v) (λ p low l. ap (λ (b : Bool). pick b 1 0) (lt-ltb 0 (depthOf s p) (sd .good .done p (omega arith) .0)))
 
-  module _ (s : Seen) (sd : Sound v (records v) 0 (sum (entries v) (records v)) s) (equal : parts v + 1 ≡ records v) where
+  module _ (s : Seen) (sd : Sound v (records v) 0 (sum (entries v) 0 (records v)) s) (equal : parts v + 1 ≡ records v) where
     end-passed : (j r : ℕ) → r < records v → Holds v r j → Passed v (records v) 0 r j
     end-passed j r l h = record { held = h; before = inl l }
 
@@ -150,11 +150,11 @@ module _ (v : List ℕ) (few : records v ≤ recordsMost) where
 
     -- an entry is in one list at most, so in one, since the lists' lengths add up to the number of entries
     end-owned : (j : ℕ) → j < parts v → times (holds v j) 0 (records v) ≡ 1
-    end-owned =
-        sum-each-one (λ j. times (holds v j) 0 (records v)) (parts v)
-        (λ j l. times-alone (holds v j) 0 (records v)
-        (λ r₁ r₂ a b c d x y. sd .good .alone r₁ j r₂ j (end-passed j r₁ (omega arith) (holds-listed v r₁ j x)) (end-passed j r₂ (omega arith) (holds-listed v r₂ j y)) refl .0))
-        (sym (by-entry end-fields) ∙ omega (arith, one-less s sd))
+    end-owned j l =
+        sum-each-one (λ i. times (holds v i) 0 (records v)) 0 (parts v)
+        (λ i low high. times-alone (holds v i) 0 (records v)
+        (λ r₁ r₂ a b c d x y. sd .good .alone r₁ i r₂ i (end-passed i r₁ (omega arith) (holds-listed v r₁ i x)) (end-passed i r₂ (omega arith) (holds-listed v r₂ i y)) refl .0))
+        (sym (by-entry end-fields) ∙ omega (arith, one-less s sd)) j (omega arith) (omega arith)
 
     owner : (j : ℕ) → j < parts v → (r : ℕ) × (r < records v) × Holds v r j
     owner j l =
@@ -239,18 +239,18 @@ module _ (v : List ℕ) (least : 1 ≤ records v) (few : records v ≤ recordsMo
     alone = λ r₁ j₁ r₂ j₂ p. absurd (none-passed r₁ j₁ p);
     done = λ r l. absurd (omega arith);
     reach = λ w p h. let e = only-root p h in rw (e, root-depth) w;
-    many = sum-more (λ p. 0) (λ p. bit (ltb 0 (depthOf atRoot p))) (records v) 0 least (rw (root-depth) refl) (λ p d. rw (other-depth p d) refl)
-        ∙ ap (λ (x : ℕ). x + 1) (sum-none (records v));
+    many = sum-grows (λ p. 0) (λ p. pick (ltb 0 (depthOf atRoot p)) 1 0) 0 (records v) 0 (omega arith) (omega arith) (rw (root-depth) refl) (λ p d. rw (other-depth p d) refl)
+        ∙ ap (λ (x : ℕ). x + 1) (sum-none (λ p. 0) 0 (records v) (λ k low high. refl));
   }
 
-  begun : Sound v 0 0 (sum (entries v) 0) atRoot
+  begun : Sound v 0 0 (sum (entries v) 0 0) atRoot
   unfolding sum atRoot
   begun = record { sound = refl; long = length-set (zeros recordsMost) 0 1 ∙ length-replicate {A = ℕ} recordsMost 0; good = start }
 
   abbrev end : Seen
   end = enterRecords v atRoot 0 (records v)
 
-  ended : end .sound ≡ true → Sound v (records v) 0 (sum (entries v) (records v)) end
+  ended : end .sound ≡ true → Sound v (records v) 0 (sum (entries v) 0 (records v)) end
   ended h = let e : 0 + records v ≡ records v = omega arith in rw e at (records-sound v few (records v) atRoot 0 begun h)
 
   -- where the shape fits, the pass goes through, and there is one part fewer than there are records
@@ -266,7 +266,7 @@ module _ (v : List ℕ) (least : 1 ≤ records v) (few : records v ≤ recordsMo
 
   counted : panelShapeFits v ≡ true → parts v + 1 ≡ records v
   counted h =
-      let all = sum-all-one (λ j. times (holds v j) 0 (records v)) (parts v) (held-once (panel-shaped v h)) in
+      let all = sum-all-one (λ j. times (holds v j) 0 (records v)) 0 (parts v) (λ j low l. held-once (panel-shaped v h) j (omega arith)) in
       omega (arith, by-entry v few (shape-fields v h), one-less v few end (ended (goes-through h)))
 
   pub shape-passes : shapePasses v ≡ panelShapeFits v

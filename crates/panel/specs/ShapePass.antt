@@ -6,7 +6,6 @@ use mathlib.Core.Bool.{Bool, true, false, true≢false}
 use mathlib.Core.List.{List}
 use Prim.Native.Nat.{ℕ, zero, suc, _+_, _-_, _≤_, _<_}
 use native.Mathlib.Omega.{arith}
-use native.Mathlib.Numerals.{add-one}
 use borrow.Author.Tests.{ltb-true, eqb-true, lt-ltb}
 use lib.Dec.{eqb, ltb}
 use lib.ListN.{length, getD, set, length-set}
@@ -17,7 +16,8 @@ use Rattle.rules.specs.Limits.{recordsMost, panelDepthMost}
 use Rattle.rules.specs.PanelFile.{records, parts, recordFirst, recordCount, part, isHigher, holds, recordWithin}
 use Rattle.facts.specs.PanelFacts.{Holds, recordWithin-part}
 use Rattle.panel.specs.declared.shape.Seen.{Seen}
-use Rattle.panel.specs.Sums.{sum, bit, same-or-not, sum-more}
+use Rattle.sheet.specs.Sums.{sum}
+use Rattle.panel.specs.CountingLaws.{same-or-not, sum-next, sum-grows}
 use Rattle.panel.specs.Shape.{fieldsFit, broken, entersFirst, enterPart, enterParts, recordMet, enterRecord, enterRecords}
 use Rattle.panel.specs.ShapeLaws.{listed, parts-on, parts-stop, records-on, records-stop, higher-true}
 
@@ -46,7 +46,7 @@ pub record Deeper (v : List ℕ) (D : ℕ → ℕ) (r' j' : ℕ) : Type 0 where
 
 -- how many records have a depth
 abbrev pub met : (ℕ → ℕ) → ℕ → ℕ
-met D n = sum (λ p. bit (ltb 0 (D p))) n
+met D n = sum (λ p. pick (ltb 0 (D p)) 1 0) 0 n
 
 -- before entry j of record r, with depth D p for each record p that was met, 0 for the others, and c parts passed
 pub record Good (v : List ℕ) (r j c : ℕ) (D : ℕ → ℕ) : Type 0 where
@@ -142,7 +142,7 @@ module _ (v : List ℕ) (r j c : ℕ) (D E : ℕ → ℕ) (good : Good v r j c D
 
   enter-many : met E (records v) ≡ c + 1 + 1
   enter-many =
-      sum-more (λ p. bit (ltb 0 (D p))) (λ p. bit (ltb 0 (E p))) (records v) (part v j) high
+      sum-grows (λ p. pick (ltb 0 (D p)) 1 0) (λ p. pick (ltb 0 (E p)) 1 0) 0 (records v) (part v j) (omega arith) (omega arith)
       (rw (here, new, lt-ltb 0 (D r + 1) (omega arith)) refl)
       (λ p d. rw (there p d) refl)
       ∙ ap (λ (x : ℕ). x + 1) (good .many)
@@ -272,56 +272,52 @@ module _ (v : List ℕ) (few : records v ≤ recordsMost) where
       done r' l = ⊎-elim (λ e. rw e (some, fields)) (λ d. good .done r' (omega arith)) (same-or-not r' r)
 
   -- ---- the records
-  sum-next : (r : ℕ) → sum (entries v) (r + 1) ≡ sum (entries v) r + entries v r
-  unfolding sum
-  sum-next r = rw (add-one r)
-
   met-true : (depths : List ℕ) (r : ℕ) → recordMet v depths r ≡ true → (1 ≤ getD depths r 0) × (fieldsFit v r ≡ true)
   unfolding recordMet
   met-true depths r h = let a = both-true (ltb 0 (getD depths r 0)) _ h in (ltb-true _ _ (a .0), a .1)
 
-  pub record-sound : (s : Seen) (r : ℕ) → Sound v r 0 (sum (entries v) r) s → (enterRecord v s r) .sound ≡ true
-      → Sound v (r + 1) 0 (sum (entries v) (r + 1)) (enterRecord v s r)
+  pub record-sound : (s : Seen) (r : ℕ) → Sound v r 0 (sum (entries v) 0 r) s → (enterRecord v s r) .sound ≡ true
+      → Sound v (r + 1) 0 (sum (entries v) 0 (r + 1)) (enterRecord v s r)
   unfolding enterRecord broken
   record-sound s r sd h = go (recordMet v (s .depths) r) refl
     where
-      listing : recordMet v (s .depths) r ≡ true → (b : Bool) → listed v r ≡ b → Sound v (r + 1) 0 (sum (entries v) (r + 1)) (enterRecord v s r)
+      listing : recordMet v (s .depths) r ≡ true → (b : Bool) → listed v r ≡ b → Sound v (r + 1) 0 (sum (entries v) 0 (r + 1)) (enterRecord v s r)
       listing e true l =
           let m = met-true (s .depths) r e in
-          let begun : Sound v r (recordFirst v r) (sum (entries v) r) s = record { sound = sd .sound; long = sd .long; good = to-first r (sum (entries v) r) (depthOf s) (sd .good) } in
-          let ended = parts-sound (recordCount v r) s r (recordFirst v r) (sum (entries v) r) begun (λ k low high. record { holder = l; from = low; to = high }) (m .0) (rw (e, l) at h) in
-          let x : sum (entries v) (r + 1) ≡ sum (entries v) r + recordCount v r = sum-next r ∙ rw l in
+          let begun : Sound v r (recordFirst v r) (sum (entries v) 0 r) s = record { sound = sd .sound; long = sd .long; good = to-first r (sum (entries v) 0 r) (depthOf s) (sd .good) } in
+          let ended = parts-sound (recordCount v r) s r (recordFirst v r) (sum (entries v) 0 r) begun (λ k low high. record { holder = l; from = low; to = high }) (m .0) (rw (e, l) at h) in
+          let x : sum (entries v) 0 (r + 1) ≡ sum (entries v) 0 r + recordCount v r = sum-next (entries v) r ∙ rw l in
           rw (e, l, x)
           (record {
             sound = ended .0 .sound;
             long = ended .0 .long;
-            good = to-next r (recordFirst v r + recordCount v r) (sum (entries v) r + recordCount v r) (depthOf (enterParts v s r (recordFirst v r) (recordCount v r)))
+            good = to-next r (recordFirst v r + recordCount v r) (sum (entries v) 0 r + recordCount v r) (depthOf (enterParts v s r (recordFirst v r) (recordCount v r)))
                 (λ j' q. q .to) (ended .1) (m .1) (ended .0 .good);
           })
       listing e false l =
           let m = met-true (s .depths) r e in
-          let x : sum (entries v) (r + 1) ≡ sum (entries v) r = sum-next r ∙ rw l (omega arith) in
+          let x : sum (entries v) 0 (r + 1) ≡ sum (entries v) 0 r = sum-next (entries v) r ∙ rw l (omega arith) in
           rw (e, l, x)
           (record {
             sound = sd .sound;
             long = sd .long;
-            good = to-next r 0 (sum (entries v) r) (depthOf s) (λ j' q. absurd (true≢false (sym (q .holder) ∙ l))) (m .0) (m .1) (sd .good);
+            good = to-next r 0 (sum (entries v) 0 r) (depthOf s) (λ j' q. absurd (true≢false (sym (q .holder) ∙ l))) (m .0) (m .1) (sd .good);
           })
 
-      go : (b : Bool) → recordMet v (s .depths) r ≡ b → Sound v (r + 1) 0 (sum (entries v) (r + 1)) (enterRecord v s r)
+      go : (b : Bool) → recordMet v (s .depths) r ≡ b → Sound v (r + 1) 0 (sum (entries v) 0 (r + 1)) (enterRecord v s r)
       go true e = listing e (listed v r) refl
       go false e = absurd (true≢false (sym h ∙ rw e refl))
 
-  pub records-sound : (n : ℕ) (s : Seen) (r : ℕ) → Sound v r 0 (sum (entries v) r) s → (enterRecords v s r n) .sound ≡ true
-      → Sound v (r + n) 0 (sum (entries v) (r + n)) (enterRecords v s r n)
+  pub records-sound : (n : ℕ) (s : Seen) (r : ℕ) → Sound v r 0 (sum (entries v) 0 r) s → (enterRecords v s r n) .sound ≡ true
+      → Sound v (r + n) 0 (sum (entries v) 0 (r + n)) (enterRecords v s r n)
   unfolding enterRecords
   records-sound zero s r sd h = let e : r + 0 ≡ r = omega arith in rw e sd
   records-sound (suc n) s r sd h = go ((enterRecord v s r) .sound) refl (λ next rest. records-sound n (enterRecord v s r) (r + 1) next rest)
     where
       go : (b : Bool) → (enterRecord v s r) .sound ≡ b
-          → (Sound v (r + 1) 0 (sum (entries v) (r + 1)) (enterRecord v s r) → (enterRecords v (enterRecord v s r) (r + 1) n) .sound ≡ true
-          → Sound v (r + 1 + n) 0 (sum (entries v) (r + 1 + n)) (enterRecords v (enterRecord v s r) (r + 1) n))
-          → Sound v (r + suc n) 0 (sum (entries v) (r + suc n)) (enterRecords v s r (suc n))
+          → (Sound v (r + 1) 0 (sum (entries v) 0 (r + 1)) (enterRecord v s r) → (enterRecords v (enterRecord v s r) (r + 1) n) .sound ≡ true
+          → Sound v (r + 1 + n) 0 (sum (entries v) 0 (r + 1 + n)) (enterRecords v (enterRecord v s r) (r + 1) n))
+          → Sound v (r + suc n) 0 (sum (entries v) 0 (r + suc n)) (enterRecords v s r (suc n))
       go true e ih =
           let x : r + suc n ≡ r + 1 + n = omega arith in
           rw (records-on v s r n e, x) (ih (record-sound s r sd e) (rw (records-on v s r n e) at h))

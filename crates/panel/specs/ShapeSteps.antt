@@ -20,7 +20,7 @@ use Rattle.panel.specs.declared.Map.{Map}
 use Rattle.panel.specs.declared.records.Record.{Record}
 use Rattle.panel.specs.declared.shape.Seen.{Seen}
 use Rattle.panel.specs.Opened.{Opened, recordOf}
-use Rattle.panel.specs.Sums.{same-or-not}
+use Rattle.panel.specs.CountingLaws.{same-or-not}
 use Rattle.panel.specs.Shape.{fieldsFit, broken, entersFirst, enterPart, enterParts, recordMet, enterRecord, enterRecords}
 use Rattle.panel.specs.ShapeLaws.{listed, parts-on, parts-stop, records-on, records-stop, higher-make, list-inside, fit-kind}
 

@@ -146,7 +146,7 @@ fn parts_fit(
 }
 
 // 25: the root is of the subject's type.
-pub fn fits(s: &[u8], sm: sheet::Map, v: &[u8], vm: Map) -> bool
+pub(crate) fn fits(s: &[u8], sm: sheet::Map, v: &[u8], vm: Map) -> bool
     requires { ⌜ Ready (now s) sm (now v) vm ⌝ }
     ensures { λ res. ⌜ res ≡ panelFits (now (s .entry)) (now (v .entry)) ⌝ }
 {

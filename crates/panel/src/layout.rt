@@ -17,7 +17,7 @@ ghost use Rattle.facts.specs.PanelFacts.{PanelLaid};
 ghost use Rattle.panel.specs.Opened.{mapOf};
 
 // 21: from 8 to 16,384 bytes, and the trailer's length is the panel's.
-pub fn length_fits(v: &[u8]) -> bool
+pub(crate) fn length_fits(v: &[u8]) -> bool
     ensures { λ r. ⌜ r ≡ panelLengthFits (now (v .entry)) ⌝ }
 {
     if v.len() < PANEL_TRAILER {
@@ -50,7 +50,7 @@ fn whole_records(size: usize, from: usize, to: usize) -> bool
 }
 
 // 22: the starts rise from 0, pass not the trailer and cut no record; there are 1 to 512 records.
-pub fn layout_fits(v: &[u8]) -> bool
+pub(crate) fn layout_fits(v: &[u8]) -> bool
     requires { ⌜ panelTrailer ≤ length (now v) ⌝ }
     ensures { λ r. ⌜ r ≡ panelLayoutFits (now (v .entry)) ⌝ }
 {
@@ -77,7 +77,7 @@ pub fn layout_fits(v: &[u8]) -> bool
 }
 
 // Where the sections stand, and how many records and parts there are.
-pub fn map_of(v: &[u8]) -> Map
+pub(crate) fn map_of(v: &[u8]) -> Map
     requires { ⌜ PanelLaid (now v) ⌝ }
     ensures { λ r. ⌜ r ≡ mapOf (now (v .entry)) ⌝ }
 {

@@ -16,7 +16,7 @@ ghost use Rattle.panel.specs.Shape.{fieldsFit, enterPart, enterParts, en
 ghost use Rattle.panel.specs.Shape.{broken as Shape·broken};
 
 // What the pass has met: the depth of each record, 0 for one that was not met yet, and whether no rule is broken.
-pub struct Seen {
+pub(crate) struct Seen {
     pub depths: [u8; RECORDS_MOST],
     pub sound: bool,
 }
@@ -145,7 +145,7 @@ fn enter_records(v: &[u8], m: Map, s: Seen) -> Seen
 }
 
 // 23: every record but the root is one part of a lower record, each part is in one list, and no record is deeper than 32.
-pub fn shape_fits(v: &[u8], m: Map) -> bool
+pub(crate) fn shape_fits(v: &[u8], m: Map) -> bool
     requires { ⌜ Opened (now v) m ⌝ }
     ensures { λ r. ⌜ r ≡ panelShapeFits (now (v .entry)) ⌝ }
 {
