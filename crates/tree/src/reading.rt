@@ -43,7 +43,11 @@ pub enum Node {
 // What a case asks. A text is an integer's or a byte string's, and starts so far into the pool.
 pub enum Test {
     Constr(u16),
-    Text { integer: bool, start: u16, count: u16 },
+    Text {
+        integer: bool,
+        start: u16,
+        count: u16,
+    },
     List(u16),
     Tailed(u16),
 }
@@ -184,14 +188,16 @@ pub fn case_at(t: &[u8], m: Map, i: usize) -> Case
             child,
         },
         1 => Case {
-            test: Test::Text { integer: true,
+            test: Test::Text {
+                integer: true,
                 start: a,
                 count: b,
             },
             child,
         },
         2 => Case {
-            test: Test::Text { integer: false,
+            test: Test::Text {
+                integer: false,
                 start: a,
                 count: b,
             },

@@ -110,7 +110,7 @@ module _ (t v l l' : List ℕ) where
     call-walks e k r same g =
         let a : walkAnswer t v (length l) ≡ treeEnd t v = whole in
         let b : l' ≡ written (treeEnd t v) (walkedWords (walk (treeOf t) v)) (length l)
-            = g .words ∙ ap (λ (n : ℕ). written (treeEnd t v) (walkedWords (walk (treeOf t) v)) n) same in
+        = g .words ∙ ap (λ (n : ℕ). written (treeEnd t v) (walkedWords (walk (treeOf t) v)) n) same in
         rw (a, ← b) (ap (λ (x : Answer WalkEnd). record { answer = x; bound = l' }) (g .answer))
       where
         whole : walkAnswer t v (length l) ≡ treeEnd t v

@@ -292,7 +292,7 @@ module _ (t : List ℕ) (n : ℕ) (f : ℕ → Tree) where
       let b : m - (j + 1) ≡ m - j - 1 = omega arith in
       let c = casesFor-some f t (i + j) (m - j) (λ z. omega arith) in
       let d : largestTail n (casesFor f t (i + j) (m - j)) ≡ max (tailNumber n (caseTest t (i + j))) (largestTail n (casesFor f t (i + j + 1) (m - j - 1)))
-          = ap (largestTail n) c ∙ largest-max n (caseTest t (i + j)) _ _ _ in
+      = ap (largestTail n) c ∙ largest-max n (caseTest t (i + j)) _ _ _ in
       rw (a, b) (omega (arith, d, e))
 
   pub largest-end : (i j m best : ℕ) → m ≤ j → best ≡ max best (largestTail n (casesFor f t (i + j) (m - j)))

@@ -133,8 +133,8 @@ module _ (t v : List ℕ) (long first tails d : ℕ) where
   unfolding atTail
   turns-tail r k e z w = record {
     means = λ f.
-      let q : largestTail long (casesFor f t first tails) ≡ suc (k - 1) = sym (e f) ∙ (let g : k ≡ suc (k - 1) = omega arith in g) in
-      w .means f ∙ rw q;
+        let q : largestTail long (casesFor f t first tails) ≡ suc (k - 1) = sym (e f) ∙ (let g : k ≡ suc (k - 1) = omega arith in g) in
+        w .means f ∙ rw q;
     leads = w .leads;
   }
 
@@ -225,7 +225,7 @@ module _ (t v : List ℕ) (path first cases d : ℕ) where
 
     pub switch-turns : isOfKind s (caseKind t first) ≡ true → (r : Next)
         → ((x : Test) → partMeans v s ≡ some x
-          → Turns t v (caseChildren t first cases ++ defaultChild d) (λ f. walkCases (casesFor f t first cases) x v (λ u. defaultWalk v d f)) r)
+        → Turns t v (caseChildren t first cases ++ defaultChild d) (λ f. walkCases (casesFor f t first cases) x v (λ u. defaultWalk v d f)) r)
         → Turns t v (caseChildren t first cases ++ defaultChild d) (switchWalk t v path first cases d) r
     switch-turns e r w = go (partMeans v s) refl
       where

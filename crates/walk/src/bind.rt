@@ -1,6 +1,7 @@
 // The bindings of a leaf: each path is followed, and (name, record, dropped) is written, three words a binding.
 // Rests on following a path and on stores of words.
-use crate::follow::{Found, follow};
+use crate::follow::Found;
+use crate::follow::follow;
 use panel::Map as PanelMap;
 use tree::layout::Map;
 use tree::reading::binding_at;
@@ -24,7 +25,15 @@ fn put_bound(bound: &mut [u16], at: usize, name: u16, record: u16, dropped: u16)
 }
 
 // The `count` bindings from `first` on, written to the front of the buffer; all zero where one is stuck.
-pub fn bind(t: &[u8], m: Map, v: &[u8], n: PanelMap, first: usize, count: usize, bound: &mut [u16]) -> bool
+pub fn bind(
+    t: &[u8],
+    m: Map,
+    v: &[u8],
+    n: PanelMap,
+    first: usize,
+    count: usize,
+    bound: &mut [u16],
+) -> bool
     requires { ⌜ Ready (now t) m (now v) n × (first + count ≤ m .bindings .count) × (3 * count ≤ length (now bound)) ⌝ }
     ensures { λ r. ⌜ Binds (now (v .entry)) (bindingsFrom (now (t .entry)) first count) (now (bound .entry)) (now (bound .exit)) r ⌝ }
 {

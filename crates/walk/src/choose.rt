@@ -1,9 +1,11 @@
 // What a part of the panel shows, and the first case of a switch that holds of it.
 // Rests on the cases of a tree file, each with its test, and on records of the panel.
 use crate::follow::Position;
-use panel::{Map as PanelMap, record_at};
+use panel::Map as PanelMap;
+use panel::record_at;
 use tree::layout::Map;
-use tree::reading::{Test, case_at};
+use tree::reading::Test;
+use tree::reading::case_at;
 use words::same_text;
 ghost use mathlib.Core.Path.{_≡_};
 ghost use Prim.Native.Nat.{ℕ, _+_, _<_, _≤_, max};
@@ -22,12 +24,14 @@ ghost use Rattle.walk.specs.Positions.{placed};
 ghost use Rattle.walk.specs.Choices.{alike as Choices·alike};
 ghost use Rattle.walk.specs.Choices.{textTest, testMeans, InPool, partMeans, Inside, Shows, isConstr, isList, isTailed, tailNumberOf, isOfKind, same, firstCase, chosenOf};
 
-
-
 // What a part shows to a test, or what is looked for among the cases of a list switch. A text stands so far into the panel.
 pub enum Part {
     Constr(usize),
-    Text { integer: bool, start: usize, count: usize },
+    Text {
+        integer: bool,
+        start: usize,
+        count: usize,
+    },
     List(usize),
     Tailed(usize),
     Other,
@@ -48,8 +52,16 @@ pub fn shown_at(v: &[u8], n: PanelMap, p: Position) -> Part
     let kind = x.kind;
     let first = x.first;
     match kind {
-        0 => Part::Text { integer: true, start: n.pool_at + first, count: x.count },
-        1 => Part::Text { integer: false, start: n.pool_at + first, count: x.count },
+        0 => Part::Text {
+            integer: true,
+            start: n.pool_at + first,
+            count: x.count,
+        },
+        1 => Part::Text {
+            integer: false,
+            start: n.pool_at + first,
+            count: x.count,
+        },
         5 => Part::Constr(x.a),
         _ => Part::Other,
     }
@@ -61,7 +73,11 @@ pub fn of_kind(s: Part, kind: u8) -> bool
 {
     match s {
         Part::Constr(_) => kind == 0,
-        Part::Text { integer, start: _, count: _ } => if integer { kind == 1 } else { kind == 2 },
+        Part::Text {
+            integer,
+            start: _,
+            count: _,
+        } => if integer { kind == 1 } else { kind == 2 },
         Part::List(_) => kind == 3,
         Part::Tailed(_) => kind == 4,
         Part::Other => false,
@@ -73,7 +89,11 @@ fn is_constr(test: Test, a: usize) -> bool
 {
     match test {
         Test::Constr(b) => a == b as usize,
-        Test::Text { integer: _, start: _, count: _ } => false,
+        Test::Text {
+            integer: _,
+            start: _,
+            count: _,
+        } => false,
         Test::List(_) => false,
         Test::Tailed(_) => false,
     }
@@ -84,7 +104,11 @@ fn is_list(test: Test, k: usize) -> bool
 {
     match test {
         Test::Constr(_) => false,
-        Test::Text { integer: _, start: _, count: _ } => false,
+        Test::Text {
+            integer: _,
+            start: _,
+            count: _,
+        } => false,
         Test::List(j) => k == j as usize,
         Test::Tailed(_) => false,
     }
@@ -95,7 +119,11 @@ fn is_tailed(test: Test, k: usize) -> bool
 {
     match test {
         Test::Constr(_) => false,
-        Test::Text { integer: _, start: _, count: _ } => false,
+        Test::Text {
+            integer: _,
+            start: _,
+            count: _,
+        } => false,
         Test::List(_) => false,
         Test::Tailed(j) => k == j as usize,
     }
@@ -124,7 +152,11 @@ fn is_text(t: &[u8], m: Map, v: &[u8], test: Test, int: bool, i: usize, n: usize
 {
     match test {
         Test::Constr(_) => false,
-        Test::Text { integer, start, count } => {
+        Test::Text {
+            integer,
+            start,
+            count,
+        } => {
             if !alike(int, integer) {
                 return false;
             }
@@ -141,7 +173,11 @@ fn holds(t: &[u8], m: Map, v: &[u8], s: Part, test: Test) -> bool
 {
     match s {
         Part::Constr(a) => is_constr(test, a),
-        Part::Text { integer, start, count } => is_text(t, m, v, test, integer, start, count),
+        Part::Text {
+            integer,
+            start,
+            count,
+        } => is_text(t, m, v, test, integer, start, count),
         Part::List(k) => is_list(test, k),
         Part::Tailed(k) => is_tailed(test, k),
         Part::Other => false,
@@ -171,7 +207,11 @@ fn tail_number(test: Test, n: usize) -> usize
 {
     match test {
         Test::Constr(_) => 0,
-        Test::Text { integer: _, start: _, count: _ } => 0,
+        Test::Text {
+            integer: _,
+            start: _,
+            count: _,
+        } => 0,
         Test::List(_) => 0,
         Test::Tailed(k) => if k as usize <= n { k as usize + 1 } else { 0 },
     }
@@ -191,8 +231,8 @@ pub fn largest_tail(t: &[u8], m: Map, i: usize, tails: usize, n: usize) -> usize
     let mut best: usize = 0;
     let mut j: usize = 0;
     while j < tails {
-        let case = case_at(t, m, i + j);
-        let test = case.test;
+        let tail = case_at(t, m, i + j);
+        let test = tail.test;
         best = larger(best, tail_number(test, n));
         j += 1;
     }

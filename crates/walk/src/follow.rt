@@ -1,8 +1,12 @@
 // Following a path of a tree through a panel: each step asks a record of its kind that has the part, else the walk is stuck.
 // A position is a record and how many elements of its list are dropped.
-use panel::{Map as PanelMap, part_at, record_at};
+use panel::Map as PanelMap;
+use panel::part_at;
+use panel::record_at;
 use tree::layout::Map;
-use tree::reading::{Step, path_at, step_at};
+use tree::reading::Step;
+use tree::reading::path_at;
+use tree::reading::step_at;
 ghost use mathlib.Core.Path.{_≡_};
 ghost use Prim.Native.Nat.{_+_, _<_, _≤_};
 ghost use Rattle.rules.specs.PanelFile.{records};
@@ -12,7 +16,6 @@ ghost use Rattle.rules.specs.Walking.{follow as Walking·follow};
 ghost use Rattle.facts.specs.PanelFacts.{PanelLaid, PanelShaped};
 ghost use Rattle.panel.specs.Opened.{Opened};
 ghost use Rattle.walk.specs.Positions.{placed, foundOf, Ready, Within};
-
 
 pub struct Position {
     pub record: usize,
@@ -52,7 +55,10 @@ fn tail_of(v: &[u8], r: usize, i: usize) -> Found
     if x.count < i {
         return Found::Stuck;
     }
-    Found::At(Position { record: r, dropped: i })
+    Found::At(Position {
+        record: r,
+        dropped: i,
+    })
 }
 
 // One step from a position. Its flag and type are not asked.
@@ -81,7 +87,10 @@ pub fn follow(t: &[u8], m: Map, v: &[u8], n: PanelMap, p: usize) -> Found
     let path = path_at(t, m, p);
     let first = path.first as usize;
     let count = path.count as usize;
-    let mut at = Position { record: 0, dropped: 0 };
+    let mut at = Position {
+        record: 0,
+        dropped: 0,
+    };
     let mut k: usize = 0;
     while k < count {
         let step = step_at(t, m, first + k);

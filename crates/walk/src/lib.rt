@@ -3,7 +3,8 @@
 // and the steps of the paths. A caller who walks one tree often pays the reader's pass each time: that is some steps for each
 // record of the tree, while the walk itself meets few of them.
 use bind::bind;
-use nodes::{Reached, reach};
+use nodes::Reached;
+use nodes::reach;
 use panel::Map as PanelMap;
 use tree::layout::Map;
 use words::zero_words;
@@ -36,14 +37,24 @@ fn walk_panel(t: &[u8], m: Map, v: &[u8], n: PanelMap, bound: &mut [u16]) -> Wal
     ensures { λ r. ⌜ Gives (now (t .entry)) (now (v .entry)) (panelEnd (now (t .entry)) (now (v .entry))) (now (bound .entry)) (now (bound .exit)) r ⌝ }
 {
     match reach(t, m, v, n) {
-        Reached::Leaf { clause, first, count } => {
+        Reached::Leaf {
+            clause,
+            first,
+            count,
+        } => {
             if bind(t, m, v, n, first as usize, count as usize, bound) {
                 return Walked::Leaf { clause, count };
             }
-            Walked::Refused { number: 32, place: 0 }
+            Walked::Refused {
+                number: 32,
+                place: 0,
+            }
         }
         Reached::NoLeaf => Walked::NoLeaf,
-        Reached::Stuck => Walked::Refused { number: 32, place: 0 },
+        Reached::Stuck => Walked::Refused {
+            number: 32,
+            place: 0,
+        },
     }
 }
 
@@ -63,10 +74,16 @@ pub fn walk(t: &[u8], v: &[u8], bound: &mut [u16]) -> Walked
 {
     zero_words(bound);
     if bound.len() < BOUND_ROOM {
-        return Walked::Refused { number: 1, place: 0 };
+        return Walked::Refused {
+            number: 1,
+            place: 0,
+        };
     }
     let tree::Checked::Accepted(m) = tree::check(t) else {
-        return Walked::Refused { number: 31, place: 0 };
+        return Walked::Refused {
+            number: 31,
+            place: 0,
+        };
     };
     walk_tree(t, m, v, bound)
 }

@@ -1,10 +1,19 @@
 // Where a node leads: "Switch: the first case that holds. List switch: the first of the exact length, else the first of the largest
 // tail number not above it. Else the default; with none, No leaf." A hoist is passed over; a wrong kind is stuck before any case.
-use crate::choose::{Chosen, Part, first_case, largest_tail, of_kind, shown_at};
-use crate::follow::{Found, follow};
-use panel::{Map as PanelMap, record_at};
+use crate::choose::Chosen;
+use crate::choose::Part;
+use crate::choose::first_case;
+use crate::choose::largest_tail;
+use crate::choose::of_kind;
+use crate::choose::shown_at;
+use crate::follow::Found;
+use crate::follow::follow;
+use panel::Map as PanelMap;
+use panel::record_at;
 use tree::layout::Map;
-use tree::reading::{Node, case_kind, node_at};
+use tree::reading::Node;
+use tree::reading::case_kind;
+use tree::reading::node_at;
 ghost use mathlib.Core.Path.{_≡_};
 ghost use mathlib.Core.List.{List, _++_};
 ghost use Prim.Native.Nat.{ℕ, _+_, _<_, _≤_};
@@ -33,7 +42,16 @@ fn default_of(default: usize) -> Next
     Next::Node(default - 1)
 }
 
-fn from_switch(t: &[u8], m: Map, v: &[u8], n: PanelMap, path: usize, first: usize, cases: usize, default: usize) -> Next
+fn from_switch(
+    t: &[u8],
+    m: Map,
+    v: &[u8],
+    n: PanelMap,
+    path: usize,
+    first: usize,
+    cases: usize,
+    default: usize,
+) -> Next
     requires { ⌜ Ready (now t) m (now v) n × (path < m .paths .count) × (1 ≤ cases) × (first + cases ≤ m .cases .count) ⌝ }
     ensures { λ r. ⌜ Turns (now (t .entry)) (now (v .entry)) (caseChildren (now (t .entry)) first cases ++ defaultChild default) (switchWalk (now (t .entry)) (now (v .entry)) path first cases default) r ⌝ }
 {
@@ -51,7 +69,15 @@ fn from_switch(t: &[u8], m: Map, v: &[u8], n: PanelMap, path: usize, first: usiz
 }
 
 // Past the cases of the exact length.
-fn from_tails(t: &[u8], m: Map, v: &[u8], length: usize, first: usize, tails: usize, default: usize) -> Next
+fn from_tails(
+    t: &[u8],
+    m: Map,
+    v: &[u8],
+    length: usize,
+    first: usize,
+    tails: usize,
+    default: usize,
+) -> Next
     requires { ⌜ Ruled (now t) m × (first + tails ≤ m .cases .count) ⌝ }
     ensures { λ r. ⌜ Turns (now (t .entry)) (now (v .entry)) (caseChildren (now (t .entry)) first tails ++ defaultChild default) (tailsWalk (now (t .entry)) (now (v .entry)) length first tails default) r ⌝ }
 {
@@ -65,7 +91,16 @@ fn from_tails(t: &[u8], m: Map, v: &[u8], length: usize, first: usize, tails: us
     Next::Node(c)
 }
 
-fn from_length(t: &[u8], m: Map, v: &[u8], length: usize, first: usize, cases: usize, tails: usize, default: usize) -> Next
+fn from_length(
+    t: &[u8],
+    m: Map,
+    v: &[u8],
+    length: usize,
+    first: usize,
+    cases: usize,
+    tails: usize,
+    default: usize,
+) -> Next
     requires { ⌜ Ruled (now t) m × (first + (cases + tails) ≤ m .cases .count) ⌝ }
     ensures { λ r. ⌜ Turns (now (t .entry)) (now (v .entry)) (caseChildren (now (t .entry)) first (cases + tails) ++ defaultChild default) (lengthWalk (now (t .entry)) (now (v .entry)) length first cases tails default) r ⌝ }
 {
@@ -75,7 +110,17 @@ fn from_length(t: &[u8], m: Map, v: &[u8], length: usize, first: usize, cases: u
     Next::Node(c)
 }
 
-fn from_list_switch(t: &[u8], m: Map, v: &[u8], n: PanelMap, path: usize, first: usize, cases: usize, tails: usize, default: usize) -> Next
+fn from_list_switch(
+    t: &[u8],
+    m: Map,
+    v: &[u8],
+    n: PanelMap,
+    path: usize,
+    first: usize,
+    cases: usize,
+    tails: usize,
+    default: usize,
+) -> Next
     requires { ⌜ Ready (now t) m (now v) n × (path < m .paths .count) × (first + (cases + tails) ≤ m .cases .count) ⌝ }
     ensures { λ r. ⌜ Turns (now (t .entry)) (now (v .entry)) (caseChildren (now (t .entry)) first (cases + tails) ++ defaultChild default) (listWalk (now (t .entry)) (now (v .entry)) path first cases tails default) r ⌝ }
 {
@@ -96,14 +141,57 @@ fn from_node(t: &[u8], m: Map, v: &[u8], n: PanelMap, k: usize) -> Next
 {
     let node = node_at(t, m, k);
     match node {
-        Node::Switch { path, first, cases, default } => {
-            from_switch(t, m, v, n, path as usize, first as usize, cases as usize, default as usize)
+        Node::Switch {
+            path,
+            first,
+            cases,
+            default,
+        } => {
+            from_switch(
+                t,
+                m,
+                v,
+                n,
+                path as usize,
+                first as usize,
+                cases as usize,
+                default as usize,
+            )
         }
-        Node::ListSwitch { path, first, cases, tails, default } => {
-            from_list_switch(t, m, v, n, path as usize, first as usize, cases as usize, tails as usize, default as usize)
+        Node::ListSwitch {
+            path,
+            first,
+            cases,
+            tails,
+            default,
+        } => {
+            from_list_switch(
+                t,
+                m,
+                v,
+                n,
+                path as usize,
+                first as usize,
+                cases as usize,
+                tails as usize,
+                default as usize,
+            )
         }
-        Node::Leaf { clause, first, count } => Next::End(Reached::Leaf { clause, first, count }),
-        Node::Hoist { clause: _, first: _, count: _, child } => Next::Node(child as usize),
+        Node::Leaf {
+            clause,
+            first,
+            count,
+        } => Next::End(Reached::Leaf {
+            clause,
+            first,
+            count,
+        }),
+        Node::Hoist {
+            clause: _,
+            first: _,
+            count: _,
+            child,
+        } => Next::Node(child as usize),
     }
 }
 

@@ -261,7 +261,13 @@ fn missing() {
     let mut v = [0u8; 56];
     nested(&mut v, 6);
     walked(b"a list switch on a constructor, with a default", &t, &v);
-    damaged(b"a switch on an element that is not there, with a default", 296, 5, 296, 5);
+    damaged(
+        b"a switch on an element that is not there, with a default",
+        296,
+        5,
+        296,
+        5,
+    );
 }
 
 // ---- bindings and buffers

@@ -61,7 +61,15 @@ pub fn switch(b: &mut [u8], k: u16, path: u16, first: u16, cases: u16, default: 
     node(b, k, 0, path, first, cases, 0, default);
 }
 
-pub fn list_switch(b: &mut [u8], k: u16, path: u16, first: u16, cases: u16, tails: u16, default: u16) {
+pub fn list_switch(
+    b: &mut [u8],
+    k: u16,
+    path: u16,
+    first: u16,
+    cases: u16,
+    tails: u16,
+    default: u16,
+) {
     node(b, k, 1, path, first, cases, tails, default);
 }
 

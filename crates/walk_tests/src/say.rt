@@ -1,5 +1,6 @@
 // What the walk answers, written as a line. The buffer is filled beforehand; a word after the bindings that is not zero is said.
-use crate::trees::{digits, listing};
+use crate::trees::digits;
+use crate::trees::listing;
 use walk::Walked;
 
 fn number(x: u16) {
@@ -70,7 +71,10 @@ fn say(name: &[u8], answer: Walked, bound: &[u16]) {
             io::write_all(1, b": no leaf");
             say_rest(bound, 0);
         }
-        Walked::Refused { number: refusal, place } => {
+        Walked::Refused {
+            number: refusal,
+            place,
+        } => {
             io::write_all(1, b": refused ");
             number(refusal);
             io::write_all(1, b" ");

@@ -1,5 +1,16 @@
 // The trees and panels of the cases.
-use crate::make::{case, ends, hoist, leaf, list_switch, panel_ends, record, step, switch, text, two, word};
+use crate::make::case;
+use crate::make::ends;
+use crate::make::hoist;
+use crate::make::leaf;
+use crate::make::list_switch;
+use crate::make::panel_ends;
+use crate::make::record;
+use crate::make::step;
+use crate::make::switch;
+use crate::make::text;
+use crate::make::two;
+use crate::make::word;
 
 // ---- 01's listing: [1, ..n1]; [n2, 2]; discard. Nodes 0 to 15, cases from byte 192 on, bindings from 248, paths from 272, steps
 // from 288, the pool from 306 to 308; 322 bytes.

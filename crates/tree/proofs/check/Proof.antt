@@ -1,3 +1,5 @@
+-- `tree::check` meets its contract: each stage answers for its part of the one test, and gives the next what that asks.
+-- Rests on the facts of a file that is laid out and of records that keep the rules.
 use borrow.Author.Needs.{needs}
 use Rattle.tree.specs.CheckLaws.{long-enough, map-read, rules-read, refused-length, refused-starts, refused-records, refused-order, accepted-all}
 use Rattle.facts.specs.TreeFacts.{tree-laid}

@@ -1,3 +1,4 @@
+-- `tree::records_keep_rules` meets its contract: its five tests are those of the definition, in order.
 use borrow.Author.Needs.{needs}
 use Rattle.tree.specs.Reading.{recordsKeepRules}
 use Rattle.tree.specs.ReadingLaws.{nodes-count, cases-count, bindings-count, paths-count, steps-count}

@@ -1,53 +1,42 @@
+-- `walk::walk_tree` meets its contract: one law of the answer for each of the panel's verdicts.
 use borrow.Author.Needs.{needs}
 use Rattle.walk.specs.AnswersLaws.{ready, gives-panel, gives-panel-refused}
 use Rattle.panel.specs.AnswersLaws.{accepts, refuses-by}
 use Rattle.panel.specs.declared.Checked.{Checked}
-use native.Mathlib.Omega.{arith}
-use mathlib.Core.Path.{_≡_, refl, sym, ap, _∙_}
+use mathlib.Core.Path.{_≡_, sym, _∙_}
 use Rattle.walk.proofs.walk_tree.Statement.{statement}
 use Rattle.walk.proofs.walk_tree.Tie as tie
-use Rattle.walk.proofs.walk_tree.Reads as reads
-use Rattle.walk.proofs.walk_tree.Lts as lts
-use Rattle.panel.proofs.check.Reads as check-reads
-use Rattle.walk.proofs.walk_panel.Reads as walk-panel-reads
 
--- src/lib.rt:54:11
 check-requires : tie.Need-check-requires
 check-requires c κs = search needs
 
--- src/lib.rt:55:34
 enum-known-n : tie.Need-enum-known-n
 enum-known-n c = search needs
 
--- src/lib.rt:55:40
 walk-panel-requires : tie.Need-walk-panel-requires
-walk-panel-requires c κs = 
+walk-panel-requires c κs =
     let a = c .before .before .before .before .before .before .before .before .args in
     let n = c .before .before .n .given .0 .0 in
     let e : c .before .before .before .before .check .result ≡ Checked.Accepted n = search needs in
     let w = accepts (a .v .now) n (sym (c .before .before .before .before .check .ensures) ∙ e) in
     (ready (c .before .before .before .before .before .before .before .before .pre .0) w, c .before .before .before .before .before .before .before .before .pre .1, c .before .before .before .before .before .before .before .before .pre .2)
 
--- src/lib.rt:56:35
 enum-known-number : tie.Need-enum-known-number
 enum-known-number c = search needs
 
--- src/lib.rt:50:1
 same-length : tie.Need-same-length
 same-length c = c .before .before .walk-panel .kept .1 .1 .1 .1 .0
 
--- src/lib.rt:50:1
 returns : tie.Need-returns
-returns c = 
+returns c =
     let a = c .before .before .before .before .before .before .before .before .before .before .before .args in
     let n = c .before .before .before .before .before .n .given .0 .0 in
     let e : c .before .before .before .before .before .before .before .check .result ≡ Checked.Accepted n = search needs in
     let w = accepts (a .v .now) n (sym (c .before .before .before .before .before .before .before .check .ensures) ∙ e) in
     gives-panel (a .t .now) (a .v .now) (a .bound .now) (c .before .before .walk-panel .last .1 .1 .1 .1 .0) (c .before .before .walk-panel .result) (w .verdict) (c .before .before .walk-panel .ensures)
 
--- src/lib.rt:50:1
 returns-2 : tie.Need-returns-2
-returns-2 c = 
+returns-2 c =
     let a = c .before .before .before .before .before .before .before .args in
     let g = c .before .number .given .0 in
     let e : c .before .before .before .check .result ≡ Checked.Refused (g .0) (g .1 .0) = search needs in

@@ -1,3 +1,5 @@
+-- `tree::layout::sections` meets its contract: each section reaches from its start to the next, and a file that is laid out has none that ends before it starts.
+-- Rests on the law that makes the map of such sections.
 use Rattle.rules.specs.TreeReader.{nodesAt, casesAt, bindingsAt, pathsAt, stepsAt, treePoolAt, treePoolEnd}
 use Rattle.tree.specs.ReadingLaws.{map-is}
 use native.Mathlib.Omega.{arith}

@@ -1,3 +1,5 @@
+-- `tree::layout::starts_rise` meets its contract: the starts are read first, and its tests are those of the definition, in order.
+-- Rests on the law that puts the starts as they were read for the fields of the file.
 use borrow.Author.Needs.{needs}
 use Rattle.tree.specs.ReadingLaws.{startsWhole, starts-rise-is}
 use Rattle.rules.specs.TreeReader.{startsRise}

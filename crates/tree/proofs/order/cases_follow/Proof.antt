@@ -1,3 +1,4 @@
+-- `tree::order::cases_follow` meets its contract: the loop's invariant is that the cases left, from the end of the child before them on, are chained as all are.
 use borrow.Author.Needs.{needs}
 use Rattle.tree.specs.OrderLaws.{case-child-in, chain-first, chain-not-first, chain-next, chain-breaks, chain-end}
 use Rattle.tree.specs.PreOrder.{chained, endOf}

@@ -1,3 +1,5 @@
+-- `tree::order::children_follow` meets its contract: the node's children are chained, by its kind.
+-- Rests on what a node that was read says of its file.
 use borrow.Author.Needs.{needs}
 use Rattle.tree.specs.NodesLaws.{switch-node, list-switch-node, leaf-node, hoist-node, switch-node-run, list-switch-node-run, switch-node-children, list-switch-node-children, leaf-children, hoist-node-children}
 use Rattle.tree.specs.OrderLaws.{childrenFollow-is, childrenFollow-leaf, childrenFollow-hoist, in-nodes, node-kind-known}

@@ -1,3 +1,5 @@
+-- `tree::order::end_of` meets its contract: the loop's invariant is that the subtree of the node at hand ends where that of the first does.
+-- The measure is how many nodes come after it: a last child that is gone to is above its node.
 use borrow.Author.Needs.{needs}
 use Rattle.tree.specs.OrderLaws.{last-child-in, end-follows, end-reached}
 use Rattle.tree.specs.PreOrder.{lastChild, endOf}

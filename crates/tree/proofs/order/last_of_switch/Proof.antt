@@ -1,3 +1,4 @@
+-- `tree::order::last_of_switch` meets its contract: the default where there is one, and else the child of the last case.
 use borrow.Author.Needs.{needs}
 use Rattle.tree.specs.OrderLaws.{last-of-default, last-of-cases}
 use mathlib.Core.Path.{_∙_}

@@ -1,3 +1,5 @@
+-- `tree::order::nodes_in_pre_order` meets its contract: the chain of every node's children and the end of node 0 decide.
+-- Rests on the law that this is the rules' pre-order.
 use borrow.Author.Needs.{needs}
 use Prim.Native.Nat.{ℕ}
 use lib.Dec.{eqb}

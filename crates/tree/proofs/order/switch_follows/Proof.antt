@@ -1,3 +1,4 @@
+-- `tree::order::switch_follows` meets its contract: the default comes after the last case.
 use borrow.Author.Needs.{needs}
 use Rattle.tree.specs.PreOrder.{endOf}
 use lib.Dec.{eqb}

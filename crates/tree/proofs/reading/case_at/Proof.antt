@@ -1,3 +1,5 @@
+-- `tree::reading::case_at` meets its contract: the case of its kind, with the words as they were read.
+-- A kind that is known and not 0 to 3 is 4.
 use borrow.Author.Needs.{needs}
 use Rattle.rules.specs.TreeReader.{caseKindOf}
 use Rattle.tree.specs.Reading.{caseOf}

@@ -1,3 +1,5 @@
+-- `tree::reading::node_at` meets its contract: the node of its kind, with the words as they were read.
+-- A kind that is known and not 0, 1 or 2 is 3.
 use borrow.Author.Needs.{needs}
 use native.Mathlib.Omega.{arith}
 use Rattle.rules.specs.TreeReader.{nodeKindOf, nodePath, nodeFirstCase, nodeCases, nodeTailCases, nodeDefault, nodeClause, nodeFirstBinding, nodeBindings, nodeChild}

@@ -1,3 +1,4 @@
+-- `tree::reading::path_at` meets its contract: what it reads, from the map's start on, are the rules' fields.
 use borrow.Author.Needs.{needs}
 use mathlib.Core.Path.{_∙_}
 use Rattle.tree.specs.ReadingLaws.{path-first-is, path-count-is}

@@ -1,3 +1,4 @@
+-- `tree::records::binding_keeps_rules` meets its contract: its tests are those of the definition, in order.
 use borrow.Author.Needs.{needs}
 use Rattle.tree.specs.declared.reading.Binding.{Binding}
 use Rattle.rules.specs.TreeReader.{bindingKeepsRules}

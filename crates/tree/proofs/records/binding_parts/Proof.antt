@@ -1,3 +1,4 @@
+-- `tree::records::binding_parts` meets its contract: its tests are those of the definition, in order, of the words as they were read.
 use borrow.Author.Needs.{needs}
 use Rattle.rules.specs.TreeReader.{bindingParts, nodeFirstBinding, nodeBindings}
 use Rattle.tree.specs.ReadingLaws.{bindings-count}

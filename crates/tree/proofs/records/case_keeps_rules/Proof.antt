@@ -1,3 +1,4 @@
+-- `tree::records::case_keeps_rules` meets its contract: its tests are those of the definition, in order.
 use borrow.Author.Needs.{needs}
 use Rattle.rules.specs.TreeReader.{caseKeepsRules}
 use Rattle.tree.specs.ReadingLaws.{nodes-count}

@@ -1,3 +1,4 @@
+-- `tree::records::case_of_kind` meets its contract: each kind byte has its kind's test, and any other byte is unknown.
 use borrow.Author.Needs.{needs}
 use Rattle.rules.specs.TreeReader.{caseOfKind, caseKindOf}
 use Rattle.tree.specs.ReadingLaws.{pool-count}

@@ -1,3 +1,4 @@
+-- `tree::records::cases_of_kind` meets its contract: the loop's invariant is that what is asked of the cases left is what is asked of all.
 use borrow.Author.Needs.{needs}
 use mathlib.Core.Path.{_≡_, _∙_}
 use borrow.Author.Tests.{eq-eqb, ne-eqb}

@@ -1,3 +1,4 @@
+-- `tree::records::hoist_keeps_rules` meets its contract: its tests are those of the definition, in order.
 use borrow.Author.Needs.{needs}
 use Rattle.rules.specs.TreeReader.{nodeOfKind, nodeChild}
 use Rattle.tree.specs.ReadingLaws.{nodes-count}

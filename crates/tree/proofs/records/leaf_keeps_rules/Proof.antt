@@ -1,3 +1,4 @@
+-- `tree::records::leaf_keeps_rules` meets its contract: its tests are those of the definition, in order.
 use borrow.Author.Needs.{needs}
 use Rattle.rules.specs.TreeReader.{nodeOfKind}
 use borrow.Author.Tests.{not-true, not-false, eq-eqb, ne-eqb}

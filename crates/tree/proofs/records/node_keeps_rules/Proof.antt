@@ -1,3 +1,4 @@
+-- `tree::records::node_keeps_rules` meets its contract: each kind byte has its kind's test, and any other byte is unknown.
 use borrow.Author.Needs.{needs}
 use Rattle.rules.specs.TreeReader.{nodeKeepsRules, nodeKindOf, nodeOfKind}
 use borrow.Author.Tests.{eq-eqb, ne-eqb}

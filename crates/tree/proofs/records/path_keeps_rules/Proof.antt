@@ -1,3 +1,4 @@
+-- `tree::records::path_keeps_rules` meets its contract: its tests are those of the definition, in order.
 use borrow.Author.Needs.{needs}
 use Rattle.tree.specs.declared.reading.Path.{Path}
 use Rattle.rules.specs.TreeReader.{pathKeepsRules}

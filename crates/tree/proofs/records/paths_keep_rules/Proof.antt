@@ -1,3 +1,4 @@
+-- `tree::records::paths_keep_rules` meets its contract: the loop's invariant is that what is asked of the records left is what is asked of all.
 use borrow.Author.Needs.{needs}
 use native.Mathlib.Nat.{sub-zero}
 use mathlib.Core.Path.{_≡_, sym, _∙_}

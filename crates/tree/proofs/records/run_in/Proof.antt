@@ -1,3 +1,4 @@
+-- `tree::records::run_in` meets its contract: n is compared without a sum that could wrap.
 use Prim.Native.Nat.{_+_}
 use native.Mathlib.Omega.{arith}
 use Rattle.rules.specs.SheetFile.{runIn}

@@ -1,3 +1,4 @@
+-- `tree::records::step_keeps_rules` meets its contract: its tests are those of the definition, in order.
 use borrow.Author.Needs.{needs}
 use Rattle.rules.specs.TreeReader.{stepKeepsRules}
 use borrow.Author.Tests.{le-leb, lt-leb, eq-eqb, ne-eqb}

@@ -1,3 +1,5 @@
+-- `tree::records::switch_cases` meets its contract: its tests are those of the definition, in order, of the words as they were read.
+-- Rests on the run of cases of a switch whose parts are in their sections.
 use borrow.Author.Needs.{needs}
 use Rattle.tree.specs.RecordsLaws.{switch-run-in}
 use Rattle.rules.specs.TreeReader.{switchCases, nodeFirstCase, nodeCases, nodeTailCases}

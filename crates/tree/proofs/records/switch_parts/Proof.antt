@@ -1,3 +1,4 @@
+-- `tree::records::switch_parts` meets its contract: its tests are those of the definition, in order, of the words as they were read.
 use borrow.Author.Needs.{needs}
 use Rattle.rules.specs.TreeReader.{switchParts, nodePath, nodeFirstCase, nodeCases, nodeTailCases, nodeDefault}
 use Rattle.tree.specs.ReadingLaws.{paths-count, cases-count, nodes-count}

@@ -1,3 +1,4 @@
+-- `walk::nodes::from_list_switch` meets its contract: one law of the walk at a list switch for each way out.
 use borrow.Author.Needs.{needs}
 use Rattle.panel.specs.declared.Record.{Record}
 use Rattle.walk.specs.TurnsLaws.{list-no-part, list-wrong-kind, list-turns}
@@ -7,34 +8,24 @@ use Rattle.rules.specs.TreeReader.{pathAt}
 use Rattle.rules.specs.Walking.{panelRoot, follow}
 use Rattle.walk.specs.declared.follow.Found.the-variants.{At}
 use native.Mathlib.Omega.{arith}
-use mathlib.Core.Path.{_≡_, refl, sym, ap, _∙_}
+use mathlib.Core.Path.{_≡_, sym, ap, _∙_}
 use Rattle.walk.proofs.nodes.from_list_switch.Statement.{statement}
 use Rattle.walk.proofs.nodes.from_list_switch.Tie as tie
-use Rattle.walk.proofs.nodes.from_list_switch.Reads as reads
-use Rattle.walk.proofs.nodes.from_list_switch.Lts as lts
-use Rattle.panel.proofs.record_at.Reads as record-at-reads
-use Rattle.walk.proofs.follow.follow.Reads as follow-reads
-use Rattle.walk.proofs.nodes.from_length.Reads as from-length-reads
 
--- src/nodes.rt:82:24
 follow-requires : tie.Need-follow-requires
 follow-requires c κs = (c .before .before .pre .0, c .before .before .pre .1)
 
--- src/nodes.rt:82:19
 enum-known-p : tie.Need-enum-known-p
 enum-known-p c = search needs
 
--- src/nodes.rt:83:26
 enum-told : tie.Need-enum-told
 enum-told c = search needs
 
--- src/nodes.rt:83:9
 returns : tie.Need-returns
 returns c = let a = c .before .before .before .before .before .args in list-no-part (a .t .now) (a .v .now) (a .path) (a .first) (a .cases) (a .tails) (a .default) (found-none (follow (a .v .now) (pathAt (a .t .now) (a .path)) panelRoot) (sym (c .before .before .follow .ensures) ∙ c .enum-told .given .1))
 
--- src/nodes.rt:86:9
 record-at-requires : tie.Need-record-at-requires
-record-at-requires c κs = 
+record-at-requires c κs =
     let a = c .before .before .before .before .before .before .args in
     let ready = c .before .before .before .before .before .before .pre .0 in
     let p = c .before .p .given .0 .0 in
@@ -43,9 +34,8 @@ record-at-requires c κs =
     let within = found-within ready (a .path) p found in
     (ready .opened .laid, within .place-in)
 
--- src/nodes.rt:88:9
 returns-2 : tie.Need-returns-2
-returns-2 c = 
+returns-2 c =
     let a = c .before .before .before .before .before .before .before .before .before .args in
     let ready = c .before .before .before .before .before .before .before .before .before .pre .0 in
     let p = c .before .before .before .before .p .given .0 .0 in
@@ -54,9 +44,8 @@ returns-2 c =
     let within = found-within ready (a .path) p found in
     list-wrong-kind (a .t .now) (a .v .now) (a .path) (a .first) (a .cases) (a .tails) (a .default) (placed p) (c .before .before .record-at .result) found (c .before .before .record-at .ensures) (c .if1 .taken)
 
--- src/nodes.rt:90:26
 sub-from-length : tie.Need-sub-from-length
-sub-from-length c = 
+sub-from-length c =
     let a = c .before .before .before .before .before .before .before .before .before .before .before .args in
     let ready = c .before .before .before .before .before .before .before .before .before .before .before .pre .0 in
     let p = c .before .before .before .before .before .before .p .given .0 .0 in
@@ -65,13 +54,11 @@ sub-from-length c =
     let within = found-within ready (a .path) p found in
     omega (arith, within .dropped-in, ap (λ (x : Record). x .count) (c .before .before .before .before .record-at .ensures))
 
--- src/nodes.rt:90:5
 from-length-requires : tie.Need-from-length-requires
 from-length-requires c κs = (ready-ruled (c .before .before .before .before .before .before .before .before .before .before .before .pre .0), c .before .before .before .before .before .before .before .before .before .before .before .pre .2)
 
--- src/nodes.rt:78:1
 returns-3 : tie.Need-returns-3
-returns-3 c = 
+returns-3 c =
     let a = c .before .before .before .before .before .before .before .before .before .before .before .before .args in
     let ready = c .before .before .before .before .before .before .before .before .before .before .before .before .pre .0 in
     let p = c .before .before .before .before .before .before .before .p .given .0 .0 in
