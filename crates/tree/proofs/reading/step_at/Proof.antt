@@ -31,10 +31,12 @@ word-at-requires-2 c κs = search needs
 
 returns : tie.Need-returns
 returns c =
-    let a = c .before .before .before .before .before .before in
+    let back3 = c .before .before .before in
+    let back6 = back3 .before .before .before in
+    let a = back6 in
     let e = c .before .word-at .ensures ∙ step-index-is (a .pre .0) (a .args .i) in
     let f = c .word-at2 .ensures ∙ step-type-is (a .pre .0) (a .args .i) in
-    simp (c .before .before .before .step-kind .ensures, c .before .before .step-flag .ensures, e, f)
+    simp (back3 .step-kind .ensures, c .before .before .step-flag .ensures, e, f)
 
 pub step-at-spec : {M : Type 1} → statement M
 step-at-spec =

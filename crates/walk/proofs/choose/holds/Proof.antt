@@ -18,10 +18,12 @@ enum-known-s-2 c = search needs
 
 is-text-requires : tie.Need-is-text-requires
 is-text-requires c κs =
-    let a = c .before .before .before .before .before .args in
+    let back5 = c .before .before .before .before .before in
+    let a = back5 .args in
     let g = c .before .s2 .given .0 in
-    let e : a .s ≡ Part.Text (g .0) (g .1 .0) (g .1 .1 .0) = search needs in
-    let inside : Inside (a .v .now) (Part.Text (g .0) (g .1 .0) (g .1 .1 .0)) = rw e at (c .before .before .before .before .before .pre .1) in (c .before .before .before .before .before .pre .0, inside, c .before .before .before .before .before .pre .2)
+    let e : a .s ≡ Part.Text (g .0) (g .1 .0) (g .1 .1 .0) = c .before .s2 .given .1 in
+    let inside : Inside (a .v .now) (Part.Text (g .0) (g .1 .0) (g .1 .1 .0)) = rw e at (back5 .pre .1) in
+    (back5 .pre .0, inside, back5 .pre .2)
 
 enum-known-s-3 : tie.Need-enum-known-s-3
 enum-known-s-3 c = search needs
@@ -40,34 +42,45 @@ enum-told c = search needs
 
 returns : tie.Need-returns
 returns c =
-    let a = c .before .before .before .before .before .before .args in
+    let back6 = c .before .before .before .before .before .before in
+    let a = back6 .args in
     let g = c .before .before .s .given .0 in
-    let e : a .s ≡ Part.Constr (g .0) = search needs in
-    c .is-constr .ensures ∙ constr-same (a .t .now) (a .test) (g .0) ∙ ap (λ (x : Part). same (partMeans (a .v .now) x) (testMeans (a .t .now) (a .test))) (sym e)
+    let e : a .s ≡ Part.Constr (g .0) = c .before .before .s .given .1 in
+    c .is-constr .ensures ∙ constr-same (a .t .now) (a .test) (g .0) ∙ ap
+    (λ (x : Part). same (partMeans (a .v .now) x) (testMeans (a .t .now) (a .test))) (sym e)
 
 returns-2 : tie.Need-returns-2
 returns-2 c =
-    let a = c .before .before .before .before .before .before .args in
+    let back6 = c .before .before .before .before .before .before in
+    let a = back6 .args in
     let g = c .before .before .s2 .given .0 in
-    let e : a .s ≡ Part.Text (g .0) (g .1 .0) (g .1 .1 .0) = search needs in
+    let e : a .s ≡ Part.Text (g .0) (g .1 .0) (g .1 .1 .0) = c .before .before .s2 .given .1 in
     c .is-text .ensures ∙ ap (λ (x : Part). same (partMeans (a .v .now) x) (testMeans (a .t .now) (a .test))) (sym e)
 
 returns-3 : tie.Need-returns-3
 returns-3 c =
-    let a = c .before .before .before .before .before .before .args in
+    let back6 = c .before .before .before .before .before .before in
+    let a = back6 .args in
     let g = c .before .before .s3 .given .0 in
-    let e : a .s ≡ Part.List (g .0) = search needs in
-    c .is-list .ensures ∙ list-same (a .t .now) (a .test) (g .0) ∙ ap (λ (x : Part). same (partMeans (a .v .now) x) (testMeans (a .t .now) (a .test))) (sym e)
+    let e : a .s ≡ Part.List (g .0) = c .before .before .s3 .given .1 in
+    c .is-list .ensures ∙ list-same (a .t .now) (a .test) (g .0) ∙ ap
+    (λ (x : Part). same (partMeans (a .v .now) x) (testMeans (a .t .now) (a .test))) (sym e)
 
 returns-4 : tie.Need-returns-4
 returns-4 c =
-    let a = c .before .before .before .before .before .before .args in
+    let back6 = c .before .before .before .before .before .before in
+    let a = back6 .args in
     let g = c .before .before .s4 .given .0 in
-    let e : a .s ≡ Part.Tailed (g .0) = search needs in
-    c .is-tailed .ensures ∙ tailed-same (a .t .now) (a .test) (g .0) ∙ ap (λ (x : Part). same (partMeans (a .v .now) x) (testMeans (a .t .now) (a .test))) (sym e)
+    let e : a .s ≡ Part.Tailed (g .0) = c .before .before .s4 .given .1 in
+    c .is-tailed .ensures ∙ tailed-same (a .t .now) (a .test) (g .0) ∙ ap
+    (λ (x : Part). same (partMeans (a .v .now) x) (testMeans (a .t .now) (a .test))) (sym e)
 
 returns-5 : tie.Need-returns-5
-returns-5 c = let a = c .before .before .before .before .args in let e : a .s ≡ Part.Other = search needs in ap (λ (x : Part). same (partMeans (a .v .now) x) (testMeans (a .t .now) (a .test))) (sym e)
+returns-5 c =
+    let back4 = c .before .before .before .before in
+    let a = back4 .args in
+    let e : a .s ≡ Part.Other = c .enum-told .given .1 in
+    ap (λ (x : Part). same (partMeans (a .v .now) x) (testMeans (a .t .now) (a .test))) (sym e)
 
 pub holds-spec : {M : Type 1} → statement M
 holds-spec =

@@ -22,7 +22,11 @@ enum-told-3 : tie.Need-enum-told-3
 enum-told-3 c = search needs
 
 returns : tie.Need-returns
-returns c = let a = c .before .before .before .args in let e : a .test ≡ Test.Constr (c .before .test .given .0 .0) = search needs in sym (ap (λ (u : Test). isConstr u (a .a)) e)
+returns c =
+    let back3 = c .before .before .before in
+    let a = back3 .args in
+    let e : a .test ≡ Test.Constr (c .before .test .given .0 .0) = c .before .test .given .1 in
+    sym (ap (λ (u : Test). isConstr u (a .a)) e)
 
 returns-2 : tie.Need-returns-2
 returns-2 c = search needs

@@ -28,7 +28,11 @@ returns-2 : tie.Need-returns-2
 returns-2 c = search needs
 
 returns-3 : tie.Need-returns-3
-returns-3 c = let a = c .before .before .before .args in let e : a .test ≡ Test.List (c .before .test .given .0 .0) = search needs in sym (ap (λ (u : Test). isList u (a .k)) e)
+returns-3 c =
+    let back3 = c .before .before .before in
+    let a = back3 .args in
+    let e : a .test ≡ Test.List (c .before .test .given .0 .0) = c .before .test .given .1 in
+    sym (ap (λ (u : Test). isList u (a .k)) e)
 
 returns-4 : tie.Need-returns-4
 returns-4 c = search needs

@@ -26,32 +26,39 @@ alike-requires c κs = search needs
 
 returns : tie.Need-returns
 returns c =
-    let a = c .before .before .before .before .before .before .before .args in
-    let g = c .before .before .before .test .given .0 in
-    let e : a .test ≡ Test.Text (g .0) (g .1 .0) (g .1 .1 .0) = search needs in
-    let m = c .before .before .before .before .before .before .before .pre .0 in
+    let back3 = c .before .before .before in
+    let back7 = back3 .before .before .before .before in
+    let a = back7 .args in
+    let g = back3 .test .given .0 in
+    let e : a .test ≡ Test.Text (g .0) (g .1 .0) (g .1 .1 .0) = back3 .test .given .1 in
+    let m = back7 .pre .0 in
     let text = textTest (a .int) (textAt (a .v .now) (a .i) (a .n)) in
     let differ = alike-false (a .int) (g .0) (sym (c .before .alike .ensures) ∙ not-true _ (c .if1 .taken)) in
-    text-other (a .t .now) (a .int) (g .0) (textAt (a .v .now) (a .i) (a .n)) (textAt (a .t .now) (treePoolAt (a .t .now) + g .1 .0) (g .1 .1 .0)) differ
+    text-other (a .t .now) (a .int) (g .0) (textAt (a .v .now) (a .i) (a .n))
+    (textAt (a .t .now) (treePoolAt (a .t .now) + g .1 .0) (g .1 .1 .0)) differ
     ∙ ap (λ (u : Test). sameTest text (testMeans (a .t .now) u)) (sym e)
 
 cast-texts-same : tie.Need-cast-texts-same
 cast-texts-same c = search needs
 
 add-texts-same : tie.Need-add-texts-same
-add-texts-same c = omega (arith, c .before .before .before .before .before .before .before .before .pre .0)
+add-texts-same c =
+    let back8 = c .before .before .before .before .before .before .before .before in
+    omega (arith, back8 .pre .0)
 
 cast-texts-same-2 : tie.Need-cast-texts-same-2
 cast-texts-same-2 c = search needs
 
 texts-same-requires : tie.Need-texts-same-requires
 texts-same-requires c κs =
-    let a = c .before .before .before .before .before .before .before .before .args in
-    let g = c .before .before .before .before .test .given .0 in
-    let e : a .test ≡ Test.Text (g .0) (g .1 .0) (g .1 .1 .0) = search needs in
-    let m = c .before .before .before .before .before .before .before .before .pre .0 in
-    let inside : InPool (a .t .now) (Test.Text (g .0) (g .1 .0) (g .1 .1 .0)) = rw e at (c .before .before .before .before .before .before .before .before .pre .2) in
-    (c .before .before .before .before .before .before .before .before .pre .1, omega (arith, inside, pool-count m, m .pool-end))
+    let back4 = c .before .before .before .before in
+    let back8 = back4 .before .before .before .before in
+    let a = back8 .args in
+    let g = back4 .test .given .0 in
+    let e : a .test ≡ Test.Text (g .0) (g .1 .0) (g .1 .1 .0) = back4 .test .given .1 in
+    let m = back8 .pre .0 in
+    let inside : InPool (a .t .now) (Test.Text (g .0) (g .1 .0) (g .1 .1 .0)) = rw e at (back8 .pre .2) in
+    (back8 .pre .1, omega (arith, inside, pool-count m, m .pool-end))
 
 enum-told-2 : tie.Need-enum-told-2
 enum-told-2 c = search needs
@@ -61,20 +68,25 @@ enum-told-3 c = search needs
 
 returns-2 : tie.Need-returns-2
 returns-2 c =
-    let a = c .before .before .before .before .args in
+    let back4 = c .before .before .before .before in
+    let a = back4 .args in
     let text = textTest (a .int) (textAt (a .v .now) (a .i) (a .n)) in
-    let e : a .test ≡ Test.Constr (c .enum-told .given .0 .0) = search needs in
-    text-constr (a .t .now) (a .int) (textAt (a .v .now) (a .i) (a .n)) (c .enum-told .given .0 .0) ∙ ap (λ (u : Test). sameTest text (testMeans (a .t .now) u)) (sym e)
+    let e : a .test ≡ Test.Constr (c .enum-told .given .0 .0) = c .enum-told .given .1 in
+    text-constr (a .t .now) (a .int) (textAt (a .v .now) (a .i) (a .n)) (c .enum-told .given .0 .0) ∙ ap
+    (λ (u : Test). sameTest text (testMeans (a .t .now) u)) (sym e)
 
 returns-3 : tie.Need-returns-3
 returns-3 c =
-    let a = c .before .before .before .before .before .before .before .before .before .args in
-    let g = c .before .before .before .before .before .test .given .0 in
-    let e : a .test ≡ Test.Text (g .0) (g .1 .0) (g .1 .1 .0) = search needs in
-    let m = c .before .before .before .before .before .before .before .before .before .pre .0 in
+    let back3 = c .before .before .before in
+    let back5 = back3 .before .before in
+    let back9 = back5 .before .before .before .before in
+    let a = back9 .args in
+    let g = back5 .test .given .0 in
+    let e : a .test ≡ Test.Text (g .0) (g .1 .0) (g .1 .1 .0) = back5 .test .given .1 in
+    let m = back9 .pre .0 in
     let mine = textAt (a .v .now) (a .i) (a .n) in
     let its = textAt (a .t .now) (treePoolAt (a .t .now) + g .1 .0) (g .1 .1 .0) in
-    let kinds = alike-true (a .int) (g .0) (sym (c .before .before .before .alike .ensures) ∙ not-false _ (c .before .before .if1 .left)) in
+    let kinds = alike-true (a .int) (g .0) (sym (back3 .alike .ensures) ∙ not-false _ (c .before .before .if1 .left)) in
     c .texts-same .ensures
     ∙ ap (λ (k : ℕ). sameText mine (textAt (a .t .now) (k + g .1 .0) (g .1 .1 .0))) (sym (pool-start m))
     ∙ text-text (a .t .now) (a .int) mine its
@@ -83,17 +95,21 @@ returns-3 c =
 
 returns-4 : tie.Need-returns-4
 returns-4 c =
-    let a = c .before .before .before .before .args in
+    let back4 = c .before .before .before .before in
+    let a = back4 .args in
     let text = textTest (a .int) (textAt (a .v .now) (a .i) (a .n)) in
-    let e : a .test ≡ Test.List (c .enum-told2 .given .0 .0) = search needs in
-    text-list (a .t .now) (a .int) (textAt (a .v .now) (a .i) (a .n)) (c .enum-told2 .given .0 .0) ∙ ap (λ (u : Test). sameTest text (testMeans (a .t .now) u)) (sym e)
+    let e : a .test ≡ Test.List (c .enum-told2 .given .0 .0) = c .enum-told2 .given .1 in
+    text-list (a .t .now) (a .int) (textAt (a .v .now) (a .i) (a .n)) (c .enum-told2 .given .0 .0) ∙ ap
+    (λ (u : Test). sameTest text (testMeans (a .t .now) u)) (sym e)
 
 returns-5 : tie.Need-returns-5
 returns-5 c =
-    let a = c .before .before .before .before .args in
+    let back4 = c .before .before .before .before in
+    let a = back4 .args in
     let text = textTest (a .int) (textAt (a .v .now) (a .i) (a .n)) in
-    let e : a .test ≡ Test.Tailed (c .enum-told3 .given .0 .0) = search needs in
-    text-tailed (a .t .now) (a .int) (textAt (a .v .now) (a .i) (a .n)) (c .enum-told3 .given .0 .0) ∙ ap (λ (u : Test). sameTest text (testMeans (a .t .now) u)) (sym e)
+    let e : a .test ≡ Test.Tailed (c .enum-told3 .given .0 .0) = c .enum-told3 .given .1 in
+    text-tailed (a .t .now) (a .int) (textAt (a .v .now) (a .i) (a .n)) (c .enum-told3 .given .0 .0) ∙ ap
+    (λ (u : Test). sameTest text (testMeans (a .t .now) u)) (sym e)
 
 pub is-text-spec : {M : Type 1} → statement M
 is-text-spec =

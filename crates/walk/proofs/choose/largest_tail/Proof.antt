@@ -25,8 +25,9 @@ add-case-at c = search needs
 
 case-at-requires : tie.Need-case-at-requires Inv-loop μ-loop
 case-at-requires c κs =
-    let a = c .before .before .before .args in
-    let w = c .before .before .before .pre .0 in
+    let back3 = c .before .before .before in
+    let a = back3 .args in
+    let w = back3 .pre .0 in
     let l = c .before .loop in
     let count = cases-count (w .mapped) in
     let known = w .rules .case-kind (a .i + l .j) (omega arith) in
@@ -46,9 +47,12 @@ loop-less c = search needs
 
 loop-again : tie.Need-loop-again Inv-loop μ-loop
 loop-again c =
-    let a = c .before .before .before .before .before .before .args in
-    let w = c .before .before .before .before .before .before .pre .0 in
-    let l = c .before .before .before .before .loop in
+    let back3 = c .before .before .before in
+    let back4 = back3 .before in
+    let back6 = back4 .before .before in
+    let a = back6 .args in
+    let w = back6 .pre .0 in
+    let l = back4 .loop in
     let count = cases-count (w .mapped) in
     let known = w .rules .case-kind (a .i + l .j) (omega arith) in
     let x = c .before .before .case-at .result in
@@ -56,12 +60,16 @@ loop-again c =
       search needs,
       λ f.
           ap (λ (k : ℕ). max k (largestTail (a .n) (casesFor f (a .t .now) (a .i + (l .j + 1)) (a .tails - (l .j + 1))))) (c .larger .ensures)
-          ∙ largest-on (a .t .now) (a .n) f (a .i) (l .j) (a .tails) (l .best) (c .before .tail-number .result) (c .before .before .before .loop-test .taken) e
+          ∙ largest-on (a .t .now) (a .n) f (a .i) (l .j) (a .tails) (l .best) (c .before .tail-number .result) (back3 .loop-test .taken) e
           ∙ l .inv .1 f,
     )
 
 returns : tie.Need-returns Inv-loop μ-loop
-returns c = let a = c .before .before .before .args in let l = c .before .loop in λ f. largest-end (a .t .now) (a .n) f (a .i) (l .j) (a .tails) (l .best) (c .loop-test .left) ∙ l .inv .1 f
+returns c =
+    let back3 = c .before .before .before in
+    let a = back3 .args in
+    let l = c .before .loop in
+    λ f. largest-end (a .t .now) (a .n) f (a .i) (l .j) (a .tails) (l .best) (c .loop-test .left) ∙ l .inv .1 f
 
 pub largest-tail-spec : {M : Type 1} → statement M
 largest-tail-spec =

@@ -38,10 +38,18 @@ returns-3 : tie.Need-returns-3
 returns-3 c = search needs
 
 returns-4 : tie.Need-returns-4
-returns-4 c = let a = c .before .before .before .before .args in let e : a .test ≡ Test.Tailed (c .before .before .test .given .0 .0) = search needs in sym (ap (λ (u : Test). tailNumberOf u (a .n)) e ∙ rw (le-leb _ _ (c .if1 .taken)))
+returns-4 c =
+    let back4 = c .before .before .before .before in
+    let a = back4 .args in
+    let e : a .test ≡ Test.Tailed (c .before .before .test .given .0 .0) = c .before .before .test .given .1 in
+    sym (ap (λ (u : Test). tailNumberOf u (a .n)) e ∙ rw (le-leb _ _ (c .if1 .taken)))
 
 returns-5 : tie.Need-returns-5
-returns-5 c = let a = c .before .before .before .before .args in let e : a .test ≡ Test.Tailed (c .before .before .test .given .0 .0) = search needs in sym (ap (λ (u : Test). tailNumberOf u (a .n)) e ∙ rw (lt-leb _ _ (c .if1 .left)))
+returns-5 c =
+    let back4 = c .before .before .before .before in
+    let a = back4 .args in
+    let e : a .test ≡ Test.Tailed (c .before .before .test .given .0 .0) = c .before .before .test .given .1 in
+    sym (ap (λ (u : Test). tailNumberOf u (a .n)) e ∙ rw (lt-leb _ _ (c .if1 .left)))
 
 pub tail-number-spec : {M : Type 1} → statement M
 tail-number-spec =

@@ -8,13 +8,21 @@ use Rattle.walk.proofs.choose.texts_same.Statement.{statement}
 use Rattle.walk.proofs.choose.texts_same.Tie as tie
 
 returns : tie.Need-returns
-returns c = let a = c .before .before .before .args in lengths-differ (a .v .now) (a .t .now) (a .i) (a .count) (a .j) (a .len) (c .before .before .before .pre .0) (c .before .before .before .pre .1) (c .if1 .taken)
+returns c =
+    let back3 = c .before .before .before in
+    let a = back3 .args in
+    lengths-differ (a .v .now) (a .t .now) (a .i) (a .count) (a .j) (a .len) (back3 .pre .0) (back3 .pre .1) (c .if1 .taken)
 
 same-text-requires : tie.Need-same-text-requires
-same-text-requires c κs = (c .before .before .before .pre .0, omega (arith, c .if1 .left, c .before .before .before .pre .1))
+same-text-requires c κs =
+    let back3 = c .before .before .before in
+    (back3 .pre .0, omega (arith, c .if1 .left, back3 .pre .1))
 
 returns-2 : tie.Need-returns-2
-returns-2 c = let a = c .before .before .before .before .args in c .same-text .ensures ∙ ap (λ (k : ℕ). sameText (textAt (a .v .now) (a .i) (a .count)) (textAt (a .t .now) (a .j) k)) (c .before .if1 .left)
+returns-2 c =
+    let back4 = c .before .before .before .before in
+    let a = back4 .args in
+    c .same-text .ensures ∙ ap (λ (k : ℕ). sameText (textAt (a .v .now) (a .i) (a .count)) (textAt (a .t .now) (a .j) k)) (c .before .if1 .left)
 
 pub texts-same-spec : {M : Type 1} → statement M
 texts-same-spec = tie.close (tie.spec returns same-text-requires returns-2)

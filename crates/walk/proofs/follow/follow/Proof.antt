@@ -30,30 +30,40 @@ cast-count c = search needs
 
 loop-holds : tie.Need-loop-holds Inv-loop μ-loop
 loop-holds c =
-    let a = c .before .before .before .before .before .args in
-    let w = c .before .before .before .before .before .pre .0 in
+    let back5 = c .before .before .before .before .before in
+    let a = back5 .args in
+    let w = back5 .pre .0 in
     let x = c .before .before .path-at .result in (
       search needs,
       root-within (w .opened .laid) (w .panel .is-shaped),
-      path-start (a .v .now) (a .t .now) (x .first) (x .count) (a .p) panelRoot (ap (λ (y : Path). y .first) (c .before .before .path-at .ensures)) (ap (λ (y : Path). y .count) (c .before .before .path-at .ensures)),
+      path-start (a .v .now) (a .t .now) (x .first) (x .count) (a .p) panelRoot
+          (ap (λ (y : Path). y .first) (c .before .before .path-at .ensures))
+          (ap (λ (y : Path). y .count) (c .before .before .path-at .ensures)),
     )
 
 add-step-at : tie.Need-add-step-at Inv-loop μ-loop
 add-step-at c =
-    let a = c .before .before .before .before .before .before .before .args in
-    let w = c .before .before .before .before .before .before .before .pre .0 in
-    let x = c .before .before .before .before .path-at .result in
-    omega (arith, path-run (w .mapped) (w .sound .is-ruled) (a .p) x (c .before .before .before .before .before .before .before .pre .1) (c .before .before .before .before .path-at .ensures), w .mapped)
+    let back4 = c .before .before .before .before in
+    let back7 = back4 .before .before .before in
+    let a = back7 .args in
+    let w = back7 .pre .0 in
+    let x = back4 .path-at .result in
+    omega (arith, path-run (w .mapped) (w .sound .is-ruled) (a .p) x (back7 .pre .1) (back4 .path-at .ensures), w .mapped)
 
 step-at-requires : tie.Need-step-at-requires Inv-loop μ-loop
 step-at-requires c κs =
-    let a = c .before .before .before .before .before .before .before .args in
-    let w = c .before .before .before .before .before .before .before .pre .0 in
-    let x = c .before .before .before .before .path-at .result in
-    (w .mapped, omega (arith, path-run (w .mapped) (w .sound .is-ruled) (a .p) x (c .before .before .before .before .before .before .before .pre .1) (c .before .before .before .before .path-at .ensures)))
+    let back4 = c .before .before .before .before in
+    let back7 = back4 .before .before .before in
+    let a = back7 .args in
+    let w = back7 .pre .0 in
+    let x = back4 .path-at .result in
+    (w .mapped, omega (arith, path-run (w .mapped) (w .sound .is-ruled) (a .p) x (back7 .pre .1) (back4 .path-at .ensures)))
 
 take-step-requires : tie.Need-take-step-requires Inv-loop μ-loop
-take-step-requires c κs = let w = c .before .before .before .before .before .before .before .before .pre .0 in (w .opened, w .panel .is-shaped, c .before .before .loop .inv .1)
+take-step-requires c κs =
+    let back8 = c .before .before .before .before .before .before .before .before in
+    let w = back8 .pre .0 in
+    (w .opened, w .panel .is-shaped, c .before .before .loop .inv .1)
 
 enum-known-next : tie.Need-enum-known-next Inv-loop μ-loop
 enum-known-next c = search needs
@@ -63,15 +73,20 @@ enum-told c = search needs
 
 returns : tie.Need-returns Inv-loop μ-loop
 returns c =
-    let a = c .before .before .before .before .before .before .before .before .before .before .before .args in
-    let w = c .before .before .before .before .before .before .before .before .before .before .before .pre .0 in
-    let x = c .before .before .before .before .before .before .before .before .path-at .result in
-    let l = c .before .before .before .before .before .loop in
-    let s = c .before .before .before .step-at .result in
-    let u = step-taken (a .v .now) (a .t .now) (x .first + l .k) s (l .at) (c .before .before .before .step-at .ensures) in
+    let back3 = c .before .before .before in
+    let back4 = back3 .before in
+    let back5 = back4 .before in
+    let back8 = back5 .before .before .before in
+    let back11 = back8 .before .before .before in
+    let a = back11 .args in
+    let w = back11 .pre .0 in
+    let x = back8 .path-at .result in
+    let l = back5 .loop in
+    let s = back3 .step-at .result in
+    let u = step-taken (a .v .now) (a .t .now) (x .first + l .k) s (l .at) (back3 .step-at .ensures) in
     let q = takeStep (a .v .now) (stepOfFields (s .kind) (s .flag) (s .index) (s .of)) (placed (l .at)) in
     let e = found-none q (sym (c .before .before .take-step .ensures) ∙ c .enum-told .given .1) in
-    ap foundOf (path-stuck (a .v .now) (a .t .now) (x .first) (x .count) (l .k) (placed (l .at)) (c .before .before .before .before .loop-test .taken) (sym u ∙ e) ∙ l .inv .2)
+    ap foundOf (path-stuck (a .v .now) (a .t .now) (x .first) (x .count) (l .k) (placed (l .at)) (back4 .loop-test .taken) (sym u ∙ e) ∙ l .inv .2)
 
 add-k : tie.Need-add-k Inv-loop μ-loop
 add-k c = search needs
@@ -81,26 +96,34 @@ loop-less c = search needs
 
 loop-again : tie.Need-loop-again Inv-loop μ-loop
 loop-again c =
-    let a = c .before .before .before .before .before .before .before .before .before .before .before .before .args in
-    let w = c .before .before .before .before .before .before .before .before .before .before .before .before .pre .0 in
-    let x = c .before .before .before .before .before .before .before .before .before .path-at .result in
-    let l = c .before .before .before .before .before .before .loop in
-    let s = c .before .before .before .before .step-at .result in
-    let u = step-taken (a .v .now) (a .t .now) (x .first + l .k) s (l .at) (c .before .before .before .before .step-at .ensures) in
+    let back3 = c .before .before .before in
+    let back4 = back3 .before in
+    let back5 = back4 .before in
+    let back6 = back5 .before in
+    let back9 = back6 .before .before .before in
+    let back12 = back9 .before .before .before in
+    let a = back12 .args in
+    let w = back12 .pre .0 in
+    let x = back9 .path-at .result in
+    let l = back6 .loop in
+    let s = back4 .step-at .result in
+    let u = step-taken (a .v .now) (a .t .now) (x .first + l .k) s (l .at) (back4 .step-at .ensures) in
     let q = takeStep (a .v .now) (stepOfFields (s .kind) (s .flag) (s .index) (s .of)) (placed (l .at)) in
     let y = c .before .next .given .0 .0 in
-    let r : c .before .before .before .take-step .result ≡ At y = search needs in
-    let e = sym u ∙ found-some q y (sym (c .before .before .before .take-step .ensures) ∙ r) in (
+    let r : back3 .take-step .result ≡ At y = c .before .next .given .1 in
+    let e = sym u ∙ found-some q y (sym (back3 .take-step .ensures) ∙ r) in (
       search needs,
       step-within (w .opened .laid) (w .panel .is-shaped) (stepAt (a .t .now) (x .first + l .k)) (placed (l .at)) (placed y) (l .inv .1) e,
-      path-on (a .v .now) (a .t .now) (x .first) (x .count) (l .k) (placed (l .at)) (placed y) (c .before .before .before .before .before .loop-test .taken) e ∙ l .inv .2,
+      path-on (a .v .now) (a .t .now) (x .first) (x .count) (l .k) (placed (l .at)) (placed y) (back5 .loop-test .taken) e ∙ l .inv .2,
     )
 
 returns-2 : tie.Need-returns-2 Inv-loop μ-loop
 returns-2 c =
-    let a = c .before .before .before .before .before .before .before .args in
-    let w = c .before .before .before .before .before .before .before .pre .0 in
-    let x = c .before .before .before .before .path-at .result in
+    let back4 = c .before .before .before .before in
+    let back7 = back4 .before .before .before in
+    let a = back7 .args in
+    let w = back7 .pre .0 in
+    let x = back4 .path-at .result in
     let l = c .before .loop in
     ap foundOf (path-end (a .v .now) (a .t .now) (x .first) (x .count) (l .k) (placed (l .at)) (c .loop-test .left) ∙ l .inv .2)
 

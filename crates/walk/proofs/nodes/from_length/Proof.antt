@@ -17,20 +17,31 @@ enum-told : tie.Need-enum-told
 enum-told c = search needs
 
 add-from-tails : tie.Need-add-from-tails
-add-from-tails c = omega (arith, c .before .before .before .before .before .pre .0 .mapped, c .before .before .before .before .before .pre .1)
+add-from-tails c =
+    let back5 = c .before .before .before .before .before in
+    omega (arith, back5 .pre .0 .mapped, back5 .pre .1)
 
 from-tails-requires : tie.Need-from-tails-requires
-from-tails-requires c κs = (c .before .before .before .before .before .pre .0, omega (arith, c .before .before .before .before .before .pre .1))
+from-tails-requires c κs =
+    let back5 = c .before .before .before .before .before in
+    (back5 .pre .0, omega (arith, back5 .pre .1))
 
 returns : tie.Need-returns
-returns c = let a = c .before .before .before .before .before .before .args in turns-no-length (a .t .now) (a .v .now) (a .length) (a .first) (a .cases) (a .tails) (a .default) (c .from-tails .result) (sym (c .before .before .before .first-case .ensures) ∙ c .before .enum-told .given .1) (c .from-tails .ensures)
+returns c =
+    let back3 = c .before .before .before in
+    let back6 = back3 .before .before .before in
+    let a = back6 .args in
+    turns-no-length (a .t .now) (a .v .now) (a .length) (a .first) (a .cases) (a .tails) (a .default) (c .from-tails .result)
+    (sym (back3 .first-case .ensures) ∙ c .before .enum-told .given .1) (c .from-tails .ensures)
 
 returns-2 : tie.Need-returns-2
 returns-2 c =
-    let a = c .before .before .before .before .before .before .args in
+    let back3 = c .before .before .before in
+    let back6 = back3 .before .before .before in
+    let a = back6 .args in
     let child = c .before .c .given .0 .0 in
-    let chosen : c .before .before .before .first-case .result ≡ Child child = search needs in
-    turns-length (a .t .now) (a .v .now) (a .length) (a .first) (a .cases) (a .tails) (a .default) child (sym (c .before .before .before .first-case .ensures) ∙ chosen)
+    let chosen : back3 .first-case .result ≡ Child child = c .before .c .given .1 in
+    turns-length (a .t .now) (a .v .now) (a .length) (a .first) (a .cases) (a .tails) (a .default) child (sym (back3 .first-case .ensures) ∙ chosen)
 
 pub from-length-spec : {M : Type 1} → statement M
 from-length-spec =

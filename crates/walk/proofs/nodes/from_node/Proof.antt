@@ -13,7 +13,11 @@ use Rattle.walk.proofs.nodes.from_node.Statement.{statement}
 use Rattle.walk.proofs.nodes.from_node.Tie as tie
 
 node-at-requires : tie.Need-node-at-requires
-node-at-requires c κs = (c .before .before .pre .0 .mapped, c .before .before .pre .1, node-kind-known (ready-ruled (c .before .before .pre .0)) (c .before .before .args .k) (c .before .before .pre .1))
+node-at-requires c κs = (
+  c .before .before .pre .0 .mapped,
+  c .before .before .pre .1,
+  node-kind-known (ready-ruled (c .before .before .pre .0)) (c .before .before .args .k) (c .before .before .pre .1),
+)
 
 enum-known-node : tie.Need-enum-known-node
 enum-known-node c = search needs
@@ -32,13 +36,15 @@ cast-from-switch-4 c = search needs
 
 from-switch-requires : tie.Need-from-switch-requires
 from-switch-requires c κs =
-    let a = c .before .before .before .before .before .before .args in
-    let ready = c .before .before .before .before .before .before .pre .0 in
+    let back3 = c .before .before .before in
+    let back6 = back3 .before .before .before in
+    let a = back6 .args in
+    let ready = back6 .pre .0 in
     let ruled = ready-ruled ready in
-    let h = in-nodes ruled (a .k) (c .before .before .before .before .before .before .pre .1) in
+    let h = in-nodes ruled (a .k) (back6 .pre .1) in
     let g = c .before .node .given .0 in
-    let e : c .before .before .before .node-at .result ≡ Node.Switch (g .0) (g .1 .0) (g .1 .1 .0) (g .1 .1 .1 .0) = search needs in
-    let w = switch-node (a .t .now) (a .k) (g .0) (g .1 .0) (g .1 .1 .0) (g .1 .1 .1 .0) (sym (c .before .before .before .node-at .ensures) ∙ e) in
+    let e : back3 .node-at .result ≡ Node.Switch (g .0) (g .1 .0) (g .1 .1 .0) (g .1 .1 .1 .0) = c .before .node .given .1 in
+    let w = switch-node (a .t .now) (a .k) (g .0) (g .1 .0) (g .1 .1 .0) (g .1 .1 .1 .0) (sym (back3 .node-at .ensures) ∙ e) in
     let run = switch-node-run (ruled .rules) (a .k) h (g .0) (g .1 .0) (g .1 .1 .0) (g .1 .1 .1 .0) w in
     let path = switch-node-path (ruled .rules) (a .k) h (g .0) (g .1 .0) (g .1 .1 .0) (g .1 .1 .1 .0) w in
     (ready, omega (arith, path, paths-count (ready .mapped)), run .0, omega (arith, run .1, cases-count (ready .mapped)))
@@ -63,13 +69,17 @@ cast-from-list-switch-5 c = search needs
 
 from-list-switch-requires : tie.Need-from-list-switch-requires
 from-list-switch-requires c κs =
-    let a = c .before .before .before .before .before .before .args in
-    let ready = c .before .before .before .before .before .before .pre .0 in
+    let back3 = c .before .before .before in
+    let back6 = back3 .before .before .before in
+    let a = back6 .args in
+    let ready = back6 .pre .0 in
     let ruled = ready-ruled ready in
-    let h = in-nodes ruled (a .k) (c .before .before .before .before .before .before .pre .1) in
+    let h = in-nodes ruled (a .k) (back6 .pre .1) in
     let g = c .before .node2 .given .0 in
-    let e : c .before .before .before .node-at .result ≡ Node.ListSwitch (g .0) (g .1 .0) (g .1 .1 .0) (g .1 .1 .1 .0) (g .1 .1 .1 .1 .0) = search needs in
-    let w = list-switch-node (a .t .now) (a .k) (g .0) (g .1 .0) (g .1 .1 .0) (g .1 .1 .1 .0) (g .1 .1 .1 .1 .0) (sym (c .before .before .before .node-at .ensures) ∙ e) in
+    let e : back3 .node-at .result ≡ Node.ListSwitch (g .0) (g .1 .0) (g .1 .1 .0) (g .1 .1 .1 .0) (g .1 .1 .1 .1 .0) = c .before .node2 .given .1 in
+    let w =
+    list-switch-node (a .t .now) (a .k) (g .0) (g .1 .0) (g .1 .1 .0) (g .1 .1 .1 .0) (g .1 .1 .1 .1 .0)
+    (sym (back3 .node-at .ensures) ∙ e) in
     let run = list-switch-node-run (ruled .rules) (a .k) h (g .0) (g .1 .0) (g .1 .1 .0) (g .1 .1 .1 .0) (g .1 .1 .1 .1 .0) w in
     let path = list-switch-node-path (ruled .rules) (a .k) h (g .0) (g .1 .0) (g .1 .1 .0) (g .1 .1 .1 .0) (g .1 .1 .1 .1 .0) w in
     (ready, omega (arith, path, paths-count (ready .mapped)), omega (arith, run .1, cases-count (ready .mapped)))
@@ -85,46 +95,60 @@ cast-t31 c = search needs
 
 returns : tie.Need-returns
 returns c =
-    let a = c .before .before .before .before .before .before .before .args in
-    let ready = c .before .before .before .before .before .before .before .pre .0 in
+    let back4 = c .before .before .before .before in
+    let back7 = back4 .before .before .before in
+    let a = back7 .args in
+    let ready = back7 .pre .0 in
     let ruled = ready-ruled ready in
-    let h = in-nodes ruled (a .k) (c .before .before .before .before .before .before .before .pre .1) in
+    let h = in-nodes ruled (a .k) (back7 .pre .1) in
     let g = c .before .before .node .given .0 in
-    let e : c .before .before .before .before .node-at .result ≡ Node.Switch (g .0) (g .1 .0) (g .1 .1 .0) (g .1 .1 .1 .0) = search needs in
-    let w = switch-node (a .t .now) (a .k) (g .0) (g .1 .0) (g .1 .1 .0) (g .1 .1 .1 .0) (sym (c .before .before .before .before .node-at .ensures) ∙ e) in
-    steps-switch (a .t .now) (a .v .now) (ready .sound) (a .k) h (g .0) (g .1 .0) (g .1 .1 .0) (g .1 .1 .1 .0) (c .from-switch .result) w (c .from-switch .ensures)
+    let e : back4 .node-at .result ≡ Node.Switch (g .0) (g .1 .0) (g .1 .1 .0) (g .1 .1 .1 .0) = c .before .before .node .given .1 in
+    let w = switch-node (a .t .now) (a .k) (g .0) (g .1 .0) (g .1 .1 .0) (g .1 .1 .1 .0) (sym (back4 .node-at .ensures) ∙ e) in
+    steps-switch (a .t .now) (a .v .now) (ready .sound) (a .k) h (g .0) (g .1 .0) (g .1 .1 .0) (g .1 .1 .1 .0) (c .from-switch .result) w
+    (c .from-switch .ensures)
 
 returns-2 : tie.Need-returns-2
 returns-2 c =
-    let a = c .before .before .before .before .before .before .before .args in
-    let ready = c .before .before .before .before .before .before .before .pre .0 in
+    let back4 = c .before .before .before .before in
+    let back7 = back4 .before .before .before in
+    let a = back7 .args in
+    let ready = back7 .pre .0 in
     let ruled = ready-ruled ready in
-    let h = in-nodes ruled (a .k) (c .before .before .before .before .before .before .before .pre .1) in
+    let h = in-nodes ruled (a .k) (back7 .pre .1) in
     let g = c .before .before .node2 .given .0 in
-    let e : c .before .before .before .before .node-at .result ≡ Node.ListSwitch (g .0) (g .1 .0) (g .1 .1 .0) (g .1 .1 .1 .0) (g .1 .1 .1 .1 .0) = search needs in
-    let w = list-switch-node (a .t .now) (a .k) (g .0) (g .1 .0) (g .1 .1 .0) (g .1 .1 .1 .0) (g .1 .1 .1 .1 .0) (sym (c .before .before .before .before .node-at .ensures) ∙ e) in
-    steps-list-switch (a .t .now) (a .v .now) (ready .sound) (a .k) h (g .0) (g .1 .0) (g .1 .1 .0) (g .1 .1 .1 .0) (g .1 .1 .1 .1 .0) (c .from-list-switch .result) w (c .from-list-switch .ensures)
+    let e : back4 .node-at .result ≡ Node.ListSwitch (g .0) (g .1 .0) (g .1 .1 .0) (g .1 .1 .1 .0) (g .1 .1 .1 .1 .0) = c .before .before .node2 .given .1 in
+    let w =
+    list-switch-node (a .t .now) (a .k) (g .0) (g .1 .0) (g .1 .1 .0) (g .1 .1 .1 .0) (g .1 .1 .1 .1 .0)
+    (sym (back4 .node-at .ensures) ∙ e) in
+    steps-list-switch (a .t .now) (a .v .now) (ready .sound) (a .k) h (g .0) (g .1 .0) (g .1 .1 .0) (g .1 .1 .1 .0) (g .1 .1 .1 .1 .0)
+    (c .from-list-switch .result) w (c .from-list-switch .ensures)
 
 returns-3 : tie.Need-returns-3
 returns-3 c =
-    let a = c .before .before .before .before .before .before .args in
-    let ready = c .before .before .before .before .before .before .pre .0 in
+    let back3 = c .before .before .before in
+    let back6 = back3 .before .before .before in
+    let a = back6 .args in
+    let ready = back6 .pre .0 in
     let ruled = ready-ruled ready in
-    let h = in-nodes ruled (a .k) (c .before .before .before .before .before .before .pre .1) in
+    let h = in-nodes ruled (a .k) (back6 .pre .1) in
     let g = c .before .node3 .given .0 in
-    let e : c .before .before .before .node-at .result ≡ Node.Leaf (g .0) (g .1 .0) (g .1 .1 .0) = search needs in
-    let w = leaf-node (a .t .now) (a .k) (g .0) (g .1 .0) (g .1 .1 .0) (sym (c .before .before .before .node-at .ensures) ∙ e) in
+    let e : back3 .node-at .result ≡ Node.Leaf (g .0) (g .1 .0) (g .1 .1 .0) = c .before .node3 .given .1 in
+    let w = leaf-node (a .t .now) (a .k) (g .0) (g .1 .0) (g .1 .1 .0) (sym (back3 .node-at .ensures) ∙ e) in
     steps-leaf (a .t .now) (a .v .now) (ready .sound) (a .k) h (g .0) (g .1 .0) (g .1 .1 .0) w
 
 returns-4 : tie.Need-returns-4
 returns-4 c =
-    let a = c .before .before .before .before .before .before .args in
-    let ready = c .before .before .before .before .before .before .pre .0 in
+    let back3 = c .before .before .before in
+    let back6 = back3 .before .before .before in
+    let a = back6 .args in
+    let ready = back6 .pre .0 in
     let ruled = ready-ruled ready in
-    let h = in-nodes ruled (a .k) (c .before .before .before .before .before .before .pre .1) in
+    let h = in-nodes ruled (a .k) (back6 .pre .1) in
     let g = c .before .node4 .given .0 in
-    let e : c .before .before .before .node-at .result ≡ Node.Hoist (g .0) (g .1 .0) (g .1 .1 .0) (g .1 .1 .1 .0) = search needs in
-    let w = hoist-node (a .t .now) (a .k) (g .0) (g .1 .0) (g .1 .1 .0) (g .1 .1 .1 .0) (node-kind-known ruled (a .k) (c .before .before .before .before .before .before .pre .1)) (sym (c .before .before .before .node-at .ensures) ∙ e) in
+    let e : back3 .node-at .result ≡ Node.Hoist (g .0) (g .1 .0) (g .1 .1 .0) (g .1 .1 .1 .0) = c .before .node4 .given .1 in
+    let w =
+    hoist-node (a .t .now) (a .k) (g .0) (g .1 .0) (g .1 .1 .0) (g .1 .1 .1 .0) (node-kind-known ruled (a .k) (back6 .pre .1))
+    (sym (back3 .node-at .ensures) ∙ e) in
     steps-hoist (a .t .now) (a .v .now) (ready .sound) (a .k) h (g .1 .1 .1 .0) w
 
 pub from-node-spec : {M : Type 1} → statement M
