@@ -10,11 +10,9 @@ use lib.Dec.{leb, eqb}
 use lib.ListN.{length}
 use Rattle.words.specs.Words.{Bytes, both}
 use Rattle.words.specs.WordsLaws.{both-true}
-use Rattle.rules.specs.Searching.{every}
-use Rattle.rules.specs.TreeReader.{treeLength, nodes, cases, bindings, paths, steps, lengthTrue, startsRise, nodeKeepsRules, caseKeepsRules, bindingKeepsRules, pathKeepsRules, stepKeepsRules, nodesInPreOrder, treeFits}
-use Rattle.facts.specs.TreeFacts.{TreeLaid, TreeRuled, TreeSound, tree-laid, tree-ruled, tree-sound}
+use Rattle.rules.specs.TreeReader.{treeLength, lengthTrue, startsRise, nodesInPreOrder, treeFits}
+use Rattle.facts.specs.TreeFacts.{TreeRuled, TreeSound, tree-laid, tree-ruled, tree-sound}
 use Rattle.tree.specs.declared.layout.Map.{Map}
-use Rattle.tree.specs.declared.Checked.{Checked}
 use Rattle.tree.specs.declared.Checked.the-variants.{Accepted, Refused}
 use Rattle.tree.specs.Reading.{mapOf, Mapped, Ruled, checkedBy, checked, recordsKeepRules}
 use Rattle.tree.specs.ReadingLaws.{mapped}

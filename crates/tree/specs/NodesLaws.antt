@@ -5,7 +5,7 @@ use mathlib.Core.Logic.{_⊎_, inl, inr, ⊎-elim}
 use mathlib.Core.List.{List, [], _∷_, _++_}
 use Prim.Native.Nat.{ℕ, zero, suc, _+_, _-_, _≤_, _<_}
 use native.Mathlib.Omega.{arith}
-use Rattle.rules.specs.TreeReader.{nodes, cases, paths, nodeKind, nodePath, nodeFirstCase, nodeCases, nodeTailCases, nodeDefault, nodeClause, nodeFirstBinding, nodeBindings, nodeChild, NodeKind, Switch, List-switch, Leaf, Hoist-node, Unknown-node, nodeKindOf, caseChild, caseChildren, defaultChild, childrenOfKind, nodeChildren}
+use Rattle.rules.specs.TreeReader.{nodes, cases, paths, nodeKind, nodePath, nodeFirstCase, nodeCases, nodeTailCases, nodeDefault, nodeClause, nodeFirstBinding, nodeBindings, nodeChild, NodeKind, Switch, List-switch, Leaf, Hoist-node, Unknown-node, nodeKindOf, caseChildren, defaultChild, childrenOfKind, nodeChildren}
 use Rattle.facts.specs.KindsLaws.{node-byte, unknown-node}
 use Rattle.facts.specs.TreeFacts.{TreeRuled, switch-children, hoist-children}
 use Rattle.tree.specs.declared.reading.Node.{Node}

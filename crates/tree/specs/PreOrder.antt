@@ -46,8 +46,3 @@ allFollow t = both (ltb 0 (nodes t)) (both (every (childrenFollow t) 0 (nodes t)
 abbrev pub AllBelow : ℕ → List ℕ → Type 0
 AllBelow n [] = Unit {0}
 AllBelow n (c ∷ cs) = (c < n) × AllBelow n cs
-
--- every one of cs is above k
-abbrev pub AllAbove : ℕ → List ℕ → Type 0
-AllAbove k [] = Unit {0}
-AllAbove k (c ∷ cs) = (k < c) × AllAbove k cs

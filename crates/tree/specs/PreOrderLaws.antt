@@ -6,14 +6,14 @@ use mathlib.Core.List.{List, [], _∷_, _++_}
 use mathlib.Core.Logic.{_⊎_, inl, inr, ⊎-elim}
 use Prim.Native.Nat.{ℕ, zero, suc, _+_, _-_, _≤_, _<_}
 use native.Mathlib.Omega.{arith}
-use borrow.Author.Tests.{eqb-true, eq-eqb, ltb-true, ltb-false, lt-ltb, le-ltb}
+use borrow.Author.Tests.{eqb-true, eq-eqb, ltb-true, lt-ltb, le-ltb}
 use lib.Dec.{eqb, ltb}
 use Rattle.words.specs.Words.{both}
 use Rattle.words.specs.WordsLaws.{both-true, both-make}
 use Rattle.rules.specs.Searching.{every}
 use Rattle.rules.specs.SearchingLaws.{every-true, every-make}
 use Rattle.rules.specs.TreeReader.{nodes, nodeChildren, inPreOrder, nodesInPreOrder}
-use Rattle.tree.specs.PreOrder.{lastFrom, lastChild, endFrom, endOf, chained, childrenFollow, allFollow, AllBelow, AllAbove}
+use Rattle.tree.specs.PreOrder.{lastFrom, lastChild, endFrom, endOf, chained, childrenFollow, allFollow, AllBelow}
 
 false-not-true : false ≡ true → ⊥
 false-not-true e = let z : _≡_ {A = ℕ} 0 1 = cc in omega arith
@@ -127,18 +127,6 @@ module _ (t : List ℕ) (inside : (k : ℕ) → k < nodes t → AllBelow (nodes 
       let l : lastChild t k ≡ lastFrom c cs = rw e in
       let r = last-rises c cs (below .0) (below .1) (p .1) in
       end-after-last c cs ∙ ap (endOf t) (sym l) ∙ sym (end-of-last k h (omega (arith, p .0)))
-
-  -- chained children are above whatever is below the first
-  chained-above : (k e : ℕ) (cs : List ℕ) → k < e → AllBelow (nodes t) cs → chained t e cs ≡ true → AllAbove k cs
-  chained-above k e [] h below x = tt
-  chained-above k e (c ∷ cs) h below x =
-      let p = chained-cons e c cs x in
-      let q = p .0 in
-      (omega arith, chained-above k (endOf t c) cs (omega (arith, end-above c (below .0))) (below .1) (p .1))
-
-  pub children-above : (k : ℕ) → k < nodes t → childrenFollow t k ≡ true → AllAbove k (nodeChildren t k)
-  unfolding childrenFollow
-  children-above k h x = chained-above k (k + 1) (nodeChildren t k) (omega arith) (inside k h) x
 
   -- ---- reading against awaited children
   read-one : (k : ℕ) (cs : List ℕ) → k < nodes t

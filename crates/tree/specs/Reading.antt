@@ -7,7 +7,7 @@ use mathlib.Core.List.{List}
 use lib.ListN.{length}
 use Rattle.words.specs.Words.{both}
 use Rattle.rules.specs.Searching.{every}
-use Rattle.rules.specs.TreeReader.{nodesAt, casesAt, bindingsAt, pathsAt, stepsAt, treePoolAt, nodes, cases, bindings, paths, steps, treePoolSize, nodeKind, nodeWord, nodePath, nodeFirstCase, nodeCases, nodeTailCases, nodeDefault, nodeClause, nodeFirstBinding, nodeBindings, nodeChild, NodeKind, Switch, List-switch, Leaf, Hoist-node, Unknown-node, nodeKindOf, caseKind, caseNumber, caseLength, caseChild, CaseKind, Constr-case, Int-case, Bytes-case, List-case, List-with-tail-case, Unknown-case, caseKindOf, bindingName, bindingPath, pathFirst, pathCount, stepKind, stepFlag, stepIndexAt, stepType, nodeKeepsRules, caseKeepsRules, bindingKeepsRules, pathKeepsRules, stepKeepsRules, treeFits}
+use Rattle.rules.specs.TreeReader.{nodesAt, casesAt, bindingsAt, pathsAt, stepsAt, treePoolAt, nodes, cases, bindings, paths, steps, treePoolSize, nodeKind, nodePath, nodeFirstCase, nodeCases, nodeTailCases, nodeDefault, nodeClause, nodeFirstBinding, nodeBindings, nodeChild, NodeKind, Switch, List-switch, Leaf, Hoist-node, Unknown-node, nodeKindOf, caseKind, caseNumber, caseLength, caseChild, CaseKind, Constr-case, Int-case, Bytes-case, List-case, List-with-tail-case, Unknown-case, caseKindOf, bindingName, bindingPath, pathFirst, pathCount, stepKind, stepFlag, stepIndexAt, stepType, nodeKeepsRules, caseKeepsRules, bindingKeepsRules, pathKeepsRules, stepKeepsRules, treeFits}
 use Rattle.facts.specs.TreeFacts.{TreeRuled}
 use Rattle.tree.specs.declared.layout.Section.{Section}
 use Rattle.tree.specs.declared.layout.Map.{Map}

@@ -2,20 +2,20 @@
 -- Rests on Answers, Turns, Bindings and the laws of stores.
 use mathlib.Core.Path.{_≡_, refl, sym, ap, _∙_}
 use mathlib.Core.Bool.{Bool, true, false}
-use mathlib.Core.List.{List, [], _∷_, _++_}
+use mathlib.Core.List.{List, [], _∷_}
 use mathlib.Core.Option.{Option, none, some}
-use Prim.Native.Nat.{ℕ, zero, suc, _+_, _-_, _*_, _≤_, _<_}
+use Prim.Native.Nat.{ℕ, _-_, _*_, _≤_, _<_}
 use native.Mathlib.Omega.{arith}
 use borrow.Author.Tests.{le-leb, lt-leb}
 use lib.ListN.{length}
 use Rattle.words.specs.Words.{zeros}
 use Rattle.words.specs.Stored.{stored}
 use Rattle.words.specs.StoredLaws.{stored-zeros}
-use Rattle.rules.specs.SheetRefusals.{Verdict, accepted, refused, require}
+use Rattle.rules.specs.SheetRefusals.{accepted, refused}
 use Rattle.rules.specs.PanelFile.{panelVerdict}
 use Rattle.rules.specs.TreeReader.{bindingsFrom, treeFits, treeOf}
 use Rattle.rules.specs.Walking.{Bound, bound, Walked as WalkedTo, reached, noLeaf, stuck, atLeaf, walk}
-use Rattle.rules.specs.Calls.{Answer, answers, refuses, unless, WalkEnd, leafOf, withoutLeaf, walkRoom, treeFileVerdict, walkEnd, walkAnswer, boundWords, walkedWords, written, WalkCall, walkCall}
+use Rattle.rules.specs.Calls.{Answer, answers, refuses, WalkEnd, leafOf, walkRoom, treeFileVerdict, walkEnd, walkAnswer, boundWords, walkedWords, written, walkCall}
 use Rattle.facts.specs.TreeFacts.{length-bindingsFrom}
 use Rattle.facts.specs.PanelFacts.{accepted-panel}
 use Rattle.panel.specs.declared.Map.{Map as PanelMap}

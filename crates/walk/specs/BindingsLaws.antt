@@ -1,10 +1,10 @@
 -- Laws of a leaf's bindings after some of them are written.
 -- Rests on Bindings and the laws of stores.
 use mathlib.Core.Path.{_≡_, refl, sym, ap, _∙_}
-use mathlib.Core.Bool.{Bool, true, false}
-use mathlib.Core.List.{List, [], _∷_, _++_}
+use mathlib.Core.Bool.{true}
+use mathlib.Core.List.{List, [], _∷_}
 use mathlib.Core.Option.{Option, none, some}
-use Prim.Native.Nat.{ℕ, zero, suc, _+_, _-_, _*_, _≤_, _<_}
+use Prim.Native.Nat.{ℕ, suc, _+_, _-_, _*_, _≤_, _<_}
 use native.Mathlib.Omega.{arith}
 use lib.ListN.{length, set}
 use Rattle.words.specs.Words.{zeros}
@@ -15,7 +15,7 @@ use Rattle.rules.specs.TreeReader.{bindingName, bindingPath, pathAt, bindingsFr
 use Rattle.rules.specs.Walking.{Position as Place, panelRoot, follow, Bound, bound}
 use Rattle.rules.specs.Calls.{boundWords}
 use Rattle.facts.specs.TreeFacts.{bindingsFrom-some}
-use Rattle.walk.specs.Bindings.{isThere, wordsAfter, Binds}
+use Rattle.walk.specs.Bindings.{isThere, wordsAfter}
 
 -- three stores next to each other
 pub three-stores : (l : List ℕ) (i a b c : ℕ) → set (set (set l i a) (i + 1) b) (i + 2) c ≡ stored l i (a ∷ b ∷ c ∷ [])

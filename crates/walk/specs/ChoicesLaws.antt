@@ -1,11 +1,10 @@
 -- Laws of what a part shows, of a case's test as it was read, and of the search for the first case that holds.
 -- Rests on Choices, and on the facts of an accepted tree and an accepted panel.
 use mathlib.Core.Path.{_≡_, refl, sym, ap, _∙_}
-use mathlib.Core.Logic.{_⊎_, inl, inr, ⊎-elim}
 use mathlib.Core.Bool.{Bool, true, false, true≢false}
-use mathlib.Core.List.{List, [], _∷_}
+use mathlib.Core.List.{List}
 use mathlib.Core.Option.{Option, none, some}
-use Prim.Native.Nat.{ℕ, zero, suc, _+_, _-_, _≤_, _<_, max}
+use Prim.Native.Nat.{ℕ, suc, _+_, _-_, _≤_, _<_, max}
 use native.Mathlib.Omega.{arith}
 use native.Mathlib.Numerals.{add-one}
 use borrow.Author.Tests.{eq-eqb, ne-eqb, eqb-true, eqb-false, leb-true, leb-false, not-true, not-false}
@@ -14,14 +13,14 @@ use lib.ListN.{length}
 use Rattle.words.specs.Words.{textAt, both, pick, sameText}
 use Rattle.words.specs.WordsLaws.{length-textAt, not-sameText}
 use Rattle.rules.specs.Searching.{lowest}
-use Rattle.rules.specs.Splitting.{Test, Constr, Int, Bytes, ListOf, ListWithTail, testFields, sameTest}
-use Rattle.rules.specs.Building.{Tree, Cases, cnil, ccons}
-use Rattle.rules.specs.PanelFile.{records, panelPoolAt, recordKind, recordA, recordFirst, recordCount, recordText, RecordKind, Integer-record, Bytes-record, List-record, Pair-record, Tuple-record, Constructor-record, Unknown-record, recordKindOf}
-use Rattle.rules.specs.TreeReader.{nodes, cases, treePoolAt, treePoolSize, caseKind, caseNumber, caseLength, caseChild, caseText, CaseKind, Constr-case, Int-case, Bytes-case, List-case, List-with-tail-case, Unknown-case, caseKindOf, testOfKind, caseTest, casesFor}
-use Rattle.rules.specs.Walking.{Position as Place, shown, shownAt, testKind, tailNumber, largestTail}
+use Rattle.rules.specs.Splitting.{Test, Constr, ListOf, ListWithTail, testFields, sameTest}
+use Rattle.rules.specs.Building.{Tree, Cases, ccons}
+use Rattle.rules.specs.PanelFile.{records, recordKind, recordText, List-record, Pair-record, Tuple-record, Unknown-record, recordKindOf}
+use Rattle.rules.specs.TreeReader.{cases, caseKind, caseChild, CaseKind, Constr-case, Int-case, Bytes-case, List-case, List-with-tail-case, Unknown-case, caseKindOf, testOfKind, caseTest, casesFor}
+use Rattle.rules.specs.Walking.{shown, shownAt, testKind, tailNumber, largestTail}
 use Rattle.facts.specs.KindsLaws.{case-byte, unknown-case}
 use Rattle.facts.specs.TreeFacts.{TreeRuled, casesFor-some}
-use Rattle.facts.specs.PanelFacts.{PanelLaid, PanelShaped}
+use Rattle.facts.specs.PanelFacts.{PanelShaped}
 use Rattle.panel.specs.declared.Map.{Map as PanelMap}
 use Rattle.panel.specs.declared.records.Record.{Record}
 use Rattle.panel.specs.Opened.{recordOf, Opened}
@@ -29,9 +28,7 @@ use Rattle.tree.specs.declared.reading.Test.{Test as TestRead}
 use Rattle.tree.specs.declared.reading.Case.{Case}
 use Rattle.tree.specs.Reading.{testOfFields, caseOf}
 use Rattle.walk.specs.declared.choose.Part.{Part}
-use Rattle.walk.specs.declared.choose.Chosen.{Chosen}
-use Rattle.walk.specs.declared.choose.Chosen.the-variants.{Child, Nothing}
-use Rattle.walk.specs.Choices.{alike, textTest, testMeans, InPool, partMeans, Inside, Shows, isConstr, isList, isTailed, tailNumberOf, isOfKind, same, firstCase, chosenOf}
+use Rattle.walk.specs.Choices.{alike, textTest, testMeans, InPool, partMeans, Shows, isConstr, isList, isTailed, tailNumberOf, isOfKind, same, firstCase}
 
 -- ---- what a part shows
 module _ (v : List ℕ) (n : PanelMap) (opened : Opened v n) (shaped : PanelShaped v) (r d : ℕ) (h : r < records v) (x : Record) (is : x ≡ recordOf v r) where
@@ -239,9 +236,6 @@ lengths-differ v t i n j m a b h =
 
 -- ---- the search for the first case, after j of n
 module _ (t v : List ℕ) (s : Part) where
-  holds-at : ℕ → Bool
-  holds-at j = same (partMeans v s) (caseTest t j)
-
   pub search-start : (i n : ℕ) → firstCase t v s (i + 0) (n - 0) ≡ firstCase t v s i n
   search-start i n = let a : i + 0 ≡ i = omega arith in let b : n - 0 ≡ n = omega arith in rw (a, b)
 

@@ -9,11 +9,11 @@ use Prim.Native.Nat.{ℕ, zero, suc, _+_, _-_, _≤_, _<_}
 use native.Mathlib.Omega.{arith}
 use borrow.Author.Tests.{eq-eqb, ne-eqb, lt-ltb, le-ltb, le-leb, lt-leb, eqb-true, ltb-true, leb-true}
 use lib.Dec.{eqb, ltb, leb}
-use Rattle.words.specs.Words.{both, pick}
+use Rattle.words.specs.Words.{both}
 use Rattle.words.specs.WordsLaws.{both-true}
-use Rattle.rules.specs.PanelFile.{records, parts, panelPoolSize, recordKind, recordFirst, recordCount, part}
+use Rattle.rules.specs.PanelFile.{records, parts, recordKind, recordFirst, recordCount, part}
 use Rattle.rules.specs.Rows.{Step, pair, tuple, constr, list, listtail, Path}
-use Rattle.rules.specs.TreeReader.{stepAt, stepsFrom, stepOfFields, stepKind, stepFlag, stepIndexAt, stepType, pathFirst, pathCount, pathAt}
+use Rattle.rules.specs.TreeReader.{stepAt, stepsFrom, stepOfFields, pathFirst, pathCount, pathAt}
 use Rattle.rules.specs.Walking.{Position as Place, panelRoot, partOf, tailOf, takeStep, follow}
 use Rattle.facts.specs.TreeFacts.{TreeRuled}
 use Rattle.facts.specs.PanelFacts.{PanelLaid, PanelShaped}
@@ -27,7 +27,6 @@ use Rattle.tree.specs.declared.layout.Map.{Map}
 use Rattle.tree.specs.Reading.{Mapped, Ruled, stepOf, pathOf, bindingOf}
 use Rattle.tree.specs.ReadingLaws.{paths-count, steps-count, bindings-count}
 use Rattle.walk.specs.declared.follow.Position.{Position}
-use Rattle.walk.specs.declared.follow.Found.{Found}
 use Rattle.walk.specs.declared.follow.Found.the-variants.{At, Stuck}
 use Rattle.walk.specs.Positions.{placed, foundOf, Within, Ready}
 

@@ -10,7 +10,7 @@ use Rattle.facts.specs.PanelFacts.{PanelAccepted}
 use Rattle.panel.specs.Opened.{Opened}
 use Rattle.panel.specs.declared.Map.{Map as PanelMap}
 use Rattle.tree.specs.declared.layout.Map.{Map}
-use Rattle.tree.specs.Reading.{Mapped, Ruled}
+use Rattle.tree.specs.Reading.{Mapped}
 use Rattle.walk.specs.declared.follow.Position.{Position}
 use Rattle.walk.specs.declared.follow.Found.{Found}
 use Rattle.walk.specs.declared.follow.Found.the-variants.{At, Stuck}

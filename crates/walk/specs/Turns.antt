@@ -2,7 +2,7 @@
 -- children stand for, and for a node of a tree file. Rests on the rules' walk.
 use mathlib.Core.Path.{_≡_}
 use mathlib.Core.Bool.{true}
-use mathlib.Core.List.{List, _++_}
+use mathlib.Core.List.{List}
 use Prim.Native.Nat.{ℕ, _+_, _≤_, _<_}
 use Rattle.rules.specs.Limits.{nodeBindingsMost}
 use Rattle.rules.specs.SheetRefusals.{isIn}

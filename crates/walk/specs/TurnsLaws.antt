@@ -7,29 +7,27 @@ use mathlib.Core.Option.{Option, none, some}
 use Prim.Native.Nat.{ℕ, zero, suc, _+_, _-_, _≤_, _<_}
 use native.Mathlib.Omega.{arith}
 use borrow.Author.Tests.{eq-eqb, ne-eqb}
-use lib.Dec.{eqb}
 use Rattle.words.specs.Words.{pick}
 use Rattle.rules.specs.Searching.{lowest}
-use Rattle.rules.specs.SearchingLaws.{Lowest, lowest-some}
+use Rattle.rules.specs.SearchingLaws.{lowest-some}
 use Rattle.rules.specs.SheetRefusals.{isIn}
 use Rattle.rules.specs.Splitting.{Test, ListOf, ListWithTail, sameTest}
-use Rattle.rules.specs.Building.{Tree, Cases, absent, leaf, hoist, switch, listswitch, cnil, ccons}
+use Rattle.rules.specs.Building.{Tree, Cases, switch, ccons}
 use Rattle.rules.specs.PanelFile.{recordKind, recordCount}
-use Rattle.rules.specs.TreeReader.{nodes, cases, bindings, nodeKind, nodeClause, nodePath, nodeFirstCase, nodeCases, nodeTailCases, nodeDefault, nodeFirstBinding, nodeBindings, nodeChild, NodeKind, Switch, List-switch, Leaf, Hoist-node, nodeKindOf, caseKind, caseNumber, caseChild, caseTest, startOfTest, caseChildren, defaultChild, nodeChildren, pathAt, bindingsFrom, casesFor, defaultFor, nodeFor, treeBelow, treeOf}
-use Rattle.rules.specs.Walking.{Position as Place, panelRoot, follow, Walked, noLeaf, stuck, atLeaf, shownAt, lengthAt, testKind, firstKind, ofThisKind, atPart, ofLength, atList, largestTail, atTail, ifSame, walk, walkCases}
+use Rattle.rules.specs.TreeReader.{nodes, cases, nodeKind, Switch, List-switch, Leaf, Hoist-node, caseKind, caseNumber, caseChild, caseTest, startOfTest, caseChildren, defaultChild, nodeChildren, pathAt, casesFor, defaultFor, nodeFor, treeBelow, treeOf}
+use Rattle.rules.specs.Walking.{Position as Place, panelRoot, follow, Walked, stuck, lengthAt, firstKind, ofThisKind, atPart, ofLength, atList, largestTail, atTail, ifSame, walk, walkCases}
 use Rattle.facts.specs.KindsLaws.{byte-node}
-use Rattle.facts.specs.TreeFacts.{TreeSound, TreeRuled, case-listed, default-listed, only-listed, isIn-left, isIn-right, casesFor-some, treeBelow-of-kind}
-use Rattle.panel.specs.declared.records.Record.{Record}
+use Rattle.facts.specs.TreeFacts.{TreeSound, case-listed, default-listed, only-listed, isIn-left, isIn-right, casesFor-some, treeBelow-of-kind}
+use Rattle.panel.specs.declared.Record.{Record}
 use Rattle.panel.specs.Opened.{recordOf}
 use Rattle.tree.specs.NodesLaws.{SwitchNode, ListSwitchNode, LeafNode, HoistNode, switch-node-children, list-switch-node-children, hoist-node-children}
 use Rattle.walk.specs.declared.choose.Part.{Part}
 use Rattle.walk.specs.declared.nodes.Reached.{Reached}
 use Rattle.walk.specs.declared.nodes.Next.{Next}
-use Rattle.walk.specs.declared.choose.Chosen.{Chosen}
 use Rattle.walk.specs.declared.choose.Chosen.the-variants.{Child, Nothing}
 use Rattle.walk.specs.Choices.{partMeans, Shows, same, firstCase, chosenOf, isOfKind}
 use Rattle.walk.specs.ChoicesLaws.{ofKind, of-kind-means, test-kind}
-use Rattle.walk.specs.Turns.{reachedMeans, nextMeans, Leads, Turns, defaultWalk, switchWalk, listWalk, tailsWalk, lengthWalk, Reaches, GoesOn, Steps, Arrives}
+use Rattle.walk.specs.Turns.{Leads, Turns, defaultWalk, switchWalk, listWalk, tailsWalk, lengthWalk, GoesOn, Steps, Arrives}
 
 -- ---- the cases of a run
 abbrev chosenWalk : (ℕ → Tree) → List ℕ → List ℕ → Option ℕ → Walked → Walked

@@ -2,7 +2,7 @@
 // Rests on the cases of a tree file, each with its test, and on records of the panel.
 use crate::follow::Position;
 use panel::Map as PanelMap;
-use panel::records::record_at;
+use panel::record_at;
 use tree::layout::Map;
 use tree::reading::Test;
 use tree::reading::case_at;
@@ -231,8 +231,8 @@ pub fn largest_tail(t: &[u8], m: Map, i: usize, tails: usize, n: usize) -> usize
     let mut best: usize = 0;
     let mut j: usize = 0;
     while j < tails {
-        let case = case_at(t, m, i + j);
-        let test = case.test;
+        let tail = case_at(t, m, i + j);
+        let test = tail.test;
         best = larger(best, tail_number(test, n));
         j += 1;
     }

@@ -1,3 +1,4 @@
+-- `walk::walk` meets its contract: one law of the call for each way out; the buffer is zero from the start on.
 use borrow.Author.Needs.{needs}
 use Rattle.walk.specs.AnswersLaws.{call-no-room, call-no-tree, call-walks}
 use Rattle.tree.specs.CheckLaws.{accepted-is, refused-is}
@@ -5,68 +6,83 @@ use Rattle.words.specs.WordsLaws.{bytes-of-fits}
 use Rattle.words.specs.Words.{zeros}
 use Rattle.tree.specs.declared.Checked.{Checked}
 use native.Mathlib.Omega.{arith}
-use mathlib.Core.Path.{_≡_, refl, sym, ap, _∙_}
+use mathlib.Core.Path.{_≡_, sym, ap, _∙_}
 use Rattle.walk.proofs.walk.Statement.{statement}
 use Rattle.walk.proofs.walk.Tie as tie
-use Rattle.walk.proofs.walk.Reads as reads
-use Rattle.walk.proofs.walk.Lts as lts
-use Rattle.tree.proofs.check.Reads as check-reads
-use Rattle.walk.proofs.walk_tree.Reads as walk-tree-reads
-use Rattle.words.proofs.zero_words.Reads as zero-words-reads
 
--- src/lib.rt:64:5
 zero-words-requires : tie.Need-zero-words-requires
 zero-words-requires c κs = search needs
 
--- src/lib.rt:66:9
 same-length : tie.Need-same-length
-same-length c = c .before .before .before .zero-words .kept .0
+same-length c =
+    let back3 = c .before .before .before in
+    back3 .zero-words .kept .0
 
--- src/lib.rt:66:9
 returns : tie.Need-returns
-returns c = let a = c .before .before .before .before .before .before .before .before .args in call-no-room (a .t .now) (a .v .now) (a .bound .now) (c .before .before .before .zero-words .last .0) (omega (arith, c .if1 .taken, c .before .before .before .zero-words .kept .0)) (c .before .before .before .zero-words .ensures)
+returns c =
+    let back3 = c .before .before .before in
+    let back8 = back3 .before .before .before .before .before in
+    let a = back8 .args in
+    call-no-room (a .t .now) (a .v .now) (a .bound .now) (back3 .zero-words .last .0)
+    (omega (arith, c .if1 .taken, back3 .zero-words .kept .0)) (back3 .zero-words .ensures)
 
--- src/lib.rt:68:38
 check-requires : tie.Need-check-requires
 check-requires c κs = search needs
 
--- src/lib.rt:68:33
 enum-known-m : tie.Need-enum-known-m
 enum-known-m c = search needs
 
--- src/lib.rt:69:9
 enum-told : tie.Need-enum-told
 enum-told c = search needs
 
--- src/lib.rt:69:9
 same-length-2 : tie.Need-same-length-2
-same-length-2 c = c .before .before .before .before .before .before .zero-words .kept .0
+same-length-2 c =
+    let back6 = c .before .before .before .before .before .before in
+    back6 .zero-words .kept .0
 
--- src/lib.rt:69:9
 returns-2 : tie.Need-returns-2
-returns-2 c = let a = c .before .before .before .before .before .before .before .before .before .before .before .args in call-no-tree (a .t .now) (a .v .now) (a .bound .now) (c .before .before .before .before .before .before .zero-words .last .0) (omega (arith, c .before .before .before .if1 .left, c .before .before .before .before .before .before .zero-words .kept .0)) (refused-is (a .t .now) (sym (c .before .before .check .ensures) ∙ c .enum-told .given .1)) (c .before .before .before .before .before .before .zero-words .ensures)
+returns-2 c =
+    let back3 = c .before .before .before in
+    let back6 = back3 .before .before .before in
+    let back11 = back6 .before .before .before .before .before in
+    let a = back11 .args in
+    call-no-tree (a .t .now) (a .v .now) (a .bound .now) (back6 .zero-words .last .0)
+    (omega (arith, back3 .if1 .left, back6 .zero-words .kept .0))
+    (refused-is (a .t .now) (sym (c .before .before .check .ensures) ∙ c .enum-told .given .1)) (back6 .zero-words .ensures)
 
--- src/lib.rt:71:5
 walk-tree-requires : tie.Need-walk-tree-requires
 walk-tree-requires c κs =
-    let a = c .before .before .before .before .before .before .before .before .before .before .before .before .before .args in
+    let back4 = c .before .before .before .before in
+    let back5 = back4 .before in
+    let back8 = back5 .before .before .before in
+    let back12 = back8 .before .before .before .before in
+    let back13 = back12 .before in
+    let a = back13 .args in
     let m = c .before .before .m .given .0 .0 in
-    let e : c .before .before .before .before .check .result ≡ Checked.Accepted m = search needs in
-    let w = accepted-is (a .t .now) m (bytes-of-fits (a .t .now) (c .before .before .before .before .before .before .before .before .before .before .before .before .shared-slice-known .given)) (sym (c .before .before .before .before .check .ensures) ∙ e) in
-    (w, c .before .before .before .before .before .if1 .left, c .before .before .before .before .before .before .before .before .zero-words .ensures ∙ ap zeros (sym (c .before .before .before .before .before .before .before .before .zero-words .kept .0)))
+    let e : back4 .check .result ≡ Checked.Accepted m = c .before .before .m .given .1 in
+    let w = accepted-is (a .t .now) m (bytes-of-fits (a .t .now) (back12 .shared-slice-known .given)) (sym (back4 .check .ensures) ∙ e) in
+    (w, back5 .if1 .left, back8 .zero-words .ensures ∙ ap zeros (sym (back8 .zero-words .kept .0)))
 
--- src/lib.rt:61:1
 same-length-3 : tie.Need-same-length-3
-same-length-3 c = c .before .before .walk-tree .kept .1 .1 .1 .0 ∙ c .before .before .before .before .before .before .before .before .before .before .before .zero-words .kept .0
+same-length-3 c =
+    let back11 = c .before .before .before .before .before .before .before .before .before .before .before in
+    c .before .before .walk-tree .kept .1 .1 .1 .0 ∙ back11 .zero-words .kept .0
 
--- src/lib.rt:61:1
 returns-3 : tie.Need-returns-3
 returns-3 c =
-    let a = c .before .before .before .before .before .before .before .before .before .before .before .before .before .before .before .before .args in
-    let m = c .before .before .before .before .before .m .given .0 .0 in
-    let e : c .before .before .before .before .before .before .before .check .result ≡ Checked.Accepted m = search needs in
-    let w = accepted-is (a .t .now) m (bytes-of-fits (a .t .now) (c .before .before .before .before .before .before .before .before .before .before .before .before .before .before .before .shared-slice-known .given)) (sym (c .before .before .before .before .before .before .before .check .ensures) ∙ e) in
-    call-walks (a .t .now) (a .v .now) (a .bound .now) (c .before .before .walk-tree .last .1 .1 .1 .0) (omega (arith, c .before .before .before .before .before .before .before .before .if1 .left, c .before .before .before .before .before .before .before .before .before .before .before .zero-words .kept .0)) (w .fits) (c .before .before .before .before .before .before .before .before .before .before .before .zero-words .last .0) (c .before .before .walk-tree .result) (c .before .before .before .before .before .before .before .before .before .before .before .zero-words .kept .0) (c .before .before .walk-tree .ensures)
+    let back5 = c .before .before .before .before .before in
+    let back7 = back5 .before .before in
+    let back8 = back7 .before in
+    let back11 = back8 .before .before .before in
+    let back15 = back11 .before .before .before .before in
+    let back16 = back15 .before in
+    let a = back16 .args in
+    let m = back5 .m .given .0 .0 in
+    let e : back7 .check .result ≡ Checked.Accepted m = back5 .m .given .1 in
+    let w = accepted-is (a .t .now) m (bytes-of-fits (a .t .now) (back15 .shared-slice-known .given)) (sym (back7 .check .ensures) ∙ e) in
+    call-walks (a .t .now) (a .v .now) (a .bound .now) (c .before .before .walk-tree .last .1 .1 .1 .0)
+    (omega (arith, back8 .if1 .left, back11 .zero-words .kept .0)) (w .fits) (back11 .zero-words .last .0)
+    (c .before .before .walk-tree .result) (back11 .zero-words .kept .0) (c .before .before .walk-tree .ensures)
 
 pub walk-spec : {M : Type 1} → statement M
 walk-spec =

@@ -1,57 +1,55 @@
+-- `walk::walk_tree` meets its contract: one law of the answer for each of the panel's verdicts.
 use borrow.Author.Needs.{needs}
 use Rattle.walk.specs.AnswersLaws.{ready, gives-panel, gives-panel-refused}
 use Rattle.panel.specs.AnswersLaws.{accepts, refuses-by}
 use Rattle.panel.specs.declared.Checked.{Checked}
-use native.Mathlib.Omega.{arith}
-use mathlib.Core.Path.{_≡_, refl, sym, ap, _∙_}
+use mathlib.Core.Path.{_≡_, sym, _∙_}
 use Rattle.walk.proofs.walk_tree.Statement.{statement}
 use Rattle.walk.proofs.walk_tree.Tie as tie
-use Rattle.walk.proofs.walk_tree.Reads as reads
-use Rattle.walk.proofs.walk_tree.Lts as lts
-use Rattle.panel.proofs.check.Reads as check-reads
-use Rattle.walk.proofs.walk_panel.Reads as walk-panel-reads
 
--- src/lib.rt:54:11
 check-requires : tie.Need-check-requires
 check-requires c κs = search needs
 
--- src/lib.rt:55:34
 enum-known-n : tie.Need-enum-known-n
 enum-known-n c = search needs
 
--- src/lib.rt:55:40
 walk-panel-requires : tie.Need-walk-panel-requires
 walk-panel-requires c κs =
-    let a = c .before .before .before .before .before .before .before .before .args in
+    let back4 = c .before .before .before .before in
+    let back8 = back4 .before .before .before .before in
+    let a = back8 .args in
     let n = c .before .before .n .given .0 .0 in
-    let e : c .before .before .before .before .check .result ≡ Checked.Accepted n = search needs in
-    let w = accepts (a .v .now) n (sym (c .before .before .before .before .check .ensures) ∙ e) in
-    (ready (c .before .before .before .before .before .before .before .before .pre .0) w, c .before .before .before .before .before .before .before .before .pre .1, c .before .before .before .before .before .before .before .before .pre .2)
+    let e : back4 .check .result ≡ Checked.Accepted n = c .before .before .n .given .1 in
+    let w = accepts (a .v .now) n (sym (back4 .check .ensures) ∙ e) in
+    (ready (back8 .pre .0) w, back8 .pre .1, back8 .pre .2)
 
--- src/lib.rt:56:35
 enum-known-number : tie.Need-enum-known-number
 enum-known-number c = search needs
 
--- src/lib.rt:50:1
 same-length : tie.Need-same-length
 same-length c = c .before .before .walk-panel .kept .1 .1 .1 .1 .0
 
--- src/lib.rt:50:1
 returns : tie.Need-returns
 returns c =
-    let a = c .before .before .before .before .before .before .before .before .before .before .before .args in
-    let n = c .before .before .before .before .before .n .given .0 .0 in
-    let e : c .before .before .before .before .before .before .before .check .result ≡ Checked.Accepted n = search needs in
-    let w = accepts (a .v .now) n (sym (c .before .before .before .before .before .before .before .check .ensures) ∙ e) in
-    gives-panel (a .t .now) (a .v .now) (a .bound .now) (c .before .before .walk-panel .last .1 .1 .1 .1 .0) (c .before .before .walk-panel .result) (w .verdict) (c .before .before .walk-panel .ensures)
+    let back5 = c .before .before .before .before .before in
+    let back7 = back5 .before .before in
+    let back11 = back7 .before .before .before .before in
+    let a = back11 .args in
+    let n = back5 .n .given .0 .0 in
+    let e : back7 .check .result ≡ Checked.Accepted n = back5 .n .given .1 in
+    let w = accepts (a .v .now) n (sym (back7 .check .ensures) ∙ e) in
+    gives-panel (a .t .now) (a .v .now) (a .bound .now) (c .before .before .walk-panel .last .1 .1 .1 .1 .0)
+    (c .before .before .walk-panel .result) (w .verdict) (c .before .before .walk-panel .ensures)
 
--- src/lib.rt:50:1
 returns-2 : tie.Need-returns-2
 returns-2 c =
-    let a = c .before .before .before .before .before .before .before .args in
+    let back3 = c .before .before .before in
+    let back7 = back3 .before .before .before .before in
+    let a = back7 .args in
     let g = c .before .number .given .0 in
-    let e : c .before .before .before .check .result ≡ Checked.Refused (g .0) (g .1 .0) = search needs in
-    gives-panel-refused (a .t .now) (a .v .now) (a .bound .now) (c .before .before .before .before .before .before .before .pre .2) (g .0) (g .1 .0) (refuses-by (a .v .now) (g .0) (g .1 .0) (sym (c .before .before .before .check .ensures) ∙ e))
+    let e : back3 .check .result ≡ Checked.Refused (g .0) (g .1 .0) = c .before .number .given .1 in
+    gives-panel-refused (a .t .now) (a .v .now) (a .bound .now) (back7 .pre .2) (g .0) (g .1 .0)
+    (refuses-by (a .v .now) (g .0) (g .1 .0) (sym (back3 .check .ensures) ∙ e))
 
 pub walk-tree-spec : {M : Type 1} → statement M
 walk-tree-spec =

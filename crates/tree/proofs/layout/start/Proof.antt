@@ -1,3 +1,4 @@
+-- `tree::layout::start` meets its contract: the word that it reads of the trailer is the start.
 use borrow.Author.Needs.{needs}
 use Rattle.rules.specs.TreeReader.{treeStart}
 use Rattle.tree.proofs.layout.start.Statement.{statement}

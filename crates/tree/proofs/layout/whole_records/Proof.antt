@@ -1,3 +1,4 @@
+-- `tree::layout::whole_records` meets its contract: its two tests are those of the definition, in order.
 use borrow.Author.Needs.{needs}
 use borrow.Author.Tests.{le-leb, lt-leb}
 use Rattle.rules.specs.SheetRefusals.{wholeRecords}

@@ -1,3 +1,4 @@
+-- `tree::order::last_of_switch` meets its contract: the default where there is one, and else the child of the last case.
 use borrow.Author.Needs.{needs}
 use Rattle.tree.specs.OrderLaws.{last-of-default, last-of-cases}
 use mathlib.Core.Path.{_∙_}
@@ -23,7 +24,10 @@ cast-result : tie.Need-cast-result
 cast-result c = search needs
 
 returns-2 : tie.Need-returns-2
-returns-2 c = let a = c .before .before .before .args in λ k. c .case-child .ensures ∙ last-of-cases (a .t .now) (a .i) (a .n) (a .default) k (c .before .before .before .pre .1) (c .before .if1 .left)
+returns-2 c =
+    let back3 = c .before .before .before in
+    let a = back3 .args in
+    λ k. c .case-child .ensures ∙ last-of-cases (a .t .now) (a .i) (a .n) (a .default) k (back3 .pre .1) (c .before .if1 .left)
 
 pub last-of-switch-spec : {M : Type 1} → statement M
 last-of-switch-spec =

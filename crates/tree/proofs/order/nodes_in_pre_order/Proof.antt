@@ -1,3 +1,5 @@
+-- `tree::order::nodes_in_pre_order` meets its contract: the chain of every node's children and the end of node 0 decide.
+-- Rests on the law that this is the rules' pre-order.
 use borrow.Author.Needs.{needs}
 use Prim.Native.Nat.{ℕ}
 use lib.Dec.{eqb}
@@ -15,13 +17,21 @@ all-follow-requires : tie.Need-all-follow-requires
 all-follow-requires c κs = search needs
 
 returns-2 : tie.Need-returns-2
-returns-2 c = some-breaks (c .before .before .before .before .pre) (c .before .before .if1 .left) (sym (c .before .all-follow .ensures) ∙ not-true _ (c .if2 .taken))
+returns-2 c =
+    let back4 = c .before .before .before .before in
+    some-breaks (back4 .pre) (c .before .before .if1 .left) (sym (c .before .all-follow .ensures) ∙ not-true _ (c .if2 .taken))
 
 end-of-requires : tie.Need-end-of-requires
-end-of-requires c κs = (c .before .before .before .before .pre, omega (arith, c .before .before .if1 .left))
+end-of-requires c κs =
+    let back4 = c .before .before .before .before in
+    (back4 .pre, omega (arith, c .before .before .if1 .left))
 
 returns-3 : tie.Need-returns-3
-returns-3 c = ap (λ (x : ℕ). eqb x (c .before .before .before .before .before .args .m .nodes .count)) (c .end-of .ensures) ∙ ends-decide (c .before .before .before .before .before .pre) (c .before .before .before .if1 .left) (sym (c .before .before .all-follow .ensures) ∙ not-false _ (c .before .if2 .left))
+returns-3 c =
+    let back3 = c .before .before .before in
+    let back5 = back3 .before .before in
+    ap (λ (x : ℕ). eqb x (back5 .args .m .nodes .count)) (c .end-of .ensures) ∙ ends-decide (back5 .pre) (back3 .if1 .left)
+    (sym (c .before .before .all-follow .ensures) ∙ not-false _ (c .before .if2 .left))
 
 pub nodes-in-pre-order-spec : {M : Type 1} → statement M
 nodes-in-pre-order-spec =

@@ -1,3 +1,4 @@
+-- `tree::reading::binding_at` meets its contract: what it reads, from the map's start on, are the rules' fields.
 use borrow.Author.Needs.{needs}
 use mathlib.Core.Path.{_∙_}
 use Rattle.tree.specs.ReadingLaws.{binding-name-is, binding-path-is}
@@ -21,7 +22,8 @@ word-at-requires-2 c κs = search needs
 
 returns : tie.Need-returns
 returns c =
-    let a = c .before .before .before .before in
+    let back4 = c .before .before .before .before in
+    let a = back4 in
     let e = c .before .word-at .ensures ∙ binding-name-is (a .pre .0) (a .args .b) in
     let f = c .word-at2 .ensures ∙ binding-path-is (a .pre .0) (a .args .b) in
     simp (e, f)

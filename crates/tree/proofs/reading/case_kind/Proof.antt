@@ -1,3 +1,4 @@
+-- `tree::reading::case_kind` meets its contract: what it reads, from the map's start on, is the rules' field.
 use borrow.Author.Needs.{needs}
 use Rattle.tree.specs.ReadingLaws.{case-kind-is}
 use Rattle.tree.proofs.reading.case_kind.Statement.{statement}

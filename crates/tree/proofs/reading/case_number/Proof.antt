@@ -1,3 +1,4 @@
+-- `tree::reading::case_number` meets its contract: what it reads, from the map's start on, is the rules' field.
 use borrow.Author.Needs.{needs}
 use mathlib.Core.Path.{_∙_}
 use Rattle.tree.specs.ReadingLaws.{case-number-is}
@@ -17,7 +18,9 @@ word-at-requires : tie.Need-word-at-requires
 word-at-requires c κs = search needs
 
 returns : tie.Need-returns
-returns c = c .word-at .ensures ∙ case-number-is (c .before .before .before .pre .0) (c .before .before .before .args .i)
+returns c =
+    let back3 = c .before .before .before in
+    c .word-at .ensures ∙ case-number-is (back3 .pre .0) (back3 .args .i)
 
 pub case-number-spec : {M : Type 1} → statement M
 case-number-spec =

@@ -1,3 +1,5 @@
+-- `tree::reading::node_at` meets its contract: the node of its kind, with the words as they were read.
+-- A kind that is known and not 0, 1 or 2 is 3.
 use borrow.Author.Needs.{needs}
 use native.Mathlib.Omega.{arith}
 use Rattle.rules.specs.TreeReader.{nodeKindOf, nodePath, nodeFirstCase, nodeCases, nodeTailCases, nodeDefault, nodeClause, nodeFirstBinding, nodeBindings, nodeChild}
@@ -26,22 +28,64 @@ node-word-requires-5 c κs = search needs
 
 returns : tie.Need-returns
 unfolding nodeOf nodeKindOf nodePath nodeFirstCase nodeCases nodeTailCases nodeDefault nodeClause nodeFirstBinding nodeBindings nodeChild
-returns c = simp (← c .before .before .before .before .before .before .node-kind .ensures, c .match .keys1, ← c .before .before .before .before .before .node-word .ensures, ← c .before .before .before .before .node-word2 .ensures, ← c .before .before .before .node-word3 .ensures, ← c .before .node-word5 .ensures)
+returns c =
+    let back3 = c .before .before .before in
+    let back4 = back3 .before in
+    let back5 = back4 .before in
+    let back6 = back5 .before in
+    simp (
+      ← back6 .node-kind .ensures,
+      c .match .keys1,
+      ← back5 .node-word .ensures,
+      ← back4 .node-word2 .ensures,
+      ← back3 .node-word3 .ensures,
+      ← c .before .node-word5 .ensures,
+    )
 
 returns-2 : tie.Need-returns-2
 unfolding nodeOf nodeKindOf nodePath nodeFirstCase nodeCases nodeTailCases nodeDefault nodeClause nodeFirstBinding nodeBindings nodeChild
-returns-2 c = simp (← c .before .before .before .before .before .before .node-kind .ensures, c .match .keys2, ← c .before .before .before .before .before .node-word .ensures, ← c .before .before .before .before .node-word2 .ensures, ← c .before .before .before .node-word3 .ensures, ← c .before .before .node-word4 .ensures, ← c .before .node-word5 .ensures)
+returns-2 c =
+    let back3 = c .before .before .before in
+    let back4 = back3 .before in
+    let back5 = back4 .before in
+    let back6 = back5 .before in
+    simp (
+      ← back6 .node-kind .ensures,
+      c .match .keys2,
+      ← back5 .node-word .ensures,
+      ← back4 .node-word2 .ensures,
+      ← back3 .node-word3 .ensures,
+      ← c .before .before .node-word4 .ensures,
+      ← c .before .node-word5 .ensures,
+    )
 
 returns-3 : tie.Need-returns-3
 unfolding nodeOf nodeKindOf nodePath nodeFirstCase nodeCases nodeTailCases nodeDefault nodeClause nodeFirstBinding nodeBindings nodeChild
-returns-3 c = simp (← c .before .before .before .before .before .before .node-kind .ensures, c .match .keys3, ← c .before .before .before .before .before .node-word .ensures, ← c .before .before .before .before .node-word2 .ensures, ← c .before .before .before .node-word3 .ensures)
+returns-3 c =
+    let back3 = c .before .before .before in
+    let back4 = back3 .before in
+    let back5 = back4 .before in
+    let back6 = back5 .before in
+    simp (← back6 .node-kind .ensures, c .match .keys3, ← back5 .node-word .ensures, ← back4 .node-word2 .ensures, ← back3 .node-word3 .ensures)
 
 returns-4 : tie.Need-returns-4
 unfolding nodeOf nodeKindOf nodePath nodeFirstCase nodeCases nodeTailCases nodeDefault nodeClause nodeFirstBinding nodeBindings nodeChild
 returns-4 c =
-    let r = c .before .before .before .before .before .before .node-kind .result in
-    let e : r ≡ 3 = omega (arith, c .match .rest .1, c .match .rest .0 .1, c .match .rest .0 .0 .1, c .before .before .before .before .before .before .node-kind .ensures, c .before .before .before .before .before .before .before .before .pre .2) in
-    simp (← c .before .before .before .before .before .before .node-kind .ensures, e, ← c .before .before .before .before .before .node-word .ensures, ← c .before .before .before .before .node-word2 .ensures, ← c .before .before .before .node-word3 .ensures, ← c .before .before .node-word4 .ensures)
+    let back3 = c .before .before .before in
+    let back4 = back3 .before in
+    let back5 = back4 .before in
+    let back6 = back5 .before in
+    let back8 = back6 .before .before in
+    let r = back6 .node-kind .result in
+    let e : r ≡ 3 = omega (arith, c .match .rest .1, c .match .rest .0 .1, c .match .rest .0 .0 .1, back6 .node-kind .ensures, back8 .pre .2) in
+    simp (
+      ← back6 .node-kind .ensures,
+      e,
+      ← back5 .node-word .ensures,
+      ← back4 .node-word2 .ensures,
+      ← back3 .node-word3 .ensures,
+      ← c .before .before .node-word4 .ensures,
+    )
 
 pub node-at-spec : {M : Type 1} → statement M
 node-at-spec =

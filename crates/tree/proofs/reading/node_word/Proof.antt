@@ -1,3 +1,4 @@
+-- `tree::reading::node_word` meets its contract: what it reads, from the map's start on, is the rules' field.
 use borrow.Author.Needs.{needs}
 use mathlib.Core.Path.{_∙_}
 use Rattle.tree.specs.ReadingLaws.{node-word-is}

@@ -1,3 +1,4 @@
+-- `tree::reading::step_at` meets its contract: what it reads, from the map's start on, are the rules' fields.
 use borrow.Author.Needs.{needs}
 use mathlib.Core.Path.{_∙_}
 use Rattle.tree.specs.ReadingLaws.{step-index-is, step-type-is}
@@ -30,10 +31,12 @@ word-at-requires-2 c κs = search needs
 
 returns : tie.Need-returns
 returns c =
-    let a = c .before .before .before .before .before .before in
+    let back3 = c .before .before .before in
+    let back6 = back3 .before .before .before in
+    let a = back6 in
     let e = c .before .word-at .ensures ∙ step-index-is (a .pre .0) (a .args .i) in
     let f = c .word-at2 .ensures ∙ step-type-is (a .pre .0) (a .args .i) in
-    simp (c .before .before .before .step-kind .ensures, c .before .before .step-flag .ensures, e, f)
+    simp (back3 .step-kind .ensures, c .before .before .step-flag .ensures, e, f)
 
 pub step-at-spec : {M : Type 1} → statement M
 step-at-spec =

@@ -1,3 +1,4 @@
+-- `tree::reading::step_flag` meets its contract: what it reads, from the map's start on, is the rules' field.
 use borrow.Author.Needs.{needs}
 use Rattle.tree.specs.ReadingLaws.{step-flag-is}
 use Rattle.tree.proofs.reading.step_flag.Statement.{statement}

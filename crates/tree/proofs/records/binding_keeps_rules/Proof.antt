@@ -1,3 +1,4 @@
+-- `tree::records::binding_keeps_rules` meets its contract: its tests are those of the definition, in order.
 use borrow.Author.Needs.{needs}
 use Rattle.tree.specs.declared.reading.Binding.{Binding}
 use Rattle.rules.specs.TreeReader.{bindingKeepsRules}
@@ -14,7 +15,10 @@ cast-path c = search needs
 
 returns : tie.Need-returns
 unfolding bindingKeepsRules
-returns c = let e = ap (λ (x : Binding). x .path) (c .before .before .binding-at .ensures) in simp (paths-count (c .before .before .before .before .pre .0), ← e)
+returns c =
+    let back4 = c .before .before .before .before in
+    let e = ap (λ (x : Binding). x .path) (c .before .before .binding-at .ensures) in
+    simp (paths-count (back4 .pre .0), ← e)
 
 pub binding-keeps-rules-spec : {M : Type 1} → statement M
 binding-keeps-rules-spec = tie.close (tie.spec binding-at-requires cast-path returns)

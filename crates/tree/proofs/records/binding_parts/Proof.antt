@@ -1,3 +1,4 @@
+-- `tree::records::binding_parts` meets its contract: its tests are those of the definition, in order, of the words as they were read.
 use borrow.Author.Needs.{needs}
 use Rattle.rules.specs.TreeReader.{bindingParts, nodeFirstBinding, nodeBindings}
 use Rattle.tree.specs.ReadingLaws.{bindings-count}
@@ -26,7 +27,16 @@ run-in-requires c κs = search needs
 
 returns-2 : tie.Need-returns-2
 unfolding bindingParts nodeFirstBinding nodeBindings
-returns-2 c = simp (← c .before .before .before .node-word .ensures, ← c .before .before .node-word2 .ensures, bindings-count (c .before .before .before .before .before .pre .0), le-leb _ _ (c .before .if1 .left), ← c .run-in .ensures)
+returns-2 c =
+    let back3 = c .before .before .before in
+    let back5 = back3 .before .before in
+    simp (
+      ← back3 .node-word .ensures,
+      ← c .before .before .node-word2 .ensures,
+      bindings-count (back5 .pre .0),
+      le-leb _ _ (c .before .if1 .left),
+      ← c .run-in .ensures,
+    )
 
 pub binding-parts-spec : {M : Type 1} → statement M
 binding-parts-spec =

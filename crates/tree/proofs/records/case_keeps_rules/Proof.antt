@@ -1,3 +1,4 @@
+-- `tree::records::case_keeps_rules` meets its contract: its tests are those of the definition, in order.
 use borrow.Author.Needs.{needs}
 use Rattle.rules.specs.TreeReader.{caseKeepsRules}
 use Rattle.tree.specs.ReadingLaws.{nodes-count}
@@ -18,7 +19,9 @@ case-of-kind-requires c κs = search needs
 
 returns-2 : tie.Need-returns-2
 unfolding caseKeepsRules
-returns-2 c = simp (← c .before .before .before .case-zero .ensures, eq-eqb _ _ (c .before .before .if1 .left), sym (c .before .case-of-kind .ensures) ∙ not-true _ (c .if2 .taken))
+returns-2 c =
+    let back3 = c .before .before .before in
+    simp (← back3 .case-zero .ensures, eq-eqb _ _ (c .before .before .if1 .left), sym (c .before .case-of-kind .ensures) ∙ not-true _ (c .if2 .taken))
 
 case-child-requires : tie.Need-case-child-requires
 case-child-requires c κs = search needs
@@ -28,7 +31,18 @@ cast-child c = search needs
 
 returns-3 : tie.Need-returns-3
 unfolding caseKeepsRules
-returns-3 c = simp (← c .before .before .before .before .before .case-zero .ensures, eq-eqb _ _ (c .before .before .before .before .if1 .left), sym (c .before .before .before .case-of-kind .ensures) ∙ not-false _ (c .before .before .if2 .left), ← c .before .case-child .ensures, nodes-count (c .before .before .before .before .before .before .before .pre .0))
+returns-3 c =
+    let back3 = c .before .before .before in
+    let back4 = back3 .before in
+    let back5 = back4 .before in
+    let back7 = back5 .before .before in
+    simp (
+      ← back5 .case-zero .ensures,
+      eq-eqb _ _ (back4 .if1 .left),
+      sym (back3 .case-of-kind .ensures) ∙ not-false _ (c .before .before .if2 .left),
+      ← c .before .case-child .ensures,
+      nodes-count (back7 .pre .0),
+    )
 
 pub case-keeps-rules-spec : {M : Type 1} → statement M
 case-keeps-rules-spec =

@@ -1,3 +1,4 @@
+-- `tree::records::case_of_kind` meets its contract: each kind byte has its kind's test, and any other byte is unknown.
 use borrow.Author.Needs.{needs}
 use Rattle.rules.specs.TreeReader.{caseOfKind, caseKindOf}
 use Rattle.tree.specs.ReadingLaws.{pool-count}
@@ -32,11 +33,33 @@ returns c = simp (← c .before .case-kind .ensures, c .match .keys1, ← c .bef
 
 returns-2 : tie.Need-returns-2
 unfolding caseOfKind caseKindOf
-returns-2 c = simp (← c .before .before .case-kind .ensures, c .before .match .keys2, ← c .before .before .before .before .case-number .ensures, ← c .before .before .before .case-length .ensures, pool-count (c .before .before .before .before .before .before .pre .0), ← c .run-in .ensures)
+returns-2 c =
+    let back3 = c .before .before .before in
+    let back4 = back3 .before in
+    let back6 = back4 .before .before in
+    simp (
+      ← c .before .before .case-kind .ensures,
+      c .before .match .keys2,
+      ← back4 .case-number .ensures,
+      ← back3 .case-length .ensures,
+      pool-count (back6 .pre .0),
+      ← c .run-in .ensures,
+    )
 
 returns-3 : tie.Need-returns-3
 unfolding caseOfKind caseKindOf
-returns-3 c = simp (← c .before .before .case-kind .ensures, c .before .match .keys3, ← c .before .before .before .before .case-number .ensures, ← c .before .before .before .case-length .ensures, pool-count (c .before .before .before .before .before .before .pre .0), ← c .run-in2 .ensures)
+returns-3 c =
+    let back3 = c .before .before .before in
+    let back4 = back3 .before in
+    let back6 = back4 .before .before in
+    simp (
+      ← c .before .before .case-kind .ensures,
+      c .before .match .keys3,
+      ← back4 .case-number .ensures,
+      ← back3 .case-length .ensures,
+      pool-count (back6 .pre .0),
+      ← c .run-in2 .ensures,
+    )
 
 returns-4 : tie.Need-returns-4
 unfolding caseOfKind caseKindOf
@@ -48,7 +71,15 @@ returns-5 c = simp (← c .before .case-kind .ensures, c .match .keys5, ← c .b
 
 returns-6 : tie.Need-returns-6
 unfolding caseOfKind caseKindOf
-returns-6 c = simp (← c .before .case-kind .ensures, ne-eqb _ _ (c .match .rest .1), ne-eqb _ _ (c .match .rest .0 .1), ne-eqb _ _ (c .match .rest .0 .0 .1), ne-eqb _ _ (c .match .rest .0 .0 .0 .1), ne-eqb _ _ (c .match .rest .0 .0 .0 .0 .1))
+returns-6 c =
+    simp (
+      ← c .before .case-kind .ensures,
+      ne-eqb _ _ (c .match .rest .1),
+      ne-eqb _ _ (c .match .rest .0 .1),
+      ne-eqb _ _ (c .match .rest .0 .0 .1),
+      ne-eqb _ _ (c .match .rest .0 .0 .0 .1),
+      ne-eqb _ _ (c .match .rest .0 .0 .0 .0 .1),
+    )
 
 pub case-of-kind-spec : {M : Type 1} → statement M
 case-of-kind-spec =

@@ -1,3 +1,4 @@
+-- `tree::records::cases_of_kind` meets its contract: the loop's invariant is that what is asked of the cases left is what is asked of all.
 use borrow.Author.Needs.{needs}
 use mathlib.Core.Path.{_≡_, _∙_}
 use borrow.Author.Tests.{eq-eqb, ne-eqb}
@@ -26,7 +27,14 @@ case-kind-requires c κs = search needs
 
 returns : tie.Need-returns Inv-loop μ-loop
 unfolding isKind
-returns c = let a = c .before .before .before .before .before .args in let f = isKind (a .t .now) (a .kind) in let l = c .before .before .before .loop in every-rest-stop f (a .i) (l .j) (a .n) (c .before .before .loop-test .taken) (rw (← c .before .case-kind .ensures) (ne-eqb _ _ (c .if1 .taken))) ∙ l .inv .1
+returns c =
+    let back3 = c .before .before .before in
+    let back5 = back3 .before .before in
+    let a = back5 .args in
+    let f = isKind (a .t .now) (a .kind) in
+    let l = back3 .loop in
+    every-rest-stop f (a .i) (l .j) (a .n) (c .before .before .loop-test .taken)
+    (rw (← c .before .case-kind .ensures) (ne-eqb _ _ (c .if1 .taken))) ∙ l .inv .1
 
 add-j : tie.Need-add-j Inv-loop μ-loop
 add-j c = search needs
@@ -36,11 +44,22 @@ loop-less c = search needs
 
 loop-again : tie.Need-loop-again Inv-loop μ-loop
 unfolding isKind
-loop-again c = let a = c .before .before .before .before .before .args in let f = isKind (a .t .now) (a .kind) in let l = c .before .before .before .loop in (search needs, every-rest-on f (a .i) (l .j) (a .n) (c .before .before .loop-test .taken) (rw (← c .before .case-kind .ensures) (eq-eqb _ _ (c .if1 .left))) ∙ l .inv .1)
+loop-again c =
+    let back3 = c .before .before .before in
+    let back5 = back3 .before .before in
+    let a = back5 .args in
+    let f = isKind (a .t .now) (a .kind) in
+    let l = back3 .loop in
+    (search needs, every-rest-on f (a .i) (l .j) (a .n) (c .before .before .loop-test .taken) (rw (← c .before .case-kind .ensures) (eq-eqb _ _ (c .if1 .left))) ∙ l .inv .1)
 
 returns-2 : tie.Need-returns-2 Inv-loop μ-loop
 unfolding isKind
-returns-2 c = let a = c .before .before .before .args in let f = isKind (a .t .now) (a .kind) in let l = c .before .loop in every-rest-end f (a .i) (l .j) (a .n) (c .loop-test .left) ∙ l .inv .1
+returns-2 c =
+    let back3 = c .before .before .before in
+    let a = back3 .args in
+    let f = isKind (a .t .now) (a .kind) in
+    let l = c .before .loop in
+    every-rest-end f (a .i) (l .j) (a .n) (c .loop-test .left) ∙ l .inv .1
 
 pub cases-of-kind-spec : {M : Type 1} → statement M
 cases-of-kind-spec =

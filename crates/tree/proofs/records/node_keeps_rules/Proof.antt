@@ -1,3 +1,4 @@
+-- `tree::records::node_keeps_rules` meets its contract: each kind byte has its kind's test, and any other byte is unknown.
 use borrow.Author.Needs.{needs}
 use Rattle.rules.specs.TreeReader.{nodeKeepsRules, nodeKindOf, nodeOfKind}
 use borrow.Author.Tests.{eq-eqb, ne-eqb}
@@ -28,23 +29,69 @@ hoist-keeps-rules-requires c κs = search needs
 
 returns-2 : tie.Need-returns-2
 unfolding nodeKeepsRules nodeKindOf
-returns-2 c = simp (← c .before .before .before .before .node-zero .ensures, eq-eqb _ _ (c .before .before .before .if1 .left), ← c .before .before .node-kind .ensures, c .before .match .keys1, ← c .switch-keeps-rules .ensures)
+returns-2 c =
+    let back3 = c .before .before .before in
+    let back4 = back3 .before in
+    simp (
+      ← back4 .node-zero .ensures,
+      eq-eqb _ _ (back3 .if1 .left),
+      ← c .before .before .node-kind .ensures,
+      c .before .match .keys1,
+      ← c .switch-keeps-rules .ensures,
+    )
 
 returns-3 : tie.Need-returns-3
 unfolding nodeKeepsRules nodeKindOf
-returns-3 c = simp (← c .before .before .before .before .node-zero .ensures, eq-eqb _ _ (c .before .before .before .if1 .left), ← c .before .before .node-kind .ensures, c .before .match .keys2, ← c .list-switch-keeps-rules .ensures)
+returns-3 c =
+    let back3 = c .before .before .before in
+    let back4 = back3 .before in
+    simp (
+      ← back4 .node-zero .ensures,
+      eq-eqb _ _ (back3 .if1 .left),
+      ← c .before .before .node-kind .ensures,
+      c .before .match .keys2,
+      ← c .list-switch-keeps-rules .ensures,
+    )
 
 returns-4 : tie.Need-returns-4
 unfolding nodeKeepsRules nodeKindOf
-returns-4 c = simp (← c .before .before .before .before .node-zero .ensures, eq-eqb _ _ (c .before .before .before .if1 .left), ← c .before .before .node-kind .ensures, c .before .match .keys3, ← c .leaf-keeps-rules .ensures)
+returns-4 c =
+    let back3 = c .before .before .before in
+    let back4 = back3 .before in
+    simp (
+      ← back4 .node-zero .ensures,
+      eq-eqb _ _ (back3 .if1 .left),
+      ← c .before .before .node-kind .ensures,
+      c .before .match .keys3,
+      ← c .leaf-keeps-rules .ensures,
+    )
 
 returns-5 : tie.Need-returns-5
 unfolding nodeKeepsRules nodeKindOf
-returns-5 c = simp (← c .before .before .before .before .node-zero .ensures, eq-eqb _ _ (c .before .before .before .if1 .left), ← c .before .before .node-kind .ensures, c .before .match .keys4, ← c .hoist-keeps-rules .ensures)
+returns-5 c =
+    let back3 = c .before .before .before in
+    let back4 = back3 .before in
+    simp (
+      ← back4 .node-zero .ensures,
+      eq-eqb _ _ (back3 .if1 .left),
+      ← c .before .before .node-kind .ensures,
+      c .before .match .keys4,
+      ← c .hoist-keeps-rules .ensures,
+    )
 
 returns-6 : tie.Need-returns-6
 unfolding nodeKeepsRules nodeKindOf nodeOfKind
-returns-6 c = simp (← c .before .before .before .node-zero .ensures, eq-eqb _ _ (c .before .before .if1 .left), ← c .before .node-kind .ensures, ne-eqb _ _ (c .match .rest .1), ne-eqb _ _ (c .match .rest .0 .1), ne-eqb _ _ (c .match .rest .0 .0 .1), ne-eqb _ _ (c .match .rest .0 .0 .0 .1))
+returns-6 c =
+    let back3 = c .before .before .before in
+    simp (
+      ← back3 .node-zero .ensures,
+      eq-eqb _ _ (c .before .before .if1 .left),
+      ← c .before .node-kind .ensures,
+      ne-eqb _ _ (c .match .rest .1),
+      ne-eqb _ _ (c .match .rest .0 .1),
+      ne-eqb _ _ (c .match .rest .0 .0 .1),
+      ne-eqb _ _ (c .match .rest .0 .0 .0 .1),
+    )
 
 pub node-keeps-rules-spec : {M : Type 1} → statement M
 node-keeps-rules-spec =

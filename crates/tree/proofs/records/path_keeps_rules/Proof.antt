@@ -1,3 +1,4 @@
+-- `tree::records::path_keeps_rules` meets its contract: its tests are those of the definition, in order.
 use borrow.Author.Needs.{needs}
 use Rattle.tree.specs.declared.reading.Path.{Path}
 use Rattle.rules.specs.TreeReader.{pathKeepsRules}
@@ -20,7 +21,12 @@ run-in-requires c κs = search needs
 
 returns : tie.Need-returns
 unfolding pathKeepsRules
-returns c = let e = ap (λ (x : Path). x .first) (c .before .before .before .path-at .ensures) in let f = ap (λ (x : Path). x .count) (c .before .before .before .path-at .ensures) in simp (steps-count (c .before .before .before .before .before .pre .0), ← e, ← f, ← c .run-in .ensures)
+returns c =
+    let back3 = c .before .before .before in
+    let back5 = back3 .before .before in
+    let e = ap (λ (x : Path). x .first) (back3 .path-at .ensures) in
+    let f = ap (λ (x : Path). x .count) (back3 .path-at .ensures) in
+    simp (steps-count (back5 .pre .0), ← e, ← f, ← c .run-in .ensures)
 
 pub path-keeps-rules-spec : {M : Type 1} → statement M
 path-keeps-rules-spec =

@@ -1,3 +1,4 @@
+-- `tree::records::run_in` meets its contract: n is compared without a sum that could wrap.
 use Prim.Native.Nat.{_+_}
 use native.Mathlib.Omega.{arith}
 use Rattle.rules.specs.SheetFile.{runIn}
@@ -15,11 +16,15 @@ returns-2 c = simp (lt-leb (c .before .before .args .first + c .before .before .
 
 returns-3 : tie.Need-returns-3
 unfolding runIn
-returns-3 c = simp (le-leb (c .before .before .before .args .first + c .before .before .before .args .count) (c .before .before .before .args .n) (omega arith), lt-ltb _ _ (c .if3 .taken))
+returns-3 c =
+    let back3 = c .before .before .before in
+    simp (le-leb (back3 .args .first + back3 .args .count) (back3 .args .n) (omega arith), lt-ltb _ _ (c .if3 .taken))
 
 returns-4 : tie.Need-returns-4
 unfolding runIn
-returns-4 c = simp (le-leb (c .before .before .before .args .first + c .before .before .before .args .count) (c .before .before .before .args .n) (omega arith), le-ltb _ _ (c .if3 .left))
+returns-4 c =
+    let back3 = c .before .before .before in
+    simp (le-leb (back3 .args .first + back3 .args .count) (back3 .args .n) (omega arith), le-ltb _ _ (c .if3 .left))
 
 pub run-in-spec : {M : Type 1} → statement M
 run-in-spec = tie.close (tie.spec returns returns-2 returns-3 returns-4)

@@ -1,3 +1,4 @@
+-- `tree::records::steps_keep_rules` meets its contract: the loop's invariant is that what is asked of the records left is what is asked of all.
 use borrow.Author.Needs.{needs}
 use native.Mathlib.Nat.{sub-zero}
 use mathlib.Core.Path.{_≡_, sym, _∙_}
@@ -22,7 +23,14 @@ step-keeps-rules-requires : tie.Need-step-keeps-rules-requires Inv-loop μ-loop
 step-keeps-rules-requires c κs = search needs
 
 returns : tie.Need-returns Inv-loop μ-loop
-returns c = let a = c .before .before .before .before .before .before .args in let f = stepKeepsRules (a .t .now) in let n = a .m .steps .count in let l = c .before .before .before .before .loop in sym (every-stop f (l .i) n (c .before .before .if1 .taken) (sym (c .before .step-keeps-rules .ensures) ∙ not-true _ (c .if2 .taken))) ∙ l .inv .1
+returns c =
+    let back4 = c .before .before .before .before in
+    let back6 = back4 .before .before in
+    let a = back6 .args in
+    let f = stepKeepsRules (a .t .now) in
+    let n = a .m .steps .count in
+    let l = back4 .loop in
+    sym (every-stop f (l .i) n (c .before .before .if1 .taken) (sym (c .before .step-keeps-rules .ensures) ∙ not-true _ (c .if2 .taken))) ∙ l .inv .1
 
 add-i : tie.Need-add-i Inv-loop μ-loop
 add-i c = search needs
@@ -31,10 +39,23 @@ loop-less : tie.Need-loop-less Inv-loop μ-loop
 loop-less c = search needs
 
 loop-again : tie.Need-loop-again Inv-loop μ-loop
-loop-again c = let a = c .before .before .before .before .before .before .args in let f = stepKeepsRules (a .t .now) in let n = a .m .steps .count in let l = c .before .before .before .before .loop in (search needs, every-on f (l .i) n (c .before .before .if1 .taken) (sym (c .before .step-keeps-rules .ensures) ∙ not-false _ (c .if2 .left)) ∙ l .inv .1)
+loop-again c =
+    let back4 = c .before .before .before .before in
+    let back6 = back4 .before .before in
+    let a = back6 .args in
+    let f = stepKeepsRules (a .t .now) in
+    let n = a .m .steps .count in
+    let l = back4 .loop in
+    (search needs, every-on f (l .i) n (c .before .before .if1 .taken) (sym (c .before .step-keeps-rules .ensures) ∙ not-false _ (c .if2 .left)) ∙ l .inv .1)
 
 returns-2 : tie.Need-returns-2 Inv-loop μ-loop
-returns-2 c = let a = c .before .before .before .before .args in let f = stepKeepsRules (a .t .now) in let n = a .m .steps .count in let l = c .before .before .loop in sym (every-end f (l .i) n (c .if1 .left)) ∙ l .inv .1
+returns-2 c =
+    let back4 = c .before .before .before .before in
+    let a = back4 .args in
+    let f = stepKeepsRules (a .t .now) in
+    let n = a .m .steps .count in
+    let l = c .before .before .loop in
+    sym (every-end f (l .i) n (c .if1 .left)) ∙ l .inv .1
 
 pub steps-keep-rules-spec : {M : Type 1} → statement M
 steps-keep-rules-spec =

@@ -1,3 +1,4 @@
+-- `tree::records::switch_keeps_rules` meets its contract: its tests are those of the definition, in order.
 use borrow.Author.Needs.{needs}
 use Rattle.rules.specs.TreeReader.{nodeOfKind}
 use borrow.Author.Tests.{not-true, not-false}
@@ -13,7 +14,9 @@ unfolding nodeOfKind
 returns c = simp (sym (c .before .switch-parts .ensures) ∙ not-true _ (c .if1 .taken))
 
 switch-cases-requires : tie.Need-switch-cases-requires
-switch-cases-requires c κs = (c .before .before .before .pre .0, c .before .before .before .pre .1, sym (c .before .switch-parts .ensures) ∙ not-false _ (c .if1 .left))
+switch-cases-requires c κs =
+    let back3 = c .before .before .before in
+    (back3 .pre .0, back3 .pre .1, sym (c .before .switch-parts .ensures) ∙ not-false _ (c .if1 .left))
 
 returns-2 : tie.Need-returns-2
 unfolding nodeOfKind

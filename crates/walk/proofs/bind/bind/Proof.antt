@@ -1,3 +1,5 @@
+-- `walk::bind::bind` meets its contract: the loop's invariant is that the bindings left, written after those before, give the words that all of them give.
+-- Records and dropped elements of a panel fit a word.
 use borrow.Author.Needs.{needs}
 use mathlib.Core.List.{List}
 use Rattle.tree.specs.declared.reading.Binding.{Binding}
@@ -7,20 +9,13 @@ use Rattle.walk.specs.FollowLaws.{found-some, found-none, found-within, 
 use Rattle.walk.specs.Bindings.{isThere, wordsAfter}
 use Rattle.walk.specs.Positions.{placed}
 use Rattle.rules.specs.Walking.{panelRoot, follow, bound as boundAll}
-use Rattle.rules.specs.TreeReader.{bindingsFrom, bindingPath, pathAt}
-use mathlib.Core.Option.{Option, none, some}
+use Rattle.rules.specs.TreeReader.{bindingsFrom, pathAt}
 use lib.ListN.{length as lengthOf}
 use Prim.Native.Nat.{ℕ, _+_, _-_, _*_, _≤_}
 use native.Mathlib.Omega.{arith}
 use mathlib.Core.Path.{_≡_, refl, sym, ap, _∙_}
 use Rattle.walk.proofs.bind.bind.Statement.{statement}
 use Rattle.walk.proofs.bind.bind.Tie as tie
-use Rattle.walk.proofs.bind.bind.Reads as reads
-use Rattle.walk.proofs.bind.bind.Lts as lts
-use Rattle.tree.proofs.reading.binding_at.Reads as binding-at-reads
-use Rattle.walk.proofs.bind.put_bound.Reads as put-bound-reads
-use Rattle.walk.proofs.follow.follow.Reads as follow-reads
-use Rattle.words.proofs.zero_words.Reads as zero-words-reads
 
 abbrev Inv-loop : tie.InvT-loop
 Inv-loop t m v n first count bound₀ i₀ bound i = (i ≤ count) × (lengthOf bound ≡ lengthOf bound₀) × (isThere (left t v first count i) ≡ isThere (boundAll v (bindingsFrom t first count)))
@@ -29,118 +24,140 @@ Inv-loop t m v n first count bound₀ i₀ bound i = (i ≤ count) × (lengthOf 
 abbrev μ-loop : tie.MeasureT-loop
 μ-loop t m v n first count bound₀ i₀ bound i = count - i
 
--- src/bind.rt:32:5
 loop-holds : tie.Need-loop-holds Inv-loop μ-loop
 loop-holds c =
-    let a = c .before .before .before .args in
+    let back3 = c .before .before .before in
+    let a = back3 .args in
     let e = bindings-start (a .t .now) (a .v .now) (a .first) (a .count) in
     (search needs, refl, ap isThere e, ap (wordsAfter (a .bound .now) 0) e)
 
--- src/bind.rt:33:34
 add-binding-at : tie.Need-add-binding-at Inv-loop μ-loop
-add-binding-at c = omega (arith, c .before .before .before .before .before .pre .1, c .before .before .before .before .before .pre .0 .mapped)
+add-binding-at c =
+    let back5 = c .before .before .before .before .before in
+    omega (arith, back5 .pre .1, back5 .pre .0 .mapped)
 
--- src/bind.rt:33:13
 binding-at-requires : tie.Need-binding-at-requires Inv-loop μ-loop
-binding-at-requires c κs = (c .before .before .before .before .before .pre .0 .mapped, omega (arith, c .before .before .before .before .before .pre .1, c .loop-test .taken))
+binding-at-requires c κs =
+    let back5 = c .before .before .before .before .before in
+    (back5 .pre .0 .mapped, omega (arith, back5 .pre .1, c .loop-test .taken))
 
--- src/bind.rt:34:47
 cast-follow : tie.Need-cast-follow Inv-loop μ-loop
 cast-follow c = search needs
 
--- src/bind.rt:34:28
 follow-requires : tie.Need-follow-requires Inv-loop μ-loop
 follow-requires c κs =
-    let ready = c .before .before .before .before .before .before .before .pre .0 in
-    (ready, binding-path-in (ready .mapped) (ready .sound .is-ruled) (c .before .before .before .before .before .before .before .args .first + c .before .before .before .loop .i) (c .before .binding-at .result) (omega (arith, c .before .before .before .before .before .before .before .pre .1, c .before .before .loop-test .taken)) (c .before .binding-at .ensures))
+    let back3 = c .before .before .before in
+    let back7 = back3 .before .before .before .before in
+    let ready = back7 .pre .0 in
+    (ready, binding-path-in (ready .mapped) (ready .sound .is-ruled) (back7 .args .first + back3 .loop .i) (c .before .binding-at .result) (omega (arith, back7 .pre .1, c .before .before .loop-test .taken)) (c .before .binding-at .ensures))
 
--- src/bind.rt:34:23
 enum-known-p : tie.Need-enum-known-p Inv-loop μ-loop
 enum-known-p c = search needs
 
--- src/bind.rt:35:24
 enum-told : tie.Need-enum-told Inv-loop μ-loop
 enum-told c = search needs
 
--- src/bind.rt:35:13
 zero-words-requires : tie.Need-zero-words-requires Inv-loop μ-loop
 zero-words-requires c κs = search needs
 
--- src/bind.rt:36:13
 same-length : tie.Need-same-length Inv-loop μ-loop
-same-length c = c .before .before .zero-words .kept .0 ∙ c .before .before .before .before .before .before .before .before .before .before .loop .inv .1
+same-length c =
+    let back10 = c .before .before .before .before .before .before .before .before .before .before in
+    c .before .before .zero-words .kept .0 ∙ back10 .loop .inv .1
 
--- src/bind.rt:36:13
 returns : tie.Need-returns Inv-loop μ-loop
 returns c =
-    let a = c .before .before .before .before .before .before .before .before .before .before .before .before .before .before .args in
-    let l = c .before .before .before .before .before .before .before .before .before .before .loop in
-    let b = c .before .before .before .before .before .before .before .before .binding-at .result in
-    let path = ap (λ (x : Binding). x .path) (c .before .before .before .before .before .before .before .before .binding-at .ensures) in
-    let lost = found-none (follow (a .v .now) (pathAt (a .t .now) (b .path)) panelRoot) (sym (c .before .before .before .before .before .before .follow .ensures) ∙ c .before .before .before .before .enum-told .given .1) in
-    let s = binding-stuck (a .t .now) (a .v .now) (a .first) (a .count) (l .i) (c .before .before .before .before .before .before .before .before .before .loop-test .taken) (ap (λ (k : ℕ). follow (a .v .now) (pathAt (a .t .now) k) panelRoot) (sym path) ∙ lost) in
+    let back4 = c .before .before .before .before in
+    let back6 = back4 .before .before in
+    let back8 = back6 .before .before in
+    let back9 = back8 .before in
+    let back10 = back9 .before in
+    let back14 = back10 .before .before .before .before in
+    let a = back14 .args in
+    let l = back10 .loop in
+    let b = back8 .binding-at .result in
+    let path = ap (λ (x : Binding). x .path) (back8 .binding-at .ensures) in
+    let lost = found-none (follow (a .v .now) (pathAt (a .t .now) (b .path)) panelRoot) (sym (back6 .follow .ensures) ∙ back4 .enum-told .given .1) in
+    let s =
+    binding-stuck (a .t .now) (a .v .now) (a .first) (a .count) (l .i) (back9 .loop-test .taken)
+    (ap (λ (k : ℕ). follow (a .v .now) (pathAt (a .t .now) k) panelRoot) (sym path) ∙ lost) in
     record {
       answer = sym (ap isThere s) ∙ l .inv .2;
       words = c .before .before .zero-words .ensures ∙ sym (ap (wordsAfter (l .bound) (3 * l .i)) s) ∙ l .inv .3;
     }
 
--- src/bind.rt:38:26
 mul-put-bound : tie.Need-mul-put-bound Inv-loop μ-loop
-mul-put-bound c = omega (arith, c .before .before .before .before .before .before .before .before .before .before .before .before .pre .1, c .before .before .before .before .before .before .before .before .before .before .before .before .pre .0 .mapped)
+mul-put-bound c =
+    let back12 = c .before .before .before .before .before .before .before .before .before .before .before .before in
+    omega (arith, back12 .pre .1, back12 .pre .0 .mapped)
 
--- src/bind.rt:38:41
 cast-put-bound : tie.Need-cast-put-bound Inv-loop μ-loop
 cast-put-bound c =
-    let a = c .before .before .before .before .before .before .before .before .before .before .before .before .before .args in
-    let ready = c .before .before .before .before .before .before .before .before .before .before .before .before .before .pre .0 in
-    let l = c .before .before .before .before .before .before .before .before .before .loop in
-    let b = c .before .before .before .before .before .before .before .binding-at .result in
-    let p = c .before .before .before .p .given .0 .0 in
-    let r : c .before .before .before .before .before .follow .result ≡ At p = search needs in
-    let found = found-some (follow (a .v .now) (pathAt (a .t .now) (b .path)) panelRoot) p (sym (c .before .before .before .before .before .follow .ensures) ∙ r) in
+    let back3 = c .before .before .before in
+    let back5 = back3 .before .before in
+    let back7 = back5 .before .before in
+    let back9 = back7 .before .before in
+    let back13 = back9 .before .before .before .before in
+    let a = back13 .args in
+    let ready = back13 .pre .0 in
+    let l = back9 .loop in
+    let b = back7 .binding-at .result in
+    let p = back3 .p .given .0 .0 in
+    let r : back5 .follow .result ≡ At p = back3 .p .given .1 in
+    let found = found-some (follow (a .v .now) (pathAt (a .t .now) (b .path)) panelRoot) p (sym (back5 .follow .ensures) ∙ r) in
     let within = found-within ready (b .path) p found in
     omega (arith, within .place-in, ready .opened .laid .records-most)
 
--- src/bind.rt:38:58
 cast-put-bound-2 : tie.Need-cast-put-bound-2 Inv-loop μ-loop
 cast-put-bound-2 c =
-    let a = c .before .before .before .before .before .before .before .before .before .before .before .before .before .before .args in
-    let ready = c .before .before .before .before .before .before .before .before .before .before .before .before .before .before .pre .0 in
-    let l = c .before .before .before .before .before .before .before .before .before .before .loop in
-    let b = c .before .before .before .before .before .before .before .before .binding-at .result in
-    let p = c .before .before .before .before .p .given .0 .0 in
-    let r : c .before .before .before .before .before .before .follow .result ≡ At p = search needs in
-    let found = found-some (follow (a .v .now) (pathAt (a .t .now) (b .path)) panelRoot) p (sym (c .before .before .before .before .before .before .follow .ensures) ∙ r) in
+    let back4 = c .before .before .before .before in
+    let back6 = back4 .before .before in
+    let back8 = back6 .before .before in
+    let back10 = back8 .before .before in
+    let back14 = back10 .before .before .before .before in
+    let a = back14 .args in
+    let ready = back14 .pre .0 in
+    let l = back10 .loop in
+    let b = back8 .binding-at .result in
+    let p = back4 .p .given .0 .0 in
+    let r : back6 .follow .result ≡ At p = back4 .p .given .1 in
+    let found = found-some (follow (a .v .now) (pathAt (a .t .now) (b .path)) panelRoot) p (sym (back6 .follow .ensures) ∙ r) in
     let within = found-within ready (b .path) p found in
     omega (arith, dropped-small (ready .opened .laid) (ready .panel .is-shaped) (placed p) within)
 
--- src/bind.rt:38:9
 put-bound-requires : tie.Need-put-bound-requires Inv-loop μ-loop
-put-bound-requires c κs = omega (arith, c .before .before .before .before .before .before .before .before .before .before .before .before .before .before .pre .2, c .before .before .before .before .before .before .before .before .before .before .loop .inv .1, c .before .before .before .before .before .before .before .before .before .loop-test .taken)
+put-bound-requires c κs =
+    let back9 = c .before .before .before .before .before .before .before .before .before in
+    let back10 = back9 .before in
+    let back14 = back10 .before .before .before .before in
+    omega (arith, back14 .pre .2, back10 .loop .inv .1, back9 .loop-test .taken)
 
--- src/bind.rt:39:9
 add-i : tie.Need-add-i Inv-loop μ-loop
 add-i c = search needs
 
--- src/bind.rt:32:5
 loop-less : tie.Need-loop-less Inv-loop μ-loop
 loop-less c = search needs
 
--- src/bind.rt:32:5
 loop-again : tie.Need-loop-again Inv-loop μ-loop
 loop-again c =
-    let a = c .before .before .before .before .before .before .before .before .before .before .before .before .before .before .before .before .before .args in
-    let ready = c .before .before .before .before .before .before .before .before .before .before .before .before .before .before .before .before .before .pre .0 in
-    let l = c .before .before .before .before .before .before .before .before .before .before .before .before .before .loop in
-    let b = c .before .before .before .before .before .before .before .before .before .before .before .binding-at .result in
-    let p = c .before .before .before .before .before .before .before .p .given .0 .0 in
-    let r : c .before .before .before .before .before .before .before .before .before .follow .result ≡ At p = search needs in
-    let found = found-some (follow (a .v .now) (pathAt (a .t .now) (b .path)) panelRoot) p (sym (c .before .before .before .before .before .before .before .before .before .follow .ensures) ∙ r) in
+    let back7 = c .before .before .before .before .before .before .before in
+    let back9 = back7 .before .before in
+    let back11 = back9 .before .before in
+    let back12 = back11 .before in
+    let back13 = back12 .before in
+    let back17 = back13 .before .before .before .before in
+    let a = back17 .args in
+    let ready = back17 .pre .0 in
+    let l = back13 .loop in
+    let b = back11 .binding-at .result in
+    let p = back7 .p .given .0 .0 in
+    let r : back9 .follow .result ≡ At p = back7 .p .given .1 in
+    let found = found-some (follow (a .v .now) (pathAt (a .t .now) (b .path)) panelRoot) p (sym (back9 .follow .ensures) ∙ r) in
     let within = found-within ready (b .path) p found in
-    let path = ap (λ (x : Binding). x .path) (c .before .before .before .before .before .before .before .before .before .before .before .binding-at .ensures) in
-    let name = ap (λ (x : Binding). x .name) (c .before .before .before .before .before .before .before .before .before .before .before .binding-at .ensures) in
+    let path = ap (λ (x : Binding). x .path) (back11 .binding-at .ensures) in
+    let name = ap (λ (x : Binding). x .name) (back11 .binding-at .ensures) in
     let there = ap (λ (k : ℕ). follow (a .v .now) (pathAt (a .t .now) k) panelRoot) (sym path) ∙ found in
-    let h = c .before .before .before .before .before .before .before .before .before .before .before .before .loop-test .taken in
+    let h = back12 .loop-test .taken in
     let stores = c .before .before .put-bound .ensures in (
       search needs,
       c .before .before .put-bound .kept .0 ∙ l .inv .1,
@@ -150,14 +167,13 @@ loop-again c =
           ∙ l .inv .3,
     )
 
--- src/bind.rt:27:1
 same-length-2 : tie.Need-same-length-2 Inv-loop μ-loop
 same-length-2 c = c .before .loop .inv .1
 
--- src/bind.rt:27:1
 returns-2 : tie.Need-returns-2 Inv-loop μ-loop
 returns-2 c =
-    let a = c .before .before .before .before .before .args in
+    let back5 = c .before .before .before .before .before in
+    let a = back5 .args in
     let l = c .before .loop in
     record {
       answer = there-end (a .t .now) (a .v .now) (a .first) (a .count) (l .i) (c .loop-test .left) ∙ l .inv .2;

@@ -1,3 +1,4 @@
+-- `walk::choose::first_case` meets its contract: the loop's invariant is that the first case that holds among those left is the first among all.
 use borrow.Author.Needs.{needs}
 use Rattle.walk.specs.declared.choose.Chosen.the-variants.{Child}
 use Rattle.tree.specs.ReadingLaws.{cases-count}
@@ -5,13 +6,9 @@ use Rattle.walk.specs.ChoicesLaws.{case-same, case-child-read, case-in-p
 use Rattle.walk.specs.Choices.{partMeans, firstCase, chosenOf}
 use Prim.Native.Nat.{_+_, _-_, _≤_}
 use native.Mathlib.Omega.{arith}
-use mathlib.Core.Path.{_≡_, refl, sym, ap, _∙_}
+use mathlib.Core.Path.{_≡_, sym, ap, _∙_}
 use Rattle.walk.proofs.choose.first_case.Statement.{statement}
 use Rattle.walk.proofs.choose.first_case.Tie as tie
-use Rattle.walk.proofs.choose.first_case.Reads as reads
-use Rattle.walk.proofs.choose.first_case.Lts as lts
-use Rattle.tree.proofs.reading.case_at.Reads as case-at-reads
-use Rattle.walk.proofs.choose.holds.Reads as holds-reads
 
 abbrev Inv-loop : tie.InvT-loop
 Inv-loop t m v i n s j₀ j = (j ≤ n) × (firstCase t v s (i + j) (n - j) ≡ firstCase t v s i n)
@@ -19,74 +16,81 @@ Inv-loop t m v i n s j₀ j = (j ≤ n) × (firstCase t v s (i + j) (n - j) ≡ 
 abbrev μ-loop : tie.MeasureT-loop
 μ-loop t m v i n s j₀ j = n - j
 
--- src/choose.rt:150:5
 loop-holds : tie.Need-loop-holds Inv-loop μ-loop
 loop-holds c = let a = c .before .before .args in (search needs, search-start (a .t .now) (a .v .now) (a .s) (a .i) (a .n))
 
--- src/choose.rt:151:34
 add-case-at : tie.Need-add-case-at Inv-loop μ-loop
 add-case-at c = search needs
 
--- src/choose.rt:151:13
 case-at-requires : tie.Need-case-at-requires Inv-loop μ-loop
 case-at-requires c κs =
-    let a = c .before .before .before .before .args in
-    let w = c .before .before .before .before .pre .0 in
+    let back4 = c .before .before .before .before in
+    let a = back4 .args in
+    let w = back4 .pre .0 in
     let l = c .before .loop in
     let count = cases-count (w .mapped) in
     let known = w .rules .case-kind (a .i + l .j) (omega arith) in
     (w .mapped, omega arith, known)
 
--- src/choose.rt:153:12
 holds-requires : tie.Need-holds-requires Inv-loop μ-loop
 holds-requires c κs =
-    let a = c .before .before .before .before .before .args in
-    let w = c .before .before .before .before .before .pre .0 in
+    let back5 = c .before .before .before .before .before in
+    let a = back5 .args in
+    let w = back5 .pre .0 in
     let l = c .before .before .loop in
     let count = cases-count (w .mapped) in
     let known = w .rules .case-kind (a .i + l .j) (omega arith) in
-    (w .mapped, c .before .before .before .before .before .pre .1, case-in-pool (a .t .now) (w .rules) (a .i + l .j) (c .case-at .result) (omega arith) (c .case-at .ensures))
+    (w .mapped, back5 .pre .1, case-in-pool (a .t .now) (w .rules) (a .i + l .j) (c .case-at .result) (omega arith) (c .case-at .ensures))
 
--- src/choose.rt:154:34
 cast-t13 : tie.Need-cast-t13 Inv-loop μ-loop
 cast-t13 c = search needs
 
--- src/choose.rt:154:13
 returns : tie.Need-returns Inv-loop μ-loop
 returns c =
-    let a = c .before .before .before .before .before .before .before .before .args in
-    let w = c .before .before .before .before .before .before .before .before .pre .0 in
-    let l = c .before .before .before .before .before .loop in
+    let back3 = c .before .before .before in
+    let back4 = back3 .before in
+    let back5 = back4 .before in
+    let back8 = back5 .before .before .before in
+    let a = back8 .args in
+    let w = back8 .pre .0 in
+    let l = back5 .loop in
     let count = cases-count (w .mapped) in
     let known = w .rules .case-kind (a .i + l .j) (omega arith) in
-    let x = c .before .before .before .case-at .result in
-    let e = sym (case-same (a .t .now) (partMeans (a .v .now) (a .s)) (a .i + l .j) x known (c .before .before .before .case-at .ensures)) ∙ sym (c .before .before .holds .ensures) ∙ c .before .if1 .taken in
-    ap Child (case-child-read (a .t .now) (a .i + l .j) x (c .before .before .before .case-at .ensures))
-    ∙ ap (chosenOf (a .t .now)) (sym (search-found (a .t .now) (a .v .now) (a .s) (a .i) (l .j) (a .n) (c .before .before .before .before .loop-test .taken) e) ∙ l .inv .1)
+    let x = back3 .case-at .result in
+    let e =
+    sym (case-same (a .t .now) (partMeans (a .v .now) (a .s)) (a .i + l .j) x known (back3 .case-at .ensures)) ∙ sym
+    (c .before .before .holds .ensures) ∙ c .before .if1 .taken in
+    ap Child (case-child-read (a .t .now) (a .i + l .j) x (back3 .case-at .ensures))
+    ∙ ap (chosenOf (a .t .now)) (sym (search-found (a .t .now) (a .v .now) (a .s) (a .i) (l .j) (a .n) (back4 .loop-test .taken) e) ∙ l .inv .1)
 
--- src/choose.rt:156:9
 add-j : tie.Need-add-j Inv-loop μ-loop
 add-j c = search needs
 
--- src/choose.rt:150:5
 loop-less : tie.Need-loop-less Inv-loop μ-loop
 loop-less c = search needs
 
--- src/choose.rt:150:5
 loop-again : tie.Need-loop-again Inv-loop μ-loop
 loop-again c =
-    let a = c .before .before .before .before .before .before .before .args in
-    let w = c .before .before .before .before .before .before .before .pre .0 in
-    let l = c .before .before .before .before .loop in
+    let back3 = c .before .before .before in
+    let back4 = back3 .before in
+    let back7 = back4 .before .before .before in
+    let a = back7 .args in
+    let w = back7 .pre .0 in
+    let l = back4 .loop in
     let count = cases-count (w .mapped) in
     let known = w .rules .case-kind (a .i + l .j) (omega arith) in
     let x = c .before .before .case-at .result in
-    let e = sym (case-same (a .t .now) (partMeans (a .v .now) (a .s)) (a .i + l .j) x known (c .before .before .case-at .ensures)) ∙ sym (c .before .holds .ensures) ∙ c .if1 .left in
-    (search needs, search-on (a .t .now) (a .v .now) (a .s) (a .i) (l .j) (a .n) (c .before .before .before .loop-test .taken) e ∙ l .inv .1)
+    let e =
+    sym (case-same (a .t .now) (partMeans (a .v .now) (a .s)) (a .i + l .j) x known (c .before .before .case-at .ensures)) ∙ sym
+    (c .before .holds .ensures) ∙ c .if1 .left in
+    (search needs, search-on (a .t .now) (a .v .now) (a .s) (a .i) (l .j) (a .n) (back3 .loop-test .taken) e ∙ l .inv .1)
 
--- src/choose.rt:145:1
 returns-2 : tie.Need-returns-2 Inv-loop μ-loop
-returns-2 c = let a = c .before .before .before .before .args in let l = c .before .loop in ap (chosenOf (a .t .now)) (search-end (a .t .now) (a .v .now) (a .s) (a .i) (l .j) (a .n) (c .loop-test .left) ∙ l .inv .1)
+returns-2 c =
+    let back4 = c .before .before .before .before in
+    let a = back4 .args in
+    let l = c .before .loop in
+    ap (chosenOf (a .t .now)) (search-end (a .t .now) (a .v .now) (a .s) (a .i) (l .j) (a .n) (c .loop-test .left) ∙ l .inv .1)
 
 pub first-case-spec : {M : Type 1} → statement M
 first-case-spec =

@@ -1,45 +1,39 @@
+-- `walk::choose::is_constr` meets its contract: by the variants of a test.
 use borrow.Author.Needs.{needs}
 use Rattle.tree.specs.declared.reading.Test.{Test}
 use Rattle.walk.specs.Choices.{isConstr}
-use mathlib.Core.Path.{_≡_, refl, sym, ap, _∙_}
+use mathlib.Core.Path.{_≡_, sym, ap}
 use Rattle.walk.proofs.choose.is_constr.Statement.{statement}
 use Rattle.walk.proofs.choose.is_constr.Tie as tie
-use Rattle.walk.proofs.choose.is_constr.Reads as reads
-use Rattle.walk.proofs.choose.is_constr.Lts as lts
 
--- src/choose.rt:74:22
 enum-known-test : tie.Need-enum-known-test
 enum-known-test c = search needs
 
--- src/choose.rt:74:33
 cast-result : tie.Need-cast-result
 cast-result c = search needs
 
--- src/choose.rt:75:58
 enum-told : tie.Need-enum-told
 enum-told c = search needs
 
--- src/choose.rt:76:26
 enum-told-2 : tie.Need-enum-told-2
 enum-told-2 c = search needs
 
--- src/choose.rt:77:28
 enum-told-3 : tie.Need-enum-told-3
 enum-told-3 c = search needs
 
--- src/choose.rt:70:1
 returns : tie.Need-returns
-returns c = let a = c .before .before .before .args in let e : a .test ≡ Test.Constr (c .before .test .given .0 .0) = search needs in sym (ap (λ (u : Test). isConstr u (a .a)) e)
+returns c =
+    let back3 = c .before .before .before in
+    let a = back3 .args in
+    let e : a .test ≡ Test.Constr (c .before .test .given .0 .0) = c .before .test .given .1 in
+    sym (ap (λ (u : Test). isConstr u (a .a)) e)
 
--- src/choose.rt:70:1
 returns-2 : tie.Need-returns-2
 returns-2 c = search needs
 
--- src/choose.rt:70:1
 returns-3 : tie.Need-returns-3
 returns-3 c = search needs
 
--- src/choose.rt:70:1
 returns-4 : tie.Need-returns-4
 returns-4 c = search needs
 

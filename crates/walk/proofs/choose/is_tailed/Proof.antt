@@ -1,47 +1,41 @@
+-- `walk::choose::is_tailed` meets its contract: by the variants of a test.
 use borrow.Author.Needs.{needs}
 use Rattle.tree.specs.declared.reading.Test.{Test}
 use Rattle.walk.specs.Choices.{isTailed}
-use mathlib.Core.Path.{_≡_, refl, sym, ap, _∙_}
+use mathlib.Core.Path.{_≡_, sym, ap}
 use Rattle.walk.proofs.choose.is_tailed.Statement.{statement}
 use Rattle.walk.proofs.choose.is_tailed.Tie as tie
-use Rattle.walk.proofs.choose.is_tailed.Reads as reads
-use Rattle.walk.proofs.choose.is_tailed.Lts as lts
 
--- src/choose.rt:96:28
 enum-told : tie.Need-enum-told
 enum-told c = search needs
 
--- src/choose.rt:97:58
 enum-told-2 : tie.Need-enum-told-2
 enum-told-2 c = search needs
 
--- src/choose.rt:98:26
 enum-told-3 : tie.Need-enum-told-3
 enum-told-3 c = search needs
 
--- src/choose.rt:99:22
 enum-known-test : tie.Need-enum-known-test
 enum-known-test c = search needs
 
--- src/choose.rt:99:33
 cast-result : tie.Need-cast-result
 cast-result c = search needs
 
--- src/choose.rt:92:1
 returns : tie.Need-returns
 returns c = search needs
 
--- src/choose.rt:92:1
 returns-2 : tie.Need-returns-2
 returns-2 c = search needs
 
--- src/choose.rt:92:1
 returns-3 : tie.Need-returns-3
 returns-3 c = search needs
 
--- src/choose.rt:92:1
 returns-4 : tie.Need-returns-4
-returns-4 c = let a = c .before .before .before .args in let e : a .test ≡ Test.Tailed (c .before .test .given .0 .0) = search needs in sym (ap (λ (u : Test). isTailed u (a .k)) e)
+returns-4 c =
+    let back3 = c .before .before .before in
+    let a = back3 .args in
+    let e : a .test ≡ Test.Tailed (c .before .test .given .0 .0) = c .before .test .given .1 in
+    sym (ap (λ (u : Test). isTailed u (a .k)) e)
 
 pub is-tailed-spec : {M : Type 1} → statement M
 is-tailed-spec =

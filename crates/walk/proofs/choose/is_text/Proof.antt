@@ -1,3 +1,4 @@
+-- `walk::choose::is_text` meets its contract: by the variants of a test; a text lies in its pool.
 use borrow.Author.Needs.{needs}
 use Rattle.tree.specs.ReadingLaws.{pool-start, pool-count}
 use Rattle.walk.specs.ChoicesLaws.{alike-true, alike-false, text-constr, text-list, text-tailed, text-text, text-other}
@@ -10,107 +11,105 @@ use borrow.Author.Tests.{not-true, not-false}
 use mathlib.Core.Bool.{Bool}
 use Prim.Native.Nat.{ℕ, _+_}
 use native.Mathlib.Omega.{arith}
-use mathlib.Core.Path.{_≡_, refl, sym, ap, _∙_}
+use mathlib.Core.Path.{_≡_, sym, ap, _∙_}
 use Rattle.walk.proofs.choose.is_text.Statement.{statement}
 use Rattle.walk.proofs.choose.is_text.Tie as tie
-use Rattle.walk.proofs.choose.is_text.Reads as reads
-use Rattle.walk.proofs.choose.is_text.Lts as lts
-use Rattle.walk.proofs.choose.alike.Reads as alike-reads
-use Rattle.walk.proofs.choose.texts_same.Reads as texts-same-reads
 
--- src/choose.rt:126:28
 enum-told : tie.Need-enum-told
 enum-told c = search needs
 
--- src/choose.rt:127:22
 enum-known-test : tie.Need-enum-known-test
 enum-known-test c = search needs
 
--- src/choose.rt:128:17
 alike-requires : tie.Need-alike-requires
 alike-requires c κs = search needs
 
--- src/choose.rt:129:17
 returns : tie.Need-returns
 returns c =
-    let a = c .before .before .before .before .before .before .before .args in
-    let g = c .before .before .before .test .given .0 in
-    let e : a .test ≡ Test.Text (g .0) (g .1 .0) (g .1 .1 .0) = search needs in
-    let m = c .before .before .before .before .before .before .before .pre .0 in
+    let back3 = c .before .before .before in
+    let back7 = back3 .before .before .before .before in
+    let a = back7 .args in
+    let g = back3 .test .given .0 in
+    let e : a .test ≡ Test.Text (g .0) (g .1 .0) (g .1 .1 .0) = back3 .test .given .1 in
+    let m = back7 .pre .0 in
     let text = textTest (a .int) (textAt (a .v .now) (a .i) (a .n)) in
     let differ = alike-false (a .int) (g .0) (sym (c .before .alike .ensures) ∙ not-true _ (c .if1 .taken)) in
-    text-other (a .t .now) (a .int) (g .0) (textAt (a .v .now) (a .i) (a .n)) (textAt (a .t .now) (treePoolAt (a .t .now) + g .1 .0) (g .1 .1 .0)) differ
+    text-other (a .t .now) (a .int) (g .0) (textAt (a .v .now) (a .i) (a .n))
+    (textAt (a .t .now) (treePoolAt (a .t .now) + g .1 .0) (g .1 .1 .0)) differ
     ∙ ap (λ (u : Test). sameTest text (testMeans (a .t .now) u)) (sym e)
 
--- src/choose.rt:131:51
 cast-texts-same : tie.Need-cast-texts-same
 cast-texts-same c = search needs
 
--- src/choose.rt:131:36
 add-texts-same : tie.Need-add-texts-same
-add-texts-same c = omega (arith, c .before .before .before .before .before .before .before .before .pre .0)
+add-texts-same c =
+    let back8 = c .before .before .before .before .before .before .before .before in
+    omega (arith, back8 .pre .0)
 
--- src/choose.rt:131:67
 cast-texts-same-2 : tie.Need-cast-texts-same-2
 cast-texts-same-2 c = search needs
 
--- src/choose.rt:131:13
 texts-same-requires : tie.Need-texts-same-requires
 texts-same-requires c κs =
-    let a = c .before .before .before .before .before .before .before .before .args in
-    let g = c .before .before .before .before .test .given .0 in
-    let e : a .test ≡ Test.Text (g .0) (g .1 .0) (g .1 .1 .0) = search needs in
-    let m = c .before .before .before .before .before .before .before .before .pre .0 in
-    let inside : InPool (a .t .now) (Test.Text (g .0) (g .1 .0) (g .1 .1 .0)) = rw e at (c .before .before .before .before .before .before .before .before .pre .2) in
-    (c .before .before .before .before .before .before .before .before .pre .1, omega (arith, inside, pool-count m, m .pool-end))
+    let back4 = c .before .before .before .before in
+    let back8 = back4 .before .before .before .before in
+    let a = back8 .args in
+    let g = back4 .test .given .0 in
+    let e : a .test ≡ Test.Text (g .0) (g .1 .0) (g .1 .1 .0) = back4 .test .given .1 in
+    let m = back8 .pre .0 in
+    let inside : InPool (a .t .now) (Test.Text (g .0) (g .1 .0) (g .1 .1 .0)) = rw e at (back8 .pre .2) in
+    (back8 .pre .1, omega (arith, inside, pool-count m, m .pool-end))
 
--- src/choose.rt:133:26
 enum-told-2 : tie.Need-enum-told-2
 enum-told-2 c = search needs
 
--- src/choose.rt:134:28
 enum-told-3 : tie.Need-enum-told-3
 enum-told-3 c = search needs
 
--- src/choose.rt:121:1
 returns-2 : tie.Need-returns-2
 returns-2 c =
-    let a = c .before .before .before .before .args in
+    let back4 = c .before .before .before .before in
+    let a = back4 .args in
     let text = textTest (a .int) (textAt (a .v .now) (a .i) (a .n)) in
-    let e : a .test ≡ Test.Constr (c .enum-told .given .0 .0) = search needs in
-    text-constr (a .t .now) (a .int) (textAt (a .v .now) (a .i) (a .n)) (c .enum-told .given .0 .0) ∙ ap (λ (u : Test). sameTest text (testMeans (a .t .now) u)) (sym e)
+    let e : a .test ≡ Test.Constr (c .enum-told .given .0 .0) = c .enum-told .given .1 in
+    text-constr (a .t .now) (a .int) (textAt (a .v .now) (a .i) (a .n)) (c .enum-told .given .0 .0) ∙ ap
+    (λ (u : Test). sameTest text (testMeans (a .t .now) u)) (sym e)
 
--- src/choose.rt:121:1
 returns-3 : tie.Need-returns-3
 returns-3 c =
-    let a = c .before .before .before .before .before .before .before .before .before .args in
-    let g = c .before .before .before .before .before .test .given .0 in
-    let e : a .test ≡ Test.Text (g .0) (g .1 .0) (g .1 .1 .0) = search needs in
-    let m = c .before .before .before .before .before .before .before .before .before .pre .0 in
+    let back3 = c .before .before .before in
+    let back5 = back3 .before .before in
+    let back9 = back5 .before .before .before .before in
+    let a = back9 .args in
+    let g = back5 .test .given .0 in
+    let e : a .test ≡ Test.Text (g .0) (g .1 .0) (g .1 .1 .0) = back5 .test .given .1 in
+    let m = back9 .pre .0 in
     let mine = textAt (a .v .now) (a .i) (a .n) in
     let its = textAt (a .t .now) (treePoolAt (a .t .now) + g .1 .0) (g .1 .1 .0) in
-    let kinds = alike-true (a .int) (g .0) (sym (c .before .before .before .alike .ensures) ∙ not-false _ (c .before .before .if1 .left)) in
+    let kinds = alike-true (a .int) (g .0) (sym (back3 .alike .ensures) ∙ not-false _ (c .before .before .if1 .left)) in
     c .texts-same .ensures
     ∙ ap (λ (k : ℕ). sameText mine (textAt (a .t .now) (k + g .1 .0) (g .1 .1 .0))) (sym (pool-start m))
     ∙ text-text (a .t .now) (a .int) mine its
     ∙ ap (λ (b : Bool). sameTest (textTest (a .int) mine) (textTest b its)) kinds
     ∙ ap (λ (u : Test). sameTest (textTest (a .int) mine) (testMeans (a .t .now) u)) (sym e)
 
--- src/choose.rt:121:1
 returns-4 : tie.Need-returns-4
 returns-4 c =
-    let a = c .before .before .before .before .args in
+    let back4 = c .before .before .before .before in
+    let a = back4 .args in
     let text = textTest (a .int) (textAt (a .v .now) (a .i) (a .n)) in
-    let e : a .test ≡ Test.List (c .enum-told2 .given .0 .0) = search needs in
-    text-list (a .t .now) (a .int) (textAt (a .v .now) (a .i) (a .n)) (c .enum-told2 .given .0 .0) ∙ ap (λ (u : Test). sameTest text (testMeans (a .t .now) u)) (sym e)
+    let e : a .test ≡ Test.List (c .enum-told2 .given .0 .0) = c .enum-told2 .given .1 in
+    text-list (a .t .now) (a .int) (textAt (a .v .now) (a .i) (a .n)) (c .enum-told2 .given .0 .0) ∙ ap
+    (λ (u : Test). sameTest text (testMeans (a .t .now) u)) (sym e)
 
--- src/choose.rt:121:1
 returns-5 : tie.Need-returns-5
 returns-5 c =
-    let a = c .before .before .before .before .args in
+    let back4 = c .before .before .before .before in
+    let a = back4 .args in
     let text = textTest (a .int) (textAt (a .v .now) (a .i) (a .n)) in
-    let e : a .test ≡ Test.Tailed (c .enum-told3 .given .0 .0) = search needs in
-    text-tailed (a .t .now) (a .int) (textAt (a .v .now) (a .i) (a .n)) (c .enum-told3 .given .0 .0) ∙ ap (λ (u : Test). sameTest text (testMeans (a .t .now) u)) (sym e)
+    let e : a .test ≡ Test.Tailed (c .enum-told3 .given .0 .0) = c .enum-told3 .given .1 in
+    text-tailed (a .t .now) (a .int) (textAt (a .v .now) (a .i) (a .n)) (c .enum-told3 .given .0 .0) ∙ ap
+    (λ (u : Test). sameTest text (testMeans (a .t .now) u)) (sym e)
 
 pub is-text-spec : {M : Type 1} → statement M
 is-text-spec =

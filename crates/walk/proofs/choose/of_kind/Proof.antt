@@ -1,62 +1,60 @@
+-- `walk::choose::of_kind` meets its contract: by the variants of a part.
 use borrow.Author.Needs.{needs}
-use Rattle.words.specs.Words.{pick}
 use Rattle.walk.specs.declared.choose.Part.{Part}
 use Rattle.walk.specs.Choices.{isOfKind}
-use mathlib.Core.Path.{_≡_, refl, sym, ap, _∙_}
+use mathlib.Core.Path.{_≡_, sym, ap, _∙_}
 use Rattle.walk.proofs.choose.of_kind.Statement.{statement}
 use Rattle.walk.proofs.choose.of_kind.Tie as tie
-use Rattle.walk.proofs.choose.of_kind.Reads as reads
-use Rattle.walk.proofs.choose.of_kind.Lts as lts
 
--- src/choose.rt:62:28
 enum-told : tie.Need-enum-told
 enum-told c = search needs
 
--- src/choose.rt:63:22
 enum-known-s : tie.Need-enum-known-s
 enum-known-s c = search needs
 
--- src/choose.rt:64:26
 enum-told-2 : tie.Need-enum-told-2
 enum-told-2 c = search needs
 
--- src/choose.rt:65:28
 enum-told-3 : tie.Need-enum-told-3
 enum-told-3 c = search needs
 
--- src/choose.rt:66:24
 enum-told-4 : tie.Need-enum-told-4
 enum-told-4 c = search needs
 
--- src/choose.rt:58:1
 returns : tie.Need-returns
-returns c = let a = c .before .before .args in let e : a .s ≡ Part.Constr (c .enum-told .given .0 .0) = search needs in sym (ap (λ (u : Part). isOfKind u (a .kind)) e)
+returns c =
+    let a = c .before .before .args in
+    let e : a .s ≡ Part.Constr (c .enum-told .given .0 .0) = c .enum-told .given .1 in
+    sym (ap (λ (u : Part). isOfKind u (a .kind)) e)
 
--- src/choose.rt:58:1
 returns-2 : tie.Need-returns-2
 returns-2 c =
-    let a = c .before .before .before .before .args in
+    let back4 = c .before .before .before .before in
+    let a = back4 .args in
     let g = c .before .before .s .given .0 in
-    let e : a .s ≡ Part.Text (g .0) (g .1 .0) (g .1 .1 .0) = search needs in
+    let e : a .s ≡ Part.Text (g .0) (g .1 .0) (g .1 .1 .0) = c .before .before .s .given .1 in
     sym (ap (λ (u : Part). isOfKind u (a .kind)) e ∙ rw (c .if1 .taken))
 
--- src/choose.rt:58:1
 returns-3 : tie.Need-returns-3
 returns-3 c =
-    let a = c .before .before .before .before .args in
+    let back4 = c .before .before .before .before in
+    let a = back4 .args in
     let g = c .before .before .s .given .0 in
-    let e : a .s ≡ Part.Text (g .0) (g .1 .0) (g .1 .1 .0) = search needs in
+    let e : a .s ≡ Part.Text (g .0) (g .1 .0) (g .1 .1 .0) = c .before .before .s .given .1 in
     sym (ap (λ (u : Part). isOfKind u (a .kind)) e ∙ rw (c .if1 .left))
 
--- src/choose.rt:58:1
 returns-4 : tie.Need-returns-4
-returns-4 c = let a = c .before .before .args in let e : a .s ≡ Part.List (c .enum-told2 .given .0 .0) = search needs in sym (ap (λ (u : Part). isOfKind u (a .kind)) e)
+returns-4 c =
+    let a = c .before .before .args in
+    let e : a .s ≡ Part.List (c .enum-told2 .given .0 .0) = c .enum-told2 .given .1 in
+    sym (ap (λ (u : Part). isOfKind u (a .kind)) e)
 
--- src/choose.rt:58:1
 returns-5 : tie.Need-returns-5
-returns-5 c = let a = c .before .before .args in let e : a .s ≡ Part.Tailed (c .enum-told3 .given .0 .0) = search needs in sym (ap (λ (u : Part). isOfKind u (a .kind)) e)
+returns-5 c =
+    let a = c .before .before .args in
+    let e : a .s ≡ Part.Tailed (c .enum-told3 .given .0 .0) = c .enum-told3 .given .1 in
+    sym (ap (λ (u : Part). isOfKind u (a .kind)) e)
 
--- src/choose.rt:58:1
 returns-6 : tie.Need-returns-6
 returns-6 c = search needs
 

@@ -1,3 +1,5 @@
+-- `walk::follow::follow` meets its contract: the loop's invariant is that the steps left lead from the position at hand to where the whole path leads from the root, and that the
+-- position is one of the panel.
 use borrow.Author.Needs.{needs}
 use Rattle.walk.specs.declared.follow.Found.the-variants.{At}
 use Rattle.tree.specs.declared.reading.Path.{Path}
@@ -7,14 +9,9 @@ use Rattle.rules.specs.Walking.{panelRoot, takeStep, follow}
 use Rattle.rules.specs.TreeReader.{stepAt, stepsFrom, stepOfFields, pathAt}
 use Prim.Native.Nat.{_+_, _-_, _≤_}
 use native.Mathlib.Omega.{arith}
-use mathlib.Core.Path.{_≡_, refl, sym, ap, _∙_}
+use mathlib.Core.Path.{_≡_, sym, ap, _∙_}
 use Rattle.walk.proofs.follow.follow.Statement.{statement}
 use Rattle.walk.proofs.follow.follow.Tie as tie
-use Rattle.walk.proofs.follow.follow.Reads as reads
-use Rattle.walk.proofs.follow.follow.Lts as lts
-use Rattle.tree.proofs.reading.path_at.Reads as path-at-reads
-use Rattle.tree.proofs.reading.step_at.Reads as step-at-reads
-use Rattle.walk.proofs.follow.take_step.Reads as take-step-reads
 
 abbrev Inv-loop : tie.InvT-loop
 Inv-loop t m v n p first count at₀ k₀ at k = (k ≤ count) × Within v (placed at) × (follow v (stepsFrom t (first + k) (count - k)) (placed at) ≡ follow v (pathAt t p) panelRoot)
@@ -22,102 +19,111 @@ Inv-loop t m v n p first count at₀ k₀ at k = (k ≤ count) × Within v (plac
 abbrev μ-loop : tie.MeasureT-loop
 μ-loop t m v n p first count at₀ k₀ at k = count - k
 
--- src/follow.rt:81:9
 path-at-requires : tie.Need-path-at-requires Inv-loop μ-loop
 path-at-requires c κs = (c .before .before .pre .0 .mapped, c .before .before .pre .1)
 
--- src/follow.rt:82:17
 cast-first : tie.Need-cast-first Inv-loop μ-loop
 cast-first c = search needs
 
--- src/follow.rt:83:17
 cast-count : tie.Need-cast-count Inv-loop μ-loop
 cast-count c = search needs
 
--- src/follow.rt:86:5
 loop-holds : tie.Need-loop-holds Inv-loop μ-loop
 loop-holds c =
-    let a = c .before .before .before .before .before .args in
-    let w = c .before .before .before .before .before .pre .0 in
+    let back5 = c .before .before .before .before .before in
+    let a = back5 .args in
+    let w = back5 .pre .0 in
     let x = c .before .before .path-at .result in (
       search needs,
       root-within (w .opened .laid) (w .panel .is-shaped),
-      path-start (a .v .now) (a .t .now) (x .first) (x .count) (a .p) panelRoot (ap (λ (y : Path). y .first) (c .before .before .path-at .ensures)) (ap (λ (y : Path). y .count) (c .before .before .path-at .ensures)),
+      path-start (a .v .now) (a .t .now) (x .first) (x .count) (a .p) panelRoot
+          (ap (λ (y : Path). y .first) (c .before .before .path-at .ensures))
+          (ap (λ (y : Path). y .count) (c .before .before .path-at .ensures)),
     )
 
--- src/follow.rt:87:34
 add-step-at : tie.Need-add-step-at Inv-loop μ-loop
 add-step-at c =
-    let a = c .before .before .before .before .before .before .before .args in
-    let w = c .before .before .before .before .before .before .before .pre .0 in
-    let x = c .before .before .before .before .path-at .result in
-    omega (arith, path-run (w .mapped) (w .sound .is-ruled) (a .p) x (c .before .before .before .before .before .before .before .pre .1) (c .before .before .before .before .path-at .ensures), w .mapped)
+    let back4 = c .before .before .before .before in
+    let back7 = back4 .before .before .before in
+    let a = back7 .args in
+    let w = back7 .pre .0 in
+    let x = back4 .path-at .result in
+    omega (arith, path-run (w .mapped) (w .sound .is-ruled) (a .p) x (back7 .pre .1) (back4 .path-at .ensures), w .mapped)
 
--- src/follow.rt:87:13
 step-at-requires : tie.Need-step-at-requires Inv-loop μ-loop
 step-at-requires c κs =
-    let a = c .before .before .before .before .before .before .before .args in
-    let w = c .before .before .before .before .before .before .before .pre .0 in
-    let x = c .before .before .before .before .path-at .result in
-    (w .mapped, omega (arith, path-run (w .mapped) (w .sound .is-ruled) (a .p) x (c .before .before .before .before .before .before .before .pre .1) (c .before .before .before .before .path-at .ensures)))
+    let back4 = c .before .before .before .before in
+    let back7 = back4 .before .before .before in
+    let a = back7 .args in
+    let w = back7 .pre .0 in
+    let x = back4 .path-at .result in
+    (w .mapped, omega (arith, path-run (w .mapped) (w .sound .is-ruled) (a .p) x (back7 .pre .1) (back4 .path-at .ensures)))
 
--- src/follow.rt:88:31
 take-step-requires : tie.Need-take-step-requires Inv-loop μ-loop
-take-step-requires c κs = let w = c .before .before .before .before .before .before .before .before .pre .0 in (w .opened, w .panel .is-shaped, c .before .before .loop .inv .1)
+take-step-requires c κs =
+    let back8 = c .before .before .before .before .before .before .before .before in
+    let w = back8 .pre .0 in
+    (w .opened, w .panel .is-shaped, c .before .before .loop .inv .1)
 
--- src/follow.rt:88:23
 enum-known-next : tie.Need-enum-known-next Inv-loop μ-loop
 enum-known-next c = search needs
 
--- src/follow.rt:89:13
 enum-told : tie.Need-enum-told Inv-loop μ-loop
 enum-told c = search needs
 
--- src/follow.rt:89:13
 returns : tie.Need-returns Inv-loop μ-loop
 returns c =
-    let a = c .before .before .before .before .before .before .before .before .before .before .before .args in
-    let w = c .before .before .before .before .before .before .before .before .before .before .before .pre .0 in
-    let x = c .before .before .before .before .before .before .before .before .path-at .result in
-    let l = c .before .before .before .before .before .loop in
-    let s = c .before .before .before .step-at .result in
-    let u = step-taken (a .v .now) (a .t .now) (x .first + l .k) s (l .at) (c .before .before .before .step-at .ensures) in
+    let back3 = c .before .before .before in
+    let back4 = back3 .before in
+    let back5 = back4 .before in
+    let back8 = back5 .before .before .before in
+    let back11 = back8 .before .before .before in
+    let a = back11 .args in
+    let w = back11 .pre .0 in
+    let x = back8 .path-at .result in
+    let l = back5 .loop in
+    let s = back3 .step-at .result in
+    let u = step-taken (a .v .now) (a .t .now) (x .first + l .k) s (l .at) (back3 .step-at .ensures) in
     let q = takeStep (a .v .now) (stepOfFields (s .kind) (s .flag) (s .index) (s .of)) (placed (l .at)) in
     let e = found-none q (sym (c .before .before .take-step .ensures) ∙ c .enum-told .given .1) in
-    ap foundOf (path-stuck (a .v .now) (a .t .now) (x .first) (x .count) (l .k) (placed (l .at)) (c .before .before .before .before .loop-test .taken) (sym u ∙ e) ∙ l .inv .2)
+    ap foundOf (path-stuck (a .v .now) (a .t .now) (x .first) (x .count) (l .k) (placed (l .at)) (back4 .loop-test .taken) (sym u ∙ e) ∙ l .inv .2)
 
--- src/follow.rt:92:9
 add-k : tie.Need-add-k Inv-loop μ-loop
 add-k c = search needs
 
--- src/follow.rt:86:5
 loop-less : tie.Need-loop-less Inv-loop μ-loop
 loop-less c = search needs
 
--- src/follow.rt:86:5
 loop-again : tie.Need-loop-again Inv-loop μ-loop
 loop-again c =
-    let a = c .before .before .before .before .before .before .before .before .before .before .before .before .args in
-    let w = c .before .before .before .before .before .before .before .before .before .before .before .before .pre .0 in
-    let x = c .before .before .before .before .before .before .before .before .before .path-at .result in
-    let l = c .before .before .before .before .before .before .loop in
-    let s = c .before .before .before .before .step-at .result in
-    let u = step-taken (a .v .now) (a .t .now) (x .first + l .k) s (l .at) (c .before .before .before .before .step-at .ensures) in
+    let back3 = c .before .before .before in
+    let back4 = back3 .before in
+    let back5 = back4 .before in
+    let back6 = back5 .before in
+    let back9 = back6 .before .before .before in
+    let back12 = back9 .before .before .before in
+    let a = back12 .args in
+    let w = back12 .pre .0 in
+    let x = back9 .path-at .result in
+    let l = back6 .loop in
+    let s = back4 .step-at .result in
+    let u = step-taken (a .v .now) (a .t .now) (x .first + l .k) s (l .at) (back4 .step-at .ensures) in
     let q = takeStep (a .v .now) (stepOfFields (s .kind) (s .flag) (s .index) (s .of)) (placed (l .at)) in
     let y = c .before .next .given .0 .0 in
-    let r : c .before .before .before .take-step .result ≡ At y = search needs in
-    let e = sym u ∙ found-some q y (sym (c .before .before .before .take-step .ensures) ∙ r) in (
+    let r : back3 .take-step .result ≡ At y = c .before .next .given .1 in
+    let e = sym u ∙ found-some q y (sym (back3 .take-step .ensures) ∙ r) in (
       search needs,
       step-within (w .opened .laid) (w .panel .is-shaped) (stepAt (a .t .now) (x .first + l .k)) (placed (l .at)) (placed y) (l .inv .1) e,
-      path-on (a .v .now) (a .t .now) (x .first) (x .count) (l .k) (placed (l .at)) (placed y) (c .before .before .before .before .before .loop-test .taken) e ∙ l .inv .2,
+      path-on (a .v .now) (a .t .now) (x .first) (x .count) (l .k) (placed (l .at)) (placed y) (back5 .loop-test .taken) e ∙ l .inv .2,
     )
 
--- src/follow.rt:77:1
 returns-2 : tie.Need-returns-2 Inv-loop μ-loop
 returns-2 c =
-    let a = c .before .before .before .before .before .before .before .args in
-    let w = c .before .before .before .before .before .before .before .pre .0 in
-    let x = c .before .before .before .before .path-at .result in
+    let back4 = c .before .before .before .before in
+    let back7 = back4 .before .before .before in
+    let a = back7 .args in
+    let w = back7 .pre .0 in
+    let x = back4 .path-at .result in
     let l = c .before .loop in
     ap foundOf (path-end (a .v .now) (a .t .now) (x .first) (x .count) (l .k) (placed (l .at)) (c .loop-test .left) ∙ l .inv .2)
 

@@ -1,37 +1,48 @@
-use borrow.Author.Needs.{needs}
+-- `walk::follow::part_of` meets its contract: its two tests are those of the definition, in order.
+-- Rests on the run of parts of a record of an accepted panel.
 use Rattle.walk.specs.FollowLaws.{part-wrong-kind, part-missing, part-there, part-entry}
 use native.Mathlib.Omega.{arith}
-use mathlib.Core.Path.{_≡_, refl, sym, ap, _∙_}
 use Rattle.walk.proofs.follow.part_of.Statement.{statement}
 use Rattle.walk.proofs.follow.part_of.Tie as tie
-use Rattle.walk.proofs.follow.part_of.Reads as reads
-use Rattle.walk.proofs.follow.part_of.Lts as lts
-use Rattle.panel.proofs.records.part_at.Reads as part-at-reads
-use Rattle.panel.proofs.records.record_at.Reads as record-at-reads
 
--- src/follow.rt:32:9
 record-at-requires : tie.Need-record-at-requires
 record-at-requires c κs = (c .before .pre .0 .laid, c .before .pre .2)
 
--- src/follow.rt:34:9
 returns : tie.Need-returns
-returns c = part-wrong-kind (c .before .before .before .before .args .v .now) (c .before .before .before .before .args .r) (c .before .before .record-at .result) (c .before .before .record-at .ensures) (c .before .before .before .before .args .kind) (c .before .before .before .before .args .i) (c .if1 .taken)
+returns c =
+    let back4 = c .before .before .before .before in
+    part-wrong-kind (back4 .args .v .now) (back4 .args .r) (c .before .before .record-at .result) (c .before .before .record-at .ensures)
+    (back4 .args .kind) (back4 .args .i) (c .if1 .taken)
 
--- src/follow.rt:37:9
 returns-2 : tie.Need-returns-2
-returns-2 c = part-missing (c .before .before .before .before .before .before .args .v .now) (c .before .before .before .before .before .before .args .r) (c .before .before .before .before .record-at .result) (c .before .before .before .before .record-at .ensures) (c .before .before .before .before .before .before .args .kind) (c .before .before .before .before .before .before .args .i) (c .before .before .if1 .left) (c .if2 .taken)
+returns-2 c =
+    let back4 = c .before .before .before .before in
+    let back6 = back4 .before .before in
+    part-missing (back6 .args .v .now) (back6 .args .r) (back4 .record-at .result) (back4 .record-at .ensures) (back6 .args .kind)
+    (back6 .args .i) (c .before .before .if1 .left) (c .if2 .taken)
 
--- src/follow.rt:39:32
 add-part-at : tie.Need-add-part-at
-add-part-at c = let l = c .before .before .before .before .before .before .before .pre .0 .laid in omega (arith, part-entry (c .before .before .before .before .before .before .before .args .v .now) (c .before .before .before .before .before .before .before .args .r) (c .before .before .before .before .before .record-at .result) (c .before .before .before .before .before .record-at .ensures) (c .before .before .before .before .before .before .before .pre .1) (c .before .before .before .before .before .before .before .pre .2) (c .before .before .before .before .before .before .before .args .kind) (c .before .before .before .before .before .before .before .args .i) (c .before .before .before .before .before .before .before .pre .3) (c .before .before .before .if1 .left) (c .before .if2 .left), l .parts-end, l .pool-end, l .trailer-end, l .length-most)
+add-part-at c =
+    let back3 = c .before .before .before in
+    let back5 = back3 .before .before in
+    let back7 = back5 .before .before in
+    let l = back7 .pre .0 .laid in
+    omega (arith, part-entry (back7 .args .v .now) (back7 .args .r) (back5 .record-at .result) (back5 .record-at .ensures) (back7 .pre .1) (back7 .pre .2) (back7 .args .kind) (back7 .args .i) (back7 .pre .3) (back3 .if1 .left) (c .before .if2 .left), l .parts-end, l .pool-end, l .trailer-end, l .length-most)
 
--- src/follow.rt:39:9
 part-at-requires : tie.Need-part-at-requires
-part-at-requires c κs = (c .before .before .before .before .before .before .before .pre .0, part-entry (c .before .before .before .before .before .before .before .args .v .now) (c .before .before .before .before .before .before .before .args .r) (c .before .before .before .before .before .record-at .result) (c .before .before .before .before .before .record-at .ensures) (c .before .before .before .before .before .before .before .pre .1) (c .before .before .before .before .before .before .before .pre .2) (c .before .before .before .before .before .before .before .args .kind) (c .before .before .before .before .before .before .before .args .i) (c .before .before .before .before .before .before .before .pre .3) (c .before .before .before .if1 .left) (c .before .if2 .left))
+part-at-requires c κs =
+    let back3 = c .before .before .before in
+    let back5 = back3 .before .before in
+    let back7 = back5 .before .before in
+    (back7 .pre .0, part-entry (back7 .args .v .now) (back7 .args .r) (back5 .record-at .result) (back5 .record-at .ensures) (back7 .pre .1) (back7 .pre .2) (back7 .args .kind) (back7 .args .i) (back7 .pre .3) (back3 .if1 .left) (c .before .if2 .left))
 
--- src/follow.rt:28:1
 returns-3 : tie.Need-returns-3
-returns-3 c = part-there (c .before .before .before .before .before .before .before .before .args .v .now) (c .before .before .before .before .before .before .before .before .args .r) (c .before .before .before .before .before .before .record-at .result) (c .before .before .before .before .before .before .record-at .ensures) (c .before .before .before .before .before .before .before .before .args .kind) (c .before .before .before .before .before .before .before .before .args .i) (c .part-at .result) (c .before .before .before .before .if1 .left) (c .before .before .if2 .left) (c .part-at .ensures)
+returns-3 c =
+    let back4 = c .before .before .before .before in
+    let back6 = back4 .before .before in
+    let back8 = back6 .before .before in
+    part-there (back8 .args .v .now) (back8 .args .r) (back6 .record-at .result) (back6 .record-at .ensures) (back8 .args .kind)
+    (back8 .args .i) (c .part-at .result) (back4 .if1 .left) (c .before .before .if2 .left) (c .part-at .ensures)
 
 pub part-of-spec : {M : Type 1} → statement M
 part-of-spec =

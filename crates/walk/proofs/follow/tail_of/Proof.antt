@@ -1,27 +1,30 @@
-use borrow.Author.Needs.{needs}
+-- `walk::follow::tail_of` meets its contract: its two tests are those of the definition, in order.
 use Rattle.walk.specs.FollowLaws.{tail-wrong-kind, tail-missing, tail-there}
-use mathlib.Core.Path.{_≡_, refl, sym, ap, _∙_}
 use Rattle.walk.proofs.follow.tail_of.Statement.{statement}
 use Rattle.walk.proofs.follow.tail_of.Tie as tie
-use Rattle.walk.proofs.follow.tail_of.Reads as reads
-use Rattle.walk.proofs.follow.tail_of.Lts as lts
-use Rattle.panel.proofs.records.record_at.Reads as record-at-reads
 
--- src/follow.rt:48:9
 record-at-requires : tie.Need-record-at-requires
 record-at-requires c κs = c .before .pre
 
--- src/follow.rt:50:9
 returns : tie.Need-returns
-returns c = tail-wrong-kind (c .before .before .before .before .args .v .now) (c .before .before .before .before .args .r) (c .before .before .record-at .result) (c .before .before .record-at .ensures) (c .before .before .before .before .args .i) (c .if1 .taken)
+returns c =
+    let back4 = c .before .before .before .before in
+    tail-wrong-kind (back4 .args .v .now) (back4 .args .r) (c .before .before .record-at .result) (c .before .before .record-at .ensures)
+    (back4 .args .i) (c .if1 .taken)
 
--- src/follow.rt:53:9
 returns-2 : tie.Need-returns-2
-returns-2 c = tail-missing (c .before .before .before .before .before .before .args .v .now) (c .before .before .before .before .before .before .args .r) (c .before .before .before .before .record-at .result) (c .before .before .before .before .record-at .ensures) (c .before .before .before .before .before .before .args .i) (c .before .before .if1 .left) (c .if2 .taken)
+returns-2 c =
+    let back4 = c .before .before .before .before in
+    let back6 = back4 .before .before in
+    tail-missing (back6 .args .v .now) (back6 .args .r) (back4 .record-at .result) (back4 .record-at .ensures) (back6 .args .i)
+    (c .before .before .if1 .left) (c .if2 .taken)
 
--- src/follow.rt:44:1
 returns-3 : tie.Need-returns-3
-returns-3 c = tail-there (c .before .before .before .before .before .before .args .v .now) (c .before .before .before .before .before .before .args .r) (c .before .before .before .before .record-at .result) (c .before .before .before .before .record-at .ensures) (c .before .before .before .before .before .before .args .i) (c .before .before .if1 .left) (c .if2 .left)
+returns-3 c =
+    let back4 = c .before .before .before .before in
+    let back6 = back4 .before .before in
+    tail-there (back6 .args .v .now) (back6 .args .r) (back4 .record-at .result) (back4 .record-at .ensures) (back6 .args .i)
+    (c .before .before .if1 .left) (c .if2 .left)
 
 pub tail-of-spec : {M : Type 1} → statement M
 tail-of-spec = tie.close (tie.spec record-at-requires returns returns-2 returns-3)

@@ -1,3 +1,5 @@
+-- `walk::nodes::from_node` meets its contract: one law of the walk at a node for each kind.
+-- Rests on what a node that was read says of its file.
 use borrow.Author.Needs.{needs}
 use Rattle.tree.specs.ReadingLaws.{cases-count, paths-count}
 use Rattle.walk.specs.TurnsLaws.{steps-switch, steps-list-switch, steps-leaf, steps-hoist}
@@ -6,149 +8,147 @@ use Rattle.tree.specs.NodesLaws.{switch-node, list-switch-node, leaf-node, hois
 use Rattle.tree.specs.OrderLaws.{in-nodes, node-kind-known}
 use Rattle.tree.specs.declared.reading.Node.{Node}
 use native.Mathlib.Omega.{arith}
-use mathlib.Core.Path.{_≡_, refl, sym, ap, _∙_}
+use mathlib.Core.Path.{_≡_, sym, _∙_}
 use Rattle.walk.proofs.nodes.from_node.Statement.{statement}
 use Rattle.walk.proofs.nodes.from_node.Tie as tie
-use Rattle.walk.proofs.nodes.from_node.Reads as reads
-use Rattle.walk.proofs.nodes.from_node.Lts as lts
-use Rattle.tree.proofs.reading.node_at.Reads as node-at-reads
-use Rattle.walk.proofs.nodes.from_list_switch.Reads as from-list-switch-reads
-use Rattle.walk.proofs.nodes.from_switch.Reads as from-switch-reads
 
--- src/nodes.rt:97:9
 node-at-requires : tie.Need-node-at-requires
-node-at-requires c κs = (c .before .before .pre .0 .mapped, c .before .before .pre .1, node-kind-known (ready-ruled (c .before .before .pre .0)) (c .before .before .args .k) (c .before .before .pre .1))
+node-at-requires c κs = (
+  c .before .before .pre .0 .mapped,
+  c .before .before .pre .1,
+  node-kind-known (ready-ruled (c .before .before .pre .0)) (c .before .before .args .k) (c .before .before .pre .1),
+)
 
--- src/nodes.rt:99:24
 enum-known-node : tie.Need-enum-known-node
 enum-known-node c = search needs
 
--- src/nodes.rt:100:37
 cast-from-switch : tie.Need-cast-from-switch
 cast-from-switch c = search needs
 
--- src/nodes.rt:100:52
 cast-from-switch-2 : tie.Need-cast-from-switch-2
 cast-from-switch-2 c = search needs
 
--- src/nodes.rt:100:68
 cast-from-switch-3 : tie.Need-cast-from-switch-3
 cast-from-switch-3 c = search needs
 
--- src/nodes.rt:100:84
 cast-from-switch-4 : tie.Need-cast-from-switch-4
 cast-from-switch-4 c = search needs
 
--- src/nodes.rt:100:13
 from-switch-requires : tie.Need-from-switch-requires
 from-switch-requires c κs =
-    let a = c .before .before .before .before .before .before .args in
-    let ready = c .before .before .before .before .before .before .pre .0 in
+    let back3 = c .before .before .before in
+    let back6 = back3 .before .before .before in
+    let a = back6 .args in
+    let ready = back6 .pre .0 in
     let ruled = ready-ruled ready in
-    let h = in-nodes ruled (a .k) (c .before .before .before .before .before .before .pre .1) in
+    let h = in-nodes ruled (a .k) (back6 .pre .1) in
     let g = c .before .node .given .0 in
-    let e : c .before .before .before .node-at .result ≡ Node.Switch (g .0) (g .1 .0) (g .1 .1 .0) (g .1 .1 .1 .0) = search needs in
-    let w = switch-node (a .t .now) (a .k) (g .0) (g .1 .0) (g .1 .1 .0) (g .1 .1 .1 .0) (sym (c .before .before .before .node-at .ensures) ∙ e) in
+    let e : back3 .node-at .result ≡ Node.Switch (g .0) (g .1 .0) (g .1 .1 .0) (g .1 .1 .1 .0) = c .before .node .given .1 in
+    let w = switch-node (a .t .now) (a .k) (g .0) (g .1 .0) (g .1 .1 .0) (g .1 .1 .1 .0) (sym (back3 .node-at .ensures) ∙ e) in
     let run = switch-node-run (ruled .rules) (a .k) h (g .0) (g .1 .0) (g .1 .1 .0) (g .1 .1 .1 .0) w in
     let path = switch-node-path (ruled .rules) (a .k) h (g .0) (g .1 .0) (g .1 .1 .0) (g .1 .1 .1 .0) w in
     (ready, omega (arith, path, paths-count (ready .mapped)), run .0, omega (arith, run .1, cases-count (ready .mapped)))
 
--- src/nodes.rt:102:28
 enum-known-node-2 : tie.Need-enum-known-node-2
 enum-known-node-2 c = search needs
 
--- src/nodes.rt:103:42
 cast-from-list-switch : tie.Need-cast-from-list-switch
 cast-from-list-switch c = search needs
 
--- src/nodes.rt:103:57
 cast-from-list-switch-2 : tie.Need-cast-from-list-switch-2
 cast-from-list-switch-2 c = search needs
 
--- src/nodes.rt:103:73
 cast-from-list-switch-3 : tie.Need-cast-from-list-switch-3
 cast-from-list-switch-3 c = search needs
 
--- src/nodes.rt:103:89
 cast-from-list-switch-4 : tie.Need-cast-from-list-switch-4
 cast-from-list-switch-4 c = search needs
 
--- src/nodes.rt:103:105
 cast-from-list-switch-5 : tie.Need-cast-from-list-switch-5
 cast-from-list-switch-5 c = search needs
 
--- src/nodes.rt:103:13
 from-list-switch-requires : tie.Need-from-list-switch-requires
 from-list-switch-requires c κs =
-    let a = c .before .before .before .before .before .before .args in
-    let ready = c .before .before .before .before .before .before .pre .0 in
+    let back3 = c .before .before .before in
+    let back6 = back3 .before .before .before in
+    let a = back6 .args in
+    let ready = back6 .pre .0 in
     let ruled = ready-ruled ready in
-    let h = in-nodes ruled (a .k) (c .before .before .before .before .before .before .pre .1) in
+    let h = in-nodes ruled (a .k) (back6 .pre .1) in
     let g = c .before .node2 .given .0 in
-    let e : c .before .before .before .node-at .result ≡ Node.ListSwitch (g .0) (g .1 .0) (g .1 .1 .0) (g .1 .1 .1 .0) (g .1 .1 .1 .1 .0) = search needs in
-    let w = list-switch-node (a .t .now) (a .k) (g .0) (g .1 .0) (g .1 .1 .0) (g .1 .1 .1 .0) (g .1 .1 .1 .1 .0) (sym (c .before .before .before .node-at .ensures) ∙ e) in
+    let e : back3 .node-at .result ≡ Node.ListSwitch (g .0) (g .1 .0) (g .1 .1 .0) (g .1 .1 .1 .0) (g .1 .1 .1 .1 .0) = c .before .node2 .given .1 in
+    let w =
+    list-switch-node (a .t .now) (a .k) (g .0) (g .1 .0) (g .1 .1 .0) (g .1 .1 .1 .0) (g .1 .1 .1 .1 .0)
+    (sym (back3 .node-at .ensures) ∙ e) in
     let run = list-switch-node-run (ruled .rules) (a .k) h (g .0) (g .1 .0) (g .1 .1 .0) (g .1 .1 .1 .0) (g .1 .1 .1 .1 .0) w in
     let path = list-switch-node-path (ruled .rules) (a .k) h (g .0) (g .1 .0) (g .1 .1 .0) (g .1 .1 .1 .0) (g .1 .1 .1 .1 .0) w in
     (ready, omega (arith, path, paths-count (ready .mapped)), omega (arith, run .1, cases-count (ready .mapped)))
 
--- src/nodes.rt:105:22
 enum-known-node-3 : tie.Need-enum-known-node-3
 enum-known-node-3 c = search needs
 
--- src/nodes.rt:106:54
 enum-known-node-4 : tie.Need-enum-known-node-4
 enum-known-node-4 c = search needs
 
--- src/nodes.rt:106:76
 cast-t31 : tie.Need-cast-t31
 cast-t31 c = search needs
 
--- src/nodes.rt:93:1
 returns : tie.Need-returns
 returns c =
-    let a = c .before .before .before .before .before .before .before .args in
-    let ready = c .before .before .before .before .before .before .before .pre .0 in
+    let back4 = c .before .before .before .before in
+    let back7 = back4 .before .before .before in
+    let a = back7 .args in
+    let ready = back7 .pre .0 in
     let ruled = ready-ruled ready in
-    let h = in-nodes ruled (a .k) (c .before .before .before .before .before .before .before .pre .1) in
+    let h = in-nodes ruled (a .k) (back7 .pre .1) in
     let g = c .before .before .node .given .0 in
-    let e : c .before .before .before .before .node-at .result ≡ Node.Switch (g .0) (g .1 .0) (g .1 .1 .0) (g .1 .1 .1 .0) = search needs in
-    let w = switch-node (a .t .now) (a .k) (g .0) (g .1 .0) (g .1 .1 .0) (g .1 .1 .1 .0) (sym (c .before .before .before .before .node-at .ensures) ∙ e) in
-    steps-switch (a .t .now) (a .v .now) (ready .sound) (a .k) h (g .0) (g .1 .0) (g .1 .1 .0) (g .1 .1 .1 .0) (c .from-switch .result) w (c .from-switch .ensures)
+    let e : back4 .node-at .result ≡ Node.Switch (g .0) (g .1 .0) (g .1 .1 .0) (g .1 .1 .1 .0) = c .before .before .node .given .1 in
+    let w = switch-node (a .t .now) (a .k) (g .0) (g .1 .0) (g .1 .1 .0) (g .1 .1 .1 .0) (sym (back4 .node-at .ensures) ∙ e) in
+    steps-switch (a .t .now) (a .v .now) (ready .sound) (a .k) h (g .0) (g .1 .0) (g .1 .1 .0) (g .1 .1 .1 .0) (c .from-switch .result) w
+    (c .from-switch .ensures)
 
--- src/nodes.rt:93:1
 returns-2 : tie.Need-returns-2
 returns-2 c =
-    let a = c .before .before .before .before .before .before .before .args in
-    let ready = c .before .before .before .before .before .before .before .pre .0 in
+    let back4 = c .before .before .before .before in
+    let back7 = back4 .before .before .before in
+    let a = back7 .args in
+    let ready = back7 .pre .0 in
     let ruled = ready-ruled ready in
-    let h = in-nodes ruled (a .k) (c .before .before .before .before .before .before .before .pre .1) in
+    let h = in-nodes ruled (a .k) (back7 .pre .1) in
     let g = c .before .before .node2 .given .0 in
-    let e : c .before .before .before .before .node-at .result ≡ Node.ListSwitch (g .0) (g .1 .0) (g .1 .1 .0) (g .1 .1 .1 .0) (g .1 .1 .1 .1 .0) = search needs in
-    let w = list-switch-node (a .t .now) (a .k) (g .0) (g .1 .0) (g .1 .1 .0) (g .1 .1 .1 .0) (g .1 .1 .1 .1 .0) (sym (c .before .before .before .before .node-at .ensures) ∙ e) in
-    steps-list-switch (a .t .now) (a .v .now) (ready .sound) (a .k) h (g .0) (g .1 .0) (g .1 .1 .0) (g .1 .1 .1 .0) (g .1 .1 .1 .1 .0) (c .from-list-switch .result) w (c .from-list-switch .ensures)
+    let e : back4 .node-at .result ≡ Node.ListSwitch (g .0) (g .1 .0) (g .1 .1 .0) (g .1 .1 .1 .0) (g .1 .1 .1 .1 .0) = c .before .before .node2 .given .1 in
+    let w =
+    list-switch-node (a .t .now) (a .k) (g .0) (g .1 .0) (g .1 .1 .0) (g .1 .1 .1 .0) (g .1 .1 .1 .1 .0)
+    (sym (back4 .node-at .ensures) ∙ e) in
+    steps-list-switch (a .t .now) (a .v .now) (ready .sound) (a .k) h (g .0) (g .1 .0) (g .1 .1 .0) (g .1 .1 .1 .0) (g .1 .1 .1 .1 .0)
+    (c .from-list-switch .result) w (c .from-list-switch .ensures)
 
--- src/nodes.rt:93:1
 returns-3 : tie.Need-returns-3
 returns-3 c =
-    let a = c .before .before .before .before .before .before .args in
-    let ready = c .before .before .before .before .before .before .pre .0 in
+    let back3 = c .before .before .before in
+    let back6 = back3 .before .before .before in
+    let a = back6 .args in
+    let ready = back6 .pre .0 in
     let ruled = ready-ruled ready in
-    let h = in-nodes ruled (a .k) (c .before .before .before .before .before .before .pre .1) in
+    let h = in-nodes ruled (a .k) (back6 .pre .1) in
     let g = c .before .node3 .given .0 in
-    let e : c .before .before .before .node-at .result ≡ Node.Leaf (g .0) (g .1 .0) (g .1 .1 .0) = search needs in
-    let w = leaf-node (a .t .now) (a .k) (g .0) (g .1 .0) (g .1 .1 .0) (sym (c .before .before .before .node-at .ensures) ∙ e) in
+    let e : back3 .node-at .result ≡ Node.Leaf (g .0) (g .1 .0) (g .1 .1 .0) = c .before .node3 .given .1 in
+    let w = leaf-node (a .t .now) (a .k) (g .0) (g .1 .0) (g .1 .1 .0) (sym (back3 .node-at .ensures) ∙ e) in
     steps-leaf (a .t .now) (a .v .now) (ready .sound) (a .k) h (g .0) (g .1 .0) (g .1 .1 .0) w
 
--- src/nodes.rt:93:1
 returns-4 : tie.Need-returns-4
 returns-4 c =
-    let a = c .before .before .before .before .before .before .args in
-    let ready = c .before .before .before .before .before .before .pre .0 in
+    let back3 = c .before .before .before in
+    let back6 = back3 .before .before .before in
+    let a = back6 .args in
+    let ready = back6 .pre .0 in
     let ruled = ready-ruled ready in
-    let h = in-nodes ruled (a .k) (c .before .before .before .before .before .before .pre .1) in
+    let h = in-nodes ruled (a .k) (back6 .pre .1) in
     let g = c .before .node4 .given .0 in
-    let e : c .before .before .before .node-at .result ≡ Node.Hoist (g .0) (g .1 .0) (g .1 .1 .0) (g .1 .1 .1 .0) = search needs in
-    let w = hoist-node (a .t .now) (a .k) (g .0) (g .1 .0) (g .1 .1 .0) (g .1 .1 .1 .0) (node-kind-known ruled (a .k) (c .before .before .before .before .before .before .pre .1)) (sym (c .before .before .before .node-at .ensures) ∙ e) in
+    let e : back3 .node-at .result ≡ Node.Hoist (g .0) (g .1 .0) (g .1 .1 .0) (g .1 .1 .1 .0) = c .before .node4 .given .1 in
+    let w =
+    hoist-node (a .t .now) (a .k) (g .0) (g .1 .0) (g .1 .1 .0) (g .1 .1 .1 .0) (node-kind-known ruled (a .k) (back6 .pre .1))
+    (sym (back3 .node-at .ensures) ∙ e) in
     steps-hoist (a .t .now) (a .v .now) (ready .sound) (a .k) h (g .1 .1 .1 .0) w
 
 pub from-node-spec : {M : Type 1} → statement M

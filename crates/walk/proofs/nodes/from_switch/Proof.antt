@@ -1,3 +1,4 @@
+-- `walk::nodes::from_switch` meets its contract: one law of the walk at a switch for each way out.
 use borrow.Author.Needs.{needs}
 use Rattle.walk.specs.declared.nodes.Next.{Next}
 use Rattle.tree.specs.ReadingLaws.{cases-count}
@@ -12,115 +13,127 @@ use Rattle.walk.specs.declared.choose.Chosen.the-variants.{Child}
 use Rattle.walk.specs.declared.follow.Found.the-variants.{At}
 use borrow.Author.Tests.{not-true, not-false}
 use native.Mathlib.Omega.{arith}
-use mathlib.Core.Path.{_≡_, refl, sym, ap, _∙_}
+use mathlib.Core.Path.{_≡_, sym, ap, _∙_}
 use Rattle.walk.proofs.nodes.from_switch.Statement.{statement}
 use Rattle.walk.proofs.nodes.from_switch.Tie as tie
-use Rattle.walk.proofs.nodes.from_switch.Reads as reads
-use Rattle.walk.proofs.nodes.from_switch.Lts as lts
-use Rattle.tree.proofs.reading.case_kind.Reads as case-kind-reads
-use Rattle.walk.proofs.choose.first_case.Reads as first-case-reads
-use Rattle.walk.proofs.choose.of_kind.Reads as of-kind-reads
-use Rattle.walk.proofs.choose.shown_at.Reads as shown-at-reads
-use Rattle.walk.proofs.follow.follow.Reads as follow-reads
-use Rattle.walk.proofs.nodes.default_of.Reads as default-of-reads
 
--- src/nodes.rt:40:24
 follow-requires : tie.Need-follow-requires
 follow-requires c κs = (c .before .before .pre .0, c .before .before .pre .1)
 
--- src/nodes.rt:40:19
 enum-known-p : tie.Need-enum-known-p
 enum-known-p c = search needs
 
--- src/nodes.rt:41:26
 enum-told : tie.Need-enum-told
 enum-told c = search needs
 
--- src/nodes.rt:41:9
 returns : tie.Need-returns
-returns c = let a = c .before .before .before .before .before .args in switch-no-part (a .t .now) (a .v .now) (a .path) (a .first) (a .cases) (a .default) (found-none (follow (a .v .now) (pathAt (a .t .now) (a .path)) panelRoot) (sym (c .before .before .follow .ensures) ∙ c .enum-told .given .1))
+returns c =
+    let back5 = c .before .before .before .before .before in
+    let a = back5 .args in
+    switch-no-part (a .t .now) (a .v .now) (a .path) (a .first) (a .cases) (a .default)
+    (found-none (follow (a .v .now) (pathAt (a .t .now) (a .path)) panelRoot) (sym (c .before .before .follow .ensures) ∙ c .enum-told .given .1))
 
--- src/nodes.rt:43:9
 shown-at-requires : tie.Need-shown-at-requires
 shown-at-requires c κs =
-    let a = c .before .before .before .before .before .before .args in
-    let ready = c .before .before .before .before .before .before .pre .0 in
+    let back3 = c .before .before .before in
+    let back6 = back3 .before .before .before in
+    let a = back6 .args in
+    let ready = back6 .pre .0 in
     let p = c .before .p .given .0 .0 in
-    let r : c .before .before .before .follow .result ≡ At p = search needs in
-    let found = found-some (follow (a .v .now) (pathAt (a .t .now) (a .path)) panelRoot) p (sym (c .before .before .before .follow .ensures) ∙ r) in
+    let r : back3 .follow .result ≡ At p = c .before .p .given .1 in
+    let found = found-some (follow (a .v .now) (pathAt (a .t .now) (a .path)) panelRoot) p (sym (back3 .follow .ensures) ∙ r) in
     let within = found-within ready (a .path) p found in
     (ready .opened, ready .panel .is-shaped, within .place-in)
 
--- src/nodes.rt:44:20
 case-kind-requires : tie.Need-case-kind-requires
-case-kind-requires c κs = (c .before .before .before .before .before .before .before .pre .0 .mapped, omega (arith, c .before .before .before .before .before .before .before .pre .2, c .before .before .before .before .before .before .before .pre .3))
+case-kind-requires c κs =
+    let back7 = c .before .before .before .before .before .before .before in
+    (back7 .pre .0 .mapped, omega (arith, back7 .pre .2, back7 .pre .3))
 
--- src/nodes.rt:44:9
 of-kind-requires : tie.Need-of-kind-requires
 of-kind-requires c κs = search needs
 
--- src/nodes.rt:45:9
 returns-2 : tie.Need-returns-2
 returns-2 c =
-    let a = c .before .before .before .before .before .before .before .before .before .before .args in
-    let ready = c .before .before .before .before .before .before .before .before .before .before .pre .0 in
-    let p = c .before .before .before .before .before .p .given .0 .0 in
-    let r : c .before .before .before .before .before .before .before .follow .result ≡ At p = search needs in
-    let found = found-some (follow (a .v .now) (pathAt (a .t .now) (a .path)) panelRoot) p (sym (c .before .before .before .before .before .before .before .follow .ensures) ∙ r) in
+    let back3 = c .before .before .before in
+    let back5 = back3 .before .before in
+    let back7 = back5 .before .before in
+    let back10 = back7 .before .before .before in
+    let a = back10 .args in
+    let ready = back10 .pre .0 in
+    let p = back5 .p .given .0 .0 in
+    let r : back7 .follow .result ≡ At p = back5 .p .given .1 in
+    let found = found-some (follow (a .v .now) (pathAt (a .t .now) (a .path)) panelRoot) p (sym (back7 .follow .ensures) ∙ r) in
     let within = found-within ready (a .path) p found in
-    let shows = c .before .before .before .shown-at .ensures in
-    let s = c .before .before .before .shown-at .result in
-    let known = ready .sound .is-ruled .case-kind (a .first) (omega (arith, cases-count (ready .mapped), c .before .before .before .before .before .before .before .before .before .before .pre .2, c .before .before .before .before .before .before .before .before .before .before .pre .3)) in
-    switch-wrong-kind (a .t .now) (a .v .now) (a .path) (a .first) (a .cases) (a .default) (c .before .before .before .before .before .before .before .before .before .before .pre .2) known (placed p) s found shows (ap (isOfKind s) (sym (c .before .before .case-kind .ensures)) ∙ sym (c .before .of-kind .ensures) ∙ not-true _ (c .if1 .taken))
+    let shows = back3 .shown-at .ensures in
+    let s = back3 .shown-at .result in
+    let known = ready .sound .is-ruled .case-kind (a .first) (omega (arith, cases-count (ready .mapped), back10 .pre .2, back10 .pre .3)) in
+    switch-wrong-kind (a .t .now) (a .v .now) (a .path) (a .first) (a .cases) (a .default) (back10 .pre .2) known (placed p) s found shows
+    (ap (isOfKind s) (sym (c .before .before .case-kind .ensures)) ∙ sym (c .before .of-kind .ensures) ∙ not-true _ (c .if1 .taken))
 
--- src/nodes.rt:47:28
 first-case-requires : tie.Need-first-case-requires
-first-case-requires c κs = (ready-ruled (c .before .before .before .before .before .before .before .before .before .before .pre .0), c .before .before .before .shown-at .ensures .inside, c .before .before .before .before .before .before .before .before .before .before .pre .3)
+first-case-requires c κs =
+    let back3 = c .before .before .before in
+    let back10 = back3 .before .before .before .before .before .before .before in
+    (ready-ruled (back10 .pre .0), back3 .shown-at .ensures .inside, back10 .pre .3)
 
--- src/nodes.rt:47:23
 enum-known-c : tie.Need-enum-known-c
 enum-known-c c = search needs
 
--- src/nodes.rt:48:9
 enum-told-2 : tie.Need-enum-told-2
 enum-told-2 c = search needs
 
--- src/nodes.rt:48:9
 default-of-requires : tie.Need-default-of-requires
 default-of-requires c κs = search needs
 
--- src/nodes.rt:48:9
 returns-3 : tie.Need-returns-3
 returns-3 c =
-    let a = c .before .before .before .before .before .before .before .before .before .before .before .before .before .before .args in
-    let ready = c .before .before .before .before .before .before .before .before .before .before .before .before .before .before .pre .0 in
-    let p = c .before .before .before .before .before .before .before .before .before .p .given .0 .0 in
-    let r : c .before .before .before .before .before .before .before .before .before .before .before .follow .result ≡ At p = search needs in
-    let found = found-some (follow (a .v .now) (pathAt (a .t .now) (a .path)) panelRoot) p (sym (c .before .before .before .before .before .before .before .before .before .before .before .follow .ensures) ∙ r) in
+    let back3 = c .before .before .before in
+    let back4 = back3 .before in
+    let back5 = back4 .before in
+    let back6 = back5 .before in
+    let back7 = back6 .before in
+    let back9 = back7 .before .before in
+    let back11 = back9 .before .before in
+    let back14 = back11 .before .before .before in
+    let a = back14 .args in
+    let ready = back14 .pre .0 in
+    let p = back9 .p .given .0 .0 in
+    let r : back11 .follow .result ≡ At p = back9 .p .given .1 in
+    let found = found-some (follow (a .v .now) (pathAt (a .t .now) (a .path)) panelRoot) p (sym (back11 .follow .ensures) ∙ r) in
     let within = found-within ready (a .path) p found in
-    let shows = c .before .before .before .before .before .before .before .shown-at .ensures in
-    let s = c .before .before .before .before .before .before .before .shown-at .result in
-    let known = ready .sound .is-ruled .case-kind (a .first) (omega (arith, cases-count (ready .mapped), c .before .before .before .before .before .before .before .before .before .before .before .before .before .before .pre .2, c .before .before .before .before .before .before .before .before .before .before .before .before .before .before .pre .3)) in
+    let shows = back7 .shown-at .ensures in
+    let s = back7 .shown-at .result in
+    let known = ready .sound .is-ruled .case-kind (a .first) (omega (arith, cases-count (ready .mapped), back14 .pre .2, back14 .pre .3)) in
     let rest = c .default-of .result in
-    switch-turns (a .t .now) (a .v .now) (a .path) (a .first) (a .cases) (a .default) (c .before .before .before .before .before .before .before .before .before .before .before .before .before .before .pre .2) known (placed p) s found shows (ap (isOfKind s) (sym (c .before .before .before .before .before .before .case-kind .ensures)) ∙ sym (c .before .before .before .before .before .of-kind .ensures) ∙ not-false _ (c .before .before .before .before .if1 .left)) rest
-    (λ x q. turns-past (a .t .now) (a .v .now) s x q (a .first) (a .cases) (defaultChild (a .default)) (defaultWalk (a .v .now) (a .default)) rest (sym (c .before .before .before .first-case .ensures) ∙ c .before .enum-told2 .given .1) (c .default-of .ensures (a .t .now) (a .v .now)))
+    switch-turns (a .t .now) (a .v .now) (a .path) (a .first) (a .cases) (a .default) (back14 .pre .2) known (placed p) s found shows
+    (ap (isOfKind s) (sym (back6 .case-kind .ensures)) ∙ sym (back5 .of-kind .ensures) ∙ not-false _ (back4 .if1 .left)) rest
+    (λ x q. turns-past (a .t .now) (a .v .now) s x q (a .first) (a .cases) (defaultChild (a .default)) (defaultWalk (a .v .now) (a .default)) rest (sym (back3 .first-case .ensures) ∙ c .before .enum-told2 .given .1) (c .default-of .ensures (a .t .now) (a .v .now)))
 
--- src/nodes.rt:36:1
 returns-4 : tie.Need-returns-4
 returns-4 c =
-    let a = c .before .before .before .before .before .before .before .before .before .before .before .before .before .before .args in
-    let ready = c .before .before .before .before .before .before .before .before .before .before .before .before .before .before .pre .0 in
-    let p = c .before .before .before .before .before .before .before .before .before .p .given .0 .0 in
-    let r : c .before .before .before .before .before .before .before .before .before .before .before .follow .result ≡ At p = search needs in
-    let found = found-some (follow (a .v .now) (pathAt (a .t .now) (a .path)) panelRoot) p (sym (c .before .before .before .before .before .before .before .before .before .before .before .follow .ensures) ∙ r) in
+    let back3 = c .before .before .before in
+    let back4 = back3 .before in
+    let back5 = back4 .before in
+    let back6 = back5 .before in
+    let back7 = back6 .before in
+    let back9 = back7 .before .before in
+    let back11 = back9 .before .before in
+    let back14 = back11 .before .before .before in
+    let a = back14 .args in
+    let ready = back14 .pre .0 in
+    let p = back9 .p .given .0 .0 in
+    let r : back11 .follow .result ≡ At p = back9 .p .given .1 in
+    let found = found-some (follow (a .v .now) (pathAt (a .t .now) (a .path)) panelRoot) p (sym (back11 .follow .ensures) ∙ r) in
     let within = found-within ready (a .path) p found in
-    let shows = c .before .before .before .before .before .before .before .shown-at .ensures in
-    let s = c .before .before .before .before .before .before .before .shown-at .result in
-    let known = ready .sound .is-ruled .case-kind (a .first) (omega (arith, cases-count (ready .mapped), c .before .before .before .before .before .before .before .before .before .before .before .before .before .before .pre .2, c .before .before .before .before .before .before .before .before .before .before .before .before .before .before .pre .3)) in
+    let shows = back7 .shown-at .ensures in
+    let s = back7 .shown-at .result in
+    let known = ready .sound .is-ruled .case-kind (a .first) (omega (arith, cases-count (ready .mapped), back14 .pre .2, back14 .pre .3)) in
     let child = c .before .c .given .0 .0 in
-    let chosen : c .before .before .before .first-case .result ≡ Child child = search needs in
-    switch-turns (a .t .now) (a .v .now) (a .path) (a .first) (a .cases) (a .default) (c .before .before .before .before .before .before .before .before .before .before .before .before .before .before .pre .2) known (placed p) s found shows (ap (isOfKind s) (sym (c .before .before .before .before .before .before .case-kind .ensures)) ∙ sym (c .before .before .before .before .before .of-kind .ensures) ∙ not-false _ (c .before .before .before .before .if1 .left)) (Next.Node child)
-    (λ x q. turns-case (a .t .now) (a .v .now) s x q (a .first) (a .cases) (defaultChild (a .default)) (defaultWalk (a .v .now) (a .default)) child (sym (c .before .before .before .first-case .ensures) ∙ chosen))
+    let chosen : back3 .first-case .result ≡ Child child = c .before .c .given .1 in
+    switch-turns (a .t .now) (a .v .now) (a .path) (a .first) (a .cases) (a .default) (back14 .pre .2) known (placed p) s found shows
+    (ap (isOfKind s) (sym (back6 .case-kind .ensures)) ∙ sym (back5 .of-kind .ensures) ∙ not-false _ (back4 .if1 .left)) (Next.Node child)
+    (λ x q. turns-case (a .t .now) (a .v .now) s x q (a .first) (a .cases) (defaultChild (a .default)) (defaultWalk (a .v .now) (a .default)) child (sym (back3 .first-case .ensures) ∙ chosen))
 
 pub from-switch-spec : {M : Type 1} → statement M
 from-switch-spec =

@@ -1,3 +1,5 @@
+-- `walk::nodes::reach` meets its contract: the loop's invariant is that the walk from the node at hand gives what the walk from node 0 gives.
+-- The measure is how many nodes come after it: a node that is gone on to is above.
 use borrow.Author.Needs.{needs}
 use Rattle.tree.specs.ReadingLaws.{nodes-count}
 use Rattle.walk.specs.TurnsLaws.{walk-starts, steps-on, steps-end}
@@ -6,12 +8,9 @@ use Rattle.rules.specs.Walking.{walk}
 use Rattle.rules.specs.TreeReader.{nodes, treeBelow, treeOf}
 use Prim.Native.Nat.{_-_, _<_}
 use native.Mathlib.Omega.{arith}
-use mathlib.Core.Path.{_≡_, refl, sym, ap, _∙_}
+use mathlib.Core.Path.{_≡_, _∙_}
 use Rattle.walk.proofs.nodes.reach.Statement.{statement}
 use Rattle.walk.proofs.nodes.reach.Tie as tie
-use Rattle.walk.proofs.nodes.reach.Reads as reads
-use Rattle.walk.proofs.nodes.reach.Lts as lts
-use Rattle.walk.proofs.nodes.from_node.Reads as from-node-reads
 
 abbrev Inv-loop : tie.InvT-loop
 Inv-loop t m v n k₀ k = (k < m .nodes .count) × (walk (treeBelow (nodes t) t k) v ≡ walk (treeOf t) v)
@@ -19,50 +18,57 @@ Inv-loop t m v n k₀ k = (k < m .nodes .count) × (walk (treeBelow (nodes t) t 
 abbrev μ-loop : tie.MeasureT-loop
 μ-loop t m v n k₀ k = m .nodes .count - k
 
--- src/nodes.rt:116:5
 loop-holds : tie.Need-loop-holds Inv-loop μ-loop
-loop-holds c = (omega (arith, c .before .before .pre .sound .some-node, nodes-count (c .before .before .pre .mapped)), walk-starts (c .before .before .args .t .now) (c .before .before .args .v .now))
+loop-holds c = (
+  omega (arith, c .before .before .pre .sound .some-node, nodes-count (c .before .before .pre .mapped)),
+  walk-starts (c .before .before .args .t .now) (c .before .before .args .v .now),
+)
 
--- src/nodes.rt:117:13
 from-node-requires : tie.Need-from-node-requires Inv-loop μ-loop
-from-node-requires c κs = (c .before .before .before .pre, c .loop .inv .0)
+from-node-requires c κs =
+    let back3 = c .before .before .before in
+    (back3 .pre, c .loop .inv .0)
 
--- src/nodes.rt:119:24
 enum-known-next : tie.Need-enum-known-next Inv-loop μ-loop
 enum-known-next c = search needs
 
--- src/nodes.rt:116:5
 loop-less : tie.Need-loop-less Inv-loop μ-loop
 loop-less c =
-    let a = c .before .before .before .before .before .before .before .args in
-    let l = c .before .before .before .before .loop in
+    let back3 = c .before .before .before in
+    let back4 = back3 .before in
+    let back7 = back4 .before .before .before in
+    let a = back7 .args in
+    let l = back4 .loop in
     let y = c .before .next .given .0 .0 in
-    let e : c .before .before .before .from-node .result ≡ Next.Node y = search needs in
-    let s = steps-on (a .t .now) (a .v .now) (l .k) (c .before .before .before .from-node .result) y (c .before .before .before .from-node .ensures) e in
-    omega (arith, s .0, s .1, nodes-count (c .before .before .before .before .before .before .before .pre .mapped))
+    let e : back3 .from-node .result ≡ Next.Node y = c .before .next .given .1 in
+    let s = steps-on (a .t .now) (a .v .now) (l .k) (back3 .from-node .result) y (back3 .from-node .ensures) e in
+    omega (arith, s .0, s .1, nodes-count (back7 .pre .mapped))
 
--- src/nodes.rt:116:5
 loop-again : tie.Need-loop-again Inv-loop μ-loop
 loop-again c =
-    let a = c .before .before .before .before .before .before .before .args in
-    let l = c .before .before .before .before .loop in
+    let back3 = c .before .before .before in
+    let back4 = back3 .before in
+    let back7 = back4 .before .before .before in
+    let a = back7 .args in
+    let l = back4 .loop in
     let y = c .before .next .given .0 .0 in
-    let e : c .before .before .before .from-node .result ≡ Next.Node y = search needs in
-    let s = steps-on (a .t .now) (a .v .now) (l .k) (c .before .before .before .from-node .result) y (c .before .before .before .from-node .ensures) e in
-    (omega (arith, s .1, nodes-count (c .before .before .before .before .before .before .before .pre .mapped)), s .2 ∙ l .inv .1)
+    let e : back3 .from-node .result ≡ Next.Node y = c .before .next .given .1 in
+    let s = steps-on (a .t .now) (a .v .now) (l .k) (back3 .from-node .result) y (back3 .from-node .ensures) e in
+    (omega (arith, s .1, nodes-count (back7 .pre .mapped)), s .2 ∙ l .inv .1)
 
--- src/nodes.rt:120:23
 enum-known-next-2 : tie.Need-enum-known-next-2 Inv-loop μ-loop
 enum-known-next-2 c = search needs
 
--- src/nodes.rt:120:29
 returns : tie.Need-returns Inv-loop μ-loop
 returns c =
-    let a = c .before .before .before .before .before .before .before .args in
-    let l = c .before .before .before .before .loop in
+    let back3 = c .before .before .before in
+    let back4 = back3 .before in
+    let back7 = back4 .before .before .before in
+    let a = back7 .args in
+    let l = back4 .loop in
     let y = c .before .next2 .given .0 .0 in
-    let e : c .before .before .before .from-node .result ≡ Next.End y = search needs in
-    steps-end (a .t .now) (a .v .now) (l .k) (c .before .before .before .from-node .result) y (c .before .before .before .from-node .ensures) e (l .inv .1)
+    let e : back3 .from-node .result ≡ Next.End y = c .before .next2 .given .1 in
+    steps-end (a .t .now) (a .v .now) (l .k) (back3 .from-node .result) y (back3 .from-node .ensures) e (l .inv .1)
 
 pub reach-spec : {M : Type 1} → statement M
 reach-spec =

@@ -1,12 +1,9 @@
+-- `walk_tests::say::clear_from` is safe, and ends: the loop's test is all that its reads ask.
 use borrow.Author.Needs.{needs}
-use native.Mathlib.Omega.{arith}
-use mathlib.Core.Path.{_≡_}
 use lib.ListN.{length}
-use Prim.Native.Nat.{_-_, _≤_, _<_}
+use Prim.Native.Nat.{_-_}
 use Rattle.walk_tests.proofs.say.clear_from.Statement.{statement}
 use Rattle.walk_tests.proofs.say.clear_from.Tie as tie
-use Rattle.walk_tests.proofs.say.clear_from.Reads as reads
-use Rattle.walk_tests.proofs.say.clear_from.Lts as lts
 
 abbrev Inv-loop : tie.InvT-loop
 Inv-loop bound from k₀ k = Unit {0}
@@ -14,35 +11,27 @@ Inv-loop bound from k₀ k = Unit {0}
 abbrev μ-loop : tie.MeasureT-loop
 μ-loop bound from k₀ k = length bound - k
 
--- src/say.rt:40:5
 loop-holds : tie.Need-loop-holds Inv-loop μ-loop
 loop-holds c = search needs
 
--- src/say.rt:41:12
 mul-if1 : tie.Need-mul-if1 Inv-loop μ-loop
 mul-if1 c = search needs
 
--- src/say.rt:41:12
 shared-slice-read-if1 : tie.Need-shared-slice-read-if1 Inv-loop μ-loop
 shared-slice-read-if1 c = search needs
 
--- src/say.rt:42:13
 returns : tie.Need-returns Inv-loop μ-loop
 returns c = search needs
 
--- src/say.rt:44:9
 add-k : tie.Need-add-k Inv-loop μ-loop
 add-k c = search needs
 
--- src/say.rt:40:5
 loop-less : tie.Need-loop-less Inv-loop μ-loop
 loop-less c = search needs
 
--- src/say.rt:40:5
 loop-again : tie.Need-loop-again Inv-loop μ-loop
 loop-again c = search needs
 
--- src/say.rt:38:1
 returns-2 : tie.Need-returns-2 Inv-loop μ-loop
 returns-2 c = search needs
 

@@ -1,14 +1,8 @@
+-- `walk_tests::say::say_bindings` is safe, and ends: the loop's invariant is that no more than the bindings are counted.
 use borrow.Author.Needs.{needs}
-use native.Mathlib.Omega.{arith}
-use mathlib.Core.Path.{_≡_}
-use lib.ListN.{length}
-use Prim.Native.Nat.{_-_, _≤_, _<_}
+use Prim.Native.Nat.{_-_, _≤_}
 use Rattle.walk_tests.proofs.say.say_bindings.Statement.{statement}
 use Rattle.walk_tests.proofs.say.say_bindings.Tie as tie
-use Rattle.walk_tests.proofs.say.say_bindings.Reads as reads
-use Rattle.walk_tests.proofs.say.say_bindings.Lts as lts
-use Rattle.io.proofs.write_all.Reads as write-all-reads
-use Rattle.walk_tests.proofs.say.say_binding.Reads as say-binding-reads
 
 abbrev Inv-loop : tie.InvT-loop
 Inv-loop bound count k₀ t4 k = k ≤ count
@@ -16,63 +10,48 @@ Inv-loop bound count k₀ t4 k = k ≤ count
 abbrev μ-loop : tie.MeasureT-loop
 μ-loop bound count k₀ t4 k = count - k
 
--- src/say.rt:25:5
 loop-holds : tie.Need-loop-holds Inv-loop μ-loop
 loop-holds c = search needs
 
--- src/say.rt:27:36
 cast-say-binding : tie.Need-cast-say-binding Inv-loop μ-loop
 cast-say-binding c = search needs
 
--- src/say.rt:27:32
 mul-say-binding : tie.Need-mul-say-binding Inv-loop μ-loop
 mul-say-binding c = search needs
 
--- src/say.rt:27:13
 say-binding-requires : tie.Need-say-binding-requires Inv-loop μ-loop
 say-binding-requires c κs = search needs
 
--- src/say.rt:29:9
 add-k : tie.Need-add-k Inv-loop μ-loop
 add-k c = search needs
 
--- src/say.rt:25:5
 loop-less : tie.Need-loop-less Inv-loop μ-loop
 loop-less c = search needs
 
--- src/say.rt:25:5
 loop-again : tie.Need-loop-again Inv-loop μ-loop
 loop-again c = search needs
 
--- src/say.rt:32:26
 slice-aggregate-write-all : tie.Need-slice-aggregate-write-all Inv-loop μ-loop
 slice-aggregate-write-all c = search needs
 
--- src/say.rt:32:9
 write-all-requires : tie.Need-write-all-requires Inv-loop μ-loop
 write-all-requires c κs = search needs
 
--- src/say.rt:33:33
 sub-say-binding : tie.Need-sub-say-binding Inv-loop μ-loop
 sub-say-binding c = search needs
 
--- src/say.rt:33:32
 cast-say-binding-2 : tie.Need-cast-say-binding-2 Inv-loop μ-loop
 cast-say-binding-2 c = search needs
 
--- src/say.rt:33:28
 mul-say-binding-2 : tie.Need-mul-say-binding-2 Inv-loop μ-loop
 mul-say-binding-2 c = search needs
 
--- src/say.rt:33:9
 say-binding-requires-2 : tie.Need-say-binding-requires-2 Inv-loop μ-loop
 say-binding-requires-2 c κs = search needs
 
--- src/say.rt:23:1
 returns : tie.Need-returns Inv-loop μ-loop
 returns c = search needs
 
--- src/say.rt:23:1
 returns-2 : tie.Need-returns-2 Inv-loop μ-loop
 returns-2 c = search needs
 

@@ -1,16 +1,10 @@
+-- `walk_tests::trees::digits` is safe, and ends: the loop's invariant is that the buffer keeps its length.
 use borrow.Author.Needs.{needs}
-use native.Mathlib.Omega.{arith}
 use mathlib.Core.Path.{_≡_}
 use lib.ListN.{length}
-use Prim.Native.Nat.{_-_, _≤_, _<_}
+use Prim.Native.Nat.{_-_, _≤_}
 use Rattle.walk_tests.proofs.trees.digits.Statement.{statement}
 use Rattle.walk_tests.proofs.trees.digits.Tie as tie
-use Rattle.walk_tests.proofs.trees.digits.Reads as reads
-use Rattle.walk_tests.proofs.trees.digits.Lts as lts
-use Rattle.walk_tests.proofs.make.panel_ends.Reads as panel-ends-reads
-use Rattle.walk_tests.proofs.make.record.Reads as record-reads
-use Rattle.walk_tests.proofs.make.text.Reads as text-reads
-use Rattle.walk_tests.proofs.make.word.Reads as word-reads
 
 abbrev Inv-loop : tie.InvT-loop
 Inv-loop b₀ digits n parts pool k₀ b k = (k ≤ n) × (length b ≡ length b₀)
@@ -18,107 +12,81 @@ Inv-loop b₀ digits n parts pool k₀ b k = (k ≤ n) × (length b ≡ length b
 abbrev μ-loop : tie.MeasureT-loop
 μ-loop b₀ digits n parts pool k₀ b k = n - k
 
--- src/trees.rt:191:9
 returns : tie.Need-returns Inv-loop μ-loop
 returns c = search needs
 
--- src/trees.rt:193:13
 cast-n : tie.Need-cast-n Inv-loop μ-loop
 cast-n c = search needs
 
--- src/trees.rt:194:5
 record-requires : tie.Need-record-requires Inv-loop μ-loop
 record-requires c κs = search needs
 
--- src/trees.rt:195:21
 mul-parts : tie.Need-mul-parts Inv-loop μ-loop
 mul-parts c = search needs
 
--- src/trees.rt:195:17
 add-parts : tie.Need-add-parts Inv-loop μ-loop
 add-parts c = search needs
 
--- src/trees.rt:196:24
 mul-pool : tie.Need-mul-pool Inv-loop μ-loop
 mul-pool c = search needs
 
--- src/trees.rt:196:16
 add-pool : tie.Need-add-pool Inv-loop μ-loop
 add-pool c = search needs
 
--- src/trees.rt:198:5
 loop-holds : tie.Need-loop-holds Inv-loop μ-loop
 loop-holds c = search needs
 
--- src/trees.rt:199:19
 add-record : tie.Need-add-record Inv-loop μ-loop
 add-record c = search needs
 
--- src/trees.rt:199:9
 record-requires-2 : tie.Need-record-requires-2 Inv-loop μ-loop
 record-requires-2 c κs = search needs
 
--- src/trees.rt:200:26
 mul-word : tie.Need-mul-word Inv-loop μ-loop
 mul-word c = search needs
 
--- src/trees.rt:200:18
 add-word : tie.Need-add-word Inv-loop μ-loop
 add-word c = search needs
 
--- src/trees.rt:200:17
 cast-word : tie.Need-cast-word Inv-loop μ-loop
 cast-word c = search needs
 
--- src/trees.rt:200:43
 add-word-2 : tie.Need-add-word-2 Inv-loop μ-loop
 add-word-2 c = search needs
 
--- src/trees.rt:200:9
 word-requires : tie.Need-word-requires Inv-loop μ-loop
 word-requires c κs = search needs
 
--- src/trees.rt:201:9
 add-k : tie.Need-add-k Inv-loop μ-loop
 add-k c = search needs
 
--- src/trees.rt:198:5
 loop-less : tie.Need-loop-less Inv-loop μ-loop
 loop-less c = search needs
 
--- src/trees.rt:198:5
 loop-again : tie.Need-loop-again Inv-loop μ-loop
 loop-again c = search needs
 
--- src/trees.rt:203:5
 text-requires : tie.Need-text-requires Inv-loop μ-loop
 text-requires c κs = search needs
 
--- src/trees.rt:204:32
 add-panel-ends : tie.Need-add-panel-ends Inv-loop μ-loop
 add-panel-ends c = search needs
 
--- src/trees.rt:204:5
 panel-ends-requires : tie.Need-panel-ends-requires Inv-loop μ-loop
 panel-ends-requires c κs = search needs
 
--- src/trees.rt:205:15
 cast-result : tie.Need-cast-result Inv-loop μ-loop
 cast-result c = search needs
 
--- src/trees.rt:205:10
 mul-result : tie.Need-mul-result Inv-loop μ-loop
 mul-result c = search needs
 
--- src/trees.rt:205:5
 add-result : tie.Need-add-result Inv-loop μ-loop
 add-result c = search needs
 
--- src/trees.rt:189:1
 same-length : tie.Need-same-length Inv-loop μ-loop
 same-length c = search needs
 
--- src/trees.rt:189:1
 returns-2 : tie.Need-returns-2 Inv-loop μ-loop
 returns-2 c = search needs
 
