@@ -18,7 +18,7 @@ use Rattle.rules.specs.TreeReader.{nodes, cases, nodeKind, Switch, List-switch,
 use Rattle.rules.specs.Walking.{Position as Place, panelRoot, follow, Walked, stuck, lengthAt, firstKind, ofThisKind, atPart, ofLength, atList, largestTail, atTail, ifSame, walk, walkCases}
 use Rattle.facts.specs.KindsLaws.{byte-node}
 use Rattle.facts.specs.TreeFacts.{TreeSound, case-listed, default-listed, only-listed, isIn-left, isIn-right, casesFor-some, treeBelow-of-kind}
-use Rattle.panel.specs.declared.Record.{Record}
+use Rattle.panel.specs.declared.records.Record.{Record}
 use Rattle.panel.specs.Opened.{recordOf}
 use Rattle.tree.specs.NodesLaws.{SwitchNode, ListSwitchNode, LeafNode, HoistNode, switch-node-children, list-switch-node-children, hoist-node-children}
 use Rattle.walk.specs.declared.choose.Part.{Part}

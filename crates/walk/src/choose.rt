@@ -2,7 +2,7 @@
 // Rests on the cases of a tree file, each with its test, and on records of the panel.
 use crate::follow::Position;
 use panel::Map as PanelMap;
-use panel::record_at;
+use panel::records::record_at;
 use tree::layout::Map;
 use tree::reading::Test;
 use tree::reading::case_at;

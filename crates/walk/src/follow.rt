@@ -1,8 +1,8 @@
 // Following a path of a tree through a panel: each step asks a record of its kind that has the part, else the walk is stuck.
 // A position is a record and how many elements of its list are dropped.
 use panel::Map as PanelMap;
-use panel::part_at;
-use panel::record_at;
+use panel::records::part_at;
+use panel::records::record_at;
 use tree::layout::Map;
 use tree::reading::Step;
 use tree::reading::path_at;

@@ -9,7 +9,7 @@ use crate::choose::shown_at;
 use crate::follow::Found;
 use crate::follow::follow;
 use panel::Map as PanelMap;
-use panel::record_at;
+use panel::records::record_at;
 use tree::layout::Map;
 use tree::reading::Node;
 use tree::reading::case_kind;
