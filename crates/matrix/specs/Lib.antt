@@ -5,6 +5,8 @@ pub mod MeetingLaws
 pub mod LiveLaws
 pub mod HeldRows
 pub mod Numbered
+pub mod Bound
+pub mod BoundLaws
 pub mod Lists
 pub mod ListsLaws
 pub mod Ordered
