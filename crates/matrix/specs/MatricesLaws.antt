@@ -19,6 +19,7 @@ use Rattle.rules.specs.Columns.{union, allTests, columns, without, choice}
 use Rattle.rules.specs.Splitting.{Test, column, defaultRows, caseRows, caseOpens}
 use Rattle.rules.specs.SplittingLaws.{All, either-none}
 use Rattle.facts.specs.SheetFacts.{Accepted}
+use Rattle.matching.specs.Lists.{all-append, all-map}
 use Rattle.table.specs.Standing.{clauseOf, pathOf, ownerOf, patternOf, isTest, classOf}
 use Rattle.table.specs.ClassLaws.{same-class-path}
 use Rattle.table.specs.Seen.{openedTests, cellAt}
@@ -32,8 +33,8 @@ use Rattle.matrix.specs.Live.{available, liveIn, isTestOf, isInside, IsC
 use Rattle.matrix.specs.MeetingLaws.{meeting, copies-in}
 use Rattle.matrix.specs.LiveLaws.{TestOf, IsCell, Live, live-test, inside-shut, inside-free, elsewhere, state-agree, state-first, held, state-wild, state-open, paths-next, length-next}
 use Rattle.matrix.specs.HeldRows.{countOf, bestOf, pathChosen, heldTests, wildOf, joinOf, opensOf, joinsCase, openedAt, Told, count-states, column-states, default-states, case-states, opens-states, best-is}
-use Rattle.matrix.specs.Ordered.{putEach, pathBefore, withoutClass, each-classes, each-union, each-most, without-classes, without-paths, without-one}
-use Rattle.matrix.specs.Matrices.{rowsAt, columnsAt, Rising, reached, Sound, gather, rootTests, marked}
+use Rattle.matrix.specs.Ordered.{pathBefore, classesFor, withoutClass, each-classes, each-union, each-most, without-classes, without-paths, without-one}
+use Rattle.matrix.specs.Matrices.{TestIn, rowsAt, columnsAt, Rising, reached, Sound, gather, rootTests, marked}
 
 -- ---- rising clauses
 pub rising-later : (n from later : ℕ) (cs : List ℕ) → from ≤ later → Rising n later cs → Rising n from cs
@@ -72,17 +73,9 @@ rising-join joins held n from (c ∷ cs) r = go (held c) refl (rising-join joins
     go Wildcard e ih = rw (e, joinOf) (r .0, r .1, ih)
 
 -- ---- what each has
-all-same : (P Q : ℕ → Type 0) → ((x : ℕ) → P x → Q x) → (xs : List ℕ) → All P xs → All Q xs
-all-same P Q f [] h = tt
-all-same P Q f (x ∷ xs) h = (f x (h .0), all-same P Q f xs (h .1))
-
 all-next : (P : ℕ → Type 0) (xs : List ℕ) (x : ℕ) → All P xs → P x → All P (xs ++ x ∷ [])
 all-next P [] x h p = (p, tt)
 all-next P (y ∷ xs) x h p = (h .0, all-next P xs x (h .1) p)
-
-pub all-append : (P : ℕ → Type 0) (xs ys : List ℕ) → All P xs → All P ys → All P (xs ++ ys)
-all-append P [] ys a b = b
-all-append P (x ∷ xs) ys a b = (a .0, all-append P xs ys (a .1) b)
 
 pub all-in : (P : ℕ → Type 0) (k : ℕ) (xs : List ℕ) → All P xs → isIn k xs ≡ true → P k
 unfolding isIn
@@ -117,6 +110,33 @@ one-less true b w c = go b (eqb w c) refl (leb c w) refl
         below : (w ≡ c → ⊥) → c ≤ w → c + 1 ≤ w
         below d l = omega arith
     go true false x false y = let l = leb-false c w y in rw (x, y, lt-leb (c + 1) w (omega arith))
+
+-- ---- the tests of the column of a class
+live-in : (s opened : List ℕ) (k c p : ℕ) → liveIn s opened k c ≡ HeldTest p → TestIn s k p
+live-in s opened k c p e = let l = live-test s opened c k p e .0 in record { known = l .test-of .known; test = l .test-of .test; class = l .class-of }
+
+pub tests-in : (s opened : List ℕ) (k : ℕ) (cs : List ℕ) → All (TestIn s k) (heldTests (liveIn s opened k) cs)
+unfolding heldTests
+tests-in s opened k [] = tt
+tests-in s opened k (c ∷ cs) = go (liveIn s opened k c) refl (tests-in s opened k cs)
+  where
+    go : (o : Held) → liveIn s opened k c ≡ o → All (TestIn s k) (heldTests (liveIn s opened k) cs) → All (TestIn s k) (heldTests (liveIn s opened k) (c ∷ cs))
+    go (HeldTest p) e ih = rw (e, heldTests) (live-in s opened k c p e, ih)
+    go Wildcard e ih = rw (e, heldTests) ih
+
+pub opens-in : (s : List ℕ) (joins : ℕ → Bool) (opened : List ℕ) (k : ℕ) (cs : List ℕ) → All (TestIn s k) (opensOf joins (liveIn s opened k) cs)
+unfolding opensOf
+opens-in s joins opened k [] = tt
+opens-in s joins opened k (c ∷ cs) = go (liveIn s opened k c) refl (opens-in s joins opened k cs)
+  where
+    test : (p : ℕ) → liveIn s opened k c ≡ HeldTest p → (b : Bool) → All (TestIn s k) (opensOf joins (liveIn s opened k) cs)
+        → All (TestIn s k) (pick b (p ∷ opensOf joins (liveIn s opened k) cs) (opensOf joins (liveIn s opened k) cs))
+    test p e true ih = (live-in s opened k c p e, ih)
+    test p e false ih = ih
+
+    go : (o : Held) → liveIn s opened k c ≡ o → All (TestIn s k) (opensOf joins (liveIn s opened k) cs) → All (TestIn s k) (opensOf joins (liveIn s opened k) (c ∷ cs))
+    go (HeldTest p) e ih = rw (e, opensOf) (test p e (joins p) ih)
+    go Wildcard e ih = rw (e, opensOf) ih
 
 -- ---- how many tests are reached
 module _ {s : List ℕ} (ok : Accepted s) where
@@ -159,7 +179,7 @@ module _ {s : List ℕ} (ok : Accepted s) where
   module _ {rows columns tested opened : List ℕ} (x : Sound s rows columns tested opened) where
     pub told : (k : ℕ) → IsClass s k → All (Told s (map (pathOf s) tested) (pathOf s k) (liveIn s opened k)) rows
     told k class =
-        all-same (State s tested opened) (Told s (map (pathOf s) tested) (pathOf s k) (liveIn s opened k))
+        all-map (State s tested opened) (Told s (map (pathOf s) tested) (pathOf s k) (liveIn s opened k))
         (λ c st. held ok (meeting ok) tested opened c k class st) rows (x .states)
 
     -- rule 3
@@ -168,7 +188,7 @@ module _ {s : List ℕ} (ok : Accepted s) where
     unfolding choice
     choice-is =
         best-is s (rowsAt s tested rows) (λ k. countOf (liveIn s opened k) rows) Leaf 0 columns
-        (all-same (IsClass s) _ (λ k class. count-states s (map (pathOf s) tested) (pathOf s k) (liveIn s opened k) rows (told k class)) columns (x .are-classes))
+        (all-map (IsClass s) _ (λ k class. count-states s (map (pathOf s) tested) (pathOf s k) (liveIn s opened k) rows (told k class)) columns (x .are-classes))
 
     pub column-is : (k : ℕ) → IsClass s k → column (pathOf s k) (rowsAt s tested rows) ≡ map (patternOf s) (heldTests (liveIn s opened k) rows)
     column-is k class = column-states s (map (pathOf s) tested) (pathOf s k) (liveIn s opened k) rows (told k class)
@@ -301,32 +321,12 @@ module _ {s : List ℕ} (ok : Accepted s) where
             test true = opens p e further
             test false = passed ih
 
-  -- tests of the column of a class
-  record TestIn (k p : ℕ) : Type 0 where
-    known : p < patterns s
-    test : isTest s p ≡ true
-    class : classOf s p ≡ k
-
-  opens-are : (joins : ℕ → Bool) (opened : List ℕ) (k : ℕ) (cs : List ℕ) → All (TestIn k) (opensOf joins (liveIn s opened k) cs)
-  unfolding opensOf
-  opens-are joins opened k [] = tt
-  opens-are joins opened k (c ∷ cs) = go (liveIn s opened k c) refl (opens-are joins opened k cs)
-    where
-      test : (p : ℕ) → liveIn s opened k c ≡ HeldTest p → (b : Bool) → All (TestIn k) (opensOf joins (liveIn s opened k) cs)
-          → All (TestIn k) (pick b (p ∷ opensOf joins (liveIn s opened k) cs) (opensOf joins (liveIn s opened k) cs))
-      test p e true ih = let l = live-test s opened c k p e .0 in (record { known = l .test-of .known; test = l .test-of .test; class = l .class-of }, ih)
-      test p e false ih = ih
-
-      go : (o : Held) → liveIn s opened k c ≡ o → All (TestIn k) (opensOf joins (liveIn s opened k) cs) → All (TestIn k) (opensOf joins (liveIn s opened k) (c ∷ cs))
-      go (HeldTest p) e ih = rw (e, opensOf) (test p e (joins p) ih)
-      go Wildcard e ih = rw (e, opensOf) ih
-
-  gather-known : (k : ℕ) (ps : List ℕ) → All (TestIn k) ps → All Known (gather (openedTests s) ps)
+  gather-known : (k : ℕ) (ps : List ℕ) → All (TestIn s k) ps → All Known (gather (openedTests s) ps)
   unfolding gather
   gather-known k [] h = tt
   gather-known k (p ∷ ps) h = all-append Known (openedTests s p) (gather (openedTests s) ps) (opened-known p (h .0 .known) (h .0 .test)) (gather-known k ps (h .1))
 
-  opened-cells : (k : ℕ) → IsClass s k → (ps : List ℕ) → All (TestIn k) ps → openedAt s (pathOf s k) ps ≡ map (cellAt s) (gather (openedTests s) ps)
+  opened-cells : (k : ℕ) → IsClass s k → (ps : List ℕ) → All (TestIn s k) ps → openedAt s (pathOf s k) ps ≡ map (cellAt s) (gather (openedTests s) ps)
   unfolding openedAt gather
   opened-cells k class [] h = refl
   opened-cells k class (p ∷ ps) h =
@@ -336,8 +336,8 @@ module _ {s : List ℕ} (ok : Accepted s) where
       ∙ sym (map-append (cellAt s) (openedTests s p) (gather (openedTests s) ps))
 
   -- the columns that tests open, in order
-  abbrev pub openedClasses : List ℕ → List ℕ
-  openedClasses ps = putEach (pathBefore s) (classOf s) (gather (openedTests s) ps) []
+  abbrev openedClasses : List ℕ → List ℕ
+  openedClasses ps = classesFor s (gather (openedTests s) ps)
 
   module _ {rows columns tested opened : List ℕ} (x : Sound s rows columns tested opened) (k : ℕ) (there : isIn k columns ≡ true) where
     enough : patterns s ≤ length opened
@@ -350,7 +350,7 @@ module _ {s : List ℕ} (ok : Accepted s) where
         let class = column-class x k there in
         let ps = opensOf joins (liveIn s opened k) rows in
         let m = marks joins tested opened k class enough rows 0 opened (x .rising) (x .states) refl (λ q a b. refl) in
-        let known = gather-known k ps (opens-are joins opened k rows) in
+        let known = gather-known k ps (opens-in s joins opened k rows) in
         record {
           rising = rising-join joins (liveIn s opened k) (clauses s) 0 rows (x .rising);
           are-classes =
@@ -381,7 +381,7 @@ module _ {s : List ℕ} (ok : Accepted s) where
       case-columns =
           let class = column-class x k there in
           let ps = opensOf (joinsCase s t) (liveIn s opened k) rows in
-          let are = opens-are (joinsCase s t) opened k rows in
+          let are = opens-in s (joinsCase s t) opened k rows in
           map-append (pathOf s) (openedClasses ps) (withoutClass k columns)
           ∙ ap₂ _++_
           (each-union s (gather (openedTests s) ps) (gather-known k ps are)
@@ -437,7 +437,7 @@ module _ {s : List ℕ} (ok : Accepted s) where
     first-states c (suc n) h = (state-first ok (meeting ok) opened none-opened c (omega arith), first-states (c + 1) n (omega arith))
 
     pub first-sound : length opened ≡ patternsMost
-        → Sound s (upFrom 0 (clauses s)) (putEach (pathBefore s) (classOf s) (gather (rootTests s) (upFrom 0 (clauses s))) []) [] opened
+        → Sound s (upFrom 0 (clauses s)) (classesFor s (gather (rootTests s) (upFrom 0 (clauses s)))) [] opened
     first-sound long = record {
       rising = rising-up (clauses s) 0 (clauses s) (omega arith);
       are-classes = each-classes s (gather (rootTests s) (upFrom 0 (clauses s))) [] (roots-known 0 (clauses s) (omega arith)) tt;
@@ -460,7 +460,7 @@ module _ {s : List ℕ} (ok : Accepted s) where
   all-tests c (suc n) h =
       ap₂ _++_ (root-tests c (omega arith)) (all-tests (c + 1) n (omega arith)) ∙ sym (map-append (cellAt s) (rootTests s c) (gather (rootTests s) (upFrom (c + 1) n)))
 
-  pub first-columns : columnsAt s (putEach (pathBefore s) (classOf s) (gather (rootTests s) (upFrom 0 (clauses s))) [])
+  pub first-columns : columnsAt s (classesFor s (gather (rootTests s) (upFrom 0 (clauses s))))
       ≡ columns (clauseRows 0 (clausePatterns s 0 (clauses s)))
   unfolding columns
   first-columns =

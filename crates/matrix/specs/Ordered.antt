@@ -35,6 +35,10 @@ putEach first class (q ∷ qs) ks = putClass first (class q) (putEach first clas
 abbrev pub pathBefore : List ℕ → ℕ → ℕ → Bool
 pathBefore s a b = before (pathOf s a) (pathOf s b)
 
+-- the columns of tests, in order
+abbrev pub classesFor : List ℕ → List ℕ → List ℕ
+classesFor s tests = putEach (pathBefore s) (classOf s) tests []
+
 -- without the first copy of k
 unfoldable pub withoutClass : ℕ → List ℕ → List ℕ
 withoutClass k [] = []
