@@ -1,5 +1,5 @@
--- A matrix by numbers: the clauses of its rows, the classes of its columns, the classes tested in order, and when each test was opened;
--- what it is to be sound, and the matrices of the clauses, of a default and of a case. MatricesLaws has that rules 2 to 4 give these.
+-- What the numbers of a matrix stand for, and what it is for a matrix by numbers to be sound: its clauses rise, its columns are classes,
+-- its rows are in the state that the columns tested have left, and it has no more columns than tests. Rests on Live.
 use mathlib.Core.Bool.{Bool, true}
 use mathlib.Core.List.{List, [], _∷_, _++_, map}
 use mathlib.Core.Path.{_≡_}

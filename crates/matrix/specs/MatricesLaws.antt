@@ -1,4 +1,5 @@
--- Sound matrices: the clauses' own, the default's and a case's are sound, and rules 2 to 4 give them.
+-- The clauses' matrix is sound, and with a sound one its default's and each case's; and rules 2 to 4 give the rows and columns of these.
+-- Rests on the states of rows in LiveLaws, on the filters of HeldRows and on the order of Ordered.
 use mathlib.Core.Path.{_≡_, refl, sym, ap, ap₂, _∙_}
 use mathlib.Core.Bool.{Bool, true, false, true≢false}
 use mathlib.Core.List.{List, [], _∷_, _++_, map, map-append}
@@ -226,20 +227,27 @@ module _ {s : List ℕ} (ok : Accepted s) where
       default-columns = without-paths s k columns column-class (x .are-classes)
 
   -- ---- a case
-  -- the tests ps, of clauses from a first on, are opened at a time: what they reach, what they leave as it was, and the rows js
-  record Marks (tested : List ℕ) (k time from : ℕ) (acc ps js : List ℕ) : Type 0 where
-    reaches : times (reached s (marked time acc ps)) 0 (patterns s) ≡ times (reached s acc) 0 (patterns s) + length (gather (openedTests s) ps)
-    keeps : (q : ℕ) → q < patterns s → clauseOf s q < from → getD (marked time acc ps) q 0 ≡ getD acc q 0
-    long : length (marked time acc ps) ≡ length acc
-    states : All (State s (tested ++ k ∷ []) (marked time acc ps)) js
-
   module _ (joins : ℕ → Bool) (tested opened : List ℕ) (k : ℕ) (class : IsClass s k) (room : patterns s ≤ length opened) where
     abbrev time : ℕ
     time = length tested + 1
 
+    -- the tests that clauses cs open, and the rows that join
+    abbrev opensBy : List ℕ → List ℕ
+    opensBy cs = opensOf joins (liveIn s opened k) cs
+
+    abbrev joinBy : List ℕ → List ℕ
+    joinBy cs = joinOf joins (liveIn s opened k) cs
+
+    -- the tests ps, of clauses from a first on, are opened: what they reach, what they leave as it was, and the rows js
+    record Marks (from : ℕ) (acc ps js : List ℕ) : Type 0 where
+      reaches : times (reached s (marked time acc ps)) 0 (patterns s) ≡ times (reached s acc) 0 (patterns s) + length (gather (openedTests s) ps)
+      keeps : (q : ℕ) → q < patterns s → clauseOf s q < from → getD (marked time acc ps) q 0 ≡ getD acc q 0
+      long : length (marked time acc ps) ≡ length acc
+      states : All (State s (tested ++ k ∷ []) (marked time acc ps)) js
+
     marks : (cs : List ℕ) (from : ℕ) (acc : List ℕ) → Rising (clauses s) from cs → All (State s tested opened) cs → length acc ≡ length opened
         → ((q : ℕ) → q < patterns s → from ≤ clauseOf s q → getD acc q 0 ≡ getD opened q 0)
-        → Marks tested k time from acc (opensOf joins (liveIn s opened k) cs) (joinOf joins (liveIn s opened k) cs)
+        → Marks from acc (opensBy cs) (joinBy cs)
     unfolding opensOf joinOf marked gather
     marks [] from acc r h l same = record { reaches = omega arith; keeps = λ q a b. refl; long = refl; states = tt }
     marks (c ∷ cs) from acc r h l same =
@@ -247,14 +255,14 @@ module _ {s : List ℕ} (ok : Accepted s) where
         (λ acc′ l′ same′. marks cs (c + 1) acc′ (r .2) (h .1) l′ same′)
       where
         -- a row with a wildcard
-        wild : liveIn s opened k c ≡ Wildcard → Marks tested k time (c + 1) acc (opensOf joins (liveIn s opened k) cs) (joinOf joins (liveIn s opened k) cs)
-            → Marks tested k time from acc (opensOf joins (liveIn s opened k) cs) (c ∷ joinOf joins (liveIn s opened k) cs)
+        wild : liveIn s opened k c ≡ Wildcard → Marks (c + 1) acc (opensBy cs) (joinBy cs)
+            → Marks from acc (opensBy cs) (c ∷ joinBy cs)
         wild e ih = record {
           reaches = ih .reaches;
           keeps = λ q a b. ih .keeps q a (omega (arith, r .0));
           long = ih .long;
           states = (
-            state-agree ok opened (marked time acc (opensOf joins (liveIn s opened k) cs)) c
+            state-agree ok opened (marked time acc (opensBy cs)) c
                 (λ q a f. sym (ih .keeps q a (omega arith) ∙ same q a (omega (arith, r .0)))) (tested ++ k ∷ [])
                 (state-wild ok (meeting ok) tested opened c k class (h .0) e),
             ih .states,
@@ -262,19 +270,19 @@ module _ {s : List ℕ} (ok : Accepted s) where
         }
 
         -- a row with a test that is not of the case
-        passed : Marks tested k time (c + 1) acc (opensOf joins (liveIn s opened k) cs) (joinOf joins (liveIn s opened k) cs)
-            → Marks tested k time from acc (opensOf joins (liveIn s opened k) cs) (joinOf joins (liveIn s opened k) cs)
+        passed : Marks (c + 1) acc (opensBy cs) (joinBy cs)
+            → Marks from acc (opensBy cs) (joinBy cs)
         passed ih = record { reaches = ih .reaches; keeps = λ q a b. ih .keeps q a (omega (arith, r .0)); long = ih .long; states = ih .states }
 
         -- a row with a test that is opened
-        opens : (p : ℕ) → liveIn s opened k c ≡ HeldTest p → Marks tested k time (c + 1) (set acc p time) (opensOf joins (liveIn s opened k) cs) (joinOf joins (liveIn s opened k) cs)
-            → Marks tested k time from acc (p ∷ opensOf joins (liveIn s opened k) cs) (c ∷ joinOf joins (liveIn s opened k) cs)
+        opens : (p : ℕ) → liveIn s opened k c ≡ HeldTest p → Marks (c + 1) (set acc p time) (opensBy cs) (joinBy cs)
+            → Marks from acc (p ∷ opensBy cs) (c ∷ joinBy cs)
         opens p e ih = record {
-          reaches = omega (arith, ih .reaches, reached-more acc p time inside some-time shut (t .known) (t .test), length-gather (openedTests s) p (opensOf joins (liveIn s opened k) cs));
+          reaches = omega (arith, ih .reaches, reached-more acc p time inside some-time shut (t .known) (t .test), length-gather (openedTests s) p (opensBy cs));
           keeps = λ q a b. ih .keeps q a (omega (arith, r .0)) ∙ getD-set-other acc p q time 0 (λ d. apart q b d);
           long = ih .long ∙ length-set acc p time;
           states = (
-            state-agree ok (set opened p time) (marked time (set acc p time) (opensOf joins (liveIn s opened k) cs)) c
+            state-agree ok (set opened p time) (marked time (set acc p time) (opensBy cs)) c
                 (λ q a f. sym (ih .keeps q a (omega arith) ∙ same-set q a f (eqb q p) refl)) (tested ++ k ∷ [])
                 (state-open ok (meeting ok) tested opened c k class (h .0) room p e),
             ih .states,
@@ -307,17 +315,19 @@ module _ {s : List ℕ} (ok : Accepted s) where
                 let n = eqb-false q p x in
                 getD-set-other acc p q time 0 n ∙ same q a (omega (arith, r .0)) ∙ sym (getD-set-other opened p q time 0 n)
 
-        go : (o : Held) → liveIn s opened k c ≡ o → Marks tested k time (c + 1) acc (opensOf joins (liveIn s opened k) cs) (joinOf joins (liveIn s opened k) cs)
+        go : (o : Held) → liveIn s opened k c ≡ o → Marks (c + 1) acc (opensBy cs) (joinBy cs)
             → ((a : List ℕ) → length a ≡ length opened → ((q : ℕ) → q < patterns s → c + 1 ≤ clauseOf s q → getD a q 0 ≡ getD opened q 0)
-            → Marks tested k time (c + 1) a (opensOf joins (liveIn s opened k) cs) (joinOf joins (liveIn s opened k) cs))
-            → Marks tested k time from acc (opensOf joins (liveIn s opened k) (c ∷ cs)) (joinOf joins (liveIn s opened k) (c ∷ cs))
+            → Marks (c + 1) a (opensBy cs) (joinBy cs))
+            → Marks from acc (opensBy (c ∷ cs)) (joinBy (c ∷ cs))
         go Wildcard e ih next = rw (e, opensOf, joinOf) (wild e ih)
         go (HeldTest p) e ih next = rw (e, opensOf, joinOf) (test (joins p))
           where
-            further : Marks tested k time (c + 1) (set acc p time) (opensOf joins (liveIn s opened k) cs) (joinOf joins (liveIn s opened k) cs)
-            further = next (set acc p time) (length-set acc p time ∙ l) (λ q a b. getD-set-other acc p q time 0 (λ d. omega (arith, live-test s opened c k p e .0 .test-of .clause, ap (clauseOf s) d)) ∙ same q a (omega (arith, r .0)))
+            further : Marks (c + 1) (set acc p time) (opensBy cs) (joinBy cs)
+            further =
+                next (set acc p time) (length-set acc p time ∙ l)
+                (λ q a b. getD-set-other acc p q time 0 (λ d. omega (arith, live-test s opened c k p e .0 .test-of .clause, ap (clauseOf s) d)) ∙ same q a (omega (arith, r .0)))
 
-            test : (b : Bool) → Marks tested k time from acc (pick b (p ∷ opensOf joins (liveIn s opened k) cs) (opensOf joins (liveIn s opened k) cs)) (pick b (c ∷ joinOf joins (liveIn s opened k) cs) (joinOf joins (liveIn s opened k) cs))
+            test : (b : Bool) → Marks from acc (pick b (p ∷ opensBy cs) (opensBy cs)) (pick b (c ∷ joinBy cs) (joinBy cs))
             test true = opens p e further
             test false = passed ih
 

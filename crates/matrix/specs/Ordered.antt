@@ -1,5 +1,5 @@
 -- Rule 2 by classes: a class put into its place among others, those of tests put one after the other, and a list without its first copy
--- of a class; the paths of these are what rules puts, unites and leaves out.
+-- of a class; the paths of these are what rules puts, unites and leaves out. Rests on what crate table shows of classes.
 use mathlib.Core.Path.{_≡_, refl, sym, ap, ap₂, _∙_}
 use mathlib.Core.Bool.{Bool, true, false}
 use mathlib.Core.List.{List, [], _∷_, _++_, map}
