@@ -12,4 +12,6 @@ pub mod OnceLaws
 pub mod Table
 pub mod Tabled
 pub mod PlacingLaws
+pub mod ClassingLaws
+pub mod FieldsLaws
 pub mod Examples
