@@ -2,16 +2,19 @@
 -- there is room for it; past the room only the count goes on, to one more than the room. Rests on what a row binds, by numbers.
 use mathlib.Core.Bool.{Bool, true, false}
 use mathlib.Core.List.{List, [], _∷_, _++_}
+use mathlib.Core.Path.{_≡_}
 use Prim.Native.Nat.{ℕ, _+_, _*_, _≤_, _<_, min}
 use lib.Dec.{ltb}
+use lib.ListN.{length, getD}
 use Rattle.words.specs.Words.{wordBytes, pick}
 use Rattle.words.specs.Stored.{stored}
-use Rattle.rules.specs.Limits.{bindingsMost, bindingSize}
-use Rattle.rules.specs.SheetFile.{patterns, patternA, root}
+use Rattle.rules.specs.Limits.{patternsMost, clausesMost, bindingsMost, bindingSize}
+use Rattle.rules.specs.SheetFile.{patterns, clauses, patternA, root}
 use Rattle.facts.specs.SheetFacts.{Owns}
 use Rattle.table.specs.Standing.{classOf}
 use Rattle.table.specs.Seen.{bindsOf, openedBinds}
-use Rattle.arena.specs.Arena.{bindingsStart}
+use Rattle.arena.specs.Arena.{bindingsStart, arenaEnd}
+use Rattle.matrix.specs.declared.Matrix.{Matrix}
 use Rattle.matrix.specs.declared.Held.{Held}
 use Rattle.matrix.specs.declared.Held.the-variants.{Test, Wildcard}
 use Rattle.matrix.specs.Live.{openedTest}
@@ -46,10 +49,24 @@ boundAll s x [] = x
 boundAll s x (q ∷ qs) = boundAll s (boundOne s x q) qs
 
 -- ---- what is asked
+-- room for all bindings that can be told
+pub record Room (w : List ℕ) (top : ℕ) : Type 0 where
+  pub long : arenaEnd ≤ length w
+  pub most : top ≤ bindingsMost + 1
+
 -- the n entries of the child list from j on are p's
 pub record Children (s : List ℕ) (p j n : ℕ) : Type 0 where
   pub known : p < patterns s
   pub owns : (i : ℕ) → j ≤ i → i < j + n → Owns s p i
+
+-- a matrix with a row, whose columns tested are classes
+pub record First (s : List ℕ) (x : Matrix) : Type 0 where
+  pub rows-long : length (x .rows .list) ≡ clausesMost
+  pub clause : getD (x .rows .list) 0 0 < clauses s
+  pub tested-long : length (x .tested .list) ≡ patternsMost
+  pub tested-most : x .tested .count ≤ patternsMost
+  pub classes : (i : ℕ) → i < x .tested .count → getD (x .tested .list) i 0 < patternsMost
+  pub opened-long : length (x .opened) ≡ patternsMost
 
 -- ---- what a leaf binds
 -- what a test opened binds

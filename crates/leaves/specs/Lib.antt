@@ -1,2 +1,3 @@
 pub mod Bindings
 pub mod BindingsLaws
+pub mod PuttingLaws
