@@ -4,6 +4,9 @@ pub mod Live
 pub mod MeetingLaws
 pub mod LiveLaws
 pub mod HeldRows
+pub mod Numbered
+pub mod Bound
+pub mod BoundLaws
 pub mod Lists
 pub mod ListsLaws
 pub mod Ordered
