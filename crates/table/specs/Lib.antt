@@ -14,4 +14,5 @@ pub mod Tabled
 pub mod PlacingLaws
 pub mod ClassingLaws
 pub mod FieldsLaws
+pub mod TabledLaws
 pub mod Examples
