@@ -18,18 +18,18 @@ ghost use lib.ListN.{length, getD};
 ghost use Rattle.rules.specs.Limits.{bindingsMost, patternsMost};
 ghost use Rattle.rules.specs.SheetFile.{patterns, clauses};
 ghost use Rattle.table.specs.Seen.{bindsOf, bindsOfEach};
-ghost use Rattle.table.specs.Tabled.{Checked, Tabled};
 ghost use Rattle.arena.specs.Arena.{arenaEnd};
-ghost use Rattle.matrix.specs.Lists.{classesIn};
 ghost use Rattle.matrix.specs.Live.{openedTest};
-ghost use Rattle.leaves.specs.Bindings.{bound, boundOne, boundAll, Children, Room, First, numbersHeld, leafNumbers};
+ghost use Rattle.matrix.specs.Bound.{numbersHeld, boundNumbers};
+ghost use Rattle.matrix.specs.Ready.{Ready};
+ghost use Rattle.leaves.specs.Bindings.{bound, boundOne, boundAll, Room, Entries, numbered, WithRow};
 
 // The room for bindings. Where there are more, their number is told as one more than it.
 pub const BINDINGS_MOST: usize = 4096;
 
 // The binding of pattern p, behind the `top` bindings there are.
 fn put_binding(s: &[u8], m: Map, t: &[u8], p: usize, work: &mut [u8], top: usize) -> usize
-    requires { ⌜ Checked (now s) m × Tabled (now s) (now t) × (p < patterns (now s)) × Room (now work) top ⌝ }
+    requires { ⌜ Ready (now s) m (now t) × (p < patterns (now s)) × Room (now work) top ⌝ }
     ensures { λ r. ⌜ bound (now (work .exit)) r ≡ boundOne (now (s .entry)) (bound (now (work .entry)) top) p ⌝ }
 {
     if top >= BINDINGS_MOST {
@@ -43,7 +43,7 @@ fn put_binding(s: &[u8], m: Map, t: &[u8], p: usize, work: &mut [u8], top: usize
 
 // The bindings of pattern p: one decision over kinds 0 to 9. A test binds nothing until it is opened.
 fn put_bindings(s: &[u8], m: Map, t: &[u8], p: usize, work: &mut [u8], top: usize) -> usize
-    requires { ⌜ Checked (now s) m × Tabled (now s) (now t) × (p < patterns (now s)) × Room (now work) top ⌝ }
+    requires { ⌜ Ready (now s) m (now t) × (p < patterns (now s)) × Room (now work) top ⌝ }
     ensures { λ r. ⌜ bound (now (work .exit)) r ≡ boundAll (now (s .entry)) (bound (now (work .entry)) top) (bindsOf (now (s .entry)) p) ⌝ }
 {
     let r = pattern_at(s, m, p);
@@ -75,7 +75,7 @@ fn put_all_bindings(
     work: &mut [u8],
     top: usize,
 ) -> usize
-    requires { ⌜ Checked (now s) m × Tabled (now s) (now t) × Children (now s) parent j n × Room (now work) top ⌝ }
+    requires { ⌜ Ready (now s) m (now t) × Entries (now s) parent j n × Room (now work) top ⌝ }
     ensures { λ r. ⌜ bound (now (work .exit)) r ≡ boundAll (now (s .entry)) (bound (now (work .entry)) top) (bindsOfEach (now (s .entry)) j n) ⌝ }
 {
     if n == 0 {
@@ -97,7 +97,7 @@ fn put_opened(
     work: &mut [u8],
     top: usize,
 ) -> usize
-    requires { ⌜ Checked (now s) m × Tabled (now s) (now t) × (c < clauses (now s)) × (class < patternsMost) × (time < patternsMost) × Room (now work) top ⌝ }
+    requires { ⌜ Ready (now s) m (now t) × (c < clauses (now s)) × (class < patternsMost) × (time < patternsMost) × Room (now work) top ⌝ }
     ensures { λ r. ⌜ bound (now (work .exit)) r ≡ boundAll (now (s .entry)) (bound (now (work .entry)) top) (numbersHeld (now (s .entry)) (openedTest (now (s .entry)) (now (opened .entry)) c time class)) ⌝ }
 {
     let cell = at(t, CELL + 192 * c + class);
@@ -114,8 +114,8 @@ fn put_opened(
 
 // The bindings of the first row's clause, behind the `top` bindings there are; the number of all of them.
 pub fn leaf_bindings(s: &[u8], m: Map, t: &[u8], x: Matrix, work: &mut [u8], top: usize) -> usize
-    requires { ⌜ Checked (now s) m × Tabled (now s) (now t) × First (now s) x × Room (now work) top ⌝ }
-    ensures { λ r. ⌜ bound (now (work .exit)) r ≡ boundAll (now (s .entry)) (bound (now (work .entry)) top) (leafNumbers (now (s .entry)) (classesIn (x .tested)) (x .opened) (getD (x .rows .list) 0 0)) ⌝ }
+    requires { ⌜ Ready (now s) m (now t) × WithRow (now s) x × Room (now work) top ⌝ }
+    ensures { λ r. ⌜ bound (now (work .exit)) r ≡ boundAll (now (s .entry)) (bound (now (work .entry)) top) (boundNumbers (now (s .entry)) (numbered x) (getD (x .rows .list) 0 0)) ⌝ }
 {
     let rows = x.rows;
     let tested = x.tested;
@@ -124,7 +124,17 @@ pub fn leaf_bindings(s: &[u8], m: Map, t: &[u8], x: Matrix, work: &mut [u8], top
     let mut next = put_bindings(s, m, t, root_at(s, m, c), work, top);
     let mut time: usize = 0;
     while time < tested.count {
-        next = put_opened(s, m, t, &opened, c, time, wide(tested.list[time]), work, next);
+        next = put_opened(
+            s,
+            m,
+            t,
+            &opened,
+            c,
+            time,
+            wide(tested.list[time]),
+            work,
+            next,
+        );
         time += 1;
     }
     next

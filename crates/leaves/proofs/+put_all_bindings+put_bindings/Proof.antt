@@ -82,8 +82,8 @@ put-all-bindings-child-at-requires : (t : ℕ) → put-all-bindings-lts.Need-chi
 ) (put-all-bindings-at t) put-all-bindings.Post
 put-all-bindings-child-at-requires t c κs = let a = c .before .before .before .before in
     let s = a .args .s .now in
-    let ok = a .pre .1 .0 in
-    let children = a .pre .1 .2 in
+    let ok = a .pre .1 .0 .checked in
+    let children = a .pre .1 .1 in
     let own = first-owned s (a .args .m) ok (a .args .parent) (a .args .j) (a .args .n) children (c .if1 .left) in
     (ok .ok .is-laid, ok .is-map, owned-below s (a .args .m) ok (a .args .parent) (a .args .j) (child s (a .args .j)) (children .known) own refl .0)
 
@@ -98,11 +98,11 @@ put-all-bindings-put-bindings-requires : (t : ℕ) → put-all-bindings-lts.Need
 ) (put-all-bindings-at t) put-all-bindings.Post
 put-all-bindings-put-bindings-requires t c κs = let a = c .before .before .before .before .before .before in
     let s = a .args .s .now in
-    let ok = a .pre .1 .0 in
-    let children = a .pre .1 .2 in
+    let ok = a .pre .1 .0 .checked in
+    let children = a .pre .1 .1 in
     let own = first-owned s (a .args .m) ok (a .args .parent) (a .args .j) (a .args .n) children (c .before .before .if1 .left) in
     let below = owned-below s (a .args .m) ok (a .args .parent) (a .args .j) (c .before .child-at .result) (children .known) own (c .before .child-at .ensures) in
-    (omega (arith, a .pre .0, below), (ok, a .pre .1 .1, below .1, a .pre .1 .3))
+    (omega (arith, a .pre .0, below), (a .pre .1 .0, below .1, a .pre .1 .2))
 
 -- src/lib.rt:85:39
 put-all-bindings-add-put-all-bindings : (t : ℕ) → put-all-bindings-lts.Need-add-put-all-bindings (
@@ -115,8 +115,8 @@ put-all-bindings-add-put-all-bindings : (t : ℕ) → put-all-bindings-lts.Need-
 ) (put-all-bindings-at t) put-all-bindings.Post
 put-all-bindings-add-put-all-bindings t c = let a = c .before .before .before .before .before .before .before .before .before in
     let s = a .args .s .now in
-    let ok = a .pre .1 .0 in
-    let children = a .pre .1 .2 in
+    let ok = a .pre .1 .0 .checked in
+    let children = a .pre .1 .1 in
     let own = first-owned s (a .args .m) ok (a .args .parent) (a .args .j) (a .args .n) children (c .before .before .before .before .before .if1 .left) in
     omega (arith, owned-below s (a .args .m) ok (a .args .parent) (a .args .j) (child s (a .args .j)) (children .known) own refl .0, ok .ok .is-counted .children-most)
 
@@ -143,15 +143,14 @@ put-all-bindings-put-all-bindings-requires :
     ) (put-all-bindings-at t) put-all-bindings.Post
 put-all-bindings-put-all-bindings-requires t c κs = let a = c .before .before .before .before .before .before .before .before .before .before in
     let s = a .args .s .now in
-    let ok = a .pre .1 .0 in
-    let children = a .pre .1 .2 in
+    let ok = a .pre .1 .0 .checked in
+    let children = a .pre .1 .1 in
     let put = c .before .before .before .put-bindings in (
       omega (arith, a .pre .0, c .before .before .before .before .before .before .if1 .left),
       (
-        ok,
-        a .pre .1 .1,
+        a .pre .1 .0,
         rest-owned s (a .args .m) ok (a .args .parent) (a .args .j) (a .args .n) children (c .before .before .before .before .before .before .if1 .left),
-        room-after s (a .args .work .now) (put .last .1 .1 .1 .1 .0) (a .args .top) (put .result) (bindsOf s (c .before .before .before .before .before .child-at .result)) (a .pre .1 .3) (put .ensures),
+        room-after s (a .args .work .now) (put .last .1 .1 .1 .1 .0) (a .args .top) (put .result) (bindsOf s (c .before .before .before .before .before .child-at .result)) (a .pre .1 .2) (put .ensures),
       ),
     )
 
@@ -202,7 +201,7 @@ put-bindings-pattern-at-requires : (t : ℕ) → put-bindings-lts.Need-pattern-a
   put-all-bindings-below t,
   put-all-bindings.Post,
 ) (put-bindings-at t) put-bindings.Post
-put-bindings-pattern-at-requires t c κs = let a = c .before .before .before in (a .pre .1 .0 .ok .is-laid, a .pre .1 .0 .is-map, a .pre .1 .2)
+put-bindings-pattern-at-requires t c κs = let a = c .before .before .before in (a .pre .1 .0 .checked .ok .is-laid, a .pre .1 .0 .checked .is-map, a .pre .1 .1)
 
 -- src/lib.rt:52:14
 put-bindings-put-binding-requires : (t : ℕ) → put-bindings-lts.Need-put-binding-requires (
@@ -255,10 +254,10 @@ put-bindings-child-at-requires : (t : ℕ) → put-bindings-lts.Need-child-at-re
 ) (put-bindings-at t) put-bindings.Post
 put-bindings-child-at-requires t c κs = let a = c .before .before .before .before .before .before .before .before .before in
     let s = a .args .s .now in
-    let ok = a .pre .1 .0 in
+    let ok = a .pre .1 .0 .checked in
     let r = c .before .before .before .before .before .pattern-at in
-    let own = assign-owns s (a .args .m) ok (a .args .p) (a .pre .1 .2) (r .result) (r .ensures) (c .before .before .before .before .match .keys2) in
-    (ok .ok .is-laid, ok .is-map, owned-below s (a .args .m) ok (a .args .p) (r .result .first) (child s (r .result .first)) (a .pre .1 .2) own refl .0)
+    let own = assign-owns s (a .args .m) ok (a .args .p) (a .pre .1 .1) (r .result) (r .ensures) (c .before .before .before .before .match .keys2) in
+    (ok .ok .is-laid, ok .is-map, owned-below s (a .args .m) ok (a .args .p) (r .result .first) (child s (r .result .first)) (a .pre .1 .1) own refl .0)
 
 -- src/lib.rt:55:13
 put-bindings-put-bindings-requires : (t : ℕ) → put-bindings-lts.Need-put-bindings-requires (
@@ -277,19 +276,18 @@ put-bindings-put-bindings-requires : (t : ℕ) → put-bindings-lts.Need-put-bin
 ) (put-bindings-at t) put-bindings.Post
 put-bindings-put-bindings-requires t c κs = let a = c .before .before .before .before .before .before .before .before .before .before .before in
     let s = a .args .s .now in
-    let ok = a .pre .1 .0 in
+    let ok = a .pre .1 .0 .checked in
     let r = c .before .before .before .before .before .before .before .pattern-at in
     let put = c .before .before .before .before .put-binding2 in
-    let own = assign-owns s (a .args .m) ok (a .args .p) (a .pre .1 .2) (r .result) (r .ensures) (c .before .before .before .before .before .before .match .keys2) in
-    let below = owned-below s (a .args .m) ok (a .args .p) (r .result .first) (c .before .child-at .result) (a .pre .1 .2) own (c .before .child-at .ensures) in
+    let own = assign-owns s (a .args .m) ok (a .args .p) (a .pre .1 .1) (r .result) (r .ensures) (c .before .before .before .before .before .before .match .keys2) in
+    let below = owned-below s (a .args .m) ok (a .args .p) (r .result .first) (c .before .child-at .result) (a .pre .1 .1) own (c .before .child-at .ensures) in
     let x = bound (a .args .work .now) (a .args .top) in
     let y = bound (put .last .1 .1 .1 .1 .0) (put .result) in (
       omega (arith, a .pre .0, below),
       (
-        ok,
-        a .pre .1 .1,
+        a .pre .1 .0,
         below .1,
-        room-after s (a .args .work .now) (put .last .1 .1 .1 .1 .0) (a .args .top) (put .result) (a .args .p ∷ []) (a .pre .1 .3) (put-one s x y (a .args .p) (put .ensures)),
+        room-after s (a .args .work .now) (put .last .1 .1 .1 .1 .0) (a .args .top) (put .result) (a .args .p ∷ []) (a .pre .1 .2) (put-one s x y (a .args .p) (put .ensures)),
       ),
     )
 
@@ -308,7 +306,7 @@ put-bindings-is-test-requires : (t : ℕ) → put-bindings-lts.Need-is-test-requ
   put-all-bindings-below t,
   put-all-bindings.Post,
 ) (put-bindings-at t) put-bindings.Post
-put-bindings-is-test-requires t c κs = let a = c .before .before .before .before .before .before .before in (a .pre .1 .0, a .pre .1 .1 .long, a .pre .1 .2, (a .pre .1 .1 .placed (a .args .p) (a .pre .1 .2)) .type)
+put-bindings-is-test-requires t c κs = let a = c .before .before .before .before .before .before .before in (a .pre .1 .0 .checked, a .pre .1 .0 .tabled .long, a .pre .1 .1, (a .pre .1 .0 .tabled .placed (a .args .p) (a .pre .1 .1)) .type)
 
 -- src/lib.rt:59:17
 put-bindings-returns : (t : ℕ) → put-bindings-lts.Need-returns (
@@ -329,7 +327,7 @@ put-bindings-returns t c = let a = c .before .before .before .before .before .be
     let s = a .args .s .now in
     let r = c .before .before .before .before .before .pattern-at in
     put-nothing s (bound (a .args .work .now) (a .args .top)) (bindsOf s (a .args .p))
-    (test-binds s (a .args .m) (a .pre .1 .0) (a .args .p) (a .pre .1 .2) (r .result) (r .ensures) (c .before .is-test .result) (c .before .is-test .ensures) (c .if3 .taken))
+    (test-binds s (a .args .m) (a .pre .1 .0 .checked) (a .args .p) (a .pre .1 .1) (r .result) (r .ensures) (c .before .is-test .result) (c .before .is-test .ensures) (c .if3 .taken))
 
 -- src/lib.rt:61:13
 put-bindings-put-all-bindings-requires : (t : ℕ) → put-bindings-lts.Need-put-all-bindings-requires (
@@ -348,11 +346,11 @@ put-bindings-put-all-bindings-requires : (t : ℕ) → put-bindings-lts.Need-put
 ) (put-bindings-at t) put-bindings.Post
 put-bindings-put-all-bindings-requires t c κs = let a = c .before .before .before .before .before .before .before .before .before .before in
     let s = a .args .s .now in
-    let ok = a .pre .1 .0 in
+    let ok = a .pre .1 .0 .checked in
     let r = c .before .before .before .before .before .before .pattern-at in
-    let children = parts-owned s (a .args .m) ok (a .args .p) (a .pre .1 .2) (r .result) (r .ensures) (c .before .before .before .before .if1 .left) (c .before .before .before .if2 .taken) in
+    let children = parts-owned s (a .args .m) ok (a .args .p) (a .pre .1 .1) (r .result) (r .ensures) (c .before .before .before .before .if1 .left) (c .before .before .before .if2 .taken) in
     let few = children-few s (a .args .m) ok (a .args .p) (r .result .first) (r .result .count) children in
-    (omega (arith, a .pre .0, few, a .pre .1 .2, ok .ok .is-counted .patterns-most), (ok, a .pre .1 .1, children, a .pre .1 .3))
+    (omega (arith, a .pre .0, few, a .pre .1 .1, ok .ok .is-counted .patterns-most), (a .pre .1 .0, children, a .pre .1 .2))
 
 -- src/lib.rt:45:1
 put-bindings-same-length : (t : ℕ) → put-bindings-lts.Need-same-length (
@@ -393,7 +391,7 @@ put-bindings-returns-2 t c = let a = c .before .before .before .before .before .
     let x = bound (a .args .work .now) (a .args .top) in
     let y = bound (put .last .1 .1 .1 .1 .0) (put .result) in
     put-run s x y (a .args .p ∷ []) (bindsOf s (a .args .p))
-    (variable-binds s (a .args .m) (a .pre .1 .0) (a .args .p) (a .pre .1 .2) (r .result) (r .ensures) (c .before .before .before .before .match .keys1))
+    (variable-binds s (a .args .m) (a .pre .1 .0 .checked) (a .args .p) (a .pre .1 .1) (r .result) (r .ensures) (c .before .before .before .before .match .keys1))
     (put-one s x y (a .args .p) (put .ensures))
 
 -- src/lib.rt:45:1
@@ -437,7 +435,7 @@ put-bindings-returns-3 t c = let a = c .before .before .before .before .before .
     let x = bound (a .args .work .now) (a .args .top) in
     let y = bound (put .last .1 .1 .1 .1 .0) (put .result) in
     put-more s x y (bound (inside .last .1 .1 .1 .1 .0) (inside .result)) (a .args .p ∷ []) (bindsOf s (q .result)) (bindsOf s (a .args .p))
-    (assign-binds s (a .args .m) (a .pre .1 .0) (a .args .p) (a .pre .1 .2) (r .result) (r .ensures) (c .before .before .before .before .before .before .before .before .before .match .keys2) (q .result) (q .ensures))
+    (assign-binds s (a .args .m) (a .pre .1 .0 .checked) (a .args .p) (a .pre .1 .1) (r .result) (r .ensures) (c .before .before .before .before .before .before .before .before .before .match .keys2) (q .result) (q .ensures))
     (put-one s x y (a .args .p) (put .ensures)) (inside .ensures)
 
 -- src/lib.rt:45:1
@@ -477,7 +475,7 @@ put-bindings-returns-4 t c = let a = c .before .before .before .before .before .
     let r = c .before .before .before .before .before .before .before .before .before .pattern-at in
     let put = c .before .before .put-all-bindings in
     put-run s (bound (a .args .work .now) (a .args .top)) (bound (put .last .1 .1 .1 .1 .1 .1 .0) (put .result)) (bindsOfEach s (r .result .first) (r .result .count)) (bindsOf s (a .args .p))
-    (parts-binds s (a .args .m) (a .pre .1 .0) (a .args .p) (a .pre .1 .2) (r .result) (r .ensures) (c .before .before .before .before .before .before .before .if1 .left) (c .before .before .before .before .before .before .if2 .taken) (c .before .before .before .before .before .is-test .result) (c .before .before .before .before .before .is-test .ensures) (c .before .before .before .before .if3 .left))
+    (parts-binds s (a .args .m) (a .pre .1 .0 .checked) (a .args .p) (a .pre .1 .1) (r .result) (r .ensures) (c .before .before .before .before .before .before .before .if1 .left) (c .before .before .before .before .before .before .if2 .taken) (c .before .before .before .before .before .is-test .result) (c .before .before .before .before .before .is-test .ensures) (c .before .before .before .before .if3 .left))
     (put .ensures)
 
 -- src/lib.rt:45:1
@@ -499,7 +497,7 @@ put-bindings-returns-5 t c = let a = c .before .before .before .before .before .
     let s = a .args .s .now in
     let r = c .before .before .pattern-at in
     put-nothing s (bound (a .args .work .now) (a .args .top)) (bindsOf s (a .args .p))
-    (others-bind s (a .args .m) (a .pre .1 .0) (a .args .p) (a .pre .1 .2) (r .result) (r .ensures) (c .before .match .rest .0 .1) (c .before .match .rest .1) (inl (c .if1 .taken)))
+    (others-bind s (a .args .m) (a .pre .1 .0 .checked) (a .args .p) (a .pre .1 .1) (r .result) (r .ensures) (c .before .match .rest .0 .1) (c .before .match .rest .1) (inl (c .if1 .taken)))
 
 -- src/lib.rt:45:1
 put-bindings-returns-6 : (t : ℕ) → put-bindings-lts.Need-returns-6 (
@@ -520,7 +518,7 @@ put-bindings-returns-6 t c = let a = c .before .before .before .before .before .
     let s = a .args .s .now in
     let r = c .before .before .before .pattern-at in
     put-nothing s (bound (a .args .work .now) (a .args .top)) (bindsOf s (a .args .p))
-    (others-bind s (a .args .m) (a .pre .1 .0) (a .args .p) (a .pre .1 .2) (r .result) (r .ensures) (c .before .before .match .rest .0 .1) (c .before .before .match .rest .1) (inr (c .if2 .left)))
+    (others-bind s (a .args .m) (a .pre .1 .0 .checked) (a .args .p) (a .pre .1 .1) (r .result) (r .ensures) (c .before .before .match .rest .0 .1) (c .before .before .match .rest .1) (inr (c .if2 .left)))
 
 pub +put-all-bindings+put-bindings-spec : {M : Type 1} → statement M
 +put-all-bindings+put-bindings-spec =

@@ -58,7 +58,7 @@ same-length c = search needs
 returns-2 : tie.Need-returns-2
 returns-2 c = let a = c .before .before .before .before .before .before .before .before .before .before .before in
     one-fits (a .args .s .now) (a .args .work .now) (c .before .before .put-binding .last .0) (a .args .top) (a .args .p) (c .before .before .before .before .before .before .pattern-at .result .a) (c .before .before .before .before .before .at .result) (c .before .before .before .before .before .before .before .if1 .left)
-    (ap (λ (r : PatternRecord). r .a) (c .before .before .before .before .before .before .pattern-at .ensures)) (c .before .before .before .before .before .at .ensures ∙ (a .pre .1 .classed (a .args .p) (a .pre .2)) .class) (c .before .before .put-binding .ensures)
+    (ap (λ (r : PatternRecord). r .a) (c .before .before .before .before .before .before .pattern-at .ensures)) (c .before .before .before .before .before .at .ensures ∙ (a .pre .0 .tabled .classed (a .args .p) (a .pre .1)) .class) (c .before .before .put-binding .ensures)
 
 pub put-binding-spec : {M : Type 1} → statement M
 put-binding-spec =
