@@ -1,20 +1,23 @@
 -- Bindings put into the arena one after the other, by the numbers of their patterns: each as its name and the class of its path, while
 -- there is room for it; past the room only their number goes on, to one more than the room. Rests on the table's classes.
 use mathlib.Core.Bool.{Bool, true, false}
-use mathlib.Core.List.{List, [], _∷_, _++_}
+use mathlib.Core.List.{List, [], _∷_, _++_, map}
 use Prim.Native.Nat.{ℕ, _+_, _*_, _≤_, _<_, min}
 use lib.Dec.{ltb}
-use lib.ListN.{length}
+use lib.ListN.{length, getD}
 use Rattle.words.specs.Words.{wordBytes, pick}
 use Rattle.words.specs.Stored.{stored}
 use Rattle.rules.specs.Limits.{bindingsMost, bindingSize}
 use Rattle.rules.specs.SheetFile.{patterns, patternA}
+use Rattle.rules.specs.Rows.{Binding}
 use Rattle.facts.specs.SheetFacts.{Owns}
 use Rattle.table.specs.Standing.{classOf}
+use Rattle.table.specs.Seen.{bindingAt}
 use Rattle.arena.specs.Arena.{bindingsStart, arenaEnd}
 use Rattle.matrix.specs.declared.Matrix.{Matrix}
 use Rattle.matrix.specs.Lists.{classesIn, numbersIn, Whole, WholeRows}
 use Rattle.matrix.specs.Numbered.{Numbered, SoundOf}
+use Rattle.matrix.specs.Bound.{boundNumbers}
 
 -- a number of bindings, told up to one more than there is room for
 abbrev pub capped : ℕ → ℕ
@@ -60,6 +63,14 @@ pub record Entries (s : List ℕ) (p j n : ℕ) : Type 0 where
 -- the matrix by its numbers
 abbrev pub numbered : Matrix → Numbered
 numbered x = record { rows = numbersIn (x .rows); columns = classesIn (x .columns); tested = classesIn (x .tested); opened = x .opened }
+
+-- ---- a leaf's
+-- the clause of the first row, and what it binds
+abbrev pub firstClause : Matrix → ℕ
+firstClause x = getD (x .rows .list) 0 0
+
+abbrev pub leafBindings : List ℕ → Matrix → List Binding
+leafBindings s x = map (bindingAt s) (boundNumbers s (numbered x) (firstClause x))
 
 -- a sound matrix with a row
 pub record WithRow (s : List ℕ) (x : Matrix) : Type 0 where

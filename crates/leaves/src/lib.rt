@@ -14,7 +14,7 @@ use table::at;
 use table::is_test;
 ghost use mathlib.Core.Path.{_≡_};
 ghost use Prim.Native.Nat.{_+_, _<_, _≤_};
-ghost use lib.ListN.{length, getD};
+ghost use lib.ListN.{length};
 ghost use Rattle.rules.specs.Limits.{bindingsMost, patternsMost};
 ghost use Rattle.rules.specs.SheetFile.{patterns, clauses};
 ghost use Rattle.table.specs.Seen.{bindsOf, bindsOfEach};
@@ -22,7 +22,7 @@ ghost use Rattle.arena.specs.Arena.{arenaEnd};
 ghost use Rattle.matrix.specs.Live.{openedTest};
 ghost use Rattle.matrix.specs.Bound.{numbersHeld, boundNumbers};
 ghost use Rattle.matrix.specs.Ready.{Ready};
-ghost use Rattle.leaves.specs.Bindings.{bound, boundOne, boundAll, Room, Entries, numbered, WithRow};
+ghost use Rattle.leaves.specs.Bindings.{bound, boundOne, boundAll, Room, Entries, numbered, firstClause, WithRow};
 
 // The room for bindings. Where there are more, their number is told as one more than it.
 pub const BINDINGS_MOST: usize = 4096;
@@ -115,7 +115,7 @@ fn put_opened(
 // The bindings of the first row's clause, behind the `top` bindings there are; the number of all of them.
 pub fn leaf_bindings(s: &[u8], m: Map, t: &[u8], x: Matrix, work: &mut [u8], top: usize) -> usize
     requires { ⌜ Ready (now s) m (now t) × WithRow (now s) x × Room (now work) top ⌝ }
-    ensures { λ r. ⌜ bound (now (work .exit)) r ≡ boundAll (now (s .entry)) (bound (now (work .entry)) top) (boundNumbers (now (s .entry)) (numbered x) (getD (x .rows .list) 0 0)) ⌝ }
+    ensures { λ r. ⌜ bound (now (work .exit)) r ≡ boundAll (now (s .entry)) (bound (now (work .entry)) top) (boundNumbers (now (s .entry)) (numbered x) (firstClause x)) ⌝ }
 {
     let rows = x.rows;
     let tested = x.tested;
