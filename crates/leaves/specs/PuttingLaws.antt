@@ -187,14 +187,15 @@ module _ (s t : List ℕ) (tabled : Tabled s t) (c class : ℕ) (hc : c < clause
     pub cell-known : cell - 1 < patterns s
     cell-known = (cell-some s c class (cell - 1) cell-back) .test-of .known
 
-    module _ (opened : List ℕ) (time : ℕ) where
-      pub other-time : (getD opened (cell - 1) 0 ≡ time + 1 → ⊥) → numbersHeld s (openedTest s opened c time class) ≡ []
+    -- when it was opened, as that was read
+    module _ (opened : List ℕ) (time when : ℕ) (is-when : when ≡ getD opened (cell - 1) 0) where
+      pub other-time : (when ≡ time + 1 → ⊥) → numbersHeld s (openedTest s opened c time class) ≡ []
       unfolding openedTest
-      other-time n = rw (cell-back, ne-eqb (getD opened (cell - 1) 0) (time + 1) n)
+      other-time n = rw (cell-back, ← is-when, ne-eqb when (time + 1) n)
 
-      pub same-time : getD opened (cell - 1) 0 ≡ time + 1 → numbersHeld s (openedTest s opened c time class) ≡ openedBinds s (cell - 1)
+      pub same-time : when ≡ time + 1 → numbersHeld s (openedTest s opened c time class) ≡ openedBinds s (cell - 1)
       unfolding openedTest
-      same-time e = rw (cell-back, eq-eqb (getD opened (cell - 1) 0) (time + 1) e)
+      same-time e = rw (cell-back, ← is-when, eq-eqb when (time + 1) e)
 
 -- ---- the columns tested, one after the other
 -- what is left to put from the column `time` on

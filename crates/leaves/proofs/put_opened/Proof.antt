@@ -1,4 +1,4 @@
-use mathlib.Core.Path.{_≡_, sym, ap, _∙_}
+use mathlib.Core.Path.{_∙_}
 use Prim.Native.Nat.{_-_}
 use native.Mathlib.Omega.{arith}
 use Rattle.matrix.specs.Live.{openedTest}
@@ -61,7 +61,7 @@ returns-2 c = let a = c .before .before .before .before .before .before .before 
     let cell = c .before .before .before .before .at in
     put-nothing (a .args .s .now) (bound (a .args .work .now) (a .args .top)) (numbersHeld (a .args .s .now) (openedTest (a .args .s .now) (a .args .opened .now) (a .args .c) (a .args .time) (a .args .class)))
     (other-time (a .args .s .now) (a .args .t .now) (a .pre .0 .tabled) (a .args .c) (a .args .class) (a .pre .1) (a .pre .2) (cell .result) (cell .ensures) (c .before .before .before .if1 .left) (a .args .opened .now) (a .args .time)
-    (λ e. c .if2 .taken (c .before .wide .ensures ∙ e)))
+    (c .before .wide .result) (c .before .wide .ensures) (c .if2 .taken))
 
 -- src/lib.rt:111:9
 children-of-requires : tie.Need-children-of-requires
@@ -92,7 +92,7 @@ returns-3 c = let a = c .before .before .before .before .before .before .before 
     put-run s (bound (a .args .work .now) (a .args .top)) (bound (put .last .1 .1 .1 .1 .1 .1 .0) (put .result)) (bindsOfEach s (run .result .first) (run .result .count))
     (numbersHeld s (openedTest s (a .args .opened .now) (a .args .c) (a .args .time) (a .args .class)))
     (same-time s (a .args .t .now) (a .pre .0 .tabled) (a .args .c) (a .args .class) (a .pre .1) (a .pre .2) (cell .result) (cell .ensures) (c .before .before .before .before .before .before .before .before .if1 .left) (a .args .opened .now) (a .args .time)
-    (sym (c .before .before .before .before .before .before .wide .ensures) ∙ c .before .before .before .before .before .if2 .left)
+    (c .before .before .before .before .before .before .wide .result) (c .before .before .before .before .before .before .wide .ensures) (c .before .before .before .before .before .if2 .left)
     ∙ run-opened s (cell .result - 1) known (run .result) (run .ensures))
     (put .ensures)
 
