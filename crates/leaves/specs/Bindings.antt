@@ -1,6 +1,5 @@
 -- Bindings put into the arena one after the other, by the numbers of their patterns: each as its name and the class of its path, while
 -- there is room for it; past the room only their number goes on, to one more than the room. Rests on the table's classes.
-use mathlib.Core.Bool.{Bool, true, false}
 use mathlib.Core.List.{List, [], _∷_, _++_, map}
 use Prim.Native.Nat.{ℕ, _+_, _*_, _≤_, _<_, min}
 use lib.Dec.{ltb}
@@ -49,6 +48,18 @@ unfolding boundOne
 boundAll s x [] = x
 boundAll s x (q ∷ qs) = boundAll s (boundOne s x q) qs
 
+-- ---- a leaf
+-- the matrix by its numbers
+abbrev pub numbered : Matrix → Numbered
+numbered x = record { rows = numbersIn (x .rows); columns = classesIn (x .columns); tested = classesIn (x .tested); opened = x .opened }
+
+-- the clause of its first row, and what that row binds
+abbrev pub firstClause : Matrix → ℕ
+firstClause x = getD (x .rows .list) 0 0
+
+abbrev pub leafBindings : List ℕ → Matrix → List Binding
+leafBindings s x = map (bindingAt s) (boundNumbers s (numbered x) (firstClause x))
+
 -- ---- what is asked
 -- the arena, and a number of bindings that can be told
 pub record Room (w : List ℕ) (top : ℕ) : Type 0 where
@@ -59,18 +70,6 @@ pub record Room (w : List ℕ) (top : ℕ) : Type 0 where
 pub record Entries (s : List ℕ) (p j n : ℕ) : Type 0 where
   pub known : p < patterns s
   pub owns : (i : ℕ) → j ≤ i → i < j + n → Owns s p i
-
--- the matrix by its numbers
-abbrev pub numbered : Matrix → Numbered
-numbered x = record { rows = numbersIn (x .rows); columns = classesIn (x .columns); tested = classesIn (x .tested); opened = x .opened }
-
--- ---- a leaf's
--- the clause of the first row, and what it binds
-abbrev pub firstClause : Matrix → ℕ
-firstClause x = getD (x .rows .list) 0 0
-
-abbrev pub leafBindings : List ℕ → Matrix → List Binding
-leafBindings s x = map (bindingAt s) (boundNumbers s (numbered x) (firstClause x))
 
 -- a sound matrix with a row
 pub record WithRow (s : List ℕ) (x : Matrix) : Type 0 where

@@ -3,18 +3,19 @@
 use mathlib.Core.Path.{_≡_, refl, sym, ap, ap₂, _∙_}
 use mathlib.Core.Logic.{_⊎_, inl, inr}
 use mathlib.Core.Bool.{Bool, true, false}
-use mathlib.Core.List.{List, [], _∷_, _++_, append-nil}
-use Prim.Native.Nat.{ℕ, zero, suc, _+_, _-_, _*_, _≤_, _<_}
+use mathlib.Core.List.{List, [], _∷_, _++_}
+use Prim.Native.Nat.{ℕ, suc, _+_, _-_, _*_, _≤_, _<_}
 use native.Mathlib.Omega.{arith}
 use borrow.Author.Tests.{eq-eqb, ne-eqb, eqb-true, eqb-false}
 use lib.Dec.{eqb}
-use lib.ListN.{length, getD, take}
+use lib.ListN.{length, getD}
 use lib.Seq.{slice}
 use Rattle.words.specs.Words.{pick}
-use Rattle.rules.specs.Limits.{bindingsMost, patternsMost, childrenMost}
+use Rattle.rules.specs.Limits.{patternsMost, childrenMost}
 use Rattle.rules.specs.SheetFile.{patterns, children, clauses, patternKind, patternFirst, patternCount, child, root}
 use Rattle.rules.specs.Patterns.{patternKindOf}
 use Rattle.rules.specs.SheetRefusals.{hasChildren}
+use Rattle.rules.specs.SplittingLaws.{All}
 use Rattle.facts.specs.SheetFacts.{Owns, assign-parent, many-parent, owned-entry, owned-pattern}
 use Rattle.sheet.specs.declared.Map.{Map}
 use Rattle.sheet.specs.declared.records.PatternRecord.{PatternRecord}
@@ -23,21 +24,18 @@ use Rattle.sheet.specs.Records.{patternOf}
 use Rattle.sheet.specs.Shape.{childrenFirst, childrenCount, childrenOf}
 use Rattle.sheet.specs.CollectLaws.{run-owned}
 use Rattle.table.specs.Standing.{kindOf, isTest, cellOf}
-use Rattle.table.specs.Seen.{eachOf, insideOf, bindsOf, bindsOfEach, openedBinds}
-use Rattle.table.specs.SeenLaws.{eachOf-none, binds-no-name, binds-of-test, binds-of-parts, opened-binds-each, binds-discard, binds-variable, binds-assign, binds-text-or-list, binds-each-none, binds-each-some}
+use Rattle.table.specs.Seen.{insideOf, bindsOf, bindsOfEach, openedBinds}
+use Rattle.table.specs.SeenLaws.{binds-no-name, binds-of-test, binds-of-parts, opened-binds-each, binds-discard, binds-variable, binds-assign, binds-text-or-list, binds-each-none}
 use Rattle.table.specs.Table.{cellsAt}
 use Rattle.table.specs.Tabled.{Checked, Tabled}
 use Rattle.matrix.specs.declared.Matrix.{Matrix}
-use Rattle.matrix.specs.declared.Held.the-variants.{Test, Wildcard}
-use Rattle.matrix.specs.Live.{openedTest, openedCell}
+use Rattle.matrix.specs.Live.{openedTest, IsClass}
 use Rattle.matrix.specs.LiveLaws.{cell-some}
 use Rattle.matrix.specs.Bound.{numbersHeld, openedNumbers, boundNumbers}
 use Rattle.matrix.specs.Matrices.{Rising}
-use Rattle.matrix.specs.Live.{IsClass}
-use Rattle.rules.specs.SplittingLaws.{All}
 use Rattle.matrix.specs.ReadingLaws.{all-at, slice-on, slice-end}
 use Rattle.matrix.specs.Lists.{numbersIn, classesIn}
-use Rattle.leaves.specs.Bindings.{Bound, bound, boundOne, boundAll, Entries, Room, numbered, WithRow}
+use Rattle.leaves.specs.Bindings.{Bound, bound, boundOne, boundAll, Entries, Room, numbered, firstClause, WithRow}
 use Rattle.leaves.specs.BindingsLaws.{bound-none, bound-single, bound-append, bound-top, bound-length}
 
 -- ---- the store, by its answers
@@ -217,7 +215,7 @@ pub put-turn : (s : List ℕ) (x y : Bound) (qs rs all : List ℕ) → all ≡ q
 put-turn s x y qs rs all e f = ap (λ (v : Bound). boundAll s v rs) f ∙ sym (bound-append s x qs rs) ∙ ap (boundAll s x) (sym e)
 
 module _ (s : List ℕ) (x : Matrix) (with : WithRow s x) where
-  pub row-clause : (c : ℕ) → c ≡ getD (x .rows .list) 0 0 → c < clauses s
+  pub row-clause : (c : ℕ) → c ≡ firstClause x → c < clauses s
   row-clause c e = rw e (all-at (λ k. k < clauses s) (x .rows .list) (x .rows .count) 0 (with .some-row) (omega (arith, with .rows)) (rising-below (numbersIn (x .rows)) 0 (with .sound .rising)))
     where
       rising-below : (cs : List ℕ) (from : ℕ) → Rising (clauses s) from cs → All (λ k. k < clauses s) cs
@@ -227,10 +225,10 @@ module _ (s : List ℕ) (x : Matrix) (with : WithRow s x) where
   pub tested-known : (time class : ℕ) → time < x .tested .count → class ≡ getD (x .tested .list) time 0 → class < patterns s
   tested-known time class h e = rw e ((all-at (IsClass s) (x .tested .list) (x .tested .count) time h (omega (arith, with .tested)) (with .sound .were-classes)) .known)
 
-  module _ (c r time : ℕ) (a b z : Bound) (is-clause : c ≡ getD (x .rows .list) 0 0) (is-root : r ≡ root s c) (done : time ≡ x .tested .count) where
+  module _ (c r time : ℕ) (a b z : Bound) (is-clause : c ≡ firstClause x) (is-root : r ≡ root s c) (done : time ≡ x .tested .count) where
     pub leaf-put : b ≡ boundAll s a (bindsOf s r)
         → boundAll s z (leftFrom s (x .opened) (x .tested .list) (x .tested .count) c time) ≡ boundAll s b (leftFrom s (x .opened) (x .tested .list) (x .tested .count) c 0)
-        → z ≡ boundAll s a (boundNumbers s (numbered x) (getD (x .rows .list) 0 0))
+        → z ≡ boundAll s a (boundNumbers s (numbered x) (firstClause x))
     unfolding boundNumbers
     leaf-put e f =
         let left = leftFrom s (x .opened) (x .tested .list) (x .tested .count) c 0 in

@@ -1,27 +1,26 @@
 -- What bindings put into the arena leave there: every byte elsewhere as it was, and, where there is room, the records of the tree file
 -- over the sheet's own paths. Rests on the arena's laws of writing; a leaf's bindings are met in crate matrix, by their numbers.
-use mathlib.Core.Path.{_≡_, refl, sym, ap, ap₂, _∙_}
+use mathlib.Core.Path.{_≡_, refl, sym, ap, _∙_}
 use mathlib.Core.Logic.{_⊎_, inl, inr}
 use mathlib.Core.Bool.{Bool, true, false}
-use mathlib.Core.List.{List, [], _∷_, _++_, map, append-assoc}
-use Prim.Native.Nat.{ℕ, zero, suc, _+_, _-_, _*_, _≤_, _<_, min}
+use mathlib.Core.List.{List, [], _∷_, _++_, map}
+use Prim.Native.Nat.{ℕ, _+_, _*_, _≤_, _<_}
 use native.Mathlib.Omega.{arith}
 use borrow.Author.Tests.{lt-ltb, ltb-true}
 use lib.Dec.{ltb}
 use lib.ListN.{length, getD, length-map}
 use lib.Seq.{slice}
-use Rattle.words.specs.Words.{wordBytes, pick}
+use Rattle.words.specs.Words.{pick}
 use Rattle.words.specs.Stored.{stored}
 use Rattle.words.specs.StoredLaws.{stored-nil, stored-append, getD-stored-below, getD-stored-above}
 use Rattle.rules.specs.Limits.{nodesMost, bindingsMost, bindingSize}
-use Rattle.rules.specs.SheetFile.{patternA}
 use Rattle.rules.specs.Rows.{Binding}
 use Rattle.rules.specs.Building.{leaf, leafOf}
-use Rattle.rules.specs.TreeFile.{pathNumber, bindingsBytes}
+use Rattle.rules.specs.TreeFile.{bindingsBytes}
 use Rattle.filing.specs.StandingLaws.{Stands}
 use Rattle.filing.specs.LengthLaws.{length-bindingsBytes}
 use Rattle.facts.specs.SheetFacts.{Accepted}
-use Rattle.table.specs.Standing.{classOf, pathOf, sheetPaths}
+use Rattle.table.specs.Standing.{classOf, sheetPaths}
 use Rattle.table.specs.Seen.{bindingAt}
 use Rattle.arena.specs.Arena.{casesStart, casesMost, bindingsStart, arenaEnd}
 use Rattle.arena.specs.WritingLaws.{Kept, stands-stored}

@@ -13,12 +13,10 @@ use table::CLASS;
 use table::at;
 use table::is_test;
 ghost use mathlib.Core.Path.{_≡_};
-ghost use Prim.Native.Nat.{_+_, _<_, _≤_};
-ghost use lib.ListN.{length};
-ghost use Rattle.rules.specs.Limits.{bindingsMost, patternsMost};
+ghost use Prim.Native.Nat.{_<_};
+ghost use Rattle.rules.specs.Limits.{patternsMost};
 ghost use Rattle.rules.specs.SheetFile.{patterns, clauses};
 ghost use Rattle.table.specs.Seen.{bindsOf, bindsOfEach};
-ghost use Rattle.arena.specs.Arena.{arenaEnd};
 ghost use Rattle.matrix.specs.Live.{openedTest};
 ghost use Rattle.matrix.specs.Bound.{numbersHeld, boundNumbers};
 ghost use Rattle.matrix.specs.Ready.{Ready};
@@ -64,7 +62,7 @@ fn put_bindings(s: &[u8], m: Map, t: &[u8], p: usize, work: &mut [u8], top: usiz
     }
 }
 
-// The bindings of n children of `parent` from entry j on.
+// The bindings of n children of `parent` from entry j on. A child has a larger number than its parent, so that the two functions end.
 fn put_all_bindings(
     s: &[u8],
     m: Map,

@@ -1,8 +1,8 @@
 use borrow.Author.Needs.{needs}
-use mathlib.Core.Path.{_≡_, refl, sym, ap, _∙_}
+use mathlib.Core.Path.{refl, sym, ap, _∙_}
 use mathlib.Core.Logic.{inl, inr}
 use mathlib.Core.List.{[], _∷_, _++_}
-use Prim.Native.Nat.{ℕ, _+_, _-_, _*_, _≤_, _<_}
+use Prim.Native.Nat.{ℕ, _+_, _-_, _*_, _<_}
 use native.Mathlib.Omega.{arith}
 use Rattle.rules.specs.SheetFile.{child}
 use Rattle.table.specs.Seen.{bindsOf, bindsOfEach}
@@ -58,7 +58,6 @@ put-bindings-below t =
     (falls 3 put-bindings-kinds.ps _<_ μ-put-bindings t)
     put-bindings.Pre
 
--- src/lib.rt:82:9
 put-all-bindings-returns : (t : ℕ) → put-all-bindings-lts.Need-returns (
   child-at-reads.Asked,
   child-at-reads.Learnt,
@@ -71,7 +70,6 @@ put-all-bindings-returns t c = let a = c .before .before .before .before in
     put-nothing (a .args .s .now) (bound (a .args .work .now) (a .args .top)) (bindsOfEach (a .args .s .now) (a .args .j) (a .args .n))
     (ap (λ (k : ℕ). bindsOfEach (a .args .s .now) (a .args .j) k) (c .if1 .taken) ∙ binds-each-none (a .args .s .now) (a .args .j))
 
--- src/lib.rt:84:38
 put-all-bindings-child-at-requires : (t : ℕ) → put-all-bindings-lts.Need-child-at-requires (
   child-at-reads.Asked,
   child-at-reads.Learnt,
@@ -87,7 +85,6 @@ put-all-bindings-child-at-requires t c κs = let a = c .before .before .before .
     let own = first-owned s (a .args .m) ok (a .args .parent) (a .args .j) (a .args .n) children (c .if1 .left) in
     (ok .ok .is-laid, ok .is-map, owned-below s (a .args .m) ok (a .args .parent) (a .args .j) (child s (a .args .j)) (children .known) own refl .0)
 
--- src/lib.rt:84:9
 put-all-bindings-put-bindings-requires : (t : ℕ) → put-all-bindings-lts.Need-put-bindings-requires (
   child-at-reads.Asked,
   child-at-reads.Learnt,
@@ -104,7 +101,6 @@ put-all-bindings-put-bindings-requires t c κs = let a = c .before .before .befo
     let below = owned-below s (a .args .m) ok (a .args .parent) (a .args .j) (c .before .child-at .result) (children .known) own (c .before .child-at .ensures) in
     (omega (arith, a .pre .0, below), (a .pre .1 .0, below .1, a .pre .1 .2))
 
--- src/lib.rt:85:39
 put-all-bindings-add-put-all-bindings : (t : ℕ) → put-all-bindings-lts.Need-add-put-all-bindings (
   child-at-reads.Asked,
   child-at-reads.Learnt,
@@ -120,7 +116,6 @@ put-all-bindings-add-put-all-bindings t c = let a = c .before .before .before .b
     let own = first-owned s (a .args .m) ok (a .args .parent) (a .args .j) (a .args .n) children (c .before .before .before .before .before .if1 .left) in
     omega (arith, owned-below s (a .args .m) ok (a .args .parent) (a .args .j) (child s (a .args .j)) (children .known) own refl .0, ok .ok .is-counted .children-most)
 
--- src/lib.rt:85:46
 put-all-bindings-sub-put-all-bindings : (t : ℕ) → put-all-bindings-lts.Need-sub-put-all-bindings (
   child-at-reads.Asked,
   child-at-reads.Learnt,
@@ -131,7 +126,6 @@ put-all-bindings-sub-put-all-bindings : (t : ℕ) → put-all-bindings-lts.Need-
 ) (put-all-bindings-at t) put-all-bindings.Post
 put-all-bindings-sub-put-all-bindings t c = search needs
 
--- src/lib.rt:85:5
 put-all-bindings-put-all-bindings-requires :
     (t : ℕ) → put-all-bindings-lts.Need-put-all-bindings-requires (
       child-at-reads.Asked,
@@ -154,7 +148,6 @@ put-all-bindings-put-all-bindings-requires t c κs = let a = c .before .before .
       ),
     )
 
--- src/lib.rt:68:1
 put-all-bindings-same-length : (t : ℕ) → put-all-bindings-lts.Need-same-length (
   child-at-reads.Asked,
   child-at-reads.Learnt,
@@ -165,7 +158,6 @@ put-all-bindings-same-length : (t : ℕ) → put-all-bindings-lts.Need-same-leng
 ) (put-all-bindings-at t) put-all-bindings.Post
 put-all-bindings-same-length t c = search needs
 
--- src/lib.rt:68:1
 put-all-bindings-returns-2 : (t : ℕ) → put-all-bindings-lts.Need-returns-2 (
   child-at-reads.Asked,
   child-at-reads.Learnt,
@@ -186,7 +178,6 @@ put-all-bindings-returns-2 t c = let a = c .before .before .before .before .befo
     (binds-each-some s j n (c .before .before .before .before .before .before .before .before .before .if1 .left) ∙ ap (λ (k : ℕ). bindsOf s k ++ bindsOfEach s (j + 1) (n - 1)) (sym (c .before .before .before .before .before .before .before .before .child-at .ensures)))
     (put .ensures) (rest .ensures)
 
--- src/lib.rt:49:9
 put-bindings-pattern-at-requires : (t : ℕ) → put-bindings-lts.Need-pattern-at-requires (
   pattern-at-reads.Asked,
   pattern-at-reads.Learnt,
@@ -203,7 +194,6 @@ put-bindings-pattern-at-requires : (t : ℕ) → put-bindings-lts.Need-pattern-a
 ) (put-bindings-at t) put-bindings.Post
 put-bindings-pattern-at-requires t c κs = let a = c .before .before .before in (a .pre .1 .0 .checked .ok .is-laid, a .pre .1 .0 .checked .is-map, a .pre .1 .1)
 
--- src/lib.rt:52:14
 put-bindings-put-binding-requires : (t : ℕ) → put-bindings-lts.Need-put-binding-requires (
   pattern-at-reads.Asked,
   pattern-at-reads.Learnt,
@@ -220,7 +210,6 @@ put-bindings-put-binding-requires : (t : ℕ) → put-bindings-lts.Need-put-bind
 ) (put-bindings-at t) put-bindings.Post
 put-bindings-put-binding-requires t c κs = c .before .before .before .before .before .before .pre .1
 
--- src/lib.rt:54:17
 put-bindings-put-binding-requires-2 : (t : ℕ) → put-bindings-lts.Need-put-binding-requires-2 (
   pattern-at-reads.Asked,
   pattern-at-reads.Learnt,
@@ -237,7 +226,6 @@ put-bindings-put-binding-requires-2 : (t : ℕ) → put-bindings-lts.Need-put-bi
 ) (put-bindings-at t) put-bindings.Post
 put-bindings-put-binding-requires-2 t c κs = c .before .before .before .before .before .before .pre .1
 
--- src/lib.rt:55:35
 put-bindings-child-at-requires : (t : ℕ) → put-bindings-lts.Need-child-at-requires (
   pattern-at-reads.Asked,
   pattern-at-reads.Learnt,
@@ -259,7 +247,6 @@ put-bindings-child-at-requires t c κs = let a = c .before .before .before .befo
     let own = assign-owns s (a .args .m) ok (a .args .p) (a .pre .1 .1) (r .result) (r .ensures) (c .before .before .before .before .match .keys2) in
     (ok .ok .is-laid, ok .is-map, owned-below s (a .args .m) ok (a .args .p) (r .result .first) (child s (r .result .first)) (a .pre .1 .1) own refl .0)
 
--- src/lib.rt:55:13
 put-bindings-put-bindings-requires : (t : ℕ) → put-bindings-lts.Need-put-bindings-requires (
   pattern-at-reads.Asked,
   pattern-at-reads.Learnt,
@@ -291,7 +278,6 @@ put-bindings-put-bindings-requires t c κs = let a = c .before .before .before .
       ),
     )
 
--- src/lib.rt:58:16
 put-bindings-is-test-requires : (t : ℕ) → put-bindings-lts.Need-is-test-requires (
   pattern-at-reads.Asked,
   pattern-at-reads.Learnt,
@@ -308,7 +294,6 @@ put-bindings-is-test-requires : (t : ℕ) → put-bindings-lts.Need-is-test-requ
 ) (put-bindings-at t) put-bindings.Post
 put-bindings-is-test-requires t c κs = let a = c .before .before .before .before .before .before .before in (a .pre .1 .0 .checked, a .pre .1 .0 .tabled .long, a .pre .1 .1, (a .pre .1 .0 .tabled .placed (a .args .p) (a .pre .1 .1)) .type)
 
--- src/lib.rt:59:17
 put-bindings-returns : (t : ℕ) → put-bindings-lts.Need-returns (
   pattern-at-reads.Asked,
   pattern-at-reads.Learnt,
@@ -329,7 +314,6 @@ put-bindings-returns t c = let a = c .before .before .before .before .before .be
     put-nothing s (bound (a .args .work .now) (a .args .top)) (bindsOf s (a .args .p))
     (test-binds s (a .args .m) (a .pre .1 .0 .checked) (a .args .p) (a .pre .1 .1) (r .result) (r .ensures) (c .before .is-test .result) (c .before .is-test .ensures) (c .if3 .taken))
 
--- src/lib.rt:61:13
 put-bindings-put-all-bindings-requires : (t : ℕ) → put-bindings-lts.Need-put-all-bindings-requires (
   pattern-at-reads.Asked,
   pattern-at-reads.Learnt,
@@ -352,7 +336,6 @@ put-bindings-put-all-bindings-requires t c κs = let a = c .before .before .befo
     let few = children-few s (a .args .m) ok (a .args .p) (r .result .first) (r .result .count) children in
     (omega (arith, a .pre .0, few, a .pre .1 .1, ok .ok .is-counted .patterns-most), (a .pre .1 .0, children, a .pre .1 .2))
 
--- src/lib.rt:45:1
 put-bindings-same-length : (t : ℕ) → put-bindings-lts.Need-same-length (
   pattern-at-reads.Asked,
   pattern-at-reads.Learnt,
@@ -369,7 +352,6 @@ put-bindings-same-length : (t : ℕ) → put-bindings-lts.Need-same-length (
 ) (put-bindings-at t) put-bindings.Post
 put-bindings-same-length t c = search needs
 
--- src/lib.rt:45:1
 put-bindings-returns-2 : (t : ℕ) → put-bindings-lts.Need-returns-2 (
   pattern-at-reads.Asked,
   pattern-at-reads.Learnt,
@@ -394,7 +376,6 @@ put-bindings-returns-2 t c = let a = c .before .before .before .before .before .
     (variable-binds s (a .args .m) (a .pre .1 .0 .checked) (a .args .p) (a .pre .1 .1) (r .result) (r .ensures) (c .before .before .before .before .match .keys1))
     (put-one s x y (a .args .p) (put .ensures))
 
--- src/lib.rt:45:1
 put-bindings-same-length-2 : (t : ℕ) → put-bindings-lts.Need-same-length-2 (
   pattern-at-reads.Asked,
   pattern-at-reads.Learnt,
@@ -411,7 +392,6 @@ put-bindings-same-length-2 : (t : ℕ) → put-bindings-lts.Need-same-length-2 (
 ) (put-bindings-at t) put-bindings.Post
 put-bindings-same-length-2 t c = search needs
 
--- src/lib.rt:45:1
 put-bindings-returns-3 : (t : ℕ) → put-bindings-lts.Need-returns-3 (
   pattern-at-reads.Asked,
   pattern-at-reads.Learnt,
@@ -438,7 +418,6 @@ put-bindings-returns-3 t c = let a = c .before .before .before .before .before .
     (assign-binds s (a .args .m) (a .pre .1 .0 .checked) (a .args .p) (a .pre .1 .1) (r .result) (r .ensures) (c .before .before .before .before .before .before .before .before .before .match .keys2) (q .result) (q .ensures))
     (put-one s x y (a .args .p) (put .ensures)) (inside .ensures)
 
--- src/lib.rt:45:1
 put-bindings-same-length-3 : (t : ℕ) → put-bindings-lts.Need-same-length-3 (
   pattern-at-reads.Asked,
   pattern-at-reads.Learnt,
@@ -455,7 +434,6 @@ put-bindings-same-length-3 : (t : ℕ) → put-bindings-lts.Need-same-length-3 (
 ) (put-bindings-at t) put-bindings.Post
 put-bindings-same-length-3 t c = search needs
 
--- src/lib.rt:45:1
 put-bindings-returns-4 : (t : ℕ) → put-bindings-lts.Need-returns-4 (
   pattern-at-reads.Asked,
   pattern-at-reads.Learnt,
@@ -478,7 +456,6 @@ put-bindings-returns-4 t c = let a = c .before .before .before .before .before .
     (parts-binds s (a .args .m) (a .pre .1 .0 .checked) (a .args .p) (a .pre .1 .1) (r .result) (r .ensures) (c .before .before .before .before .before .before .before .if1 .left) (c .before .before .before .before .before .before .if2 .taken) (c .before .before .before .before .before .is-test .result) (c .before .before .before .before .before .is-test .ensures) (c .before .before .before .before .if3 .left))
     (put .ensures)
 
--- src/lib.rt:45:1
 put-bindings-returns-5 : (t : ℕ) → put-bindings-lts.Need-returns-5 (
   pattern-at-reads.Asked,
   pattern-at-reads.Learnt,
@@ -499,7 +476,6 @@ put-bindings-returns-5 t c = let a = c .before .before .before .before .before .
     put-nothing s (bound (a .args .work .now) (a .args .top)) (bindsOf s (a .args .p))
     (others-bind s (a .args .m) (a .pre .1 .0 .checked) (a .args .p) (a .pre .1 .1) (r .result) (r .ensures) (c .before .match .rest .0 .1) (c .before .match .rest .1) (inl (c .if1 .taken)))
 
--- src/lib.rt:45:1
 put-bindings-returns-6 : (t : ℕ) → put-bindings-lts.Need-returns-6 (
   pattern-at-reads.Asked,
   pattern-at-reads.Learnt,
