@@ -13,3 +13,6 @@ pub mod ListsLaws
 pub mod Ordered
 pub mod Matrices
 pub mod MatricesLaws
+pub mod Reading
+pub mod ReadingLaws
+pub mod Ready
