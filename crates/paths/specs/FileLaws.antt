@@ -1,0 +1,99 @@
+-- The file as one: its first three sections stored from 0 on, and the tail behind them, are the tree file stored from 0 on.
+-- Rests on the definition of the file and the laws of its lengths and of stores.
+use mathlib.Core.Path.{_≡_, refl, sym, ap, _∙_}
+use mathlib.Core.List.{List, [], _∷_, _++_, append-assoc, append-nil}
+use Prim.Native.Nat.{ℕ, _+_, _*_}
+use native.Mathlib.Omega.{arith}
+use lib.ListN.{length, length-append}
+use Rattle.words.specs.Words.{wordBytes}
+use Rattle.words.specs.Stored.{stored}
+use Rattle.words.specs.StoredLaws.{stored-append}
+use Rattle.rules.specs.Limits.{nodeSize, caseSize, bindingSize, pathSize, stepSize, treeTrailer}
+use Rattle.rules.specs.Rows.{Path}
+use Rattle.rules.specs.Building.{Tree}
+use Rattle.rules.specs.Hoisting.{nodesIn, bindingsIn}
+use Rattle.rules.specs.TreeFile.{casesIn, nodesFrom, casesFrom, bindingsBytes, pathsBytes, stepsBytes, pathTable, backToBack, startsFrom, fileOf, treeSections, treeFile}
+use Rattle.filing.specs.Writable.{stepsIn}
+use Rattle.filing.specs.LengthLaws.{length-nodesFrom, length-casesFrom, length-bindingsBytes, length-pathsBytes, length-stepsBytes}
+use Rattle.paths.specs.Tail.{trailerBytes, tailBytes}
+
+-- ---- how long the tail is
+pub length-trailer : (cases bindings paths steps pool end : ℕ) → length (trailerBytes cases bindings paths steps pool end) ≡ treeTrailer
+unfolding trailerBytes
+length-trailer cases bindings paths steps pool end = refl
+
+pub length-tail : (pool : List ℕ) (table : List Path) (cases bindings at : ℕ)
+    → length (tailBytes pool table cases bindings at) ≡ pathSize * length table + stepSize * stepsIn table + length pool + treeTrailer
+unfolding tailBytes
+length-tail pool table cases bindings at =
+    simp (length-append, length-trailer, length-pathsBytes, length-stepsBytes) (omega arith)
+
+-- ---- the trailer, by where the sections start
+words : ℕ → ℕ → ℕ → ℕ → ℕ → ℕ → ℕ → List ℕ
+words a b c d e f g = wordBytes a ++ (wordBytes b ++ (wordBytes c ++ (wordBytes d ++ (wordBytes e ++ (wordBytes f ++ wordBytes g)))))
+
+words-same : {b b' c c' d d' e e' f f' g g' : ℕ} → b ≡ b' → c ≡ c' → d ≡ d' → e ≡ e' → f ≡ f' → g ≡ g' → words 0 b c d e f g ≡ words 0 b' c' d' e' f' g'
+words-same p q r s t u = λ i. words 0 (p i) (q i) (r i) (s i) (t i) (u i)
+
+module _ (ns cs bs ps ss pool : List ℕ) where
+  trailer-is : (x y z u v end : ℕ) → x ≡ length ns → y ≡ x + length cs → z ≡ y + length bs → u ≡ z + length ps → v ≡ u + length ss → end ≡ v + length pool
+      → startsFrom 0 (ns ∷ cs ∷ bs ∷ ps ∷ ss ∷ pool ∷ []) ++ wordBytes (length (backToBack (ns ∷ cs ∷ bs ∷ ps ∷ ss ∷ pool ∷ [])) + treeTrailer)
+      ≡ trailerBytes x y z u v end
+  unfolding startsFrom backToBack trailerBytes words
+  trailer-is x y z u v end a b c d e f =
+      let whole : length (ns ++ (cs ++ (bs ++ (ps ++ (ss ++ (pool ++ [])))))) ≡ length ns + length cs + length bs + length ps + length ss + length pool =
+      simp length-append (omega arith) in
+      words-same (omega arith) (omega arith) (omega arith) (omega arith) (omega arith) (omega (arith, whole))
+
+  file-parts : (trailer : List ℕ)
+      → (ns ++ (cs ++ (bs ++ (ps ++ (ss ++ (pool ++ [])))))) ++ trailer ≡ (ns ++ (cs ++ bs)) ++ (ps ++ (ss ++ (pool ++ trailer)))
+  file-parts trailer = simp (append-assoc, append-nil)
+
+-- ---- the file
+module _ (pool : List ℕ) (a : Tree) (table : List Path) (is-table : table ≡ pathTable a) (cases bindings paths : ℕ) (cases-start : cases ≡ nodeSize * nodesIn a)
+    (bindings-start : bindings ≡ cases + caseSize * casesIn a) (paths-start : paths ≡ bindings + bindingSize * length (bindingsIn a)) where
+  -- nodes, cases and bindings
+  front-length : length (nodesFrom table 0 0 0 a ++ (casesFrom 0 a ++ bindingsBytes table (bindingsIn a))) ≡ paths
+  front-length =
+      omega (
+        arith,
+        length-append (nodesFrom table 0 0 0 a) (casesFrom 0 a ++ bindingsBytes table (bindingsIn a)),
+        length-append (casesFrom 0 a) (bindingsBytes table (bindingsIn a)),
+        length-nodesFrom table 0 0 0 a,
+        length-casesFrom 0 a,
+        length-bindingsBytes table (bindingsIn a),
+      )
+
+  pub file-is : (nodesFrom table 0 0 0 a ++ (casesFrom 0 a ++ bindingsBytes table (bindingsIn a))) ++ tailBytes pool table cases bindings paths ≡ treeFile pool a
+  unfolding treeFile treeSections fileOf backToBack tailBytes
+  file-is =
+      let ns = nodesFrom table 0 0 0 a in
+      let cs = casesFrom 0 a in
+      let bs = bindingsBytes table (bindingsIn a) in
+      let ps = pathsBytes 0 table in
+      let ss = stepsBytes table in
+      let trailer = trailerBytes cases bindings paths (paths + length ps) (paths + length ps + length ss) (paths + length ps + length ss + length pool) in
+      let n = length-nodesFrom table 0 0 0 a in
+      let c = length-casesFrom 0 a in
+      let b = length-bindingsBytes table (bindingsIn a) in
+      sym (file-parts ns cs bs ps ss pool trailer)
+      ∙ ap (λ (xs : List ℕ). (ns ++ (cs ++ (bs ++ (ps ++ (ss ++ (pool ++ [])))))) ++ xs)
+      (sym (trailer-is ns cs bs ps ss pool cases bindings paths (paths + length ps) (paths + length ps + length ss) (paths + length ps + length ss + length pool) (omega arith) (omega arith) (omega arith) refl refl refl))
+      ∙ ap (λ (z : List Path). fileOf (treeSections pool z a)) is-table
+
+  -- where the tail ends, the file does
+  pub tail-ends : paths + length (tailBytes pool table cases bindings paths) ≡ length (treeFile pool a)
+  tail-ends =
+      omega (
+        arith,
+        front-length,
+        ap length file-is,
+        length-append (nodesFrom table 0 0 0 a ++ (casesFrom 0 a ++ bindingsBytes table (bindingsIn a))) (tailBytes pool table cases bindings paths),
+      )
+
+  pub file-stored : (l : List ℕ)
+      → stored (stored l 0 (nodesFrom table 0 0 0 a ++ (casesFrom 0 a ++ bindingsBytes table (bindingsIn a)))) paths (tailBytes pool table cases bindings paths)
+      ≡ stored l 0 (treeFile pool a)
+  file-stored l =
+      stored-append l 0 paths (nodesFrom table 0 0 0 a ++ (casesFrom 0 a ++ bindingsBytes table (bindingsIn a))) (tailBytes pool table cases bindings paths) (omega (arith, front-length))
+      ∙ ap (stored l 0) file-is
