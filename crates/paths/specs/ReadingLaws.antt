@@ -1,7 +1,7 @@
 -- A pattern's own step and the pattern above, as the code reads them off the table: inside it, and the bytes that it puts.
 -- Rests on what the table says and on the laws of steps.
-use mathlib.Core.Path.{_≡_, refl, sym, ap, _∙_}
-use mathlib.Core.List.{List, [], _∷_, _++_}
+use mathlib.Core.Path.{_≡_, sym, ap, _∙_}
+use mathlib.Core.List.{List}
 use Prim.Native.Nat.{ℕ, _+_, _-_, _*_, _≤_, _<_}
 use native.Mathlib.Omega.{arith}
 use lib.ListN.{length, getD}
@@ -19,7 +19,7 @@ use Rattle.table.specs.Table.{aboveAt, typeAt, stepAt, indexAt, depthAt}
 use Rattle.table.specs.Tabled.{Checked, Tabled}
 use Rattle.paths.specs.Tail.{Puts, ownSteps, flagOf, stepRecord}
 use Rattle.paths.specs.StoringLaws.{puts-nothing, puts-as}
-use Rattle.paths.specs.StepsLaws.{Climbs, climbs, climbs-room, step-bytes, no-step, above-known, climbs-lower}
+use Rattle.paths.specs.StepsLaws.{step-bytes, no-step, above-known}
 
 module _ {s : List ℕ} {m : Map} {t : List ℕ} (ch : Checked s m) (tabled : Tabled s t) (p : ℕ) (h : p < patterns s) where
   -- ---- where the table has it

@@ -7,7 +7,7 @@ use native.Mathlib.Omega.{arith}
 use native.Mathlib.Nat.{add-zero, sub-zero}
 use borrow.Author.Tests.{eq-eqb, ne-eqb, le-leb, lt-leb}
 use lib.ListN.{length, getD}
-use Rattle.words.specs.Words.{wordBytes, textAt}
+use Rattle.words.specs.Words.{textAt}
 use Rattle.words.specs.Stored.{stored}
 use Rattle.rules.specs.Limits.{pathSize}
 use Rattle.rules.specs.SheetFile.{patterns, poolAt, poolSize, poolText, pool}

@@ -4,25 +4,22 @@ use mathlib.Core.Path.{_≡_, refl, sym, ap, _∙_}
 use mathlib.Core.Bool.{Bool, true, false}
 use mathlib.Core.List.{List, [], _∷_, _++_, append-assoc, append-nil}
 use mathlib.Core.Option.{Option, none, some}
-use Prim.Native.Nat.{ℕ, zero, suc, _+_, _-_, _*_, _≤_, _<_}
+use Prim.Native.Nat.{ℕ, _+_, _-_, _*_, _≤_, _<_}
 use native.Mathlib.Omega.{arith}
-use lib.Dec.{eqb, leb}
-use lib.ListN.{length, getD, length-append}
-use Rattle.words.specs.Words.{wordBytes, both, pick}
+use lib.ListN.{length, length-append}
+use Rattle.words.specs.Words.{both, pick}
 use Rattle.words.specs.Stored.{stored}
 use Rattle.words.specs.StoredLaws.{stored-append, stored-swap, stored-nil}
 use Rattle.rules.specs.Limits.{stepSize}
-use Rattle.rules.specs.SheetFile.{types, patterns, clauses, typeKind, typeFlag, typeCount, patternFirst, child, root}
+use Rattle.rules.specs.SheetFile.{patterns, patternFirst, child}
 use Rattle.rules.specs.Patterns.{PatternKind, Discard, Variable, Assign, Integer, ByteString, ListOfAll, ListWithRest, Constructor, Pair, Tuple, Unknown, oneConstructor, decorated}
 use Rattle.rules.specs.Rows.{Step, pair, tuple, constr, list, listtail, Path, into, bit}
 use Rattle.rules.specs.TreeFile.{stepBytes, pathSteps}
 use Rattle.facts.specs.SheetFacts.{Accepted, Shaped}
 use Rattle.filing.specs.LengthLaws.{length-pathSteps}
-use Rattle.sheet.specs.declared.records.TypeRecord.{TypeRecord}
 use Rattle.sheet.specs.Records.{typeOf as typeOfRecord}
 use Rattle.table.specs.Standing.{kindOf, isTail, stepTo, follows, pathOf, typeOf, aboveOf, indexOf, stepOf, stepNumber}
 use Rattle.table.specs.StandingLaws.{by-standing, root-path, root-step, child-index, child-step, child-above, above-below, path-above}
-use Rattle.table.specs.TypesLaws.{type-known}
 use Rattle.paths.specs.Tail.{Puts, ownSteps, flagOf, stepRecord}
 use Rattle.paths.specs.StoringLaws.{length-put}
 

@@ -1,12 +1,12 @@
 -- How stores of parts follow each other: a part behind a part, a whole by its parts in order, and a record by its fields.
 -- Rests on Tail and the laws of stores; nothing here asks for room.
 use mathlib.Core.Path.{_≡_, refl, sym, ap, _∙_}
-use mathlib.Core.List.{List, [], _∷_, _++_, map}
-use Prim.Native.Nat.{ℕ, zero, suc, _+_, _-_, _≤_, _<_}
+use mathlib.Core.List.{List, [], _∷_, _++_}
+use Prim.Native.Nat.{ℕ, suc, _+_, _-_, _≤_, _<_}
 use native.Mathlib.Omega.{arith}
 use native.Mathlib.Nat.{add-zero, sub-zero}
 use native.Mathlib.Numerals.{add-one}
-use lib.ListN.{length, getD, set, take, drop, length-append}
+use lib.ListN.{length, getD, set, length-append}
 use lib.Seq.{drop-cons}
 use Rattle.words.specs.Words.{wordBytes, textAt}
 use Rattle.words.specs.Stored.{stored}

@@ -1,10 +1,9 @@
 -- The tail of a tree file: path records, steps, the sheet's pool and the trailer, by the classes of the paths used; and what a writer leaves.
 -- Rests on the tree file's definition and on where each pattern stands; a path is the path of its class, a pattern.
 use mathlib.Core.Path.{_≡_}
-use mathlib.Core.Bool.{Bool, true, false}
 use mathlib.Core.List.{List, [], _∷_, _++_, map}
 use mathlib.Core.Option.{Option, none, some}
-use Prim.Native.Nat.{ℕ, _+_, _*_, _≤_, _<_}
+use Prim.Native.Nat.{ℕ, _+_, _≤_, _<_}
 use lib.Dec.{eqb, leb}
 use lib.ListN.{length, getD}
 use Rattle.words.specs.Words.{wordBytes, both, pick, textAt}
@@ -12,7 +11,9 @@ use Rattle.words.specs.Stored.{stored}
 use Rattle.rules.specs.Limits.{treeTrailer, treeRoom}
 use Rattle.rules.specs.SheetFile.{patterns, pool}
 use Rattle.rules.specs.Rows.{Step, Path, bit}
-use Rattle.rules.specs.TreeFile.{firstOf, pathsBytes, stepsBytes}
+use Rattle.rules.specs.Building.{Tree}
+use Rattle.rules.specs.Hoisting.{bindingsIn}
+use Rattle.rules.specs.TreeFile.{firstOf, nodesFrom, casesFrom, bindingsBytes, pathsBytes, stepsBytes}
 use Rattle.sheet.specs.declared.Map.{Map}
 use Rattle.sheet.specs.declared.records.TypeRecord.{TypeRecord}
 use Rattle.table.specs.Standing.{pathOf}
@@ -78,6 +79,11 @@ unfoldable pub trailerBytes : ℕ → ℕ → ℕ → ℕ → ℕ → ℕ → Li
 trailerBytes cases bindings paths steps pool end =
     wordBytes 0
     ++ (wordBytes cases ++ (wordBytes bindings ++ (wordBytes paths ++ (wordBytes steps ++ (wordBytes pool ++ wordBytes (end + treeTrailer))))))
+
+-- what stands before the paths: nodes, cases and bindings
+unfoldable pub frontBytes : List Path → Tree → List ℕ
+unfolding nodesFrom casesFrom bindingsBytes bindingsIn
+frontBytes table a = nodesFrom table 0 0 0 a ++ (casesFrom 0 a ++ bindingsBytes table (bindingsIn a))
 
 -- what follows the bindings, which end at `at`
 unfoldable pub tailBytes : List ℕ → List Path → ℕ → ℕ → ℕ → List ℕ

@@ -1,7 +1,7 @@
 -- The whole tail by its parts: the room that each part has, and that the parts one behind the other are the tail.
 -- Rests on the lengths of the sections and the laws of stores.
-use mathlib.Core.Path.{_≡_, refl, sym, ap, _∙_}
-use mathlib.Core.List.{List, [], _∷_, _++_, map}
+use mathlib.Core.Path.{_≡_, sym, ap, _∙_}
+use mathlib.Core.List.{List, _++_, map}
 use Prim.Native.Nat.{ℕ, _+_, _-_, _*_, _≤_, _<_}
 use native.Mathlib.Omega.{arith}
 use lib.ListN.{length, getD, length-map}
@@ -9,14 +9,13 @@ use Rattle.words.specs.Words.{textAt}
 use Rattle.words.specs.WordsLaws.{length-textAt}
 use Rattle.words.specs.Stored.{stored}
 use Rattle.rules.specs.Limits.{patternsMost, pathSize, stepSize, treeTrailer, treeRoom}
-use Rattle.rules.specs.SheetFile.{patterns, poolSize, pool}
+use Rattle.rules.specs.SheetFile.{poolSize, pool}
 use Rattle.rules.specs.TreeFile.{pathSteps, pathsBytes, stepsBytes}
 use Rattle.filing.specs.Writable.{stepsIn}
 use Rattle.filing.specs.LengthLaws.{length-pathsBytes, length-stepsBytes}
 use Rattle.sheet.specs.declared.Map.{Map}
 use Rattle.table.specs.Standing.{pathOf}
 use Rattle.table.specs.Table.{tableSize}
-use Rattle.table.specs.Tabled.{Checked}
 use Rattle.paths.specs.Tail.{Puts, Begun, Used, usedPaths, countIn, together, pathRecords, trailerBytes, tailBytes, TailReady}
 use Rattle.paths.specs.StoringLaws.{length-put, puts-then, puts-as, begun, begun-more, begun-room, begun-all, rest-start, rest-next, rest-none}
 use Rattle.paths.specs.RecordsLaws.{path-records, path-counts, pool-size, pool-room, pool-text}

@@ -1,72 +1,54 @@
+-- `paths::put_trailer` meets its contract: seven words one behind the other.
 use Rattle.paths.specs.StoringLaws.{trailer-put}
 use borrow.Author.Needs.{needs}
 use Rattle.paths.proofs.put_trailer.Statement.{statement}
 use Rattle.paths.proofs.put_trailer.Tie as tie
-use Rattle.paths.proofs.put_trailer.Reads as reads
-use Rattle.paths.proofs.put_trailer.Lts as lts
-use Rattle.paths.proofs.put_number.Reads as put-number-reads
 
--- src/lib.rt:57:5
 put-number-requires : tie.Need-put-number-requires
 put-number-requires c κs = search needs
 
--- src/lib.rt:58:22
 add-put-number : tie.Need-add-put-number
 add-put-number c = search needs
 
--- src/lib.rt:58:5
 put-number-requires-2 : tie.Need-put-number-requires-2
 put-number-requires-2 c κs = search needs
 
--- src/lib.rt:59:22
 add-put-number-2 : tie.Need-add-put-number-2
 add-put-number-2 c = search needs
 
--- src/lib.rt:59:5
 put-number-requires-3 : tie.Need-put-number-requires-3
 put-number-requires-3 c κs = search needs
 
--- src/lib.rt:60:22
 add-put-number-3 : tie.Need-add-put-number-3
 add-put-number-3 c = search needs
 
--- src/lib.rt:60:5
 put-number-requires-4 : tie.Need-put-number-requires-4
 put-number-requires-4 c κs = search needs
 
--- src/lib.rt:61:22
 add-put-number-4 : tie.Need-add-put-number-4
 add-put-number-4 c = search needs
 
--- src/lib.rt:61:5
 put-number-requires-5 : tie.Need-put-number-requires-5
 put-number-requires-5 c κs = search needs
 
--- src/lib.rt:62:22
 add-put-number-5 : tie.Need-add-put-number-5
 add-put-number-5 c = search needs
 
--- src/lib.rt:62:5
 put-number-requires-6 : tie.Need-put-number-requires-6
 put-number-requires-6 c κs = search needs
 
--- src/lib.rt:63:22
 add-put-number-6 : tie.Need-add-put-number-6
 add-put-number-6 c = search needs
 
--- src/lib.rt:63:31
 add-put-number-7 : tie.Need-add-put-number-7
 add-put-number-7 c = search needs
 
--- src/lib.rt:63:5
 put-number-requires-7 : tie.Need-put-number-requires-7
 put-number-requires-7 c κs = search needs
 
--- src/lib.rt:44:1
 same-length : tie.Need-same-length
 same-length c = search needs
 
--- src/lib.rt:44:1
 returns : tie.Need-returns
 returns c =
     let a = c .before .before .before .before .before .before .before .before .before .before .before .before .before .before .before .before .before .before .before .before .before .before .before .before .before .before .before .before .before .args in

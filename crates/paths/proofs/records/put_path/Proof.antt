@@ -1,3 +1,4 @@
+-- `paths::records::put_path` meets its contract: two words one behind the other.
 use Rattle.paths.specs.StoringLaws.{path-put}
 use Rattle.rules.specs.TreeFile.{firstOf}
 use Rattle.words.specs.Words.{wordBytes}
@@ -7,32 +8,22 @@ use mathlib.Core.Path.{ap, _∙_}
 use borrow.Author.Needs.{needs}
 use Rattle.paths.proofs.records.put_path.Statement.{statement}
 use Rattle.paths.proofs.records.put_path.Tie as tie
-use Rattle.paths.proofs.records.put_path.Reads as reads
-use Rattle.paths.proofs.records.put_path.Lts as lts
-use Rattle.paths.proofs.records.first_of.Reads as first-of-reads
-use Rattle.words.proofs.put_word.Reads as put-word-reads
 
--- src/records.rt:33:24
 first-of-requires : tie.Need-first-of-requires
 first-of-requires c κs = search needs
 
--- src/records.rt:33:5
 put-word-requires : tie.Need-put-word-requires
 put-word-requires c κs = search needs
 
--- src/records.rt:34:20
 add-put-word : tie.Need-add-put-word
 add-put-word c = search needs
 
--- src/records.rt:34:5
 put-word-requires-2 : tie.Need-put-word-requires-2
 put-word-requires-2 c κs = search needs
 
--- src/records.rt:29:1
 same-length : tie.Need-same-length
 same-length c = search needs
 
--- src/records.rt:29:1
 returns : tie.Need-returns
 returns c =
     let a = c .before .before .before .before .before .before .before .before .before .before .args in

@@ -1,15 +1,10 @@
+-- `paths::records::put_paths` meets its contract. The loop's invariant: the records of the first i paths are there, and `first` is how many steps they have.
 use Rattle.paths.specs.RecordsLaws.{Recorded, recorded-none, recorded-small, recorded-more, recorded-all}
-use Prim.Native.Nat.{_+_, _-_, _≤_}
+use Prim.Native.Nat.{_-_, _≤_}
 use native.Mathlib.Omega.{arith}
-use mathlib.Core.Path.{ap, _∙_}
 use borrow.Author.Needs.{needs}
 use Rattle.paths.proofs.records.put_paths.Statement.{statement}
 use Rattle.paths.proofs.records.put_paths.Tie as tie
-use Rattle.paths.proofs.records.put_paths.Reads as reads
-use Rattle.paths.proofs.records.put_paths.Lts as lts
-use Rattle.paths.proofs.records.put_path.Reads as put-path-reads
-use Rattle.table.proofs.at.Reads as at-reads
-use Rattle.words.proofs.wide.Reads as wide-reads
 
 abbrev Inv-loop : tie.InvT-loop
 Inv-loop t classes count tree₀ at first₀ i₀ tree first i = (i ≤ count) × Recorded t classes tree₀ at count tree first i
@@ -17,45 +12,36 @@ Inv-loop t classes count tree₀ at first₀ i₀ tree first i = (i ≤ count) �
 abbrev μ-loop : tie.MeasureT-loop
 μ-loop t classes count tree₀ at first₀ i₀ tree first i = count - i
 
--- src/records.rt:44:5
 loop-holds : tie.Need-loop-holds Inv-loop μ-loop
 loop-holds c =
     let a = c .before .before .before .args in
     (omega arith, recorded-none (a .t .now) (a .classes .now) (a .tree .now) (a .at) (a .count))
 
--- src/records.rt:45:36
 at-requires : tie.Need-at-requires Inv-loop μ-loop
 at-requires c κs = let start = c .before .before .before .before .before in omega (arith, start .pre .0 .1 .inside)
 
--- src/records.rt:45:28
 add-wide : tie.Need-add-wide Inv-loop μ-loop
 add-wide c =
     let start = c .before .before .before .before .before .before in
     omega (arith, c .at .ensures, start .pre .0 .1 .known (c .before .before .loop .i) (c .before .loop-test .taken))
 
--- src/records.rt:45:26
 shared-slice-read-wide : tie.Need-shared-slice-read-wide Inv-loop μ-loop
 shared-slice-read-wide c =
     let start = c .before .before .before .before .before .before .before in
     omega (arith, c .before .at .ensures, start .pre .0 .0, start .pre .0 .1 .known (c .before .before .before .loop .i) (c .before .before .loop-test .taken))
 
--- src/records.rt:45:13
 wide-requires : tie.Need-wide-requires Inv-loop μ-loop
 wide-requires c κs = search needs
 
--- src/records.rt:46:29
 mul-put-path : tie.Need-mul-put-path Inv-loop μ-loop
 mul-put-path c = let start = c .before .before .before .before .before .before .before .before .before in omega (arith, start .pre .0 .2)
 
--- src/records.rt:46:24
 add-put-path : tie.Need-add-put-path Inv-loop μ-loop
 add-put-path c = let start = c .before .before .before .before .before .before .before .before .before in omega (arith, start .pre .0 .2)
 
--- src/records.rt:46:9
 put-path-requires : tie.Need-put-path-requires Inv-loop μ-loop
 put-path-requires c κs = let start = c .before .before .before .before .before .before .before .before .before in omega (arith, start .pre .0 .2, c .before .before .before .before .before .loop .inv .1 .begun-so .as-long)
 
--- src/records.rt:47:9
 add-first : tie.Need-add-first Inv-loop μ-loop
 add-first c =
     let start = c .before .before .before .before .before .before .before .before .before .before .before .before in
@@ -63,15 +49,12 @@ add-first c =
     let l = c .before .before .before .before .before .before .before .before .loop in
     omega (arith, start .pre .1, recorded-small (a .t .now) (a .classes .now) (a .tree .now) (a .at) (a .count) (l .inv .1) (start .pre .0 .1 .inside) (c .before .before .before .before .before .before .before .loop-test .taken) (c .before .before .before .before .before .before .at .result) (c .before .before .before .before .wide .result) (c .before .before .before .before .before .before .at .ensures) (c .before .before .before .before .wide .ensures))
 
--- src/records.rt:48:9
 add-i : tie.Need-add-i Inv-loop μ-loop
 add-i c = search needs
 
--- src/records.rt:44:5
 loop-less : tie.Need-loop-less Inv-loop μ-loop
 loop-less c = search needs
 
--- src/records.rt:44:5
 loop-again : tie.Need-loop-again Inv-loop μ-loop
 loop-again c =
     let start = c .before .before .before .before .before .before .before .before .before .before .before .before in
@@ -80,19 +63,15 @@ loop-again c =
     let taken = c .before .before .before .before .before .before .before .loop-test .taken in
     (omega arith, recorded-more (a .t .now) (a .classes .now) (a .tree .now) (a .at) (a .count) (l .inv .1) (start .pre .0 .1 .inside) taken (c .before .before .before .before .before .before .at .result) (c .before .before .before .before .wide .result) (c .before .before .before .before .before .before .at .ensures) (c .before .before .before .before .wide .ensures) (c .before .before .put-path .ensures))
 
--- src/records.rt:50:10
 mul-result : tie.Need-mul-result Inv-loop μ-loop
 mul-result c = let start = c .before .before .before .before .before in omega (arith, start .pre .0 .2)
 
--- src/records.rt:50:5
 add-result : tie.Need-add-result Inv-loop μ-loop
 add-result c = let start = c .before .before .before .before .before in omega (arith, start .pre .0 .2)
 
--- src/records.rt:37:1
 same-length : tie.Need-same-length Inv-loop μ-loop
 same-length c = c .before .loop .inv .1 .begun-so .as-long
 
--- src/records.rt:37:1
 returns : tie.Need-returns Inv-loop μ-loop
 returns c =
     let a = c .before .before .before .before .before .args in

@@ -1,14 +1,10 @@
+-- `paths::steps::put_all_steps` meets its contract. The loop's invariant: the steps of the first i paths are there, and the rest stored behind them is the whole.
 use Rattle.paths.specs.TailLaws.{Stepped, stepped-none, stepped-room, stepped-more, stepped-all}
-use Prim.Native.Nat.{_+_, _-_, _≤_}
+use Prim.Native.Nat.{_-_, _≤_}
 use native.Mathlib.Omega.{arith}
-use mathlib.Core.Path.{ap, sym, _∙_}
 use borrow.Author.Needs.{needs}
 use Rattle.paths.proofs.steps.put_all_steps.Statement.{statement}
 use Rattle.paths.proofs.steps.put_all_steps.Tie as tie
-use Rattle.paths.proofs.steps.put_all_steps.Reads as reads
-use Rattle.paths.proofs.steps.put_all_steps.Lts as lts
-use Rattle.paths.proofs.steps.put_steps.Reads as put-steps-reads
-use Rattle.table.proofs.at.Reads as at-reads
 
 abbrev Inv-loop : tie.InvT-loop
 Inv-loop s m t classes count tree₀ at end₀ i₀ tree end i = (i ≤ count) × Stepped s classes tree₀ at count tree end i
@@ -16,17 +12,14 @@ Inv-loop s m t classes count tree₀ at end₀ i₀ tree end i = (i ≤ count) �
 abbrev μ-loop : tie.MeasureT-loop
 μ-loop s m t classes count tree₀ at end₀ i₀ tree end i = count - i
 
--- src/steps.rt:108:5
 loop-holds : tie.Need-loop-holds Inv-loop μ-loop
 loop-holds c =
     let a = c .before .before .before .before .args in
     (omega arith, stepped-none (a .s .now) (a .classes .now) (a .tree .now) (a .at) (a .count))
 
--- src/steps.rt:109:34
 at-requires : tie.Need-at-requires Inv-loop μ-loop
 at-requires c κs = let start = c .before .before .before .before .before .before in omega (arith, start .pre .0 .2 .inside)
 
--- src/steps.rt:109:9
 put-steps-requires : tie.Need-put-steps-requires Inv-loop μ-loop
 put-steps-requires c κs =
     let start = c .before .before .before .before .before .before .before .before in
@@ -38,15 +31,12 @@ put-steps-requires c κs =
       omega (arith, stepped-room (a .s .now) (a .classes .now) (a .tree .now) (a .at) (a .count) (l .inv .1) (start .pre .0 .2 .inside) taken (class .result) (class .ensures), l .inv .1 .as-long, start .pre .1),
     )
 
--- src/steps.rt:110:9
 add-i : tie.Need-add-i Inv-loop μ-loop
 add-i c = search needs
 
--- src/steps.rt:108:5
 loop-less : tie.Need-loop-less Inv-loop μ-loop
 loop-less c = search needs
 
--- src/steps.rt:108:5
 loop-again : tie.Need-loop-again Inv-loop μ-loop
 loop-again c =
     let start = c .before .before .before .before .before .before .before .before .before .before .before in
@@ -56,11 +46,9 @@ loop-again c =
     let class = c .before .before .before .before .at in
     (omega arith, stepped-more (a .s .now) (a .classes .now) (a .tree .now) (a .at) (a .count) (l .inv .1) (start .pre .0 .2 .inside) taken (class .result) (class .ensures) (c .before .before .put-steps .ensures))
 
--- src/steps.rt:93:1
 same-length : tie.Need-same-length Inv-loop μ-loop
 same-length c = c .before .loop .inv .1 .as-long
 
--- src/steps.rt:93:1
 returns : tie.Need-returns Inv-loop μ-loop
 returns c =
     let a = c .before .before .before .before .before .before .args in

@@ -1,88 +1,64 @@
+-- `paths::steps::put_step` meets its contract: what the table has of the pattern is its own step, or that it has none.
 use Rattle.paths.specs.ReadingLaws.{known-small, above-small, above-type-known, none-put, own-size, step-put}
 use native.Mathlib.Omega.{arith}
 use borrow.Author.Needs.{needs}
 use Rattle.paths.proofs.steps.put_step.Statement.{statement}
 use Rattle.paths.proofs.steps.put_step.Tie as tie
-use Rattle.paths.proofs.steps.put_step.Reads as reads
-use Rattle.paths.proofs.steps.put_step.Lts as lts
-use Rattle.paths.proofs.steps.flag_of.Reads as flag-of-reads
-use Rattle.paths.proofs.steps.put_fields.Reads as put-fields-reads
-use Rattle.sheet.proofs.records.type_at.Reads as type-at-reads
-use Rattle.table.proofs.at.Reads as at-reads
-use Rattle.words.proofs.wide.Reads as wide-reads
 
--- src/steps.rt:64:18
 add-step : tie.Need-add-step
 add-step c = let start = c .before .before .before in omega (arith, known-small (start .pre .0 .0) (start .pre .0 .1) (start .args .p) (start .pre .0 .2))
 
--- src/steps.rt:64:16
 shared-slice-read-step : tie.Need-shared-slice-read-step
 shared-slice-read-step c = let start = c .before .before .before .before in omega (arith, known-small (start .pre .0 .0) (start .pre .0 .1) (start .args .p) (start .pre .0 .2), start .pre .0 .1 .long)
 
--- src/steps.rt:66:9
 returns : tie.Need-returns
 returns c = let start = c .before .before .before .before .before in none-put (start .pre .0 .0) (start .pre .0 .1) (start .args .p) (start .pre .0 .2) (c .if1 .taken) (start .args .tree .now) (start .args .end)
 
--- src/steps.rt:68:30
 add-at : tie.Need-add-at
 add-at c = let start = c .before .before .before .before .before in omega (arith, known-small (start .pre .0 .0) (start .pre .0 .1) (start .args .p) (start .pre .0 .2))
 
--- src/steps.rt:68:9
 at-requires : tie.Need-at-requires
 at-requires c κs = let start = c .before .before .before .before .before in omega (arith, known-small (start .pre .0 .0) (start .pre .0 .1) (start .args .p) (start .pre .0 .2), start .pre .0 .1 .long)
 
--- src/steps.rt:69:23
 add-wide : tie.Need-add-wide
 add-wide c = let start = c .before .before .before .before .before .before in omega (arith, above-small (start .pre .0 .0) (start .pre .0 .1) (start .args .p) (start .pre .0 .2) (c .at .result) (c .at .ensures))
 
--- src/steps.rt:69:21
 shared-slice-read-wide : tie.Need-shared-slice-read-wide
 shared-slice-read-wide c = let start = c .before .before .before .before .before .before .before in omega (arith, above-small (start .pre .0 .0) (start .pre .0 .1) (start .args .p) (start .pre .0 .2) (c .before .at .result) (c .before .at .ensures), start .pre .0 .1 .long)
 
--- src/steps.rt:69:9
 wide-requires : tie.Need-wide-requires
 wide-requires c κs = search needs
 
--- src/steps.rt:70:44
 cast-type-at : tie.Need-cast-type-at
 cast-type-at c = search needs
 
--- src/steps.rt:70:30
 type-at-requires : tie.Need-type-at-requires
 type-at-requires c κs =
     let start = c .before .before .before .before .before .before .before .before in
     let above = c .before .before .at in
     (start .pre .0 .0 .ok .is-laid, start .pre .0 .0 .is-map, above-type-known (start .pre .0 .0) (start .pre .0 .1) (start .args .p) (start .pre .0 .2) (above .result) (c .wide .result) (above .ensures) (c .wide .ensures))
 
--- src/steps.rt:70:9
 flag-of-requires : tie.Need-flag-of-requires
 flag-of-requires c κs = search needs
 
--- src/steps.rt:71:17
 sub-start : tie.Need-sub-start
 sub-start c = let start = c .before .before .before .before .before .before .before .before .before .before in omega (arith, own-size (start .pre .0 .0) (start .pre .0 .1) (start .args .p) (start .pre .0 .2) (c .before .before .before .before .before .if1 .left), start .pre .1 .0)
 
--- src/steps.rt:72:48
 add-wide-2 : tie.Need-add-wide-2
 add-wide-2 c = let start = c .before .before .before .before .before .before .before .before .before .before .before in omega (arith, known-small (start .pre .0 .0) (start .pre .0 .1) (start .args .p) (start .pre .0 .2))
 
--- src/steps.rt:72:46
 shared-slice-read-wide-2 : tie.Need-shared-slice-read-wide-2
 shared-slice-read-wide-2 c = let start = c .before .before .before .before .before .before .before .before .before .before .before .before in omega (arith, known-small (start .pre .0 .0) (start .pre .0 .1) (start .args .p) (start .pre .0 .2), start .pre .0 .1 .long)
 
--- src/steps.rt:72:41
 wide-requires-2 : tie.Need-wide-requires-2
 wide-requires-2 c κs = search needs
 
--- src/steps.rt:72:5
 put-fields-requires : tie.Need-put-fields-requires
 put-fields-requires c κs = let start = c .before .before .before .before .before .before .before .before .before .before .before .before .before in omega (arith, own-size (start .pre .0 .0) (start .pre .0 .1) (start .args .p) (start .pre .0 .2) (c .before .before .before .before .before .before .before .before .if1 .left), start .pre .1 .0, start .pre .1 .1)
 
--- src/steps.rt:59:1
 same-length : tie.Need-same-length
 same-length c = search needs
 
--- src/steps.rt:59:1
 returns-2 : tie.Need-returns-2
 returns-2 c =
     let start = c .before .before .before .before .before .before .before .before .before .before .before .before .before .before .before .before in

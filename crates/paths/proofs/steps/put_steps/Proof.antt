@@ -1,15 +1,12 @@
+-- `paths::steps::put_steps` meets its contract. The loop's invariant: the steps behind those of p are there; the number of p falls, since a path of some steps
+-- goes on from a lower pattern.
 use Rattle.paths.specs.StepsLaws.{Climbs, climbs, climbs-room, climbs-more, climbs-lower, climbs-all}
 use Rattle.paths.specs.ReadingLaws.{known-small, above-is, depth-is}
 use native.Mathlib.Omega.{arith}
 use Prim.Native.Nat.{ℕ, _+_, _*_}
-use mathlib.Core.Path.{ap, _∙_}
-use borrow.Author.Needs.{needs}
+use mathlib.Core.Path.{ap}
 use Rattle.paths.proofs.steps.put_steps.Statement.{statement}
 use Rattle.paths.proofs.steps.put_steps.Tie as tie
-use Rattle.paths.proofs.steps.put_steps.Reads as reads
-use Rattle.paths.proofs.steps.put_steps.Lts as lts
-use Rattle.paths.proofs.steps.put_step.Reads as put-step-reads
-use Rattle.table.proofs.at.Reads as at-reads
 
 abbrev Inv-loop : tie.InvT-loop
 Inv-loop s m t class tree₀ at end p₀ to₀ tree p to = Climbs s tree₀ tree at class p to
@@ -17,69 +14,57 @@ Inv-loop s m t class tree₀ at end p₀ to₀ tree p to = Climbs s tree₀ tree
 abbrev μ-loop : tie.MeasureT-loop
 μ-loop s m t class tree₀ at end p₀ to₀ tree p to = p
 
--- src/steps.rt:82:45
 add-at : tie.Need-add-at Inv-loop μ-loop
 add-at c = let start = c .before .before .before in omega (arith, known-small (start .pre .0 .0) (start .pre .0 .1) (start .args .class) (start .pre .0 .2))
 
--- src/steps.rt:82:32
 at-requires : tie.Need-at-requires Inv-loop μ-loop
 at-requires c κs = let start = c .before .before .before in omega (arith, known-small (start .pre .0 .0) (start .pre .0 .1) (start .args .class) (start .pre .0 .2), start .pre .0 .1 .long)
 
--- src/steps.rt:82:20
 mul-end : tie.Need-mul-end Inv-loop μ-loop
 mul-end c = let start = c .before .before .before .before in omega (arith, depth-is (start .pre .0 .0) (start .pre .0 .1) (start .args .class) (start .pre .0 .2) (c .at .result) (c .at .ensures), start .pre .1)
 
--- src/steps.rt:82:15
 add-end : tie.Need-add-end Inv-loop μ-loop
 add-end c = let start = c .before .before .before .before in omega (arith, depth-is (start .pre .0 .0) (start .pre .0 .1) (start .args .class) (start .pre .0 .2) (c .at .result) (c .at .ensures), start .pre .1)
 
--- src/steps.rt:85:5
 loop-holds : tie.Need-loop-holds Inv-loop μ-loop
 loop-holds c =
     let start = c .before .before .before .before in
     let a = start .args in
     climbs (a .s .now) (a .tree .now) (a .at) (a .class) (start .pre .0 .2) (a .at + 6 * c .at .result) (ap (λ (n : ℕ). a .at + n) (depth-is (start .pre .0 .0) (start .pre .0 .1) (start .args .class) (start .pre .0 .2) (c .at .result) (c .at .ensures)))
 
--- src/steps.rt:86:9
 put-step-requires : tie.Need-put-step-requires Inv-loop μ-loop
 put-step-requires c κs =
     let start = c .before .before .before .before .before .before .before in
     let l = c .before .before .loop in
     ((start .pre .0 .0, start .pre .0 .1, l .inv .known), (omega (arith, climbs-room (start .pre .0 .0 .ok) (l .inv)), omega (arith, l .inv .inside, l .inv .as-long, start .pre .1)))
 
--- src/steps.rt:87:26
 add-at-2 : tie.Need-add-at-2 Inv-loop μ-loop
 add-at-2 c =
     let start = c .before .before .before .before .before .before .before .before .before .before in
     let l = c .before .before .before .before .before .loop in
     omega (arith, known-small (start .pre .0 .0) (start .pre .0 .1) (l .p) (l .inv .known))
 
--- src/steps.rt:87:9
 at-requires-2 : tie.Need-at-requires-2 Inv-loop μ-loop
 at-requires-2 c κs =
     let start = c .before .before .before .before .before .before .before .before .before .before in
     let l = c .before .before .before .before .before .loop in
     omega (arith, known-small (start .pre .0 .0) (start .pre .0 .1) (l .p) (l .inv .known), start .pre .0 .1 .long)
 
--- src/steps.rt:85:5
 loop-less : tie.Need-loop-less Inv-loop μ-loop
 loop-less c =
     let start = c .before .before .before .before .before .before .before .before .before .before .before in
     let l = c .before .before .before .before .before .before .loop in
     omega (arith, above-is (start .pre .0 .0) (start .pre .0 .1) (l .p) (l .inv .known) (c .at2 .result) (c .at2 .ensures), climbs-lower (start .pre .0 .0 .ok) (l .inv) (c .before .before .before .before .before .loop-test .taken))
 
--- src/steps.rt:85:5
 loop-again : tie.Need-loop-again Inv-loop μ-loop
 loop-again c =
     let start = c .before .before .before .before .before .before .before .before .before .before .before in
     let l = c .before .before .before .before .before .before .loop in
     climbs-more (start .pre .0 .0 .ok) (l .inv) (c .before .before .before .put-step .ensures) (above-is (start .pre .0 .0) (start .pre .0 .1) (l .p) (l .inv .known) (c .at2 .result) (c .at2 .ensures))
 
--- src/steps.rt:77:1
 same-length : tie.Need-same-length Inv-loop μ-loop
 same-length c = c .before .loop .inv .as-long
 
--- src/steps.rt:77:1
 returns : tie.Need-returns Inv-loop μ-loop
 returns c =
     let start = c .before .before .before .before .before .before in
