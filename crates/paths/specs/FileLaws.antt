@@ -32,21 +32,21 @@ length-tail pool table cases bindings at =
     simp (length-append, length-trailer, length-pathsBytes, length-stepsBytes) (omega arith)
 
 -- ---- the trailer, by where the sections start
-words : ℕ → ℕ → ℕ → ℕ → ℕ → ℕ → ℕ → List ℕ
-words a b c d e f g = wordBytes a ++ (wordBytes b ++ (wordBytes c ++ (wordBytes d ++ (wordBytes e ++ (wordBytes f ++ wordBytes g)))))
+sevenWords : ℕ → ℕ → ℕ → ℕ → ℕ → ℕ → ℕ → List ℕ
+sevenWords a b c d e f g = wordBytes a ++ (wordBytes b ++ (wordBytes c ++ (wordBytes d ++ (wordBytes e ++ (wordBytes f ++ wordBytes g)))))
 
-words-same : {b b' c c' d d' e e' f f' g g' : ℕ} → b ≡ b' → c ≡ c' → d ≡ d' → e ≡ e' → f ≡ f' → g ≡ g' → words 0 b c d e f g ≡ words 0 b' c' d' e' f' g'
-words-same p q r s t u = λ i. words 0 (p i) (q i) (r i) (s i) (t i) (u i)
+sevenWords-same : {b b' c c' d d' e e' f f' g g' : ℕ} → b ≡ b' → c ≡ c' → d ≡ d' → e ≡ e' → f ≡ f' → g ≡ g' → sevenWords 0 b c d e f g ≡ sevenWords 0 b' c' d' e' f' g'
+sevenWords-same p q r s t u = λ i. sevenWords 0 (p i) (q i) (r i) (s i) (t i) (u i)
 
 module _ (ns cs bs ps ss pool : List ℕ) where
   trailer-is : (x y z u v end : ℕ) → x ≡ length ns → y ≡ x + length cs → z ≡ y + length bs → u ≡ z + length ps → v ≡ u + length ss → end ≡ v + length pool
       → startsFrom 0 (ns ∷ cs ∷ bs ∷ ps ∷ ss ∷ pool ∷ []) ++ wordBytes (length (backToBack (ns ∷ cs ∷ bs ∷ ps ∷ ss ∷ pool ∷ [])) + treeTrailer)
       ≡ trailerBytes x y z u v end
-  unfolding startsFrom backToBack trailerBytes words
+  unfolding startsFrom backToBack trailerBytes sevenWords
   trailer-is x y z u v end a b c d e f =
       let whole : length (ns ++ (cs ++ (bs ++ (ps ++ (ss ++ (pool ++ [])))))) ≡ length ns + length cs + length bs + length ps + length ss + length pool =
       simp length-append (omega arith) in
-      words-same (omega arith) (omega arith) (omega arith) (omega arith) (omega arith) (omega (arith, whole))
+      sevenWords-same (omega arith) (omega arith) (omega arith) (omega arith) (omega arith) (omega (arith, whole))
 
   file-parts : (trailer : List ℕ)
       → (ns ++ (cs ++ (bs ++ (ps ++ (ss ++ (pool ++ [])))))) ++ trailer ≡ (ns ++ (cs ++ bs)) ++ (ps ++ (ss ++ (pool ++ trailer)))

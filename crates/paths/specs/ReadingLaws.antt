@@ -58,12 +58,12 @@ module _ {s : List ℕ} {m : Map} {t : List ℕ} (ch : Checked s m) (tabled : Ta
     pub own-size : length (pathSteps (ownSteps (stepOf s p))) ≡ stepSize
     own-size = ap length own-bytes
 
-    pub step-put : (above type flag index : ℕ) (ty : TypeRecord) → above ≡ getD t (aboveAt + p) 0 → type ≡ getD t (typeAt + above) 0
+    pub own-step-put : (above type flag index : ℕ) (ty : TypeRecord) → above ≡ getD t (aboveAt + p) 0 → type ≡ getD t (typeAt + above) 0
         → ty ≡ typeOfRecord s type → flag ≡ flagOf (getD t (stepAt + p) 0) ty → index ≡ getD t (indexAt + p) 0
         → (l : List ℕ) (end : ℕ) {after : List ℕ} → length (pathSteps (ownSteps (stepOf s p))) ≤ end
         → after ≡ stored l (end - stepSize) (stepRecord (getD t (stepAt + p) 0) flag index type)
         → Puts l after (end - stepSize) end (pathSteps (ownSteps (stepOf s p)))
-    step-put above type flag index ty ea et ey ef ei l end room e =
+    own-step-put above type flag index ty ea et ey ef ei l end room e =
         let type-same : type ≡ typeOf s (aboveOf s p) = above-type above type ea et in
         let number : getD t (stepAt + p) 0 ≡ stepNumber (stepOf s p) = tabled .placed p h .step in
         let index-same : index ≡ indexOf s p = ei ∙ tabled .placed p h .index in

@@ -1,5 +1,5 @@
 -- How stores of parts follow each other: a part behind a part, a whole by its parts in order, and a record by its fields.
--- Rests on Tail and the laws of stores; nothing here asks for room.
+-- Rests on Tail and the laws of stores; nothing here asks for room in the buffer that is written.
 use mathlib.Core.Path.{_≡_, refl, sym, ap, _∙_}
 use mathlib.Core.List.{List, [], _∷_, _++_}
 use Prim.Native.Nat.{ℕ, suc, _+_, _-_, _≤_, _<_}

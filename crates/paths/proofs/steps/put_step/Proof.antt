@@ -1,5 +1,5 @@
 -- `paths::steps::put_step` meets its contract: what the table has of the pattern is its own step, or that it has none.
-use Rattle.paths.specs.ReadingLaws.{known-small, above-small, above-type-known, none-put, own-size, step-put}
+use Rattle.paths.specs.ReadingLaws.{known-small, above-small, above-type-known, none-put, own-size, own-step-put}
 use native.Mathlib.Omega.{arith}
 use borrow.Author.Needs.{needs}
 use Rattle.paths.proofs.steps.put_step.Statement.{statement}
@@ -67,7 +67,7 @@ returns-2 c =
     let ty = c .before .before .before .before .before .before .before .type-at in
     let flag = c .before .before .before .before .before .before .flag-of in
     let index = c .before .before .before .wide2 in
-    step-put (start .pre .0 .0) (start .pre .0 .1) (start .args .p) (start .pre .0 .2) (c .before .before .before .before .before .before .before .before .before .before .before .if1 .left) (above .result) (type .result) (flag .result) (index .result) (ty .result) (above .ensures) (type .ensures) (ty .ensures) (flag .ensures) (index .ensures) (start .args .tree .now) (start .args .end) (start .pre .1 .0) (c .before .before .put-fields .ensures)
+    own-step-put (start .pre .0 .0) (start .pre .0 .1) (start .args .p) (start .pre .0 .2) (c .before .before .before .before .before .before .before .before .before .before .before .if1 .left) (above .result) (type .result) (flag .result) (index .result) (ty .result) (above .ensures) (type .ensures) (ty .ensures) (flag .ensures) (index .ensures) (start .args .tree .now) (start .args .end) (start .pre .1 .0) (c .before .before .put-fields .ensures)
 
 pub put-step-spec : {M : Type 1} → statement M
 put-step-spec =
