@@ -1,15 +1,15 @@
 -- Laws of a matrix by value: a matrix is what its parts hold; and where the table is the sheet's and the matrix is sound, what the table
 -- tells is what the sheet says: the column chosen, and the matrix of the default.
-use mathlib.Core.Path.{_≡_, refl, sym, ap, ap₂, _∙_}
-use mathlib.Core.Bool.{Bool, true, false, not}
+use mathlib.Core.Path.{_≡_, refl, ap, ap₂, _∙_}
+use mathlib.Core.Bool.{true}
 use mathlib.Core.List.{List, [], _∷_, _++_}
-use Prim.Native.Nat.{ℕ, zero, suc, _+_, _-_, _*_, _≤_, _<_}
+use Prim.Native.Nat.{ℕ, zero, suc, _+_, _-_, _<_}
 use native.Mathlib.Omega.{arith}
-use lib.Dec.{eqb, ltb}
-use lib.ListN.{length, getD}
-use Rattle.words.specs.Words.{both, either, pick}
+use lib.Dec.{ltb}
+use lib.ListN.{length}
+use Rattle.words.specs.Words.{pick}
 use Rattle.rules.specs.Limits.{patternsMost}
-use Rattle.rules.specs.SheetFile.{patterns, clauses}
+use Rattle.rules.specs.SheetFile.{clauses}
 use Rattle.rules.specs.SheetRefusals.{isIn}
 use Rattle.rules.specs.SplittingLaws.{All}
 use Rattle.facts.specs.SheetFacts.{Accepted}
@@ -23,14 +23,14 @@ use Rattle.matrix.specs.declared.Choice.{Choice}
 use Rattle.matrix.specs.declared.Choice.the-variants.{Column, Leaf}
 use Rattle.matrix.specs.Live.{available, isLive, liveCell, liveTest, liveIn, IsClass}
 use Rattle.matrix.specs.HeldRows.{countOf, bestOf, wildOf}
-use Rattle.matrix.specs.Lists.{classesIn, numbersIn, Holds, HoldsRows, Whole, WholeRows}
+use Rattle.matrix.specs.Lists.{classesIn, numbersIn, Holds, HoldsRows}
 use Rattle.matrix.specs.ListsLaws.{holds-count, whole, whole-rows}
 use Rattle.matrix.specs.Ordered.{withoutClass, without-one}
-use Rattle.matrix.specs.Matrices.{Rising, Sound}
+use Rattle.matrix.specs.Matrices.{Rising}
 use Rattle.matrix.specs.MatricesLaws.{all-in}
 use Rattle.matrix.specs.Numbered.{Numbered, SoundOf, chosenIn, defaultNumbered}
 use Rattle.matrix.specs.TreesLaws.{few-columns}
-use Rattle.matrix.specs.Reading.{cellIn, ownerIn, cellHeld, heldIn, InTable}
+use Rattle.matrix.specs.Reading.{ownerIn, cellHeld, heldIn, InTable}
 use Rattle.matrix.specs.Ready.{Ready}
 use Rattle.matrix.specs.PuttingLaws.{all-map}
 use Rattle.matrix.specs.InNumbers.{inNumbers, WholeMatrix, StandsFor, Readable, Splits, chosenRead, defaultRead}

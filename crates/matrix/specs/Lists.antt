@@ -1,5 +1,5 @@
 -- Lists held in arrays of a fixed length: the numbers in them, and what it is to hold a list.
-use mathlib.Core.Bool.{Bool, true, false}
+use mathlib.Core.Bool.{true, false}
 use mathlib.Core.List.{List, [], _∷_}
 use mathlib.Core.Path.{_≡_}
 use Prim.Native.Nat.{ℕ, suc, _≤_}

@@ -1,8 +1,7 @@
 -- A case's test as the arena has it and the test of rule 4 that it means, a text by where it is in the pool; and whether the test of a
 -- pattern belongs to a case, by the pattern's record alone. MeantLaws has that this is what rules says of the pattern.
-use mathlib.Core.Bool.{Bool, true}
+use mathlib.Core.Bool.{Bool}
 use mathlib.Core.List.{List, [], _∷_}
-use mathlib.Core.Path.{_≡_}
 use Prim.Native.Nat.{ℕ, _+_, _-_, _≤_}
 use lib.Dec.{eqb, leb}
 use Rattle.words.specs.Words.{both, either, pick, sameText}

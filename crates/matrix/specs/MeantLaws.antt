@@ -1,17 +1,16 @@
 -- Whether the test of a pattern belongs to a case, by its record, is what rules says of the pattern: kind by kind, test by test.
-use mathlib.Core.Path.{_≡_, refl, sym, ap, ap₂, _∙_}
-use mathlib.Core.Bool.{Bool, true, false, not, true≢false, false≢true}
-use mathlib.Core.Logic.{inl, inr}
-use mathlib.Core.List.{List, [], _∷_, _++_}
-use Prim.Native.Nat.{ℕ, _+_, _-_, _≤_, _<_}
+use mathlib.Core.Path.{_≡_, refl, sym, ap, _∙_}
+use mathlib.Core.Bool.{Bool, true, false, false≢true}
+use mathlib.Core.List.{List}
+use Prim.Native.Nat.{ℕ, _+_, _-_, _≤_}
 use native.Mathlib.Omega.{arith}
 use borrow.Author.Tests.{le-leb, lt-leb, leb-true, leb-false, not-true, eq-eqb, ne-eqb}
 use lib.Dec.{eqb, leb}
 use lib.ListN.{length}
 use Rattle.words.specs.Words.{both, either, pick, textAt, sameText}
 use Rattle.words.specs.WordsLaws.{length-textAt, not-sameText}
-use Rattle.rules.specs.SheetFile.{patterns, typeFirst, constructorFirst, patternKind, patternA, patternFirst, patternCount, child, poolAt, poolSize, poolText}
-use Rattle.rules.specs.Patterns.{PatternKind, Discard, Variable, Assign, Integer, ByteString, ListOfAll, ListWithRest, Constructor, Pair, Tuple, Unknown, patternKindOf, Mark, Pat, Pats, tailed, many, oneConstructor, decorated, constructorOf, along, ofConstructor, ofKind, pattern}
+use Rattle.rules.specs.SheetFile.{typeFirst, patternKind, patternA, patternFirst, patternCount, child, poolAt, poolSize, poolText}
+use Rattle.rules.specs.Patterns.{PatternKind, Discard, Variable, Assign, Integer, ByteString, ListOfAll, ListWithRest, Constructor, Pair, Tuple, Unknown, patternKindOf, Mark, Pat, Pats, tailed, many, oneConstructor, along, ofConstructor, ofKind, pattern}
 use Rattle.rules.specs.Splitting as splitting
 use Rattle.rules.specs.Splitting.{sameTest, testFields, covers}
 use Rattle.facts.specs.KindsLaws.{pattern-byte}

@@ -1,19 +1,18 @@
 -- Laws of columns put in order: a class put into an array from the front, and what a pattern and its children give, in the order that
 -- the table tells. Rests on Ordered, on what a filled table says (crate table), and on the tests of a pattern by its children.
 use mathlib.Core.Path.{_≡_, refl, sym, ap, ap₂, _∙_}
-use mathlib.Core.Bool.{Bool, true, false, not}
+use mathlib.Core.Bool.{Bool, true, false}
 use mathlib.Core.Logic.{inr}
-use mathlib.Core.List.{List, [], _∷_, _++_, append-assoc}
-use Prim.Native.Nat.{ℕ, zero, suc, _+_, _-_, _*_, _≤_, _<_}
+use mathlib.Core.List.{List, [], _∷_, _++_}
+use Prim.Native.Nat.{ℕ, suc, _+_, _-_, _≤_, _<_}
 use native.Mathlib.Omega.{arith}
 use native.Mathlib.Numerals.{add-one}
-use borrow.Author.Tests.{eq-eqb, ne-eqb, eqb-true, eqb-false}
+use borrow.Author.Tests.{eq-eqb, ne-eqb}
 use lib.Dec.{eqb}
-use lib.ListN.{length, getD, take, drop, length-append, take-append-drop}
+use lib.ListN.{length, getD, take, length-append, take-append-drop}
 use lib.Seq.{slice, slice-cons, slice-empty, length-slice, length-take-le, take-take, take-suc, append-snoc}
 use Rattle.words.specs.Words.{pick}
-use Rattle.rules.specs.Limits.{patternsMost}
-use Rattle.rules.specs.SheetFile.{patterns, children, patternKind, patternFirst, patternCount, child}
+use Rattle.rules.specs.SheetFile.{patterns, children, patternKind, child}
 use Rattle.rules.specs.SheetRefusals.{isIn}
 use Rattle.rules.specs.SplittingLaws.{All}
 use Rattle.facts.specs.SheetFacts.{Accepted, Parent, Owns, owned-pattern, owned-entry, assign-parent, many-parent}
@@ -21,7 +20,7 @@ use Rattle.sheet.specs.declared.Map.{Map}
 use Rattle.sheet.specs.declared.records.PatternRecord.{PatternRecord}
 use Rattle.sheet.specs.Records.{patternOf}
 use Rattle.table.specs.Standing.{classOf, isTest}
-use Rattle.table.specs.Table.{classAt, tableSize}
+use Rattle.table.specs.Table.{classAt}
 use Rattle.table.specs.TabledLaws.{depth-inside, before-paths}
 use Rattle.table.specs.Seen.{testsOf, testsOfEach, openedTests}
 use Rattle.table.specs.SeenLaws.{tests-of-test, tests-of-parts, tests-plain, tests-text-or-list, opened-tests-each, opened-tests-none, no-test-of-plain, no-test-of-pair, test-kind, test-kind-most, tests-each-none, tests-each-some}
@@ -30,8 +29,8 @@ use Rattle.matrix.specs.declared.Classes.{Classes}
 use Rattle.matrix.specs.declared.columns.Given.{Given}
 use Rattle.matrix.specs.declared.columns.Given.the-variants.{Nothing, Itself, Inside}
 use Rattle.matrix.specs.Live.{IsClass}
-use Rattle.matrix.specs.Lists.{classesIn, Holds, Whole}
-use Rattle.matrix.specs.ListsLaws.{holds-same, whole, holds-count}
+use Rattle.matrix.specs.Lists.{classesIn, Holds}
+use Rattle.matrix.specs.ListsLaws.{holds-same, whole}
 use Rattle.matrix.specs.Ordered.{putClass, putEach, pathBefore, is-class, each-classes, each-append}
 use Rattle.matrix.specs.Reading.{firstIn, Ranked}
 use Rattle.matrix.specs.Ready.{Ready, Listed, Puts, putTests, Roomy, Children, Gives, itselfOrInside, TestKnown}

@@ -122,10 +122,10 @@ fn join_row(s: &[u8], m: Map, o: Joined, c: u8, held: Held, test: Test) -> Joine
                 opens: push_row(opens, p as u8),
             }
         }
-        Held::Wildcard => Joined {
-            rows: push_row(rows, c),
-            opens,
-        },
+        Held::Wildcard => {
+            let rows = push_row(rows, c);
+            Joined { rows, opens }
+        }
     }
 }
 

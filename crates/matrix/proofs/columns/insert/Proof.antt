@@ -1,9 +1,9 @@
 -- `columns::insert`: those from the place on are moved up by one, the last first, and the class is stored there.
 use borrow.Author.Needs.{needs}
-use mathlib.Core.Path.{_≡_, refl, sym, ap, _∙_}
-use Prim.Native.Nat.{_+_, _<_, _≤_}
+use mathlib.Core.Path.{_≡_}
+use Prim.Native.Nat.{_≤_}
 use native.Mathlib.Omega.{arith}
-use lib.ListN.{length, take, set, length-set}
+use lib.ListN.{length, length-set}
 use Rattle.matrix.specs.ListsLaws.{shifted, shifted-none, shift-on, shift-end}
 use Rattle.matrix.proofs.columns.insert.Statement.{statement}
 use Rattle.matrix.proofs.columns.insert.Tie as tie

@@ -1,4 +1,3 @@
-use borrow.Author.Needs.{needs}
 use Rattle.matrix.proofs.columns.itself_or_inside.Statement.{statement}
 use Rattle.matrix.proofs.columns.itself_or_inside.Tie as tie
 use Rattle.matrix.proofs.columns.itself_or_inside.Reads as reads

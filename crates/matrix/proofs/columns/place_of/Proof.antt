@@ -1,9 +1,9 @@
 -- `columns::place_of`: those passed are others.
 use borrow.Author.Needs.{needs}
-use mathlib.Core.Path.{_≡_, refl, sym, ap, _∙_}
-use Prim.Native.Nat.{_+_, _-_, _<_, _≤_}
+use mathlib.Core.Path.{_≡_, sym, _∙_}
+use Prim.Native.Nat.{_+_, _-_, _≤_}
 use native.Mathlib.Omega.{arith}
-use lib.ListN.{length, take}
+use lib.ListN.{take}
 use lib.Seq.{slice}
 use Rattle.matrix.specs.Lists.{firstPlace}
 use Rattle.matrix.specs.ListsLaws.{place-here, place-on, place-end}

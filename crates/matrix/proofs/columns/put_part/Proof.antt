@@ -1,11 +1,11 @@
 -- `columns::put_part`: what was appended and what is left are all.
 use borrow.Author.Needs.{needs}
-use mathlib.Core.Path.{_≡_, refl, sym, ap, _∙_}
+use mathlib.Core.Path.{_≡_, refl}
 use mathlib.Core.List.{_++_}
-use Prim.Native.Nat.{_+_, _-_, _<_, _≤_}
+use Prim.Native.Nat.{_+_, _-_, _≤_}
 use native.Mathlib.Omega.{arith}
-use lib.ListN.{length, take, set, length-set}
-use lib.Seq.{slice, length-slice}
+use lib.ListN.{length, take, length-set}
+use lib.Seq.{slice}
 use Rattle.matrix.specs.ListsLaws.{part-more, part-all}
 use Rattle.matrix.proofs.columns.put_part.Statement.{statement}
 use Rattle.matrix.proofs.columns.put_part.Tie as tie

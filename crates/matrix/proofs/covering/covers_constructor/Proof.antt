@@ -1,4 +1,3 @@
-use borrow.Author.Needs.{needs}
 use Rattle.matrix.specs.MeantLaws.{constructor-not, constructor-is}
 use Rattle.matrix.proofs.covering.covers_constructor.Statement.{statement}
 use Rattle.matrix.proofs.covering.covers_constructor.Tie as tie

@@ -1,4 +1,3 @@
-use borrow.Author.Needs.{needs}
 use native.Mathlib.Omega.{arith}
 use Rattle.matrix.specs.MeantLaws.{text-there, texts-not, texts-are}
 use Rattle.matrix.proofs.covering.same_texts.Statement.{statement}

@@ -1,4 +1,3 @@
-use borrow.Author.Needs.{needs}
 use borrow.Author.Tests.{eq-eqb, ne-eqb}
 use Rattle.matrix.proofs.covering.text_pattern.Statement.{statement}
 use Rattle.matrix.proofs.covering.text_pattern.Tie as tie

@@ -1,4 +1,3 @@
-use Prim.Native.Nat.{_+_, _<_}
 use native.Mathlib.Omega.{arith}
 use Rattle.rules.specs.SheetFile.{clauses}
 use Rattle.matrix.specs.Lists.{numbersIn}

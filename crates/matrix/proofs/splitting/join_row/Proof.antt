@@ -59,7 +59,7 @@ enum-told c = search needs
 
 -- src/splitting.rt:117:19
 push-row-requires-3 : tie.Need-push-row-requires-3
-push-row-requires-3 c κs = let s = c .before .before .before .before .before in (s .pre .1 .0, s .pre .1 .2)
+push-row-requires-3 c κs = search needs
 
 -- src/splitting.rt:99:1
 returns-2 : tie.Need-returns-2
