@@ -22,13 +22,13 @@ use Rattle.matrix.specs.declared.Held.the-variants.{Test, Wildcard}
 use Rattle.matrix.specs.declared.Choice.{Choice}
 use Rattle.matrix.specs.declared.Choice.the-variants.{Column, Leaf}
 use Rattle.matrix.specs.Live.{available, isLive, liveCell, liveTest, liveIn, IsClass}
-use Rattle.matrix.specs.HeldRows.{countOf, bestOf, wildOf}
+use Rattle.matrix.specs.HeldRows.{countOf, bestOf, heldTests, wildOf}
 use Rattle.matrix.specs.Lists.{classesIn, numbersIn, Holds, HoldsRows}
 use Rattle.matrix.specs.ListsLaws.{holds-count, whole, whole-rows}
 use Rattle.matrix.specs.Ordered.{withoutClass, without-one}
 use Rattle.matrix.specs.Matrices.{Rising}
 use Rattle.matrix.specs.MatricesLaws.{all-in}
-use Rattle.matrix.specs.Numbered.{Numbered, SoundOf, chosenIn, defaultNumbered}
+use Rattle.matrix.specs.Numbered.{Numbered, SoundOf, chosenIn, testsIn, defaultNumbered}
 use Rattle.matrix.specs.TreesLaws.{few-columns}
 use Rattle.matrix.specs.Reading.{ownerIn, cellHeld, heldIn, InTable}
 use Rattle.matrix.specs.Ready.{Ready}
@@ -61,6 +61,11 @@ module _ (f g : ℕ → Held) where
   unfolding wildOf
   wild-alike [] h = refl
   wild-alike (c ∷ cs) h = ap₂ (λ (x : Held) (l : List ℕ). elim x [ Test p ↦ l | Wildcard ↦ c ∷ l ]) (h .0) (wild-alike cs (h .1))
+
+  pub tests-alike : (cs : List ℕ) → All Alike cs → heldTests f cs ≡ heldTests g cs
+  unfolding heldTests
+  tests-alike [] h = refl
+  tests-alike (c ∷ cs) h = ap₂ (λ (x : Held) (l : List ℕ). elim x [ Test p ↦ p ∷ l | Wildcard ↦ l ]) (h .0) (tests-alike cs (h .1))
 
 pub best-alike : (f g : ℕ → ℕ) (chosen : Choice) (n : ℕ) (ks : List ℕ) → All (λ k. f k ≡ g k) ks → bestOf f chosen n ks ≡ bestOf g chosen n ks
 unfolding bestOf
@@ -116,6 +121,10 @@ module _ {s : List ℕ} {m : Map} {t : List ℕ} (ready : Ready s m t) where
         best-alike (λ k. countOf (heldIn t (M .opened) k) (M .rows)) (λ k. countOf (liveIn s (M .opened) k) (M .rows)) Leaf 0 (M .columns)
         (all-map (IsClass s) (λ k. countOf (heldIn t (M .opened) k) (M .rows) ≡ countOf (liveIn s (M .opened) k) (M .rows))
         (λ k h. count-alike (heldIn t (M .opened) k) (liveIn s (M .opened) k) (M .rows) (alike-rows k (class-most k h))) (M .columns) (sound .are-classes))
+
+    pub tests-read : (k : ℕ) → k < patternsMost → heldTests (heldIn t (M .opened) k) (M .rows) ≡ testsIn s k M
+    unfolding testsIn
+    tests-read k h = tests-alike (heldIn t (M .opened) k) (liveIn s (M .opened) k) (M .rows) (alike-rows k h)
 
     pub default-read : (k : ℕ) → k < patternsMost → defaultRead t k M ≡ defaultNumbered s k M
     unfolding defaultRead defaultNumbered
