@@ -15,6 +15,7 @@ use Rattle.arena.specs.Reading.{testFor}
 use Rattle.matrix.specs.declared.Held.{Held}
 use Rattle.matrix.specs.declared.Held.the-variants.{Test as HeldTest, Wildcard}
 use Rattle.matrix.specs.declared.splitting.Joined.{Joined}
+use Rattle.matrix.specs.HeldRows.{joinsCase}
 use Rattle.matrix.specs.Lists.{HoldsRows}
 use Rattle.matrix.specs.Ready.{TestKnown}
 
@@ -24,6 +25,10 @@ meant s (Test.Constr number) = splitting.Constr number
 meant s (Test.Text kind start count) = pick (eqb kind 1) (splitting.Int (poolText s start count)) (splitting.Bytes (poolText s start count))
 meant s (Test.List count) = splitting.ListOf count
 meant s (Test.Tailed count) = splitting.ListWithTail count
+
+-- the tests, by number, that belong to the case
+abbrev pub joinsTest : List ℕ → Test → ℕ → Bool
+joinsTest s test p = joinsCase s (meant s test) p
 
 -- its text lies in the pool
 abbrev pub InPool : List ℕ → Test → Type 0

@@ -10,9 +10,8 @@ ghost use Prim.Native.Nat.{_+_, _≤_};
 ghost use Rattle.words.specs.Words.{sameText};
 ghost use Rattle.rules.specs.SheetFile.{poolSize, poolText};
 ghost use Rattle.table.specs.Tabled.{Checked};
-ghost use Rattle.matrix.specs.HeldRows.{joinsCase};
 ghost use Rattle.matrix.specs.Ready.{TestKnown};
-ghost use Rattle.matrix.specs.Meant.{meant, InPool, coversConstructor, textPattern, coversText, coversTailed, coversList};
+ghost use Rattle.matrix.specs.Meant.{joinsTest, InPool, coversConstructor, textPattern, coversText, coversTailed, coversList};
 
 // Two texts of the pool are the same.
 fn same_texts(s: &[u8], m: Map, a: usize, n: usize, b: usize, k: usize) -> bool
@@ -72,7 +71,7 @@ fn covers_list(r: PatternRecord, n: u16) -> bool
 // The test of pattern p belongs to the case.
 pub fn covers(s: &[u8], m: Map, p: usize, test: Test) -> bool
     requires { ⌜ Checked (now s) m × TestKnown (now s) p × InPool (now s) test ⌝ }
-    ensures { λ r. ⌜ r ≡ joinsCase (now (s .entry)) (meant (now (s .entry)) test) p ⌝ }
+    ensures { λ r. ⌜ r ≡ joinsTest (now (s .entry)) test p ⌝ }
 {
     let r = pattern_at(s, m, p);
     match test {

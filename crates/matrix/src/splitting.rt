@@ -30,12 +30,12 @@ ghost use Rattle.table.specs.Tabled.{Checked};
 ghost use Rattle.table.specs.Seen.{openedTests};
 ghost use Rattle.matrix.specs.Live.{liveIn};
 ghost use Rattle.matrix.specs.RowStates.{upFrom};
-ghost use Rattle.matrix.specs.HeldRows.{joinOf, opensOf, joinsCase};
+ghost use Rattle.matrix.specs.HeldRows.{joinOf, opensOf};
 ghost use Rattle.matrix.specs.Matrices.{gather, rootTests, marked};
 ghost use Rattle.matrix.specs.Numbered.{SoundOf, firstNumbered, caseNumbered};
 ghost use Rattle.matrix.specs.Lists.{classesIn, numbersIn, Holds, HoldsRows, WholeRows};
 ghost use Rattle.matrix.specs.Ready.{Ready, putTests, TestKnown};
-ghost use Rattle.matrix.specs.Meant.{meant, InPool, HeldKnown, joinRow, openRow, JoinsTo};
+ghost use Rattle.matrix.specs.Meant.{meant, joinsTest, InPool, HeldKnown, joinRow, openRow, JoinsTo};
 ghost use Rattle.matrix.specs.InNumbers.{inNumbers, WholeMatrix, StandsFor, Splits, defaultRead};
 
 // A row for each of n clauses.
@@ -108,7 +108,7 @@ struct Joined {
 fn join_row(s: &[u8], m: Map, o: Joined, c: u8, held: Held, test: Test) -> Joined
     requires { ⌜ Checked (now s) m × HeldKnown (now s) held × InPool (now s) test ⌝ }
     requires { ⌜ WholeRows (o .rows) × WholeRows (o .opens) × (o .rows .count < clausesMost) × (o .opens .count < clausesMost) ⌝ }
-    ensures { λ r. ⌜ JoinsTo r (numbersIn (o .rows) ++ joinRow (joinsCase (now (s .entry)) (meant (now (s .entry)) test)) held c) (numbersIn (o .opens) ++ openRow (joinsCase (now (s .entry)) (meant (now (s .entry)) test)) held) ⌝ }
+    ensures { λ r. ⌜ JoinsTo r (numbersIn (o .rows) ++ joinRow (joinsTest (now (s .entry)) test) held c) (numbersIn (o .opens) ++ openRow (joinsTest (now (s .entry)) test) held) ⌝ }
 {
     let rows = o.rows;
     let opens = o.opens;
@@ -140,7 +140,7 @@ fn join_rows(
     test: Test,
 ) -> Joined
     requires { ⌜ Ready (now s) m (now t) × WholeRows rows × All (λ c. c < clauses (now s)) (numbersIn rows) × (class < patternsMost) × InPool (now s) test ⌝ }
-    ensures { λ r. ⌜ JoinsTo r (joinOf (joinsCase (now (s .entry)) (meant (now (s .entry)) test)) (liveIn (now (s .entry)) (now (opened .entry)) class) (numbersIn rows)) (opensOf (joinsCase (now (s .entry)) (meant (now (s .entry)) test)) (liveIn (now (s .entry)) (now (opened .entry)) class) (numbersIn rows)) ⌝ }
+    ensures { λ r. ⌜ JoinsTo r (joinOf (joinsTest (now (s .entry)) test) (liveIn (now (s .entry)) (now (opened .entry)) class) (numbersIn rows)) (opensOf (joinsTest (now (s .entry)) test) (liveIn (now (s .entry)) (now (opened .entry)) class) (numbersIn rows)) ⌝ }
 {
     let mut o = Joined {
         rows: PerRow {
