@@ -56,7 +56,6 @@ map-patterns-to-row-below t =
     (falls 2 map-patterns-to-row-kinds.ps _<_ μ-map-patterns-to-row t)
     map-patterns-to-row.Pre
 
--- src/columns.rt:169:9
 map-pattern-to-row-gives-requires : (t : ℕ) → map-pattern-to-row-lts.Need-gives-requires (
   gives-reads.Asked,
   gives-reads.Learnt,
@@ -67,7 +66,6 @@ map-pattern-to-row-gives-requires : (t : ℕ) → map-pattern-to-row-lts.Need-gi
 ) (map-pattern-to-row-at t) map-pattern-to-row.Post
 map-pattern-to-row-gives-requires t c κs = let s = c .before .before in (s .pre .1 .0, s .pre .1 .2)
 
--- src/columns.rt:171:27
 map-pattern-to-row-enum-told : (t : ℕ) → map-pattern-to-row-lts.Need-enum-told (
   gives-reads.Asked,
   gives-reads.Learnt,
@@ -78,7 +76,6 @@ map-pattern-to-row-enum-told : (t : ℕ) → map-pattern-to-row-lts.Need-enum-to
 ) (map-pattern-to-row-at t) map-pattern-to-row.Post
 map-pattern-to-row-enum-told t c = search needs
 
--- src/columns.rt:172:23
 map-pattern-to-row-enum-known-given : (t : ℕ) → map-pattern-to-row-lts.Need-enum-known-given (
   gives-reads.Asked,
   gives-reads.Learnt,
@@ -89,7 +86,6 @@ map-pattern-to-row-enum-known-given : (t : ℕ) → map-pattern-to-row-lts.Need-
 ) (map-pattern-to-row-at t) map-pattern-to-row.Post
 map-pattern-to-row-enum-known-given t c = search needs
 
--- src/columns.rt:172:33
 map-pattern-to-row-put-requires : (t : ℕ) → map-pattern-to-row-lts.Need-put-requires (
   gives-reads.Asked,
   gives-reads.Learnt,
@@ -104,7 +100,6 @@ map-pattern-to-row-put-requires t c κs =
     let asked = s .pre .1 in
     itself-puts (asked .0) (asked .1) (a .p) (asked .2) (asked .3) {g = c .before .before .before .gives .result} {class = c .before .given .given .0 .0} (c .before .before .before .gives .ensures) (search needs)
 
--- src/columns.rt:173:25
 map-pattern-to-row-enum-known-given-2 : (t : ℕ) → map-pattern-to-row-lts.Need-enum-known-given-2 (
   gives-reads.Asked,
   gives-reads.Learnt,
@@ -115,7 +110,6 @@ map-pattern-to-row-enum-known-given-2 : (t : ℕ) → map-pattern-to-row-lts.Nee
 ) (map-pattern-to-row-at t) map-pattern-to-row.Post
 map-pattern-to-row-enum-known-given-2 t c = search needs
 
--- src/columns.rt:173:43
 map-pattern-to-row-map-patterns-to-row-requires :
     (t : ℕ) → map-pattern-to-row-lts.Need-map-patterns-to-row-requires (
       gives-reads.Asked,
@@ -135,7 +129,6 @@ map-pattern-to-row-map-patterns-to-row-requires t c κs =
     let few = children-few (asked .0) (asked .1) (a .p) (c .before .given2 .given .0 .0) (c .before .given2 .given .0 .1 .0) children room in
     (omega (arith, s .pre .0, few, asked .2, asked .0 .checked .ok .is-counted .patterns-most), (asked .0, asked .1, children, room))
 
--- src/columns.rt:165:1
 map-pattern-to-row-returns : (t : ℕ) → map-pattern-to-row-lts.Need-returns (
   gives-reads.Asked,
   gives-reads.Learnt,
@@ -150,7 +143,6 @@ map-pattern-to-row-returns t c =
     let asked = s .pre .1 in
     nothing-is (asked .0) (asked .1) (a .p) (asked .2) (asked .3) {g = c .before .before .gives .result} (c .before .before .gives .ensures) (search needs)
 
--- src/columns.rt:165:1
 map-pattern-to-row-returns-2 : (t : ℕ) → map-pattern-to-row-lts.Need-returns-2 (
   gives-reads.Asked,
   gives-reads.Learnt,
@@ -165,7 +157,6 @@ map-pattern-to-row-returns-2 t c =
     let asked = s .pre .1 in
     itself-is (asked .0) (asked .1) (a .p) (asked .2) (asked .3) {g = c .before .before .before .before .gives .result} {class = c .before .before .given .given .0 .0} (c .before .before .before .before .gives .ensures) (search needs) (c .put .ensures)
 
--- src/columns.rt:165:1
 map-pattern-to-row-returns-3 : (t : ℕ) → map-pattern-to-row-lts.Need-returns-3 (
   gives-reads.Asked,
   gives-reads.Learnt,
@@ -180,7 +171,6 @@ map-pattern-to-row-returns-3 t c =
     let asked = s .pre .1 in
     inside-is (asked .0) (asked .1) (a .p) (asked .2) (asked .3) {g = c .before .before .before .before .gives .result} {j = c .before .before .given2 .given .0 .0} {n = c .before .before .given2 .given .0 .1 .0} (c .before .before .before .before .gives .ensures) (search needs) (c .map-patterns-to-row .ensures)
 
--- src/columns.rt:191:9
 map-patterns-to-row-returns : (t : ℕ) → map-patterns-to-row-lts.Need-returns (
   map-patterns-to-row-below t,
   map-patterns-to-row.Post,
@@ -195,7 +185,6 @@ map-patterns-to-row-returns t c =
     let asked = s .pre .1 in
     none-is (asked .0) (asked .1) (a .parent) (a .j) (a .n) (asked .2) (asked .3) (c .if1 .taken)
 
--- src/columns.rt:193:56
 map-patterns-to-row-add-map-patterns-to-row :
     (t : ℕ) → map-patterns-to-row-lts.Need-add-map-patterns-to-row (
       map-patterns-to-row-below t,
@@ -211,7 +200,6 @@ map-patterns-to-row-add-map-patterns-to-row t c =
     let asked = s .pre .1 in
     omega (arith, children-few (asked .0) (asked .1) (a .parent) (a .j) (a .n) (asked .2) (asked .3))
 
--- src/columns.rt:193:63
 map-patterns-to-row-sub-map-patterns-to-row :
     (t : ℕ) → map-patterns-to-row-lts.Need-sub-map-patterns-to-row (
       map-patterns-to-row-below t,
@@ -223,7 +211,6 @@ map-patterns-to-row-sub-map-patterns-to-row :
     ) (map-patterns-to-row-at t) map-patterns-to-row.Post
 map-patterns-to-row-sub-map-patterns-to-row t c = omega (arith, c .if1 .left)
 
--- src/columns.rt:193:9
 map-patterns-to-row-map-patterns-to-row-requires :
     (t : ℕ) → map-patterns-to-row-lts.Need-map-patterns-to-row-requires (
       map-patterns-to-row-below t,
@@ -239,7 +226,6 @@ map-patterns-to-row-map-patterns-to-row-requires t c κs =
     let asked = s .pre .1 in
     (omega (arith, s .pre .0, c .if1 .left), (asked .0, asked .1, next-children (asked .0) (asked .1) (a .parent) (a .j) (a .n) (asked .2) (asked .3) (c .if1 .left), next-room (asked .0) (asked .1) (a .parent) (a .j) (a .n) (asked .2) (asked .3) (c .if1 .left)))
 
--- src/columns.rt:194:39
 map-patterns-to-row-child-at-requires : (t : ℕ) → map-patterns-to-row-lts.Need-child-at-requires (
   map-patterns-to-row-below t,
   map-patterns-to-row.Post,
@@ -254,7 +240,6 @@ map-patterns-to-row-child-at-requires t c κs =
     let asked = s .pre .1 in
     (asked .0 .checked .ok .is-laid, asked .0 .checked .is-map, child-there (asked .0) (asked .1) (a .parent) (a .j) (a .n) (asked .2) (asked .3) (c .before .if1 .left))
 
--- src/columns.rt:194:5
 map-patterns-to-row-map-pattern-to-row-requires :
     (t : ℕ) → map-patterns-to-row-lts.Need-map-pattern-to-row-requires (
       map-patterns-to-row-below t,
@@ -277,7 +262,6 @@ map-patterns-to-row-map-pattern-to-row-requires t c κs =
       (asked .0, rest-listed (asked .0) (asked .1) (a .parent) (a .j) (a .n) (asked .2) (asked .3) left rest (q .result) (q .ensures), omega (arith, known, q .ensures), rest-room (asked .0) (asked .1) (a .parent) (a .j) (a .n) (asked .2) (asked .3) left rest (q .result) (q .ensures)),
     )
 
--- src/columns.rt:178:1
 map-patterns-to-row-returns-2 : (t : ℕ) → map-patterns-to-row-lts.Need-returns-2 (
   map-patterns-to-row-below t,
   map-patterns-to-row.Post,

@@ -3,11 +3,9 @@ use Rattle.matrix.proofs.columns.itself_or_inside.Tie as tie
 use Rattle.matrix.proofs.columns.itself_or_inside.Reads as reads
 use Rattle.matrix.proofs.columns.itself_or_inside.Lts as lts
 
--- src/columns.rt:134:1
 returns : tie.Need-returns
 returns c = rw (c .if1 .taken)
 
--- src/columns.rt:134:1
 returns-2 : tie.Need-returns-2
 returns-2 c = rw (c .if1 .left)
 

@@ -7,11 +7,9 @@ use Rattle.matrix.proofs.columns.open.Lts as lts
 use Rattle.matrix.proofs.columns.map_patterns_to_row.Reads as map-patterns-to-row-reads
 use Rattle.sheet.proofs.records.pattern_at.Reads as pattern-at-reads
 
--- src/columns.rt:202:9
 pattern-at-requires : tie.Need-pattern-at-requires
 pattern-at-requires c κs = search needs
 
--- src/columns.rt:204:9
 returns : tie.Need-returns
 returns c =
     let s = c .before .before .before .before .before in
@@ -19,7 +17,6 @@ returns c =
     let r = c .before .before .pattern-at in
     open-none (s .pre .0) (s .pre .1) (a .p) (s .pre .2) (s .pre .3) (r .result) (r .ensures) (c .if1 .taken)
 
--- src/columns.rt:206:5
 map-patterns-to-row-requires : tie.Need-map-patterns-to-row-requires
 map-patterns-to-row-requires c κs =
     let s = c .before .before .before .before .before in
@@ -27,7 +24,6 @@ map-patterns-to-row-requires c κs =
     let r = c .before .before .pattern-at in
     (s .pre .0, s .pre .1, open-children (s .pre .0) (s .pre .1) (a .p) (s .pre .2) (s .pre .3) (r .result) (r .ensures) (c .if1 .left), open-room (s .pre .0) (s .pre .1) (a .p) (s .pre .2) (s .pre .3) (r .result) (r .ensures) (c .if1 .left))
 
--- src/columns.rt:198:1
 returns-2 : tie.Need-returns-2
 returns-2 c =
     let s = c .before .before .before .before .before .before in

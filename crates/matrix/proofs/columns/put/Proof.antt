@@ -21,19 +21,15 @@ Inv-loop t class o i₀ i = (i ≤ o .count) × Passed (firstIn t) class (o .lis
 abbrev μ-loop : tie.MeasureT-loop
 μ-loop t class o i₀ i = o .count - i
 
--- src/columns.rt:114:5
 loop-holds : tie.Need-loop-holds Inv-loop μ-loop
 loop-holds c = (search needs, refl)
 
--- src/columns.rt:115:26
 element-copy-out-wide : tie.Need-element-copy-out-wide Inv-loop μ-loop
 element-copy-out-wide c = omega (arith, c .before .before .before .pre .whole .most)
 
--- src/columns.rt:115:13
 wide-requires : tie.Need-wide-requires Inv-loop μ-loop
 wide-requires c κs = search needs
 
--- src/columns.rt:117:13
 returns : tie.Need-returns Inv-loop μ-loop
 returns c =
     let s = c .before .before .before .before .before .before in
@@ -43,7 +39,6 @@ returns c =
     holds-same (s .pre .whole)
     (sym (put-there (firstIn (a .t .now)) (a .class) (o .list) (o .count) (l .i) (omega (arith, s .pre .whole .long, s .pre .whole .most)) (l .inv .1) (c .before .before .before .loop-test .taken) (sym (c .before .wide .ensures) ∙ c .if1 .taken)))
 
--- src/columns.rt:119:12
 before-requires : tie.Need-before-requires Inv-loop μ-loop
 before-requires c κs =
     let s = c .before .before .before .before .before .before in
@@ -55,7 +50,6 @@ before-requires c κs =
     in
     ((s .pre .long, s .pre .ranked .known, other .known), (s .pre .ranked .depth, other .depth))
 
--- src/columns.rt:120:13
 insert-requires : tie.Need-insert-requires Inv-loop μ-loop
 insert-requires c κs =
     let s = c .before .before .before .before .before .before .before .before in
@@ -68,7 +62,6 @@ insert-requires c κs =
     in
     (s .pre .whole, search needs, omega (arith, insert-room (o .list) (o .count) (l .i) (a .class) (l .inv .0) (omega (arith, s .pre .whole .long, s .pre .whole .most)), ap length e, s .pre .room), s .pre .ranked .known)
 
--- src/columns.rt:120:13
 returns-2 : tie.Need-returns-2 Inv-loop μ-loop
 returns-2 c =
     let s = c .before .before .before .before .before .before .before .before .before in
@@ -79,15 +72,12 @@ returns-2 c =
     (sym (put-before (firstIn (a .t .now)) (a .class) (o .list) (o .count) (l .i) (omega (arith, s .pre .whole .long, s .pre .whole .most)) (l .inv .1) (c .before .before .before .before .before .before .loop-test .taken)
     (λ x. c .before .before .before .if1 .left (c .before .before .before .before .wide .ensures ∙ x)) (ap (firstIn (a .t .now) (a .class)) (sym (c .before .before .before .before .wide .ensures)) ∙ sym (c .before .before .before2 .ensures) ∙ c .before .if2 .taken)))
 
--- src/columns.rt:122:9
 add-i : tie.Need-add-i Inv-loop μ-loop
 add-i c = search needs
 
--- src/columns.rt:114:5
 loop-less : tie.Need-loop-less Inv-loop μ-loop
 loop-less c = search needs
 
--- src/columns.rt:114:5
 loop-again : tie.Need-loop-again Inv-loop μ-loop
 loop-again c =
     let s = c .before .before .before .before .before .before .before .before in
@@ -99,7 +89,6 @@ loop-again c =
           (λ x. c .before .before .if1 .left (c .before .before .before .wide .ensures ∙ x)) (ap (firstIn (a .t .now) (a .class)) (sym (c .before .before .before .wide .ensures)) ∙ sym (c .before .before2 .ensures) ∙ c .if2 .left),
     )
 
--- src/columns.rt:124:5
 insert-requires-2 : tie.Need-insert-requires-2 Inv-loop μ-loop
 insert-requires-2 c κs =
     let s = c .before .before .before in
@@ -109,7 +98,6 @@ insert-requires-2 c κs =
     let e = put-last (firstIn (a .t .now)) (a .class) (o .list) (o .count) (l .i) (omega (arith, s .pre .whole .long, s .pre .whole .most)) (l .inv .1) (omega (arith, l .inv .0, c .loop-test .left)) in
     (s .pre .whole, l .inv .0, omega (arith, insert-room (o .list) (o .count) (l .i) (a .class) (l .inv .0) (omega (arith, s .pre .whole .long, s .pre .whole .most)), ap length e, s .pre .room), s .pre .ranked .known)
 
--- src/columns.rt:109:1
 returns-3 : tie.Need-returns-3 Inv-loop μ-loop
 returns-3 c =
     let s = c .before .before .before .before in

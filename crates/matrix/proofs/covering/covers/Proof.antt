@@ -13,23 +13,18 @@ use Rattle.matrix.proofs.covering.covers_tailed.Reads as covers-tailed-
 use Rattle.matrix.proofs.covering.covers_text.Reads as covers-text-reads
 use Rattle.sheet.proofs.records.pattern_at.Reads as pattern-at-reads
 
--- src/covering.rt:77:9
 pattern-at-requires : tie.Need-pattern-at-requires
 pattern-at-requires c κs = let s = c .before in (s .pre .0 .ok .is-laid, s .pre .0 .is-map, s .pre .1 .known)
 
--- src/covering.rt:79:22
 enum-known-test : tie.Need-enum-known-test
 enum-known-test c = search needs
 
--- src/covering.rt:79:33
 covers-constructor-requires : tie.Need-covers-constructor-requires
 covers-constructor-requires c κs = search needs
 
--- src/covering.rt:80:22
 enum-known-test-2 : tie.Need-enum-known-test-2
 enum-known-test-2 c = search needs
 
--- src/covering.rt:80:46
 covers-text-requires : tie.Need-covers-text-requires
 covers-text-requires c κs =
     let s = c .before .before .before .before .before in
@@ -39,23 +34,18 @@ covers-text-requires c κs =
     let e : a .test ≡ Test.Text (g .0 .0) (g .0 .1 .0) (g .0 .1 .1 .0) = search needs in
     (s .pre .0, pool-text (a .s .now) (a .test) (s .pre .2) e, record-text (s .pre .0 .ok) (a .p) (s .pre .1) (r .result) (r .ensures))
 
--- src/covering.rt:81:20
 enum-known-test-3 : tie.Need-enum-known-test-3
 enum-known-test-3 c = search needs
 
--- src/covering.rt:81:26
 covers-list-requires : tie.Need-covers-list-requires
 covers-list-requires c κs = search needs
 
--- src/covering.rt:82:22
 enum-known-test-4 : tie.Need-enum-known-test-4
 enum-known-test-4 c = search needs
 
--- src/covering.rt:82:28
 covers-tailed-requires : tie.Need-covers-tailed-requires
 covers-tailed-requires c κs = search needs
 
--- src/covering.rt:73:1
 returns : tie.Need-returns
 returns c =
     let s = c .before .before .before .before .before .before in
@@ -64,7 +54,6 @@ returns c =
     let e : a .test ≡ Test.Constr (c .before .before .test .given .0 .0) = search needs in
     covers-by (s .pre .0 .ok) (a .p) (s .pre .1) (r .result) (r .ensures) (a .test) (c .covers-constructor .result) (c .covers-constructor .ensures ∙ ap (coversRead (a .s .now) (r .result)) (sym e))
 
--- src/covering.rt:73:1
 returns-2 : tie.Need-returns-2
 returns-2 c =
     let s = c .before .before .before .before .before .before in
@@ -73,7 +62,6 @@ returns-2 c =
     let e : a .test ≡ Test.Text (c .before .before .test2 .given .0 .0) (c .before .before .test2 .given .0 .1 .0) (c .before .before .test2 .given .0 .1 .1 .0) = search needs in
     covers-by (s .pre .0 .ok) (a .p) (s .pre .1) (r .result) (r .ensures) (a .test) (c .covers-text .result) (c .covers-text .ensures ∙ ap (coversRead (a .s .now) (r .result)) (sym e))
 
--- src/covering.rt:73:1
 returns-3 : tie.Need-returns-3
 returns-3 c =
     let s = c .before .before .before .before .before .before in
@@ -82,7 +70,6 @@ returns-3 c =
     let e : a .test ≡ Test.List (c .before .before .test3 .given .0 .0) = search needs in
     covers-by (s .pre .0 .ok) (a .p) (s .pre .1) (r .result) (r .ensures) (a .test) (c .covers-list .result) (c .covers-list .ensures ∙ ap (coversRead (a .s .now) (r .result)) (sym e))
 
--- src/covering.rt:73:1
 returns-4 : tie.Need-returns-4
 returns-4 c =
     let s = c .before .before .before .before .before .before in

@@ -5,15 +5,12 @@ use Rattle.matrix.proofs.covering.covers_tailed.Tie as tie
 use Rattle.matrix.proofs.covering.covers_tailed.Reads as reads
 use Rattle.matrix.proofs.covering.covers_tailed.Lts as lts
 
--- src/covering.rt:58:9
 returns : tie.Need-returns
 returns c = let a = c .before .before .args in tailed-not (a .r) (a .n) (c .if1 .taken)
 
--- src/covering.rt:60:16
 add-result : tie.Need-add-result
 add-result c = search needs
 
--- src/covering.rt:54:1
 returns-2 : tie.Need-returns-2
 returns-2 c = let a = c .before .before .before .args in tailed-is (a .r) (a .n) (c .before .if1 .left)
 

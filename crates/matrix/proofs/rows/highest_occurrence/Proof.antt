@@ -28,19 +28,15 @@ Inv-loop t rows columns opened best₀ i₀ best i =
 abbrev μ-loop : tie.MeasureT-loop
 μ-loop t rows columns opened best₀ i₀ best i = columns .count - i
 
--- src/rows.rt:120:5
 loop-holds : tie.Need-loop-holds Inv-loop μ-loop
 loop-holds c = (search needs, refl)
 
--- src/rows.rt:121:26
 element-copy-out-wide : tie.Need-element-copy-out-wide Inv-loop μ-loop
 element-copy-out-wide c = omega (arith, c .before .before .before .before .before .before .pre .whole .whole-columns .most)
 
--- src/rows.rt:121:13
 wide-requires : tie.Need-wide-requires Inv-loop μ-loop
 wide-requires c κs = search needs
 
--- src/rows.rt:122:39
 occurrence-requires : tie.Need-occurrence-requires Inv-loop μ-loop
 occurrence-requires c κs =
     let s = c .before .before .before .before .before .before .before .before .before in
@@ -48,19 +44,15 @@ occurrence-requires c κs =
     let l = c .before .before .before .before .loop in
     (s .pre .whole .whole-rows, rw (c .before .wide .ensures) (all-at (λ k. All (InTable (a .t .now) k) (numbersIn (a .x .rows))) (a .x .columns .list) (a .x .columns .count) (l .i) (omega (arith, c .before .before .before .loop-test .taken)) (omega (arith, s .pre .whole .whole-columns .long, s .pre .whole .whole-columns .most)) (s .pre .cells)))
 
--- src/rows.rt:122:9
 better-of-requires : tie.Need-better-of-requires Inv-loop μ-loop
 better-of-requires c κs = search needs
 
--- src/rows.rt:123:9
 add-i : tie.Need-add-i Inv-loop μ-loop
 add-i c = search needs
 
--- src/rows.rt:120:5
 loop-less : tie.Need-loop-less Inv-loop μ-loop
 loop-less c = search needs
 
--- src/rows.rt:120:5
 loop-again : tie.Need-loop-again Inv-loop μ-loop
 loop-again c =
     let s = c .before .before .before .before .before .before .before .before .before .before .before in
@@ -77,7 +69,6 @@ loop-again c =
           ∙ ap (bestOf counts (l .best .choice) (l .best .amount)) (sym (slice-on (columns .list) (l .i) (columns .count) i-in (omega (arith, s .pre .whole .whole-columns .long, s .pre .whole .whole-columns .most)))) ∙ l .inv .1,
     )
 
--- src/rows.rt:108:1
 returns : tie.Need-returns Inv-loop μ-loop
 unfolding chosenRead
 returns c =

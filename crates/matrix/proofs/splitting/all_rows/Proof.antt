@@ -17,27 +17,21 @@ Inv-loop n list₀ c₀ list c = (c ≤ n) × (length list ≡ 32) × (take c li
 abbrev μ-loop : tie.MeasureT-loop
 μ-loop n list₀ c₀ list c = n - c
 
--- src/splitting.rt:32:5
 loop-holds : tie.Need-loop-holds Inv-loop μ-loop
 loop-holds c = (omega arith, refl, rows-none (c .args .n))
 
--- src/splitting.rt:33:19
 cast-list : tie.Need-cast-list Inv-loop μ-loop
 cast-list c = search needs
 
--- src/splitting.rt:33:9
 array-write-list : tie.Need-array-write-list Inv-loop μ-loop
 array-write-list c = search needs
 
--- src/splitting.rt:34:9
 add-c : tie.Need-add-c Inv-loop μ-loop
 add-c c = search needs
 
--- src/splitting.rt:32:5
 loop-less : tie.Need-loop-less Inv-loop μ-loop
 loop-less c = search needs
 
--- src/splitting.rt:32:5
 loop-again : tie.Need-loop-again Inv-loop μ-loop
 loop-again c =
     let l = c .before .loop in
@@ -47,7 +41,6 @@ loop-again c =
       rows-more (l .list) (l .c) n (upFrom 0 n) (omega (arith, l .inv, c .before .before .pre, c .loop-test .taken)) (c .loop-test .taken) (l .inv .2),
     )
 
--- src/splitting.rt:26:1
 returns : tie.Need-returns Inv-loop μ-loop
 returns c =
     let l = c .before .loop in

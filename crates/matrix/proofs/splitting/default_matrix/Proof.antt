@@ -16,26 +16,21 @@ use Rattle.matrix.proofs.columns.push.Reads as push-reads
 use Rattle.matrix.proofs.columns.put_rest.Reads as put-rest-reads
 use Rattle.matrix.proofs.rows.wild_rows.Reads as wild-rows-reads
 
--- src/splitting.rt:74:9
 wild-rows-requires : tie.Need-wild-rows-requires
 wild-rows-requires c κs = let s = c .before .before .before in (s .pre .whole .whole-rows, s .pre .cells)
 
--- src/splitting.rt:75:28
 empty-requires : tie.Need-empty-requires
 empty-requires c κs = tt
 
--- src/splitting.rt:75:9
 put-rest-requires : tie.Need-put-rest-requires
 put-rest-requires c κs =
     let s = c .before .before .before .before .before in
     let none-there = c .empty .ensures in
     (whole none-there, s .pre .whole .whole-columns, s .pre .there, omega (arith, holds-count none-there, s .pre .whole .whole-columns .most))
 
--- src/splitting.rt:76:9
 push-requires : tie.Need-push-requires
 push-requires c κs = let s = c .before .before .before .before .before .before in (s .pre .whole .whole-tested, s .pre .room, s .pre .known)
 
--- src/splitting.rt:69:1
 returns : tie.Need-returns
 unfolding defaultRead
 returns c =

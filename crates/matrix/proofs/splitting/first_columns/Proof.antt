@@ -22,11 +22,9 @@ Inv-loop s m t o₀ c₀ o c = (c ≤ clauses s) × Listed s o × Holds o (colum
 abbrev μ-loop : tie.MeasureT-loop
 μ-loop s m t o₀ c₀ o c = c
 
--- src/splitting.rt:44:9
 empty-requires : tie.Need-empty-requires Inv-loop μ-loop
 empty-requires c κs = search needs
 
--- src/splitting.rt:46:5
 loop-holds : tie.Need-loop-holds Inv-loop μ-loop
 loop-holds c =
     let s = c .before .before .before in
@@ -37,18 +35,15 @@ loop-holds c =
       holds-same h (sym (ap (columnsFrom (s .args .s .now)) e ∙ columns-none (s .args .s .now))),
     )
 
--- src/splitting.rt:47:9
 sub-c : tie.Need-sub-c Inv-loop μ-loop
 sub-c c = omega (arith, c .loop-test .taken)
 
--- src/splitting.rt:48:44
 root-at-requires : tie.Need-root-at-requires Inv-loop μ-loop
 root-at-requires c κs =
     let s = c .before .before .before .before .before in
     let l = c .before .loop in
     (s .pre .checked .ok .is-laid, s .pre .checked .is-map, omega (arith, l .inv .0, c .loop-test .taken))
 
--- src/splitting.rt:48:9
 map-pattern-to-row-requires : tie.Need-map-pattern-to-row-requires Inv-loop μ-loop
 map-pattern-to-row-requires c κs =
     let s = c .before .before .before .before .before .before in
@@ -56,11 +51,9 @@ map-pattern-to-row-requires c κs =
     let r = c .root-at in
     (s .pre, l .inv .1, root-known (s .pre) (l .c) (c .before .loop-test .taken) (l .inv .0) (r .result) (r .ensures) (l .o) (l .inv .1) (l .inv .2), root-room (s .pre) (l .c) (c .before .loop-test .taken) (l .inv .0) (r .result) (r .ensures) (l .o) (l .inv .1) (l .inv .2))
 
--- src/splitting.rt:46:5
 loop-less : tie.Need-loop-less Inv-loop μ-loop
 loop-less c = omega (arith, c .before .before .loop-test .taken)
 
--- src/splitting.rt:46:5
 loop-again : tie.Need-loop-again Inv-loop μ-loop
 loop-again c =
     let s = c .before .before .before .before .before .before .before in
@@ -71,7 +64,6 @@ loop-again c =
       next-columns (s .pre) (l .c) (c .before .before .loop-test .taken) (l .inv .0) (r .result) (r .ensures) (l .o) (l .inv .1) (l .inv .2) (c .map-pattern-to-row .ensures),
     )
 
--- src/splitting.rt:40:1
 returns : tie.Need-returns Inv-loop μ-loop
 returns c =
     let s = (c .before .before .before .before .before) .args .s .now in

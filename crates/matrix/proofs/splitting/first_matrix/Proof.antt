@@ -16,22 +16,18 @@ use Rattle.matrix.proofs.columns.empty.Reads as empty-reads
 use Rattle.matrix.proofs.splitting.all_rows.Reads as all-rows-reads
 use Rattle.matrix.proofs.splitting.first_columns.Reads as first-columns-reads
 
--- src/splitting.rt:58:9
 all-rows-requires : tie.Need-all-rows-requires
 all-rows-requires c κs =
     let s = c .before .before in
     let e : s .args .m .counts .clauses ≡ clauses (s .args .s .now) = ap (λ (m : Map). m .counts .clauses) (s .pre .checked .is-map) in
     omega (arith, s .pre .checked .ok .is-counted .clauses-most)
 
--- src/splitting.rt:59:9
 first-columns-requires : tie.Need-first-columns-requires
 first-columns-requires c κs = c .before .before .before .pre
 
--- src/splitting.rt:63:17
 empty-requires : tie.Need-empty-requires
 empty-requires c κs = tt
 
--- src/splitting.rt:54:1
 returns : tie.Need-returns
 unfolding firstNumbered
 returns c =

@@ -29,7 +29,6 @@ Inv-loop s m t opened class test rows o₀ i₀ o i =
 abbrev μ-loop : tie.MeasureT-loop
 μ-loop s m t opened class test rows o₀ i₀ o i = rows .count - i
 
--- src/splitting.rt:150:5
 loop-holds : tie.Need-loop-holds Inv-loop μ-loop
 loop-holds c = (
   omega arith,
@@ -40,15 +39,12 @@ loop-holds c = (
   record { rows-are = refl; opens-are = refl },
 )
 
--- src/splitting.rt:151:17
 element-copy-out-c : tie.Need-element-copy-out-c Inv-loop μ-loop
 element-copy-out-c c = omega (arith, c .before .before .before .before .pre .1 .most, c .loop-test .taken)
 
--- src/splitting.rt:152:53
 wide-requires : tie.Need-wide-requires Inv-loop μ-loop
 wide-requires c κs = tt
 
--- src/splitting.rt:152:34
 test-at-requires : tie.Need-test-at-requires Inv-loop μ-loop
 test-at-requires c κs =
     let s = c .before .before .before .before .before .before in
@@ -58,7 +54,6 @@ test-at-requires c κs =
     let low = all-at (λ k. k < clauses (a .s .now)) (a .t4 .list) (a .t4 .count) (l .i) (c .before .before .loop-test .taken) (omega (arith, s .pre .1 .long, s .pre .1 .most)) (s .pre .2) in
     rw (c .wide .ensures) (in-table (s .pre .0) row (a .class) low (s .pre .3))
 
--- src/splitting.rt:152:9
 join-row-requires : tie.Need-join-row-requires Inv-loop μ-loop
 join-row-requires c κs =
     let s = c .before .before .before .before .before .before .before in
@@ -73,15 +68,12 @@ join-row-requires c κs =
       (l .inv .3, l .inv .4, omega (arith, l .inv .1, c .before .before .before .loop-test .taken, s .pre .1 .most), omega (arith, l .inv .2, c .before .before .before .loop-test .taken, s .pre .1 .most)),
     )
 
--- src/splitting.rt:153:9
 add-i : tie.Need-add-i Inv-loop μ-loop
 add-i c = omega (arith, c .before .before .before .before .loop-test .taken, c .before .before .before .before .before .before .before .before .pre .1 .most)
 
--- src/splitting.rt:150:5
 loop-less : tie.Need-loop-less Inv-loop μ-loop
 loop-less c = omega (arith, c .before .before .before .before .loop-test .taken)
 
--- src/splitting.rt:150:5
 loop-again : tie.Need-loop-again Inv-loop μ-loop
 loop-again c =
     let s = c .before .before .before .before .before .before .before .before in
@@ -103,7 +95,6 @@ loop-again c =
       joining-on (joinsCase (a .s .now) (meant (a .s .now) (a .test))) (liveIn (a .s .now) (a .opened .now) (a .class)) (l .o) (c .join-row .result) (numbersIn (a .t4)) h row held (c .join-row .ensures) (slice (l .i + 1) (a .t4 .count) (a .t4 .list)) (rw left at (l .inv .5)),
     )
 
--- src/splitting.rt:133:1
 returns : tie.Need-returns Inv-loop μ-loop
 returns c =
     let s = c .before .before .before .before in

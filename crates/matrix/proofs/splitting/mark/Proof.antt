@@ -20,23 +20,18 @@ Inv-loop time opens out₀ i₀ out i =
 abbrev μ-loop : tie.MeasureT-loop
 μ-loop time opens out₀ i₀ out i = opens .count - i
 
--- src/splitting.rt:165:5
 loop-holds : tie.Need-loop-holds Inv-loop μ-loop
 loop-holds c = (omega arith, c .pre .0, refl)
 
--- src/splitting.rt:166:22
 element-copy-out-wide : tie.Need-element-copy-out-wide Inv-loop μ-loop
 element-copy-out-wide c = omega (arith, c .before .before .pre .1 .most, c .loop-test .taken)
 
--- src/splitting.rt:166:13
 wide-requires : tie.Need-wide-requires Inv-loop μ-loop
 wide-requires c κs = tt
 
--- src/splitting.rt:167:18
 cast-out : tie.Need-cast-out Inv-loop μ-loop
 cast-out c = omega (arith, c .before .before .before .before .pre .3)
 
--- src/splitting.rt:167:9
 array-write-out : tie.Need-array-write-out Inv-loop μ-loop
 array-write-out c =
     let s = c .before .before .before .before in
@@ -45,15 +40,12 @@ array-write-out c =
     let low = all-at (λ p. p < 192) (a .t2 .list) (a .t2 .count) (l .i) (c .before .before .loop-test .taken) (omega (arith, s .pre .1 .long, s .pre .1 .most)) (s .pre .2) in
     omega (arith, low, c .wide .ensures, l .inv .1)
 
--- src/splitting.rt:168:9
 add-i : tie.Need-add-i Inv-loop μ-loop
 add-i c = omega (arith, c .before .before .loop-test .taken, c .before .before .before .before .pre .1 .most)
 
--- src/splitting.rt:165:5
 loop-less : tie.Need-loop-less Inv-loop μ-loop
 loop-less c = omega (arith, c .before .before .loop-test .taken)
 
--- src/splitting.rt:165:5
 loop-again : tie.Need-loop-again Inv-loop μ-loop
 loop-again c =
     let s = c .before .before .before .before in
@@ -65,7 +57,6 @@ loop-again c =
       mark-on (a .time) (l .out) (marked (a .time) (a .opened) (numbersIn (a .t2))) (a .t2 .list) (a .t2 .count) (l .i) (c .wide .result) in-loop (omega (arith, s .pre .1 .long, s .pre .1 .most)) (c .wide .ensures) (l .inv .2),
     )
 
--- src/splitting.rt:159:1
 returns : tie.Need-returns Inv-loop μ-loop
 returns c =
     let s = c .before .before in

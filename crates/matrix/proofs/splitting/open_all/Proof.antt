@@ -19,11 +19,9 @@ Inv-loop s m t opens o₀ i₀ o i = (i ≤ opens .count) × Listed s o × Holds
 abbrev μ-loop : tie.MeasureT-loop
 μ-loop s m t opens o₀ i₀ o i = i
 
--- src/splitting.rt:178:9
 empty-requires : tie.Need-empty-requires Inv-loop μ-loop
 empty-requires c κs = tt
 
--- src/splitting.rt:180:5
 loop-holds : tie.Need-loop-holds Inv-loop μ-loop
 loop-holds c =
     let s = c .before .before .before in
@@ -31,19 +29,15 @@ loop-holds c =
     let h = c .empty .ensures in
     (omega arith, record { whole = whole h; each = rw (h .are) tt }, holds-same h (sym (opens-none (a .s .now) (a .t4 .list) (a .t4 .count))))
 
--- src/splitting.rt:181:9
 sub-i : tie.Need-sub-i Inv-loop μ-loop
 sub-i c = omega (arith, c .loop-test .taken)
 
--- src/splitting.rt:182:35
 element-copy-out-wide : tie.Need-element-copy-out-wide Inv-loop μ-loop
 element-copy-out-wide c = omega (arith, c .before .before .before .before .before .pre .1 .most, c .before .loop .inv .0, c .loop-test .taken)
 
--- src/splitting.rt:182:30
 wide-requires : tie.Need-wide-requires Inv-loop μ-loop
 wide-requires c κs = tt
 
--- src/splitting.rt:182:9
 open-requires : tie.Need-open-requires Inv-loop μ-loop
 open-requires c κs =
     let s = c .before .before .before .before .before .before .before in
@@ -52,11 +46,9 @@ open-requires c κs =
     let p = c .wide in
     (s .pre .0, l .inv .1, test-known (s .pre .0) (a .t4 .list) (a .t4 .count) (omega (arith, s .pre .1 .long, s .pre .1 .most)) (s .pre .2) (s .pre .3) (l .i) (c .before .before .loop-test .taken) (l .inv .0) (p .result) (p .ensures) (l .o) (l .inv .1) (l .inv .2), test-room (s .pre .0) (a .t4 .list) (a .t4 .count) (omega (arith, s .pre .1 .long, s .pre .1 .most)) (s .pre .2) (s .pre .3) (l .i) (c .before .before .loop-test .taken) (l .inv .0) (p .result) (p .ensures) (l .o) (l .inv .1) (l .inv .2))
 
--- src/splitting.rt:180:5
 loop-less : tie.Need-loop-less Inv-loop μ-loop
 loop-less c = omega (arith, c .before .before .before .loop-test .taken)
 
--- src/splitting.rt:180:5
 loop-again : tie.Need-loop-again Inv-loop μ-loop
 loop-again c =
     let s = c .before .before .before .before .before .before .before .before in
@@ -68,7 +60,6 @@ loop-again c =
       opened-columns (s .pre .0) (a .t4 .list) (a .t4 .count) (omega (arith, s .pre .1 .long, s .pre .1 .most)) (s .pre .2) (s .pre .3) (l .i) (c .before .before .before .loop-test .taken) (l .inv .0) (p .result) (p .ensures) (l .o) (l .inv .1) (l .inv .2) (c .«open» .ensures),
     )
 
--- src/splitting.rt:174:1
 returns : tie.Need-returns Inv-loop μ-loop
 returns c =
     let s = c .before .before .before .before .before in
