@@ -1,3 +1,5 @@
+-- `columns::map_pattern_to_row` and `columns::map_patterns_to_row`: one law for each way out; 192 less the pattern number falls, and
+-- among the children of one pattern their number.
 use borrow.Author.Needs.{needs}
 use mathlib.Core.Path.{_≡_}
 use native.Mathlib.Omega.{arith}

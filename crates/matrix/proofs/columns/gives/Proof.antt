@@ -1,3 +1,4 @@
+-- `columns::gives`: one law for each arm of the kinds.
 use borrow.Author.Needs.{needs}
 use native.Mathlib.Omega.{arith}
 use Rattle.matrix.specs.PuttingLaws.{gives-none, gives-assigned, gives-parts, gives-itself, gives-by-test, kind-known}

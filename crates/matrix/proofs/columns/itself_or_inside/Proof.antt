@@ -1,3 +1,4 @@
+-- `columns::itself_or_inside`: one choice.
 use Rattle.matrix.proofs.columns.itself_or_inside.Statement.{statement}
 use Rattle.matrix.proofs.columns.itself_or_inside.Tie as tie
 use Rattle.matrix.proofs.columns.itself_or_inside.Reads as reads

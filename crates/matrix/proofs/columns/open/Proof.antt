@@ -1,3 +1,4 @@
+-- `columns::open`: a text has no children, any other test opens to what its children give.
 use borrow.Author.Needs.{needs}
 use Rattle.matrix.specs.PuttingLaws.{open-none, open-children, open-room, open-is}
 use Rattle.matrix.proofs.columns.open.Statement.{statement}

@@ -1,3 +1,4 @@
+-- `columns::push`: one more at the end.
 use borrow.Author.Needs.{needs}
 use Rattle.matrix.specs.ListsLaws.{holds-push}
 use Rattle.matrix.proofs.columns.push.Statement.{statement}

@@ -1,3 +1,4 @@
+-- `columns::put`: those passed come before the class, so that putting it goes on behind them.
 use borrow.Author.Needs.{needs}
 use mathlib.Core.Path.{refl, sym, ap, _∙_}
 use Prim.Native.Nat.{_-_, _≤_}

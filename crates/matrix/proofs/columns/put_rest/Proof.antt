@@ -1,3 +1,4 @@
+-- `columns::put_rest`: all before the class's place and all behind it are the list without the class.
 use borrow.Author.Needs.{needs}
 use native.Mathlib.Omega.{arith}
 use Rattle.matrix.specs.ListsLaws.{rest-place, rest-count, rest-are, whole}

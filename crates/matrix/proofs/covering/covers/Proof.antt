@@ -1,3 +1,4 @@
+-- `covering::covers`: each arm is its part of the definition by the record, which is what rules says of the pattern.
 use borrow.Author.Needs.{needs}
 use mathlib.Core.Path.{_≡_, sym, ap, _∙_}
 use Rattle.arena.specs.declared.reading.Test.{Test}

@@ -1,3 +1,4 @@
+-- `covering::covers_constructor`: the two tests of the definition, in order.
 use Rattle.matrix.specs.MeantLaws.{constructor-not, constructor-is}
 use Rattle.matrix.proofs.covering.covers_constructor.Statement.{statement}
 use Rattle.matrix.proofs.covering.covers_constructor.Tie as tie

@@ -1,3 +1,4 @@
+-- `covering::covers_list`: of a list its length, of any other pattern what a tail covers.
 use borrow.Author.Needs.{needs}
 use Rattle.matrix.specs.MeantLaws.{list-is, list-not}
 use Rattle.matrix.proofs.covering.covers_list.Statement.{statement}

@@ -1,3 +1,4 @@
+-- `covering::covers_tailed`: the two tests of the definition, in order.
 use borrow.Author.Needs.{needs}
 use Rattle.matrix.specs.MeantLaws.{tailed-not, tailed-is}
 use Rattle.matrix.proofs.covering.covers_tailed.Statement.{statement}

@@ -1,3 +1,4 @@
+-- `covering::covers_text`: the two tests of the definition, in order; the pattern's text lies in the pool.
 use borrow.Author.Needs.{needs}
 use native.Mathlib.Omega.{arith}
 use Rattle.matrix.specs.MeantLaws.{text-pattern-most, text-not, text-is}

@@ -1,3 +1,4 @@
+-- `covering::same_texts`: texts of different lengths differ, and the others are compared byte by byte.
 use native.Mathlib.Omega.{arith}
 use Rattle.matrix.specs.MeantLaws.{text-there, texts-not, texts-are}
 use Rattle.matrix.proofs.covering.same_texts.Statement.{statement}

@@ -1,3 +1,4 @@
+-- `covering::text_pattern`: one choice.
 use borrow.Author.Tests.{eq-eqb, ne-eqb}
 use Rattle.matrix.proofs.covering.text_pattern.Statement.{statement}
 use Rattle.matrix.proofs.covering.text_pattern.Tie as tie

@@ -1,3 +1,4 @@
+-- `rows::better_of`: the comparison is the definition's.
 use native.Mathlib.Omega.{arith}
 use borrow.Author.Tests.{lt-ltb, le-ltb}
 use Rattle.matrix.proofs.rows.better_of.Statement.{statement}

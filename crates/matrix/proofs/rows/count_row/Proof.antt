@@ -1,3 +1,4 @@
+-- `rows::count_row`: one law for each way out.
 use borrow.Author.Needs.{needs}
 use Rattle.matrix.specs.ReadingLaws.{counted-passed, counted-test, counted-wild}
 use Rattle.matrix.proofs.rows.count_row.Statement.{statement}

@@ -1,3 +1,4 @@
+-- `rows::keep_wild`: one law for each way out.
 use borrow.Author.Needs.{needs}
 use Rattle.matrix.specs.ReadingLaws.{keep-none, keep-one}
 use Rattle.matrix.proofs.rows.keep_wild.Statement.{statement}

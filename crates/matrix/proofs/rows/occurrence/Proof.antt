@@ -1,3 +1,4 @@
+-- `rows::occurrence`: what is counted so far and what the rows that are left add is the whole count.
 use borrow.Author.Needs.{needs}
 use mathlib.Core.Path.{_≡_, sym, ap, _∙_}
 use Prim.Native.Nat.{_+_, _-_, _<_, _≤_}

@@ -1,3 +1,4 @@
+-- `rows::push_row`: one more at the end.
 use borrow.Author.Needs.{needs}
 use Rattle.matrix.specs.ListsLaws.{holds-push-row}
 use Rattle.matrix.proofs.rows.push_row.Statement.{statement}

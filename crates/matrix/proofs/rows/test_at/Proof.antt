@@ -1,3 +1,4 @@
+-- `rows::test_at`: one law for each way out.
 use borrow.Author.Needs.{needs}
 use native.Mathlib.Omega.{arith}
 use Rattle.matrix.specs.ReadingLaws.{held-none, held-opened, held-free, held-shut, held-inside, owner-most}

@@ -1,3 +1,4 @@
+-- `rows::wild_rows`: the rows kept and those that stay of the rows that are left are all that stay.
 use borrow.Author.Needs.{needs}
 use mathlib.Core.Path.{_≡_, refl, sym, ap, _∙_}
 use mathlib.Core.List.{List, _++_}

@@ -1,3 +1,4 @@
+-- `splitting::all_rows`: the rows there and those from the next clause on are all.
 use borrow.Author.Needs.{needs}
 use mathlib.Core.Path.{_≡_, refl}
 use mathlib.Core.List.{_++_}

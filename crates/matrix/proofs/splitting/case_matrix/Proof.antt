@@ -1,3 +1,4 @@
+-- `splitting::case_matrix`: its parts are those of the case by numbers; the case's own soundness gives the room.
 use native.Mathlib.Omega.{arith}
 use Rattle.rules.specs.SheetFile.{clauses}
 use Rattle.matrix.specs.Lists.{numbersIn}

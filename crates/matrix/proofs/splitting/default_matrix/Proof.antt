@@ -1,3 +1,4 @@
+-- `splitting::default_matrix`: a matrix is what its parts hold.
 use mathlib.Core.Path.{refl, ap}
 use mathlib.Core.List.{List, _++_}
 use Prim.Native.Nat.{ℕ}

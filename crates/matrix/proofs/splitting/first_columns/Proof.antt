@@ -1,3 +1,4 @@
+-- `splitting::first_columns`: the columns of the clauses from one on, the last first.
 use borrow.Author.Needs.{needs}
 use mathlib.Core.Path.{_≡_, sym, ap, _∙_}
 use Prim.Native.Nat.{_-_, _≤_}

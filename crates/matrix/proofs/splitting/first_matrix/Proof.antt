@@ -1,3 +1,4 @@
+-- `splitting::first_matrix`: a matrix is what its parts hold.
 use mathlib.Core.Path.{_≡_, refl, ap}
 use native.Mathlib.Omega.{arith}
 use Rattle.words.specs.Words.{zeros}

@@ -1,3 +1,4 @@
+-- `splitting::join_row`: one law for each way out.
 use borrow.Author.Needs.{needs}
 use mathlib.Core.Path.{_≡_, sym, _∙_}
 use native.Mathlib.Omega.{arith}

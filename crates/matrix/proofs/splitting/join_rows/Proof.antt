@@ -1,3 +1,4 @@
+-- `splitting::join_rows`: what was joined and what the rows that are left join is all; the table tells what each row has.
 use mathlib.Core.Path.{_≡_, refl, ap, _∙_}
 use Prim.Native.Nat.{_+_, _-_, _<_, _≤_}
 use native.Mathlib.Omega.{arith}

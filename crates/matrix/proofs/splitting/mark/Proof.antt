@@ -1,3 +1,4 @@
+-- `splitting::mark`: marking the tests that are left makes the whole.
 use mathlib.Core.Path.{_≡_, refl}
 use Prim.Native.Nat.{_-_, _<_, _≤_}
 use native.Mathlib.Omega.{arith}

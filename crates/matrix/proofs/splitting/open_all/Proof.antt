@@ -1,3 +1,4 @@
+-- `splitting::open_all`: the columns that the tests from one on open to, the last first.
 use mathlib.Core.Path.{_≡_, sym, ap}
 use Prim.Native.Nat.{_≤_}
 use native.Mathlib.Omega.{arith}
