@@ -16,3 +16,9 @@ pub mod MatricesLaws
 pub mod Reading
 pub mod ReadingLaws
 pub mod Ready
+pub mod PuttingLaws
+pub mod InNumbers
+pub mod InNumbersLaws
+pub mod SplitLaws
+pub mod Meant
+pub mod MeantLaws

@@ -1,5 +1,5 @@
 -- Lists held in arrays of a fixed length: the numbers in them, and what it is to hold a list.
-use mathlib.Core.Bool.{Bool, true, false}
+use mathlib.Core.Bool.{true, false}
 use mathlib.Core.List.{List, [], _∷_}
 use mathlib.Core.Path.{_≡_}
 use Prim.Native.Nat.{ℕ, suc, _≤_}
@@ -8,7 +8,6 @@ use lib.ListN.{length, take}
 use Rattle.rules.specs.Limits.{patternsMost, clausesMost}
 use Rattle.matrix.specs.declared.PerRow.{PerRow}
 use Rattle.matrix.specs.declared.Classes.{Classes}
-use Rattle.matrix.specs.declared.Matrix.{Matrix}
 
 abbrev pub classesIn : Classes → List ℕ
 classesIn o = take (o .count) (o .list)
@@ -32,13 +31,6 @@ Whole o = Holds o (classesIn o)
 
 abbrev pub WholeRows : PerRow → Type 0
 WholeRows r = HoldsRows r (numbersIn r)
-
--- a matrix of these rows, columns and columns tested, with these tests opened
-pub record IsMatrix (x : Matrix) (rows columns tested opened : List ℕ) : Type 0 where
-  pub has-rows : HoldsRows (x .rows) rows
-  pub has-columns : Holds (x .columns) columns
-  pub has-tested : Holds (x .tested) tested
-  pub has-opened : x .opened ≡ opened
 
 -- the first place of k in the list, or its length
 unfoldable pub firstPlace : ℕ → List ℕ → ℕ

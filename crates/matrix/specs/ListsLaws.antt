@@ -6,13 +6,12 @@ use Prim.Native.Nat.{ℕ, zero, suc, _+_, _-_, _≤_, _<_}
 use native.Mathlib.Omega.{arith}
 use native.Mathlib.Numerals.{add-one}
 use borrow.Author.Tests.{eq-eqb, ne-eqb}
-use lib.Dec.{eqb}
-use lib.ListN.{length, getD, take, drop, set, length-append, length-take, length-set, List·getD-append}
+use lib.ListN.{length, getD, take, drop, set, length-append, length-set, List·getD-append}
 use lib.Seq.{slice, slice-cons, slice-empty, length-slice, split-at, take-suc, take-at, take-take, set-at, getD-take, append-snoc, length-take-le, take-suc-set}
 use Rattle.rules.specs.SheetRefusals.{isIn}
 use Rattle.matrix.specs.declared.PerRow.{PerRow}
 use Rattle.matrix.specs.declared.Classes.{Classes}
-use Rattle.matrix.specs.Lists.{classesIn, numbersIn, Holds, HoldsRows, Whole, WholeRows, firstPlace}
+use Rattle.matrix.specs.Lists.{classesIn, Holds, HoldsRows, Whole, WholeRows, firstPlace}
 use Rattle.matrix.specs.Ordered.{withoutClass, without-parts, place-inside}
 
 -- ---- moving up

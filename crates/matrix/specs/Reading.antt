@@ -1,6 +1,6 @@
 -- What a row has in a column and what is chosen, as the code reads it from the table: by bytes alone.
 -- ReadingLaws has that these are the same of a table that is a sheet's.
-use mathlib.Core.Bool.{Bool, true, false, not}
+use mathlib.Core.Bool.{Bool, true, not}
 use mathlib.Core.List.{List, [], _∷_}
 use mathlib.Core.Path.{_≡_}
 use Prim.Native.Nat.{ℕ, zero, suc, _+_, _-_, _*_, _≤_, _<_}

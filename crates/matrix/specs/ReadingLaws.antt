@@ -1,27 +1,26 @@
 -- Laws of what the code reads from a table: each way through a function says what it answers; and a sheet's own table says what the sheet does.
-use mathlib.Core.Path.{_≡_, refl, sym, ap, ap₂, _∙_}
-use mathlib.Core.Bool.{Bool, true, false, not}
+use mathlib.Core.Path.{_≡_, refl, sym, ap, _∙_}
+use mathlib.Core.Bool.{Bool, true, false}
 use mathlib.Core.List.{List, [], _∷_, _++_, append-assoc, append-nil}
-use Prim.Native.Nat.{ℕ, zero, suc, _+_, _-_, _*_, _≤_, _<_}
+use Prim.Native.Nat.{ℕ, zero, suc, _+_, _-_, _≤_, _<_}
 use native.Mathlib.Omega.{arith}
 use native.Mathlib.Numerals.{add-one}
-use borrow.Author.Tests.{lt-ltb, le-ltb, eq-eqb, ne-eqb}
-use lib.Dec.{eqb, ltb}
+use borrow.Author.Tests.{ne-eqb}
+use lib.Dec.{ltb}
 use lib.ListN.{length, getD, take}
 use lib.Seq.{slice, slice-cons, slice-empty}
-use Rattle.words.specs.Words.{both, either, pick}
+use Rattle.words.specs.Words.{pick}
 use Rattle.rules.specs.SplittingLaws.{All}
 use Rattle.matrix.specs.declared.PerRow.{PerRow}
 use Rattle.matrix.specs.declared.Held.{Held}
 use Rattle.matrix.specs.declared.Held.the-variants.{Test, Wildcard}
-use Rattle.matrix.specs.declared.Choice.{Choice}
-use Rattle.matrix.specs.declared.Choice.the-variants.{Column, Leaf}
+use Rattle.matrix.specs.declared.Choice.the-variants.{Column}
 use Rattle.matrix.specs.declared.rows.Tally.{Tally}
 use Rattle.matrix.specs.declared.rows.Best.{Best}
 use Rattle.matrix.specs.HeldRows.{countOf, bestOf, wildOf}
 use Rattle.matrix.specs.Lists.{numbersIn, WholeRows, HoldsRows}
-use Rattle.matrix.specs.ListsLaws.{holds-rows-same, holds-rows-count}
-use Rattle.matrix.specs.Reading.{cellIn, ownerIn, cellHeld, heldIn, InTable, counted, bettered, kept}
+use Rattle.matrix.specs.ListsLaws.{holds-rows-same}
+use Rattle.matrix.specs.Reading.{cellIn, ownerIn, heldIn, InTable, counted, bettered, kept}
 
 -- ---- what a row has, by what was read
 module _ (t opened : List ℕ) (class c cell : ℕ) (is : cell ≡ cellIn t class c) where

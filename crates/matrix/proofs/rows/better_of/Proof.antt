@@ -1,4 +1,4 @@
-use borrow.Author.Needs.{needs}
+-- `rows::better_of`: the comparison is the definition's.
 use native.Mathlib.Omega.{arith}
 use borrow.Author.Tests.{lt-ltb, le-ltb}
 use Rattle.matrix.proofs.rows.better_of.Statement.{statement}
@@ -6,11 +6,9 @@ use Rattle.matrix.proofs.rows.better_of.Tie as tie
 use Rattle.matrix.proofs.rows.better_of.Reads as reads
 use Rattle.matrix.proofs.rows.better_of.Lts as lts
 
--- src/rows.rt:99:9
 returns : tie.Need-returns
 returns c = let a = c .before .before .args in rw (lt-ltb (a .best .amount) (a .amount) (c .if1 .taken))
 
--- src/rows.rt:95:1
 returns-2 : tie.Need-returns-2
 returns-2 c = let a = c .before .before .args in rw (le-ltb (a .best .amount) (a .amount) (omega arith))
 

@@ -1,3 +1,4 @@
+-- `rows::occurrence`: what is counted so far and what the rows that are left add is the whole count.
 use borrow.Author.Needs.{needs}
 use mathlib.Core.Path.{_≡_, sym, ap, _∙_}
 use Prim.Native.Nat.{_+_, _-_, _<_, _≤_}
@@ -24,19 +25,15 @@ Inv-loop t opened class rows o₀ i₀ o i =
 abbrev μ-loop : tie.MeasureT-loop
 μ-loop t opened class rows o₀ i₀ o i = rows .count - i
 
--- src/rows.rt:81:5
 loop-holds : tie.Need-loop-holds Inv-loop μ-loop
 loop-holds c = (search needs, search needs, omega arith)
 
--- src/rows.rt:82:50
 element-copy-out-wide : tie.Need-element-copy-out-wide Inv-loop μ-loop
 element-copy-out-wide c = omega (arith, c .before .before .before .pre .0 .most)
 
--- src/rows.rt:82:45
 wide-requires : tie.Need-wide-requires Inv-loop μ-loop
 wide-requires c κs = search needs
 
--- src/rows.rt:82:26
 test-at-requires : tie.Need-test-at-requires Inv-loop μ-loop
 test-at-requires c κs =
     let s = c .before .before .before .before .before in
@@ -44,19 +41,15 @@ test-at-requires c κs =
     let l = c .before .before .before .loop in
     rw (c .wide .ensures) (all-at (InTable (a .t .now) (a .class)) (a .t2 .list) (a .t2 .count) (l .i) (omega (arith, c .before .before .loop-test .taken)) (omega (arith, s .pre .0 .long, s .pre .0 .most)) (s .pre .1))
 
--- src/rows.rt:82:9
 count-row-requires : tie.Need-count-row-requires Inv-loop μ-loop
 count-row-requires c κs = let s = c .before .before .before .before .before .before in omega (arith, c .before .before .before .before .loop .inv, c .before .before .before .loop-test .taken, s .pre .0 .most)
 
--- src/rows.rt:83:9
 add-i : tie.Need-add-i Inv-loop μ-loop
 add-i c = search needs
 
--- src/rows.rt:81:5
 loop-less : tie.Need-loop-less Inv-loop μ-loop
 loop-less c = search needs
 
--- src/rows.rt:81:5
 loop-again : tie.Need-loop-again Inv-loop μ-loop
 loop-again c =
     let s = c .before .before .before .before .before .before .before in
@@ -72,7 +65,6 @@ loop-again c =
           ∙ ap (totalOf held (l .o)) (sym (slice-on (a .t2 .list) (l .i) (a .t2 .count) i-in (omega (arith, s .pre .0 .long, s .pre .0 .most)))) ∙ l .inv .2,
     )
 
--- src/rows.rt:72:1
 returns : tie.Need-returns Inv-loop μ-loop
 returns c =
     let s = c .before .before .before in

@@ -1,3 +1,4 @@
+-- `rows::wild_rows`: the rows kept and those that stay of the rows that are left are all that stay.
 use borrow.Author.Needs.{needs}
 use mathlib.Core.Path.{_≡_, refl, sym, ap, _∙_}
 use mathlib.Core.List.{List, _++_}
@@ -26,19 +27,15 @@ Inv-loop t opened class rows out₀ i₀ out i =
 abbrev μ-loop : tie.MeasureT-loop
 μ-loop t opened class rows out₀ i₀ out i = rows .count - i
 
--- src/rows.rt:156:5
 loop-holds : tie.Need-loop-holds Inv-loop μ-loop
 loop-holds c = (search needs, search needs, record { long = refl; most = omega arith; are = refl }, refl)
 
--- src/rows.rt:157:17
 element-copy-out-c : tie.Need-element-copy-out-c Inv-loop μ-loop
 element-copy-out-c c = omega (arith, c .before .before .before .pre .0 .most)
 
--- src/rows.rt:158:52
 wide-requires : tie.Need-wide-requires Inv-loop μ-loop
 wide-requires c κs = search needs
 
--- src/rows.rt:158:33
 test-at-requires : tie.Need-test-at-requires Inv-loop μ-loop
 test-at-requires c κs =
     let s = c .before .before .before .before .before in
@@ -46,22 +43,18 @@ test-at-requires c κs =
     let l = c .before .before .before .loop in
     rw (c .wide .ensures) (all-at (InTable (a .t .now) (a .class)) (a .t2 .list) (a .t2 .count) (l .i) (omega (arith, c .before .before .loop-test .taken)) (omega (arith, s .pre .0 .long, s .pre .0 .most)) (s .pre .1))
 
--- src/rows.rt:158:9
 keep-wild-requires : tie.Need-keep-wild-requires Inv-loop μ-loop
 keep-wild-requires c κs =
     let s = c .before .before .before .before .before .before in
     let l = c .before .before .before .before .loop in
     (l .inv .2, omega (arith, l .inv .1, c .before .before .before .loop-test .taken, s .pre .0 .most))
 
--- src/rows.rt:159:9
 add-i : tie.Need-add-i Inv-loop μ-loop
 add-i c = search needs
 
--- src/rows.rt:156:5
 loop-less : tie.Need-loop-less Inv-loop μ-loop
 loop-less c = search needs
 
--- src/rows.rt:156:5
 loop-again : tie.Need-loop-again Inv-loop μ-loop
 loop-again c =
     let s = c .before .before .before .before .before .before .before in
@@ -79,7 +72,6 @@ loop-again c =
           ∙ ap (λ (x : List ℕ). numbersIn (l .out) ++ wildOf held x) (sym (slice-on (a .t2 .list) (l .i) (a .t2 .count) i-in (omega (arith, s .pre .0 .long, s .pre .0 .most)))) ∙ l .inv .3,
     )
 
--- src/rows.rt:150:1
 returns : tie.Need-returns Inv-loop μ-loop
 returns c =
     let s = c .before .before .before in
