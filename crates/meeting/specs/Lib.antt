@@ -1,2 +1,4 @@
 pub mod Passes
 pub mod PassesLaws
+pub mod Fields
+pub mod FieldsLaws

@@ -1,1 +1,2 @@
 // The cases of a column.
+pub mod search;
