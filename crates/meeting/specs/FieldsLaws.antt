@@ -18,7 +18,10 @@ use Rattle.facts.specs.SheetFacts.{Laid, text-inside}
 use Rattle.filing.specs.Writable.{testKind}
 use Rattle.filing.specs.RecordsLaws.{testNumber, testLength}
 use Rattle.arena.specs.Arena.{caseKind, caseNumber, caseLength}
-use Rattle.meeting.specs.Fields.{isText, testIn, startIn, Fit, isAlike, hasTest, firstWhere, Readable}
+use Rattle.arena.specs.declared.reading.Test as arena
+use Rattle.arena.specs.Reading.{kindOf, numberOf, lengthOf}
+use Rattle.meeting.specs.declared.search.Fields.{Fields}
+use Rattle.meeting.specs.Fields.{fieldsOf, isText, testIn, startIn, Fit, isAlike, hasTest, firstWhere, Readable}
 
 -- by kind
 five : (P : ℕ → Type 0) → P 0 → P 1 → P 2 → P 3 → P 4 → (k : ℕ) → k ≤ 4 → P k
@@ -163,6 +166,15 @@ module _ {s : List ℕ} (laid : Laid s) (w : List ℕ) (i : ℕ) {kind number le
       (both-false (eqb (caseKind w i) kind) (both (eqb (caseLength w i) len) (either (isText kind) (eqb (caseNumber w i) number))) e)
 
 -- ---- the same, of what was read
+-- the fields of a test, and what they were asked for
+module _ (test : arena.Test) (f : Fields) (is : f ≡ fieldsOf test) where
+  pub fields-fit : {s : List ℕ} → Fit s (kindOf test) (numberOf test) (lengthOf test) → Fit s (f .kind) (f .number) (f .len)
+  fields-fit h = rw is h
+
+  pub fields-searched : (s w : List ℕ) (from n at : ℕ) → at ≡ firstWhere (hasTest s w (f .kind) (f .number) (f .len)) from n
+      → at ≡ firstWhere (hasTest s w (kindOf test) (numberOf test) (lengthOf test)) from n
+  fields-searched s w from n at e = e ∙ ap (λ (g : Fields). firstWhere (hasTest s w (g .kind) (g .number) (g .len)) from n) is
+
 -- the last comparison of fields
 pub alike-number : (w : List ℕ) (i kind number len k l n : ℕ) → k ≡ caseKind w i → k ≡ kind → l ≡ caseLength w i → l ≡ len → (kind ≡ 1 → ⊥) → (kind ≡ 2 → ⊥) → n ≡ caseNumber w i
     → eqb n number ≡ isAlike w i kind number len

@@ -2,3 +2,5 @@ pub mod Passes
 pub mod PassesLaws
 pub mod Fields
 pub mod FieldsLaws
+pub mod SoFar
+pub mod SoFarLaws

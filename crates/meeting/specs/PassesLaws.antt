@@ -104,6 +104,9 @@ take-meet n start ms ts h =
     let (more, e) = meet-adds start ms ts in
     ap (take n) e ∙ take-append-le n ms more h
 
+pub meet-full : (n start : ℕ) (ms : List Met) (ts : List Test) → length ms ≡ n → take n (meet start ms ts) ≡ ms
+meet-full n start ms ts e = take-meet n start ms ts (omega arith) ∙ take-all n ms (omega arith)
+
 -- the first n are met from the first n
 first-meet : (n start : ℕ) (ms : List Met) (ts : List Test) → take n (meet start (take n ms) ts) ≡ take n (meet start ms ts)
 first-meet n start ms ts = go (leb n (length ms)) refl

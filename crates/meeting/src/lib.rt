@@ -1,2 +1,3 @@
 // The cases of a column.
+pub mod meet;
 pub mod search;
