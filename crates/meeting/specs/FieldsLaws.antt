@@ -24,7 +24,7 @@ use Rattle.meeting.specs.declared.search.Fields.{Fields}
 use Rattle.meeting.specs.Fields.{fieldsOf, isText, testIn, startIn, Fit, isAlike, hasTest, firstWhere, Readable}
 
 -- by kind
-five : (P : ℕ → Type 0) → P 0 → P 1 → P 2 → P 3 → P 4 → (k : ℕ) → k ≤ 4 → P k
+pub five : (P : ℕ → Type 0) → P 0 → P 1 → P 2 → P 3 → P 4 → (k : ℕ) → k ≤ 4 → P k
 five P a b c d e zero h = a
 five P a b c d e (suc zero) h = b
 five P a b c d e (suc (suc zero)) h = c

@@ -4,3 +4,5 @@ pub mod Fields
 pub mod FieldsLaws
 pub mod SoFar
 pub mod SoFarLaws
+pub mod Rows
+pub mod RowsLaws

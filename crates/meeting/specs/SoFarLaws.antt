@@ -177,6 +177,9 @@ module _ {s w : List ℕ} {from to : ℕ} (b : Begun s w from to) where
 pub meets-begun : {s w : List ℕ} {from to : ℕ} {f : List Met → List Met} {next : ℕ} {w' : List ℕ} → Begun s w from to → Meets s w from to f next w' → Begun s w' from next
 meets-begun {w} b m = so-far-begun (m .after w (b .mets) (b .so-far))
 
+pub meets-length : {s w : List ℕ} {from to : ℕ} {f : List Met → List Met} {next : ℕ} {w' : List ℕ} → Begun s w from to → Meets s w from to f next w' → length w' ≡ length w
+meets-length {w} b m = same-length (m .after w (b .mets) (b .so-far))
+
 -- none is met
 pub meets-none : {s w : List ℕ} {from to : ℕ} (f : List Met → List Met) → ((ms : List Met) → f ms ≡ ms) → Meets s w from to (λ ms. upTo from (f ms)) to w
 meets-none {s} {w} {from} {to} f e =

@@ -1,3 +1,5 @@
 // The cases of a column.
+pub mod column;
 pub mod meet;
 pub mod search;
+pub mod tests;
