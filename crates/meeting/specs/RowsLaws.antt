@@ -9,19 +9,22 @@ use native.Mathlib.Numerals.{add-one}
 use borrow.Author.Tests.{le-leb, lt-leb, not-true, eqb-true, eqb-false, eq-eqb, ne-eqb}
 use lib.Dec.{eqb}
 use lib.ListN.{length, getD, take, drop}
-use Rattle.words.specs.Words.{pick}
+use Rattle.words.specs.Words.{pick, Bytes as IsBytes}
+use Rattle.words.specs.WordsLaws.{wordAt-small}
 use Rattle.rules.specs.SheetFile.{patterns, patternKind, patternA, patternFirst, patternCount, poolText, poolSize, typeFirst, constructorFirst}
 use Rattle.rules.specs.Patterns.{PatternKind, Integer, ByteString, ListOfAll, ListWithRest, Constructor, patternKindOf, Mark, Pat, Pats, integer, bytestring, listed, tailed, constructor, many, oneConstructor, decorated, constructorOf, along, ofKind, ofConstructor, pattern}
 use Rattle.rules.specs.Splitting.{Test, Constr, Int, Bytes, ListOf, ListWithTail, Met, rising, joined, textStart, taillessLength, tailedLength, larger, longest, meet}
 use Rattle.matching.specs.Depth.{isTail, isExact}
 use Rattle.facts.specs.SheetFacts.{Accepted}
 use Rattle.facts.specs.PatternsLaws.{pattern-of-kind, many-along}
+use Rattle.sheet.specs.declared.Map.{Map}
 use Rattle.sheet.specs.declared.records.PatternRecord.{PatternRecord}
 use Rattle.sheet.specs.Records as records
 use Rattle.arena.specs.Arena.{casesMost}
 use Rattle.arena.specs.declared.reading.Test as arena
 use Rattle.arena.specs.Reading.{kindOf, numberOf, lengthOf}
 use Rattle.table.specs.Standing.{typeOf, patternOf, isTest}
+use Rattle.table.specs.Tabled.{Checked}
 use Rattle.table.specs.SeenLaws.{test-of-constructor, test-kind, test-kind-most}
 use Rattle.matrix.specs.Ready.{TestKnown}
 use Rattle.meeting.specs.declared.tests.Longest.{Longest}
@@ -31,7 +34,7 @@ use Rattle.meeting.specs.Fields.{isText, testIn, startIn, Fit}
 use Rattle.meeting.specs.FieldsLaws.{five}
 use Rattle.meeting.specs.SoFar.{Begun, meetOne, Meets}
 use Rattle.meeting.specs.SoFarLaws.{meets-none, meets-as, meets-then}
-use Rattle.meeting.specs.Rows.{exactTest, sortOf, listTest, listCase, riseTo, meetTest, meetTests, longestOf, longer}
+use Rattle.meeting.specs.Rows.{exactTest, Small, sortOf, listTest, listCase, riseTo, meetTest, meetTests, longestOf, longer}
 
 larger-or : (b : Bool) (x n : ℕ) → pick b (larger x n) n ≡ larger (pick b x 0) n
 unfolding larger
@@ -212,3 +215,47 @@ module _ {s w : List ℕ} {from to : ℕ} (tail : Bool) (k : ℕ) where
 
   pub rise-ends : (i end : ℕ) → end ≤ i → k ≤ i → i - k ≤ end - k → {next : ℕ} {w' : List ℕ} → Meets s w from to (riseTo from tail k (i - k)) next w' → Meets s w from to (riseTo from tail k (end - k)) next w'
   rise-ends i end h l n a = let e : end - k ≡ i - k = omega arith in rw e a
+
+-- ---- a row, by what was read of its pattern
+pub longest-small : (l : Longest) (tail : Bool) (end : ℕ) → end ≡ pick tail (l .tails) (l .tailless) → l .tailless ≤ 65536 → l .tails ≤ 65536 → end ≤ 65536
+longest-small l true end e a b = omega arith
+longest-small l false end e a b = omega arith
+
+pub record-small : {s : List ℕ} → IsBytes s → (p : ℕ) (r : PatternRecord) → r ≡ records.patternOf s p → Small r
+unfolding patternA patternFirst patternCount
+record-small bytes p r e = rw e (record { a-small = wordAt-small bytes _; first-small = wordAt-small bytes _; count-small = wordAt-small bytes _ })
+
+module _ {s : List ℕ} {m : Map} (c : Checked s m) (p : ℕ) (k : TestKnown s p) (r : PatternRecord) (is : r ≡ records.patternOf s p) where
+  kind-is : r .kind ≡ patternKind s p
+  kind-is = ap (λ (x : PatternRecord). x .kind) is
+
+  count-is : r .count ≡ patternCount s p
+  count-is = ap (λ (x : PatternRecord). x .count) is
+
+  pub row-elements : r .kind ≡ 6 → 2 ≤ r .count
+  row-elements e = rw count-is (c .ok .is-shaped .tail-after-some p (k .known) (sym kind-is ∙ e))
+
+  pub row-fit : (r .kind ≡ 6 → ⊥) → (test : arena.Test) → test ≡ exactTest r → Fit s (kindOf test) (numberOf test) (lengthOf test)
+  row-fit n test e = rw (e ∙ ap exactTest is) (exact-fit (c .ok) p k (λ x. n (kind-is ∙ x)))
+
+  module _ {w : List ℕ} {from to : ℕ} (tail : Bool) (l : Longest) {next : ℕ} {w' : List ℕ} where
+    pub row-rises : r .kind ≡ 6 → (end : ℕ) → end ≡ pick tail (l .tails) (l .tailless) → Meets s w from to (riseTo from tail (r .count - 1) (end - (r .count - 1))) next w'
+        → Meets s w from to (meetTest s from tail l p) next w'
+    row-rises e end f a =
+        meets-as (riseTo from tail (r .count - 1) (end - (r .count - 1))) (meetTest s from tail l p)
+        (λ ms.
+        ap₂ (λ (n z : ℕ). riseTo from tail (n - 1) (z - (n - 1)) ms) count-is f
+        ∙ tailed-meets (c .ok) p k from (l .tailless) (l .tails) ms tail l (sym kind-is ∙ e)) a
+
+    pub row-meets : (r .kind ≡ 6 → ⊥) → tail ≡ false → (test : arena.Test) → test ≡ exactTest r → Meets s w from to (meetOne s from test) next w'
+        → Meets s w from to (meetTest s from tail l p) next w'
+    row-meets n f test e a =
+        meets-as (meetOne s from test) (meetTest s from tail l p)
+        (λ ms.
+        ap (λ (u : arena.Test). meetOne s from u ms) (e ∙ ap exactTest is) ∙ exact-meets (c .ok) p k from (l .tailless) (l .tails) ms (λ x. n (kind-is ∙ x))
+        ∙ ap (λ (b : Bool). meetTest s from b l p ms) (sym f)) a
+
+  pub row-meets-none : {w : List ℕ} {from to : ℕ} (tail : Bool) (l : Longest) → (r .kind ≡ 6 → ⊥) → tail ≡ true → Meets s w from to (meetTest s from tail l p) to w
+  row-meets-none tail l n f =
+      meets-none (λ ms. meetRow (sortOf tail) (l .tailless) (l .tails) ms (patternOf s p))
+      (λ ms. ap (λ (b : Bool). meetRow (sortOf b) (l .tailless) (l .tails) ms (patternOf s p)) f ∙ exact-no-tail (c .ok) p k 0 (l .tailless) (l .tails) ms (λ x. n (kind-is ∙ x)))

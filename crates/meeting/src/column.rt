@@ -3,6 +3,7 @@
 use crate::meet::meet;
 use crate::tests::Longest;
 use crate::tests::list_test;
+use crate::tests::longest_with;
 use crate::tests::test_of;
 use sheet::Map;
 use sheet::records::pattern_at;
@@ -38,8 +39,7 @@ fn meet_test(s: &[u8], m: Map, l: Longest, tail: bool, p: usize, work: &mut [u8]
 {
     let r = pattern_at(s, m, p);
     if r.kind == 6 {
-        let end = if tail { l.tails } else { l.tailless };
-        return meet_rising(s, m, work, from, to, tail, r.count - 1, end);
+        return meet_rising(s, m, work, from, to, tail, r.count - 1, longest_with(l, tail));
     }
     if tail {
         return to;

@@ -4,6 +4,7 @@ use arena::reading::Test;
 use sheet::records::PatternRecord;
 ghost use mathlib.Core.Path.{_≡_};
 ghost use Prim.Native.Nat.{_<_};
+ghost use Rattle.words.specs.Words.{pick};
 ghost use Rattle.meeting.specs.Rows.{exactTest, Small, listCase, longer};
 
 // The longest lengths of lists in a column, each one more than it is, or 0 where there is none: of those without a tail, and of those
@@ -72,4 +73,14 @@ pub fn list_test(tail: bool, n: usize) -> Test
     } else {
         Test::List(n as u16)
     }
+}
+
+// The longest length of those with a tail, or of those without.
+pub fn longest_with(l: Longest, tail: bool) -> usize
+    ensures { λ r. ⌜ r ≡ pick tail (l .tails) (l .tailless) ⌝ }
+{
+    if tail {
+        return l.tails;
+    }
+    l.tailless
 }
