@@ -11,6 +11,8 @@ use Rattle.matching.specs.Depth.{isTail, isExact}
 use Rattle.sheet.specs.declared.records.PatternRecord.{PatternRecord}
 use Rattle.arena.specs.declared.reading.Test as arena
 use Rattle.table.specs.Standing.{patternOf}
+use Rattle.matrix.specs.declared.Held.{Held}
+use Rattle.matrix.specs.declared.Held.the-variants.{Test as HeldTest, Wildcard}
 use Rattle.meeting.specs.declared.tests.Longest.{Longest}
 use Rattle.meeting.specs.Passes.{meetRow, meetRows, upTo}
 
@@ -63,3 +65,13 @@ longer r l = record {
   tailless = pick (eqb (r .kind) 5) (larger (suc (r .count)) (l .tailless)) (l .tailless);
   tails = pick (eqb (r .kind) 6) (larger (r .count) (l .tails)) (l .tails);
 }
+
+-- ---- the tests of a column, by number
+abbrev pub heldTest : Held → List ℕ
+heldTest (HeldTest p) = p ∷ []
+heldTest Wildcard = []
+
+-- a number that a byte holds
+abbrev pub TestSmall : Held → Type 0
+TestSmall (HeldTest p) = p < 256
+TestSmall Wildcard = Unit {0}

@@ -9,6 +9,7 @@ use native.Mathlib.Numerals.{add-one}
 use borrow.Author.Tests.{le-leb, lt-leb, not-true, eqb-true, eqb-false, eq-eqb, ne-eqb}
 use lib.Dec.{eqb}
 use lib.ListN.{length, getD, take, drop}
+use lib.Seq.{take-suc}
 use Rattle.words.specs.Words.{pick, Bytes as IsBytes}
 use Rattle.words.specs.WordsLaws.{wordAt-small}
 use Rattle.rules.specs.SheetFile.{patterns, patternKind, patternA, patternFirst, patternCount, poolText, poolSize, typeFirst, constructorFirst}
@@ -259,3 +260,25 @@ module _ {s : List ℕ} {m : Map} (c : Checked s m) (p : ℕ) (k : TestKnown s p
   row-meets-none tail l n f =
       meets-none (λ ms. meetRow (sortOf tail) (l .tailless) (l .tails) ms (patternOf s p))
       (λ ms. ap (λ (b : Bool). meetRow (sortOf b) (l .tailless) (l .tails) ms (patternOf s p)) f ∙ exact-no-tail (c .ok) p k 0 (l .tailless) (l .tails) ms (λ x. n (kind-is ∙ x)))
+
+-- ---- the pass, one row after the other
+map-more : (f : ℕ → Pat) (xs : List ℕ) (x : ℕ) → map f (xs ++ x ∷ []) ≡ map f xs ++ f x ∷ []
+map-more f [] x = refl
+map-more f (y ∷ xs) x = ap (λ (qs : List Pat). f y ∷ qs) (map-more f xs x)
+
+module _ {s w : List ℕ} {from to : ℕ} (tail : Bool) (l : Longest) (ps : List ℕ) where
+  pub pass-none : Meets s w from to (meetTests s from tail l (take 0 ps)) to w
+  unfolding meetRows
+  pass-none = meets-none (λ ms. ms) (λ ms. refl)
+
+  pub pass-one : (i : ℕ) → i < length ps → (p : ℕ) → p ≡ getD ps i 0 → {mid : ℕ} {w₁ : List ℕ} {next : ℕ} {w' : List ℕ}
+      → Meets s w from to (meetTests s from tail l (take i ps)) mid w₁ → Meets s w₁ from mid (meetTest s from tail l p) next w'
+      → Meets s w from to (meetTests s from tail l (take (i + 1) ps)) next w'
+  pass-one i h p is a b =
+      meets-as (λ ms. meetTest s from tail l p (meetTests s from tail l (take i ps) ms)) (meetTests s from tail l (take (i + 1) ps))
+      (λ ms.
+      pass-more (casesMost - from) (sortOf tail) (l .tailless) (l .tails) ms (map (patternOf s) (take i ps)) (patternOf s p)
+      ∙ ap (λ (qs : List Pat). upTo from (meetRows (sortOf tail) (l .tailless) (l .tails) ms qs))
+      (sym (ap (map (patternOf s)) (ap (λ (n : ℕ). take n ps) (add-one i) ∙ take-suc ps i 0 h) ∙ map-more (patternOf s) (take i ps) (getD ps i 0)
+      ∙ ap (λ (q : ℕ). map (patternOf s) (take i ps) ++ patternOf s q ∷ []) (sym is))))
+      (meets-then (meetTests s from tail l (take i ps)) (meetTest s from tail l p) a b)

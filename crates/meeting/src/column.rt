@@ -1,48 +1,63 @@
-// What the rows of a column meet, by the numbers of their tests' patterns: a test without a tail its one case, one with a tail rising
-// cases up to the longest lengths of the column. Rests on the meeting of one test and on the sheet's records.
-use crate::meet::meet;
+// The tests of a column by the numbers of their patterns, read once from the table, and the longest lengths of its lists.
+// Rests on what a row has in a column and on the sheet's records.
 use crate::tests::Longest;
-use crate::tests::list_test;
-use crate::tests::longest_with;
-use crate::tests::test_of;
+use crate::tests::longer_of;
+use matrix::Held;
+use matrix::PerRow;
+use matrix::rows::push_row;
+use matrix::rows::test_at;
+use matrix::wide;
 use sheet::Map;
 use sheet::records::pattern_at;
 ghost use mathlib.Core.Path.{_≡_};
-ghost use Prim.Native.Nat.{_-_, _≤_};
-ghost use Rattle.facts.specs.SheetFacts.{Laid};
-ghost use Rattle.sheet.specs.Sections.{mapOf};
+ghost use mathlib.Core.List.{_++_};
+ghost use Prim.Native.Nat.{_<_};
+ghost use Rattle.rules.specs.SplittingLaws.{All};
 ghost use Rattle.table.specs.Tabled.{Checked};
+ghost use Rattle.matrix.specs.HeldRows.{heldTests};
+ghost use Rattle.matrix.specs.Lists.{numbersIn, WholeRows, HoldsRows};
+ghost use Rattle.matrix.specs.Reading.{heldIn, InTable};
 ghost use Rattle.matrix.specs.Ready.{TestKnown};
-ghost use Rattle.meeting.specs.SoFar.{Begun, Meets};
-ghost use Rattle.meeting.specs.Rows.{riseTo, meetTest};
+ghost use Rattle.meeting.specs.Rows.{heldTest, TestSmall, longestOf};
 
-// The cases of lists with k elements, k + 1, .. up to `end` met.
-fn meet_rising(s: &[u8], m: Map, work: &mut [u8], from: usize, to: usize, tail: bool, k: usize, end: usize) -> usize
-    requires { ⌜ Laid (now s) × (m ≡ mapOf (now s)) × (end ≤ 65536) ⌝ }
-    requires { ⌜ Begun (now s) (now work) from to ⌝ }
-    ensures { λ r. ⌜ Meets (now (s .entry)) (now (work .entry)) from to (riseTo from tail k (end - k)) r (now (work .exit)) ⌝ }
+// One test more, if the row has one.
+fn keep_test(r: PerRow, held: Held) -> PerRow
+    requires { ⌜ WholeRows r × (r .count < 32) × TestSmall held ⌝ }
+    ensures { λ out. ⌜ HoldsRows out (numbersIn r ++ heldTest held) ⌝ }
 {
-    let mut top = to;
-    let mut i = k;
-    while i < end {
-        top = meet(s, m, work, from, top, list_test(tail, i));
-        i += 1;
+    match held {
+        Held::Test(p) => push_row(r, p as u8),
+        Held::Wildcard => r,
     }
-    top
 }
 
-// The cases met that the row of pattern p joins, of those with a tail or of those without.
-fn meet_test(s: &[u8], m: Map, l: Longest, tail: bool, p: usize, work: &mut [u8], from: usize, to: usize) -> usize
-    requires { ⌜ Checked (now s) m × TestKnown (now s) p × (l .tailless ≤ 65536) × (l .tails ≤ 65536) ⌝ }
-    requires { ⌜ Begun (now s) (now work) from to ⌝ }
-    ensures { λ r. ⌜ Meets (now (s .entry)) (now (work .entry)) from to (meetTest (now (s .entry)) from tail l p) r (now (work .exit)) ⌝ }
+// The tests of the column of a class, top down.
+pub fn column_tests(t: &[u8], rows: PerRow, opened: &[u8; 192], class: usize) -> PerRow
+    requires { ⌜ WholeRows rows × All (InTable (now t) class) (numbersIn rows) ⌝ }
+    ensures { λ r. ⌜ HoldsRows r (heldTests (heldIn (now (t .entry)) (now (opened .entry)) class) (numbersIn rows)) ⌝ }
 {
-    let r = pattern_at(s, m, p);
-    if r.kind == 6 {
-        return meet_rising(s, m, work, from, to, tail, r.count - 1, longest_with(l, tail));
+    let mut out = PerRow { list: [0; 32], count: 0 };
+    let mut i: usize = 0;
+    while i < rows.count {
+        out = keep_test(out, test_at(t, opened, wide(rows.list[i]), class));
+        i += 1;
     }
-    if tail {
-        return to;
+    out
+}
+
+// The longest lengths of the lists among these tests.
+pub fn longest_of(s: &[u8], m: Map, tests: PerRow) -> Longest
+    requires { ⌜ Checked (now s) m × WholeRows tests × All (TestKnown (now s)) (numbersIn tests) ⌝ }
+    ensures { λ r. ⌜ r ≡ longestOf (now (s .entry)) (numbersIn tests) ⌝ }
+{
+    let mut l = Longest {
+        tailless: 0,
+        tails: 0,
+    };
+    let mut i = tests.count;
+    while 0 < i {
+        i -= 1;
+        l = longer_of(pattern_at(s, m, wide(tests.list[i])), l);
     }
-    meet(s, m, work, from, to, test_of(r))
+    l
 }
