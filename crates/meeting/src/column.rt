@@ -36,7 +36,10 @@ pub fn column_tests(t: &[u8], rows: PerRow, opened: &[u8; 192], class: usize) ->
     requires { ⌜ WholeRows rows × All (InTable (now t) class) (numbersIn rows) ⌝ }
     ensures { λ r. ⌜ HoldsRows r (heldTests (heldIn (now (t .entry)) (now (opened .entry)) class) (numbersIn rows)) ⌝ }
 {
-    let mut out = PerRow { list: [0; 32], count: 0 };
+    let mut out = PerRow {
+        list: [0; 32],
+        count: 0,
+    };
     let mut i: usize = 0;
     while i < rows.count {
         out = keep_test(out, test_at(t, opened, wide(rows.list[i]), class));

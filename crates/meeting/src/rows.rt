@@ -21,7 +21,16 @@ ghost use Rattle.meeting.specs.SoFar.{Begun, Meets};
 ghost use Rattle.meeting.specs.Rows.{riseTo, meetTest, meetTests};
 
 // The cases of lists with k elements, k + 1, .. up to `end` met.
-fn meet_rising(s: &[u8], m: Map, work: &mut [u8], from: usize, to: usize, tail: bool, k: usize, end: usize) -> usize
+fn meet_rising(
+    s: &[u8],
+    m: Map,
+    work: &mut [u8],
+    from: usize,
+    to: usize,
+    tail: bool,
+    k: usize,
+    end: usize,
+) -> usize
     requires { ⌜ Laid (now s) × (m ≡ mapOf (now s)) × (end ≤ 65536) ⌝ }
     requires { ⌜ Begun (now s) (now work) from to ⌝ }
     ensures { λ r. ⌜ Meets (now (s .entry)) (now (work .entry)) from to (riseTo from tail k (end - k)) r (now (work .exit)) ⌝ }
@@ -36,14 +45,32 @@ fn meet_rising(s: &[u8], m: Map, work: &mut [u8], from: usize, to: usize, tail: 
 }
 
 // The cases met that the row of pattern p joins, of those with a tail or of those without.
-fn meet_test(s: &[u8], m: Map, l: Longest, tail: bool, p: usize, work: &mut [u8], from: usize, to: usize) -> usize
+fn meet_test(
+    s: &[u8],
+    m: Map,
+    l: Longest,
+    tail: bool,
+    p: usize,
+    work: &mut [u8],
+    from: usize,
+    to: usize,
+) -> usize
     requires { ⌜ Checked (now s) m × TestKnown (now s) p × (l .tailless ≤ 65536) × (l .tails ≤ 65536) ⌝ }
     requires { ⌜ Begun (now s) (now work) from to ⌝ }
     ensures { λ r. ⌜ Meets (now (s .entry)) (now (work .entry)) from to (meetTest (now (s .entry)) from tail l p) r (now (work .exit)) ⌝ }
 {
     let r = pattern_at(s, m, p);
     if r.kind == 6 {
-        return meet_rising(s, m, work, from, to, tail, r.count - 1, longest_with(l, tail));
+        return meet_rising(
+            s,
+            m,
+            work,
+            from,
+            to,
+            tail,
+            r.count - 1,
+            longest_with(l, tail),
+        );
     }
     if tail {
         return to;
@@ -52,7 +79,15 @@ fn meet_test(s: &[u8], m: Map, l: Longest, tail: bool, p: usize, work: &mut [u8]
 }
 
 // The pass: the cases met that these tests join, of those with a tail or of those without.
-pub fn meet_rows(s: &[u8], m: Map, tests: PerRow, l: Longest, tail: bool, work: &mut [u8], from: usize) -> usize
+pub fn meet_rows(
+    s: &[u8],
+    m: Map,
+    tests: PerRow,
+    l: Longest,
+    tail: bool,
+    work: &mut [u8],
+    from: usize,
+) -> usize
     requires { ⌜ Checked (now s) m × WholeRows tests × All (TestKnown (now s)) (numbersIn tests) × (l .tailless ≤ 65536) × (l .tails ≤ 65536) ⌝ }
     requires { ⌜ Begun (now s) (now work) from from ⌝ }
     ensures { λ r. ⌜ Meets (now (s .entry)) (now (work .entry)) from from (meetTests (now (s .entry)) from tail l (numbersIn tests)) r (now (work .exit)) ⌝ }
