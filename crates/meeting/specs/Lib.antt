@@ -6,3 +6,5 @@ pub mod SoFar
 pub mod SoFarLaws
 pub mod Rows
 pub mod RowsLaws
+pub mod Made
+pub mod MadeLaws

@@ -326,6 +326,9 @@ module _ {s : List ℕ} (bytes : IsBytes s) (ok : Accepted s) where
             (rw (tailed-length ok p (a .0)) (pick-most (eqb (patternKind s p) 6) (patternCount s p) 65536 (omega (arith, count-small p)))) y,
       )
 
+  pub longest-few : (ps : List ℕ) → All (TestKnown s) ps → (l : Longest) → l ≡ longestOf s ps → (l .tailless ≤ 65536) × (l .tails ≤ 65536)
+  longest-few ps a l e = rw e (longest-most ps a)
+
 -- ---- the longest lengths from the last test on
 pub longest-starts : (s : List ℕ) (ps : List ℕ) (n : ℕ) → _≡_ {A = Longest} (record { tailless = 0; tails = 0 }) (longestOf s (slice n n ps))
 unfolding longest

@@ -45,7 +45,7 @@ unfolding caseRecords
 caseRecords-append [] ns = refl
 caseRecords-append (m ∷ ms) ns = rw (caseRecords-append ms ns) (sym (append-assoc (caseBytes (m .test) (m .start) 0) (caseRecords ms) (caseRecords ns)))
 
-all-append : (s : List ℕ) (ms ns : List Met) → All (InSheet s) ms → All (InSheet s) ns → All (InSheet s) (ms ++ ns)
+pub all-append : (s : List ℕ) (ms ns : List Met) → All (InSheet s) ms → All (InSheet s) ns → All (InSheet s) (ms ++ ns)
 all-append s [] ns a b = b
 all-append s (m ∷ ms) ns a b = (a .0, all-append s ms ns (a .1) b)
 
