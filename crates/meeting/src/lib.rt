@@ -5,17 +5,22 @@ pub mod rows;
 pub mod search;
 pub mod tests;
 
+use column::column_tests;
 use column::longest_of;
+use matrix::Matrix;
 use matrix::PerRow;
 use meet::CASES_MOST;
 use rows::meet_rows;
 use sheet::Map;
-ghost use Prim.Native.Nat.{_≤_};
+ghost use Prim.Native.Nat.{_<_, _≤_};
 ghost use lib.ListN.{length};
+ghost use Rattle.rules.specs.Limits.{patternsMost};
 ghost use Rattle.rules.specs.SplittingLaws.{All};
 ghost use Rattle.table.specs.Tabled.{Checked};
 ghost use Rattle.matrix.specs.Lists.{numbersIn, WholeRows};
-ghost use Rattle.matrix.specs.Ready.{TestKnown};
+ghost use Rattle.matrix.specs.Numbered.{SoundOf, testsIn};
+ghost use Rattle.matrix.specs.Ready.{Ready, TestKnown};
+ghost use Rattle.matrix.specs.InNumbers.{inNumbers, WholeMatrix};
 ghost use Rattle.arena.specs.Arena.{casesMost, arenaEnd};
 ghost use Rattle.meeting.specs.Made.{columnOf, MeetsTo};
 
@@ -48,4 +53,15 @@ fn meet_both(s: &[u8], m: Map, tests: PerRow, work: &mut [u8], first: usize) -> 
         end,
         list: 0 < l.tailless + l.tails,
     })
+}
+
+// The cases of the column of a class, from case `first` on.
+pub fn meet_cases(s: &[u8], m: Map, t: &[u8], x: Matrix, class: usize, work: &mut [u8], first: usize) -> Meeting
+    requires { ⌜ Ready (now s) m (now t) × WholeMatrix x × SoundOf (now s) (inNumbers x) × (class < patternsMost) ⌝ }
+    requires { ⌜ (arenaEnd ≤ length (now work)) × (first ≤ casesMost) ⌝ }
+    ensures { λ r. ⌜ MeetsTo (now (s .entry)) (columnOf (now (s .entry)) (testsIn (now (s .entry)) class (inNumbers x))) first (now (work .entry)) (now (work .exit)) r ⌝ }
+{
+    let opened = x.opened;
+    let tests = column_tests(t, x.rows, &opened, class);
+    meet_both(s, m, tests, work, first)
 }
