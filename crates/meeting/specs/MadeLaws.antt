@@ -2,20 +2,18 @@
 -- number of cases reaches what there is room for. Rests on the laws of the passes and of stores.
 use mathlib.Core.Path.{_≡_, refl, sym, ap, ap₂, _∙_}
 use mathlib.Core.Bool.{Bool, true, false}
-use mathlib.Core.List.{List, [], _∷_, _++_, map}
+use mathlib.Core.List.{List, [], _∷_}
 use Prim.Native.Nat.{ℕ, _+_, _-_, _*_, _≤_, _<_, min}
 use native.Mathlib.Omega.{arith}
 use lib.Dec.{ltb}
-use lib.ListN.{length, take, length-take}
+use lib.ListN.{length, length-take}
 use lib.Seq.{take-all}
 use Rattle.words.specs.Stored.{stored}
 use Rattle.words.specs.StoredLaws.{length-stored, stored-nil, stored-append, getD-stored-below, getD-stored-above}
 use Rattle.rules.specs.Limits.{patternsMost, nodesMost, bindingsMost, caseSize}
-use Rattle.rules.specs.Patterns.{Pat}
-use Rattle.rules.specs.Splitting.{Met, casesOf, longest, taillessLength, tailedLength}
+use Rattle.rules.specs.Splitting.{Met, casesOf}
 use Rattle.rules.specs.SplittingLaws.{All}
-use Rattle.rules.specs.Building.{hasList}
-use Rattle.matching.specs.Depth.{only, isTail, isExact}
+use Rattle.matching.specs.Depth.{only}
 use Rattle.arena.specs.Arena.{casesStart, casesMost, bindingsStart, arenaEnd}
 use Rattle.arena.specs.WritingLaws.{Kept, kept-trans, kept-weaken}
 use Rattle.sheet.specs.declared.Map.{Map}
@@ -36,10 +34,9 @@ use Rattle.matrix.specs.InNumbers.{inNumbers}
 use Rattle.matrix.specs.InNumbersLaws.{Alike, alike-rows, cells-in}
 use Rattle.meeting.specs.declared.tests.Longest.{Longest}
 use Rattle.meeting.specs.declared.Meeting.{Meeting}
-use Rattle.meeting.specs.declared.CasesMet.{CasesMet}
-use Rattle.meeting.specs.Passes.{meetRows, upTo, caseRecords}
+use Rattle.meeting.specs.Passes.{upTo, caseRecords}
 use Rattle.meeting.specs.PassesLaws.{pass-cases, sorts-length, hasList-longest}
-use Rattle.meeting.specs.SoFar.{InSheet, SoFar, Begun, Meets}
+use Rattle.meeting.specs.SoFar.{SoFar, Begun, Meets}
 use Rattle.meeting.specs.SoFarLaws.{length-caseRecords, caseRecords-append, all-append}
 use Rattle.meeting.specs.Rows.{sortOf, meetTests, longestOf}
 use Rattle.meeting.specs.Made.{columnOf, exactCases, tailCases, CasesMade, CasesPast, MeetsTo}

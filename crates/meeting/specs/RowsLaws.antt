@@ -6,15 +6,15 @@ use mathlib.Core.List.{List, [], _∷_, _++_, map, append-assoc, append-nil}
 use Prim.Native.Nat.{ℕ, zero, suc, _+_, _-_, _≤_, _<_}
 use native.Mathlib.Omega.{arith}
 use native.Mathlib.Numerals.{add-one}
-use borrow.Author.Tests.{le-leb, lt-leb, not-true, eqb-true, eqb-false, eq-eqb, ne-eqb}
+use borrow.Author.Tests.{le-leb, lt-leb, not-true, ne-eqb}
 use lib.Dec.{eqb, leb}
-use lib.ListN.{length, getD, take, drop}
+use lib.ListN.{length, getD, take}
 use lib.Seq.{take-suc, slice, slice-empty}
 use Rattle.words.specs.Words.{pick, both, either, Bytes as IsBytes}
 use Rattle.words.specs.WordsLaws.{wordAt-small}
-use Rattle.rules.specs.SheetFile.{patterns, patternKind, patternA, patternFirst, patternCount, poolText, poolSize, typeFirst, constructorFirst}
+use Rattle.rules.specs.SheetFile.{patternKind, patternA, patternFirst, patternCount, poolText, poolSize, typeFirst, constructorFirst}
 use Rattle.rules.specs.Patterns.{PatternKind, Integer, ByteString, ListOfAll, ListWithRest, Constructor, patternKindOf, Mark, Pat, Pats, integer, bytestring, listed, tailed, constructor, many, oneConstructor, decorated, constructorOf, along, ofKind, ofConstructor, pattern}
-use Rattle.rules.specs.Splitting.{Test, Constr, Int, Bytes, ListOf, ListWithTail, Met, rising, joined, textStart, taillessLength, tailedLength, larger, longest, meet}
+use Rattle.rules.specs.Splitting.{Test, ListOf, Met, rising, joined, textStart, taillessLength, tailedLength, larger, longest, meet}
 use Rattle.matching.specs.Depth.{isTail, isExact}
 use Rattle.facts.specs.SheetFacts.{Accepted}
 use Rattle.facts.specs.PatternsLaws.{pattern-of-kind, many-along}
@@ -24,7 +24,7 @@ use Rattle.sheet.specs.Records as records
 use Rattle.arena.specs.Arena.{casesMost}
 use Rattle.arena.specs.declared.reading.Test as arena
 use Rattle.arena.specs.Reading.{kindOf, numberOf, lengthOf}
-use Rattle.table.specs.Standing.{typeOf, patternOf, isTest}
+use Rattle.table.specs.Standing.{typeOf, patternOf}
 use Rattle.table.specs.Tabled.{Checked}
 use Rattle.table.specs.SeenLaws.{test-of-constructor, test-kind, test-kind-most}
 use Rattle.rules.specs.SplittingLaws.{All}
@@ -42,7 +42,7 @@ use Rattle.meeting.specs.Passes.{tests, meetRow, meetRows, upTo}
 use Rattle.meeting.specs.PassesLaws.{rise-more, pass-more, exact-integer, exact-bytestring, exact-listed, exact-constructor, exact-tailed, tail-tailed}
 use Rattle.meeting.specs.Fields.{isText, testIn, startIn, Fit}
 use Rattle.meeting.specs.FieldsLaws.{five}
-use Rattle.meeting.specs.SoFar.{Begun, meetOne, Meets}
+use Rattle.meeting.specs.SoFar.{meetOne, Meets}
 use Rattle.meeting.specs.SoFarLaws.{meets-none, meets-as, meets-then}
 use Rattle.meeting.specs.Rows.{exactTest, Small, sortOf, listTest, listCase, riseTo, meetTest, meetTests, longestOf, longer, heldTest, TestSmall}
 

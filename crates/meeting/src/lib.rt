@@ -1,9 +1,15 @@
-// The cases of a column.
-pub mod column;
-pub mod meet;
-pub mod rows;
-pub mod search;
-pub mod tests;
+// Rule 4, the cases of a column in order of first meeting, each written as its record into the arena: first those without a tail, then
+// those with one. A test is met by a search among the cases that its pass has met so far; a new one is written behind them.
+//
+// Cost: the column's tests are read once from the table, and their records once for the longest lengths and once in each pass. A row
+// with a tail joins a case for each length from its own up to the longest (at most 192 in a pass), any other row one case; each is
+// looked for among those met so far, texts byte by byte where their lengths are equal (at most 64 bytes). No more is written once
+// 1,024 cases are there: each case has a node of its own, so that the tree then has too many nodes (refusal 12).
+mod column;
+mod meet;
+mod rows;
+mod search;
+mod tests;
 
 use column::column_tests;
 use column::longest_of;
@@ -56,7 +62,15 @@ fn meet_both(s: &[u8], m: Map, tests: PerRow, work: &mut [u8], first: usize) -> 
 }
 
 // The cases of the column of a class, from case `first` on.
-pub fn meet_cases(s: &[u8], m: Map, t: &[u8], x: Matrix, class: usize, work: &mut [u8], first: usize) -> Meeting
+pub fn meet_cases(
+    s: &[u8],
+    m: Map,
+    t: &[u8],
+    x: Matrix,
+    class: usize,
+    work: &mut [u8],
+    first: usize,
+) -> Meeting
     requires { ⌜ Ready (now s) m (now t) × WholeMatrix x × SoundOf (now s) (inNumbers x) × (class < patternsMost) ⌝ }
     requires { ⌜ (arenaEnd ≤ length (now work)) × (first ≤ casesMost) ⌝ }
     ensures { λ r. ⌜ MeetsTo (now (s .entry)) (columnOf (now (s .entry)) (testsIn (now (s .entry)) class (inNumbers x))) first (now (work .entry)) (now (work .exit)) r ⌝ }

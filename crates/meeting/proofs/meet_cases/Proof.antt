@@ -4,19 +4,13 @@ use Rattle.meeting.specs.MadeLaws.{column-cells, column-known, column-me
 use Rattle.matrix.specs.ListsLaws.{whole-rows}
 use Rattle.meeting.proofs.meet_cases.Statement.{statement}
 use Rattle.meeting.proofs.meet_cases.Tie as tie
-use Rattle.meeting.proofs.meet_cases.Reads as reads
-use Rattle.meeting.proofs.meet_cases.Lts as lts
-use Rattle.meeting.proofs.column.column_tests.Reads as column-tests-reads
-use Rattle.meeting.proofs.meet_both.Reads as meet-both-reads
 
--- src/lib.rt:65:9
 column-tests-requires : tie.Need-column-tests-requires
 column-tests-requires c κs =
     let s = c .before .before .before .before .before in
     let a = s .args in
     (s .pre .0 .1 .whole-rows, column-cells (s .pre .0 .0) (a .x) (s .pre .0 .2) (a .class) (s .pre .0 .3))
 
--- src/lib.rt:66:5
 meet-both-requires : tie.Need-meet-both-requires
 meet-both-requires c κs =
     let s = c .before .before .before .before .before .before .before in
@@ -24,11 +18,9 @@ meet-both-requires c κs =
     let t = c .before .column-tests in
     ((s .pre .0 .0 .checked, whole-rows (t .ensures), column-known (s .pre .0 .0) (a .x) (s .pre .0 .2) (a .class) (s .pre .0 .3) (t .result) (t .ensures)), s .pre .1)
 
--- src/lib.rt:59:1
 same-length : tie.Need-same-length
 same-length c = search needs
 
--- src/lib.rt:59:1
 returns : tie.Need-returns
 returns c =
     let s = c .before .before .before .before .before .before .before .before .before .before in
