@@ -4,7 +4,7 @@ use native.Mathlib.Omega.{arith}
 use mathlib.Core.Path.{refl}
 use Rattle.words.specs.WordsLaws.{bytes-of-fits}
 use Rattle.matrix.specs.Lists.{numbersIn}
-use Rattle.meeting.specs.RowsLaws.{longest-few}
+use Rattle.meeting.specs.ColumnLaws.{longest-few}
 use Rattle.meeting.specs.MadeLaws.{pass-begins, second-begins, passes-past, passes-made}
 use Rattle.meeting.proofs.meet_both.Statement.{statement}
 use Rattle.meeting.proofs.meet_both.Tie as tie

@@ -12,7 +12,7 @@ use Rattle.matrix.specs.ListsLaws.{holds-rows-count, holds-rows-same, whole-row
 use Rattle.matrix.specs.Reading.{heldIn, InTable}
 use Rattle.matrix.specs.ReadingLaws.{all-at, slice-on, slice-end}
 use Rattle.meeting.specs.Rows.{heldTest}
-use Rattle.meeting.specs.RowsLaws.{held-small, tests-step, tests-end, heldTest-most}
+use Rattle.meeting.specs.ColumnLaws.{held-small, tests-step, tests-end, heldTest-most}
 use Rattle.meeting.proofs.column.column_tests.Statement.{statement}
 use Rattle.meeting.proofs.column.column_tests.Tie as tie
 

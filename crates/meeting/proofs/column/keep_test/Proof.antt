@@ -3,7 +3,7 @@ use borrow.Author.Needs.{needs}
 use native.Mathlib.Omega.{arith}
 use mathlib.Core.Path.{_≡_}
 use Rattle.matrix.specs.declared.Held.the-variants.{Test, Wildcard}
-use Rattle.meeting.specs.RowsLaws.{test-in-byte, keep-one, keep-none}
+use Rattle.meeting.specs.ColumnLaws.{test-in-byte, keep-one, keep-none}
 use Rattle.meeting.proofs.column.keep_test.Statement.{statement}
 use Rattle.meeting.proofs.column.keep_test.Tie as tie
 

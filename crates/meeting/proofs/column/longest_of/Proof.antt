@@ -8,7 +8,8 @@ use Rattle.words.specs.WordsLaws.{bytes-of-fits}
 use Rattle.matrix.specs.ReadingLaws.{all-at}
 use Rattle.matrix.specs.Ready.{TestKnown}
 use Rattle.meeting.specs.Rows.{longestOf}
-use Rattle.meeting.specs.RowsLaws.{record-small, longest-starts, longest-step, longest-ends}
+use Rattle.meeting.specs.RowsLaws.{record-small}
+use Rattle.meeting.specs.ColumnLaws.{longest-starts, longest-step, longest-ends}
 use Rattle.meeting.proofs.column.longest_of.Statement.{statement}
 use Rattle.meeting.proofs.column.longest_of.Tie as tie
 
