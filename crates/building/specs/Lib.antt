@@ -1,0 +1,5 @@
+pub mod Built
+pub mod JoinedLaws
+pub mod BuiltLaws
+pub mod CasesLaws
+pub mod SwitchLaws

@@ -1,0 +1,2 @@
+// The tree of a sheet before it is hoisted, built into the arena: rules 3 to 5.
+pub mod tops;
