@@ -17,7 +17,7 @@ use Rattle.matrix.specs.declared.Held.{Held}
 use Rattle.matrix.specs.declared.Held.the-variants.{Test as HeldTest, Wildcard}
 use Rattle.matrix.specs.declared.Choice.{Choice}
 use Rattle.matrix.specs.declared.Choice.the-variants.{Column, Leaf}
-use Rattle.matrix.specs.RowStates.{rowOf, rowsOf, heldBy, rowOf-wild, rowOf-test}
+use Rattle.matrix.specs.RowStates.{rowsOf, heldBy, rowOf-wild, rowOf-test}
 use Rattle.matrix.specs.Live.{patternHeld}
 
 -- rule 3: the rows before the first wildcard

@@ -4,8 +4,14 @@ pub mod Live
 pub mod MeetingLaws
 pub mod LiveLaws
 pub mod HeldRows
+pub mod Numbered
+pub mod Bound
+pub mod BoundLaws
 pub mod Lists
 pub mod ListsLaws
 pub mod Ordered
 pub mod Matrices
 pub mod MatricesLaws
+pub mod Reading
+pub mod ReadingLaws
+pub mod Ready

@@ -12,7 +12,7 @@ use Rattle.rules.specs.SheetFile.{patterns, clauses, root}
 use Rattle.rules.specs.Rows.{Path, Row}
 use Rattle.rules.specs.SplittingLaws.{All}
 use Rattle.table.specs.Standing.{pathOf, isTest}
-use Rattle.table.specs.Seen.{testsOf, openedTests}
+use Rattle.table.specs.Seen.{testsOf}
 use Rattle.matrix.specs.RowStates.{rowsOf}
 use Rattle.matrix.specs.Live.{available, IsClass, State}
 

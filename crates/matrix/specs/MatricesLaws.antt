@@ -1,40 +1,38 @@
 -- Sound matrices: the clauses' own, the default's and a case's are sound, and rules 2 to 4 give them.
 use mathlib.Core.Path.{_≡_, refl, sym, ap, ap₂, _∙_}
-use mathlib.Core.Bool.{Bool, true, false, not, true≢false}
+use mathlib.Core.Bool.{Bool, true, false, true≢false}
 use mathlib.Core.List.{List, [], _∷_, _++_, map, map-append}
-use mathlib.Core.Option.{Option, none, some}
 use Prim.Native.Nat.{ℕ, zero, suc, _+_, _-_, _≤_, _<_}
 use native.Mathlib.Omega.{arith}
-use borrow.Author.Tests.{ltb-true, lt-ltb, leb-true, leb-false, le-leb, lt-leb, eqb-true, eqb-false, eq-eqb, ne-eqb}
-use lib.Dec.{eqb, leb, ltb}
+use borrow.Author.Tests.{lt-ltb, leb-true, leb-false, le-leb, lt-leb, eqb-true, eqb-false}
+use lib.Dec.{eqb, leb}
 use lib.ListN.{length, getD, set, length-append, length-set}
 use lib.Seq.{getD-set-same, getD-set-other}
-use Rattle.words.specs.Words.{both, either, pick}
-use Rattle.words.specs.WordsLaws.{both-true, both-make}
+use Rattle.words.specs.Words.{both, pick}
 use Rattle.rules.specs.Limits.{patternsMost}
 use Rattle.rules.specs.Searching.{times}
 use Rattle.rules.specs.SheetFile.{patterns, clauses, root}
 use Rattle.rules.specs.SheetRefusals.{isIn}
-use Rattle.rules.specs.Patterns.{Pat, clausePattern, clausePatterns}
-use Rattle.rules.specs.Rows.{Path, Cell, Row, bit, clauseRow, clauseRows, openedColumns}
+use Rattle.rules.specs.Patterns.{clausePatterns}
+use Rattle.rules.specs.Rows.{Path, bit, clauseRow, clauseRows, openedColumns}
 use Rattle.rules.specs.Columns.{union, allTests, columns, without, choice}
 use Rattle.rules.specs.Splitting.{Test, column, defaultRows, caseRows, caseOpens}
 use Rattle.rules.specs.SplittingLaws.{All, either-none}
 use Rattle.facts.specs.SheetFacts.{Accepted}
 use Rattle.table.specs.Standing.{clauseOf, pathOf, ownerOf, patternOf, isTest, classOf}
 use Rattle.table.specs.ClassLaws.{same-class-path}
-use Rattle.table.specs.Seen.{testsOf, openedTests, cellAt}
+use Rattle.table.specs.Seen.{openedTests, cellAt}
 use Rattle.table.specs.MembersLaws.{test-at, test-inside}
 use Rattle.matrix.specs.declared.Held.{Held}
 use Rattle.matrix.specs.declared.Held.the-variants.{Test as HeldTest, Wildcard}
-use Rattle.matrix.specs.declared.Choice.the-variants.{Column, Leaf}
+use Rattle.matrix.specs.declared.Choice.the-variants.{Leaf}
 use Rattle.matrix.specs.RowStates.{rowAfter, rowOf, rowsOf, upFrom, clause-rows}
-use Rattle.matrix.specs.Numbers.{copies, length-times, times-same, times-add, all-copies}
-use Rattle.matrix.specs.Live.{available, liveTest, liveIn, isTestOf, isInside, IsClass, State}
-use Rattle.matrix.specs.MeetingLaws.{Meeting, meeting, copies-in}
-use Rattle.matrix.specs.LiveLaws.{TestOf, IsCell, Live, live-test, inside-shut, inside-free, elsewhere, not-inside, state-agree, state-first, held, state-wild, state-open, paths-next, length-next}
+use Rattle.matrix.specs.Numbers.{length-times, times-same, times-add, all-copies}
+use Rattle.matrix.specs.Live.{available, liveIn, isTestOf, isInside, IsClass, State}
+use Rattle.matrix.specs.MeetingLaws.{meeting, copies-in}
+use Rattle.matrix.specs.LiveLaws.{TestOf, IsCell, Live, live-test, inside-shut, inside-free, elsewhere, state-agree, state-first, held, state-wild, state-open, paths-next, length-next}
 use Rattle.matrix.specs.HeldRows.{countOf, bestOf, pathChosen, heldTests, wildOf, joinOf, opensOf, joinsCase, openedAt, Told, count-states, column-states, default-states, case-states, opens-states, best-is}
-use Rattle.matrix.specs.Ordered.{putEach, pathBefore, withoutClass, is-class, each-classes, each-union, each-most, without-classes, without-paths, without-one}
+use Rattle.matrix.specs.Ordered.{putEach, pathBefore, withoutClass, each-classes, each-union, each-most, without-classes, without-paths, without-one}
 use Rattle.matrix.specs.Matrices.{rowsAt, columnsAt, Rising, reached, Sound, gather, rootTests, marked}
 
 -- ---- rising clauses
@@ -82,7 +80,7 @@ all-next : (P : ℕ → Type 0) (xs : List ℕ) (x : ℕ) → All P xs → P x �
 all-next P [] x h p = (p, tt)
 all-next P (y ∷ xs) x h p = (h .0, all-next P xs x (h .1) p)
 
-all-append : (P : ℕ → Type 0) (xs ys : List ℕ) → All P xs → All P ys → All P (xs ++ ys)
+pub all-append : (P : ℕ → Type 0) (xs ys : List ℕ) → All P xs → All P ys → All P (xs ++ ys)
 all-append P [] ys a b = b
 all-append P (x ∷ xs) ys a b = (a .0, all-append P xs ys (a .1) b)
 

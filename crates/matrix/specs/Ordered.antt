@@ -11,7 +11,7 @@ use lib.ListN.{length, take, drop}
 use Rattle.words.specs.Words.{pick}
 use Rattle.rules.specs.SheetFile.{patterns}
 use Rattle.rules.specs.SheetRefusals.{isIn}
-use Rattle.rules.specs.Rows.{Path, Cell, samePath}
+use Rattle.rules.specs.Rows.{Path, samePath}
 use Rattle.rules.specs.Columns.{before, put, union, without}
 use Rattle.rules.specs.SplittingLaws.{All}
 use Rattle.table.specs.Standing.{pathOf, classOf}

@@ -12,4 +12,7 @@ pub mod OnceLaws
 pub mod Table
 pub mod Tabled
 pub mod PlacingLaws
+pub mod ClassingLaws
+pub mod FieldsLaws
+pub mod TabledLaws
 pub mod Examples
