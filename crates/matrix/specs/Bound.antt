@@ -1,5 +1,5 @@
 -- What a leaf binds, by the numbers of its patterns: those of its clause's root, and for each column tested, in order, what the test
--- opened there. BoundLaws has that these are the bindings of the clause's row.
+-- opened there. Rests on crate table's patterns that bind; BoundLaws has that these are the bindings of the clause's row.
 use mathlib.Core.List.{List, [], _∷_, _++_}
 use Prim.Native.Nat.{ℕ, _+_}
 use Rattle.rules.specs.SheetFile.{root}

@@ -9,6 +9,7 @@ use Rattle.rules.specs.Rows.{bindingsOf}
 use Rattle.rules.specs.SplittingLaws.{All}
 use Rattle.rules.specs.Building.{leaf, leafOf}
 use Rattle.facts.specs.SheetFacts.{Accepted}
+use Rattle.matching.specs.Lists.{all-append}
 use Rattle.table.specs.Standing.{pathOf}
 use Rattle.table.specs.Seen.{bindsOf, openedBinds, bindingAt}
 use Rattle.table.specs.Meets.{clause-bindings-meet, opened-bindings-meet}
@@ -21,7 +22,6 @@ use Rattle.matrix.specs.MeetingLaws.{copies-in}
 use Rattle.matrix.specs.Live.{openedTest, bindingsHeld, boundBy, State}
 use Rattle.matrix.specs.LiveLaws.{opened-test}
 use Rattle.matrix.specs.Matrices.{rowsAt, Rising}
-use Rattle.matrix.specs.MatricesLaws.{all-append}
 use Rattle.matrix.specs.Numbered.{Numbered, SoundOf}
 use Rattle.matrix.specs.Bound.{numbersHeld, openedNumbers, boundNumbers}
 

@@ -1,5 +1,5 @@
 -- A column by what each row has in it, a test by its number or a wildcard: rules 3 and 4 count and filter a list of clauses.
--- `held` says what a clause's row has; each law asks that it is told so of the rows at hand.
+-- `held` says what a clause's row has; each law asks that it is told so of the rows at hand. Rests on RowStates and the rules alone.
 use mathlib.Core.Path.{_≡_, refl, sym, ap, ap₂, _∙_}
 use mathlib.Core.Bool.{Bool, true, false}
 use mathlib.Core.List.{List, [], _∷_, _++_, map}

@@ -7,6 +7,7 @@ pub mod HeldRows
 pub mod Numbered
 pub mod Bound
 pub mod BoundLaws
+pub mod TreesLaws
 pub mod Lists
 pub mod ListsLaws
 pub mod Ordered

@@ -1,5 +1,5 @@
 -- What a row has in a column is what the numbers say, and the state of a row is kept: by the column that is tested, whether the row
--- has a wildcard there or a test that is opened, and by what is opened in other rows.
+-- has a wildcard there or a test that is opened, and by what is opened in other rows. Rests on MeetingLaws and on the rows of RowStates.
 use mathlib.Core.Path.{_≡_, refl, sym, ap, ap₂, _∙_}
 use mathlib.Core.Bool.{Bool, true, false, true≢false, false≢true}
 use mathlib.Core.List.{List, [], _∷_, _++_, map, map-append, append-assoc, append-nil}
@@ -59,10 +59,6 @@ bit-some false n e l = absurd (omega arith)
 bit-true : (b : Bool) → b ≡ true → bit b ≡ 1
 unfolding bit
 bit-true b e = rw e
-
-bit-false : (b : Bool) → b ≡ false → bit b ≡ 0
-unfolding bit
-bit-false b e = rw e
 
 -- ---- cells by number
 abbrev sameClass : List ℕ → ℕ → ℕ → Bool

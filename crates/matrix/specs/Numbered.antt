@@ -9,14 +9,13 @@ use Rattle.rules.specs.SheetFile.{clauses}
 use Rattle.rules.specs.Splitting.{Test}
 use Rattle.rules.specs.Building.{Tree}
 use Rattle.matching.specs.Depth.{matrixTree}
-use Rattle.table.specs.Standing.{classOf}
 use Rattle.table.specs.Seen.{openedTests}
 use Rattle.matrix.specs.declared.Choice.{Choice}
 use Rattle.matrix.specs.declared.Choice.the-variants.{Leaf}
 use Rattle.matrix.specs.RowStates.{upFrom}
 use Rattle.matrix.specs.Live.{liveIn}
 use Rattle.matrix.specs.HeldRows.{countOf, bestOf, heldTests, wildOf, joinOf, opensOf, joinsCase}
-use Rattle.matrix.specs.Ordered.{putEach, pathBefore, withoutClass}
+use Rattle.matrix.specs.Ordered.{putEach, classesFor, withoutClass}
 use Rattle.matrix.specs.Matrices.{rowsAt, columnsAt, Sound, gather, rootTests, marked}
 
 -- the clauses of the rows, the classes of the columns, the classes tested in order, and when each test was opened
@@ -28,10 +27,6 @@ pub record Numbered : Type 0 where
 
 abbrev pub SoundOf : List ℕ → Numbered → Type 0
 SoundOf s M = Sound s (M .rows) (M .columns) (M .tested) (M .opened)
-
--- the columns of tests, in order
-abbrev pub classesFor : List ℕ → List ℕ → List ℕ
-classesFor s tests = putEach (pathBefore s) (classOf s) tests []
 
 -- ---- the matrices
 unfoldable pub firstNumbered : List ℕ → Numbered
