@@ -3,3 +3,5 @@ pub mod JoinedLaws
 pub mod BuiltLaws
 pub mod CasesLaws
 pub mod SwitchLaws
+pub mod Steps
+pub mod StepsLaws

@@ -1,0 +1,744 @@
+use borrow.Author.Needs.{needs}
+use Prim.Native.Nat.{ℕ, _<_}
+use borrow.Fn.Kinds.{In}
+use borrow.Fn.PlainCycle.{Measures, is, falls, and}
+use Rattle.building.proofs.build.build_cases.Reads as build-cases
+use Rattle.building.proofs.build.build_cases.Kinds as build-cases-kinds
+use Rattle.building.proofs.build.+build_cases+build_switch+do_build_tree.Lts-build_cases as build-cases-lts
+use Rattle.building.proofs.build.build_switch.Reads as build-switch
+use Rattle.building.proofs.build.build_switch.Kinds as build-switch-kinds
+use Rattle.building.proofs.build.+build_cases+build_switch+do_build_tree.Lts-build_switch as build-switch-lts
+use Rattle.building.proofs.build.do_build_tree.Reads as do-build-tree
+use Rattle.building.proofs.build.do_build_tree.Kinds as do-build-tree-kinds
+use Rattle.building.proofs.build.+build_cases+build_switch+do_build_tree.Lts-do_build_tree as do-build-tree-lts
+use Rattle.arena.proofs.reading.case_at.Reads as case-at-reads
+use Rattle.arena.proofs.writing.put_child.Reads as put-child-reads
+use Rattle.building.proofs.build.put_leaf.Reads as put-leaf-reads
+use Rattle.building.proofs.build.put_switch.Reads as put-switch-reads
+use Rattle.building.proofs.stand_in.case_matrix.Reads as case-matrix-reads
+use Rattle.building.proofs.stand_in.default_matrix.Reads as default-matrix-reads
+use Rattle.building.proofs.stand_in.highest_occurrence.Reads as highest-occurrence-reads
+use Rattle.building.proofs.stand_in.meet_cases.Reads as meet-cases-reads
+use Rattle.building.proofs.build.+build_cases+build_switch+do_build_tree.{statement}
+use Rattle.building.proofs.build.+build_cases+build_switch+do_build_tree.Tie.{close}
+
+abbrev μ-build-cases : Measures 3 build-cases-kinds.ps ℕ
+μ-build-cases κs a = ?
+
+abbrev μ-build-switch : Measures 3 build-switch-kinds.ps ℕ
+μ-build-switch κs a = ?
+
+abbrev μ-do-build-tree : Measures 3 do-build-tree-kinds.ps ℕ
+μ-do-build-tree κs a = ?
+
+abbrev build-cases-at : ℕ → In 3 build-cases-kinds.ps
+build-cases-at t =
+    and 3 build-cases-kinds.ps (is 3 build-cases-kinds.ps μ-build-cases t) build-cases.Pre
+
+abbrev build-cases-below : ℕ → In 3 build-cases-kinds.ps
+build-cases-below t =
+    and 3 build-cases-kinds.ps (falls 3 build-cases-kinds.ps _<_ μ-build-cases t) build-cases.Pre
+
+abbrev build-switch-at : ℕ → In 3 build-switch-kinds.ps
+build-switch-at t =
+    and 3 build-switch-kinds.ps (is 3 build-switch-kinds.ps μ-build-switch t) build-switch.Pre
+
+abbrev build-switch-below : ℕ → In 3 build-switch-kinds.ps
+build-switch-below t =
+    and
+    3
+    build-switch-kinds.ps
+    (falls 3 build-switch-kinds.ps _<_ μ-build-switch t)
+    build-switch.Pre
+
+abbrev do-build-tree-at : ℕ → In 3 do-build-tree-kinds.ps
+do-build-tree-at t =
+    and 3 do-build-tree-kinds.ps (is 3 do-build-tree-kinds.ps μ-do-build-tree t) do-build-tree.Pre
+
+abbrev do-build-tree-below : ℕ → In 3 do-build-tree-kinds.ps
+do-build-tree-below t =
+    and
+    3
+    do-build-tree-kinds.ps
+    (falls 3 do-build-tree-kinds.ps _<_ μ-do-build-tree t)
+    do-build-tree.Pre
+
+abbrev build-cases-Inv-loop : build-cases-lts.InvT-loop
+build-cases-Inv-loop s m t x class work₀ first count tops₀ i₀ work tops i = ?
+
+abbrev build-cases-μ-loop : build-cases-lts.MeasureT-loop
+build-cases-μ-loop s m t x class work₀ first count tops₀ i₀ work tops i = ?
+
+-- src/build.rt:87:17
+build-cases-sub-count : (t : ℕ) → build-cases-lts.Need-sub-count (
+  case-at-reads.Asked,
+  case-at-reads.Learnt,
+  case-matrix-reads.Asked,
+  case-matrix-reads.Learnt,
+  put-child-reads.Asked,
+  put-child-reads.Learnt,
+  do-build-tree-below t,
+  do-build-tree.Post,
+) (build-cases-at t) build-cases.Post build-cases-Inv-loop build-cases-μ-loop
+build-cases-sub-count t c = search needs
+
+-- src/build.rt:90:5
+build-cases-loop-holds : (t : ℕ) → build-cases-lts.Need-loop-holds (
+  case-at-reads.Asked,
+  case-at-reads.Learnt,
+  case-matrix-reads.Asked,
+  case-matrix-reads.Learnt,
+  put-child-reads.Asked,
+  put-child-reads.Learnt,
+  do-build-tree-below t,
+  do-build-tree.Post,
+) (build-cases-at t) build-cases.Post build-cases-Inv-loop build-cases-μ-loop
+build-cases-loop-holds t c = search needs
+
+-- src/build.rt:91:34
+build-cases-add-case-at : (t : ℕ) → build-cases-lts.Need-add-case-at (
+  case-at-reads.Asked,
+  case-at-reads.Learnt,
+  case-matrix-reads.Asked,
+  case-matrix-reads.Learnt,
+  put-child-reads.Asked,
+  put-child-reads.Learnt,
+  do-build-tree-below t,
+  do-build-tree.Post,
+) (build-cases-at t) build-cases.Post build-cases-Inv-loop build-cases-μ-loop
+build-cases-add-case-at t c = search needs
+
+-- src/build.rt:91:13
+build-cases-case-at-requires : (t : ℕ) → build-cases-lts.Need-case-at-requires (
+  case-at-reads.Asked,
+  case-at-reads.Learnt,
+  case-matrix-reads.Asked,
+  case-matrix-reads.Learnt,
+  put-child-reads.Asked,
+  put-child-reads.Learnt,
+  do-build-tree-below t,
+  do-build-tree.Post,
+) (build-cases-at t) build-cases.Post build-cases-Inv-loop build-cases-μ-loop
+build-cases-case-at-requires t c κs = search needs
+
+-- src/build.rt:93:13
+build-cases-case-matrix-requires : (t : ℕ) → build-cases-lts.Need-case-matrix-requires (
+  case-at-reads.Asked,
+  case-at-reads.Learnt,
+  case-matrix-reads.Asked,
+  case-matrix-reads.Learnt,
+  put-child-reads.Asked,
+  put-child-reads.Learnt,
+  do-build-tree-below t,
+  do-build-tree.Post,
+) (build-cases-at t) build-cases.Post build-cases-Inv-loop build-cases-μ-loop
+build-cases-case-matrix-requires t c κs = search needs
+
+-- src/build.rt:94:25
+build-cases-add-put-child : (t : ℕ) → build-cases-lts.Need-add-put-child (
+  case-at-reads.Asked,
+  case-at-reads.Learnt,
+  case-matrix-reads.Asked,
+  case-matrix-reads.Learnt,
+  put-child-reads.Asked,
+  put-child-reads.Learnt,
+  do-build-tree-below t,
+  do-build-tree.Post,
+) (build-cases-at t) build-cases.Post build-cases-Inv-loop build-cases-μ-loop
+build-cases-add-put-child t c = search needs
+
+-- src/build.rt:94:36
+build-cases-cast-put-child : (t : ℕ) → build-cases-lts.Need-cast-put-child (
+  case-at-reads.Asked,
+  case-at-reads.Learnt,
+  case-matrix-reads.Asked,
+  case-matrix-reads.Learnt,
+  put-child-reads.Asked,
+  put-child-reads.Learnt,
+  do-build-tree-below t,
+  do-build-tree.Post,
+) (build-cases-at t) build-cases.Post build-cases-Inv-loop build-cases-μ-loop
+build-cases-cast-put-child t c = search needs
+
+-- src/build.rt:94:9
+build-cases-put-child-requires : (t : ℕ) → build-cases-lts.Need-put-child-requires (
+  case-at-reads.Asked,
+  case-at-reads.Learnt,
+  case-matrix-reads.Asked,
+  case-matrix-reads.Learnt,
+  put-child-reads.Asked,
+  put-child-reads.Learnt,
+  do-build-tree-below t,
+  do-build-tree.Post,
+) (build-cases-at t) build-cases.Post build-cases-Inv-loop build-cases-μ-loop
+build-cases-put-child-requires t c κs = search needs
+
+-- src/build.rt:95:13
+build-cases-do-build-tree-requires : (t : ℕ) → build-cases-lts.Need-do-build-tree-requires (
+  case-at-reads.Asked,
+  case-at-reads.Learnt,
+  case-matrix-reads.Asked,
+  case-matrix-reads.Learnt,
+  put-child-reads.Asked,
+  put-child-reads.Learnt,
+  do-build-tree-below t,
+  do-build-tree.Post,
+) (build-cases-at t) build-cases.Post build-cases-Inv-loop build-cases-μ-loop
+build-cases-do-build-tree-requires t c κs = search needs
+
+-- src/build.rt:97:13
+build-cases-same-length : (t : ℕ) → build-cases-lts.Need-same-length (
+  case-at-reads.Asked,
+  case-at-reads.Learnt,
+  case-matrix-reads.Asked,
+  case-matrix-reads.Learnt,
+  put-child-reads.Asked,
+  put-child-reads.Learnt,
+  do-build-tree-below t,
+  do-build-tree.Post,
+) (build-cases-at t) build-cases.Post build-cases-Inv-loop build-cases-μ-loop
+build-cases-same-length t c = search needs
+
+-- src/build.rt:97:13
+build-cases-returns : (t : ℕ) → build-cases-lts.Need-returns (
+  case-at-reads.Asked,
+  case-at-reads.Learnt,
+  case-matrix-reads.Asked,
+  case-matrix-reads.Learnt,
+  put-child-reads.Asked,
+  put-child-reads.Learnt,
+  do-build-tree-below t,
+  do-build-tree.Post,
+) (build-cases-at t) build-cases.Post build-cases-Inv-loop build-cases-μ-loop
+build-cases-returns t c = search needs
+
+-- src/build.rt:100:9
+build-cases-add-i : (t : ℕ) → build-cases-lts.Need-add-i (
+  case-at-reads.Asked,
+  case-at-reads.Learnt,
+  case-matrix-reads.Asked,
+  case-matrix-reads.Learnt,
+  put-child-reads.Asked,
+  put-child-reads.Learnt,
+  do-build-tree-below t,
+  do-build-tree.Post,
+) (build-cases-at t) build-cases.Post build-cases-Inv-loop build-cases-μ-loop
+build-cases-add-i t c = search needs
+
+-- src/build.rt:90:5
+build-cases-loop-less : (t : ℕ) → build-cases-lts.Need-loop-less (
+  case-at-reads.Asked,
+  case-at-reads.Learnt,
+  case-matrix-reads.Asked,
+  case-matrix-reads.Learnt,
+  put-child-reads.Asked,
+  put-child-reads.Learnt,
+  do-build-tree-below t,
+  do-build-tree.Post,
+) (build-cases-at t) build-cases.Post build-cases-Inv-loop build-cases-μ-loop
+build-cases-loop-less t c = search needs
+
+-- src/build.rt:90:5
+build-cases-loop-again : (t : ℕ) → build-cases-lts.Need-loop-again (
+  case-at-reads.Asked,
+  case-at-reads.Learnt,
+  case-matrix-reads.Asked,
+  case-matrix-reads.Learnt,
+  put-child-reads.Asked,
+  put-child-reads.Learnt,
+  do-build-tree-below t,
+  do-build-tree.Post,
+) (build-cases-at t) build-cases.Post build-cases-Inv-loop build-cases-μ-loop
+build-cases-loop-again t c = search needs
+
+-- src/build.rt:82:1
+build-cases-same-length-2 : (t : ℕ) → build-cases-lts.Need-same-length-2 (
+  case-at-reads.Asked,
+  case-at-reads.Learnt,
+  case-matrix-reads.Asked,
+  case-matrix-reads.Learnt,
+  put-child-reads.Asked,
+  put-child-reads.Learnt,
+  do-build-tree-below t,
+  do-build-tree.Post,
+) (build-cases-at t) build-cases.Post build-cases-Inv-loop build-cases-μ-loop
+build-cases-same-length-2 t c = search needs
+
+-- src/build.rt:82:1
+build-cases-returns-2 : (t : ℕ) → build-cases-lts.Need-returns-2 (
+  case-at-reads.Asked,
+  case-at-reads.Learnt,
+  case-matrix-reads.Asked,
+  case-matrix-reads.Learnt,
+  put-child-reads.Asked,
+  put-child-reads.Learnt,
+  do-build-tree-below t,
+  do-build-tree.Post,
+) (build-cases-at t) build-cases.Post build-cases-Inv-loop build-cases-μ-loop
+build-cases-returns-2 t c = search needs
+
+-- src/build.rt:111:9
+build-switch-meet-cases-requires : (t : ℕ) → build-switch-lts.Need-meet-cases-requires (
+  meet-cases-reads.Asked,
+  meet-cases-reads.Learnt,
+  build-cases-below t,
+  build-cases.Post,
+  default-matrix-reads.Asked,
+  default-matrix-reads.Learnt,
+  put-switch-reads.Asked,
+  put-switch-reads.Learnt,
+  do-build-tree-below t,
+  do-build-tree.Post,
+) (build-switch-at t) build-switch.Post
+build-switch-meet-cases-requires t c κs = search needs
+
+-- src/build.rt:112:22
+build-switch-enum-known-meeting : (t : ℕ) → build-switch-lts.Need-enum-known-meeting (
+  meet-cases-reads.Asked,
+  meet-cases-reads.Learnt,
+  build-cases-below t,
+  build-cases.Post,
+  default-matrix-reads.Asked,
+  default-matrix-reads.Learnt,
+  put-switch-reads.Asked,
+  put-switch-reads.Learnt,
+  do-build-tree-below t,
+  do-build-tree.Post,
+) (build-switch-at t) build-switch.Post
+build-switch-enum-known-meeting t c = search needs
+
+-- src/build.rt:113:9
+build-switch-enum-told : (t : ℕ) → build-switch-lts.Need-enum-told (
+  meet-cases-reads.Asked,
+  meet-cases-reads.Learnt,
+  build-cases-below t,
+  build-cases.Post,
+  default-matrix-reads.Asked,
+  default-matrix-reads.Learnt,
+  put-switch-reads.Asked,
+  put-switch-reads.Learnt,
+  do-build-tree-below t,
+  do-build-tree.Post,
+) (build-switch-at t) build-switch.Post
+build-switch-enum-told t c = search needs
+
+-- src/build.rt:113:9
+build-switch-same-length : (t : ℕ) → build-switch-lts.Need-same-length (
+  meet-cases-reads.Asked,
+  meet-cases-reads.Learnt,
+  build-cases-below t,
+  build-cases.Post,
+  default-matrix-reads.Asked,
+  default-matrix-reads.Learnt,
+  put-switch-reads.Asked,
+  put-switch-reads.Learnt,
+  do-build-tree-below t,
+  do-build-tree.Post,
+) (build-switch-at t) build-switch.Post
+build-switch-same-length t c = search needs
+
+-- src/build.rt:113:9
+build-switch-returns : (t : ℕ) → build-switch-lts.Need-returns (
+  meet-cases-reads.Asked,
+  meet-cases-reads.Learnt,
+  build-cases-below t,
+  build-cases.Post,
+  default-matrix-reads.Asked,
+  default-matrix-reads.Learnt,
+  put-switch-reads.Asked,
+  put-switch-reads.Learnt,
+  do-build-tree-below t,
+  do-build-tree.Post,
+) (build-switch-at t) build-switch.Post
+build-switch-returns t c = search needs
+
+-- src/build.rt:117:16
+build-switch-add-put-switch : (t : ℕ) → build-switch-lts.Need-add-put-switch (
+  meet-cases-reads.Asked,
+  meet-cases-reads.Learnt,
+  build-cases-below t,
+  build-cases.Post,
+  default-matrix-reads.Asked,
+  default-matrix-reads.Learnt,
+  put-switch-reads.Asked,
+  put-switch-reads.Learnt,
+  do-build-tree-below t,
+  do-build-tree.Post,
+) (build-switch-at t) build-switch.Post
+build-switch-add-put-switch t c = search needs
+
+-- src/build.rt:122:9
+build-switch-build-cases-requires : (t : ℕ) → build-switch-lts.Need-build-cases-requires (
+  meet-cases-reads.Asked,
+  meet-cases-reads.Learnt,
+  build-cases-below t,
+  build-cases.Post,
+  default-matrix-reads.Asked,
+  default-matrix-reads.Learnt,
+  put-switch-reads.Asked,
+  put-switch-reads.Learnt,
+  do-build-tree-below t,
+  do-build-tree.Post,
+) (build-switch-at t) build-switch.Post
+build-switch-build-cases-requires t c κs = search needs
+
+-- src/build.rt:124:9
+build-switch-same-length-2 : (t : ℕ) → build-switch-lts.Need-same-length-2 (
+  meet-cases-reads.Asked,
+  meet-cases-reads.Learnt,
+  build-cases-below t,
+  build-cases.Post,
+  default-matrix-reads.Asked,
+  default-matrix-reads.Learnt,
+  put-switch-reads.Asked,
+  put-switch-reads.Learnt,
+  do-build-tree-below t,
+  do-build-tree.Post,
+) (build-switch-at t) build-switch.Post
+build-switch-same-length-2 t c = search needs
+
+-- src/build.rt:124:9
+build-switch-returns-2 : (t : ℕ) → build-switch-lts.Need-returns-2 (
+  meet-cases-reads.Asked,
+  meet-cases-reads.Learnt,
+  build-cases-below t,
+  build-cases.Post,
+  default-matrix-reads.Asked,
+  default-matrix-reads.Learnt,
+  put-switch-reads.Asked,
+  put-switch-reads.Learnt,
+  do-build-tree-below t,
+  do-build-tree.Post,
+) (build-switch-at t) build-switch.Post
+build-switch-returns-2 t c = search needs
+
+-- src/build.rt:127:9
+build-switch-default-matrix-requires : (t : ℕ) → build-switch-lts.Need-default-matrix-requires (
+  meet-cases-reads.Asked,
+  meet-cases-reads.Learnt,
+  build-cases-below t,
+  build-cases.Post,
+  default-matrix-reads.Asked,
+  default-matrix-reads.Learnt,
+  put-switch-reads.Asked,
+  put-switch-reads.Learnt,
+  do-build-tree-below t,
+  do-build-tree.Post,
+) (build-switch-at t) build-switch.Post
+build-switch-default-matrix-requires t c κs = search needs
+
+-- src/build.rt:130:9
+build-switch-put-switch-requires : (t : ℕ) → build-switch-lts.Need-put-switch-requires (
+  meet-cases-reads.Asked,
+  meet-cases-reads.Learnt,
+  build-cases-below t,
+  build-cases.Post,
+  default-matrix-reads.Asked,
+  default-matrix-reads.Learnt,
+  put-switch-reads.Asked,
+  put-switch-reads.Learnt,
+  do-build-tree-below t,
+  do-build-tree.Post,
+) (build-switch-at t) build-switch.Post
+build-switch-put-switch-requires t c κs = search needs
+
+-- src/build.rt:131:9
+build-switch-same-length-3 : (t : ℕ) → build-switch-lts.Need-same-length-3 (
+  meet-cases-reads.Asked,
+  meet-cases-reads.Learnt,
+  build-cases-below t,
+  build-cases.Post,
+  default-matrix-reads.Asked,
+  default-matrix-reads.Learnt,
+  put-switch-reads.Asked,
+  put-switch-reads.Learnt,
+  do-build-tree-below t,
+  do-build-tree.Post,
+) (build-switch-at t) build-switch.Post
+build-switch-same-length-3 t c = search needs
+
+-- src/build.rt:131:9
+build-switch-returns-3 : (t : ℕ) → build-switch-lts.Need-returns-3 (
+  meet-cases-reads.Asked,
+  meet-cases-reads.Learnt,
+  build-cases-below t,
+  build-cases.Post,
+  default-matrix-reads.Asked,
+  default-matrix-reads.Learnt,
+  put-switch-reads.Asked,
+  put-switch-reads.Learnt,
+  do-build-tree-below t,
+  do-build-tree.Post,
+) (build-switch-at t) build-switch.Post
+build-switch-returns-3 t c = search needs
+
+-- src/build.rt:133:53
+build-switch-add-put-switch-2 : (t : ℕ) → build-switch-lts.Need-add-put-switch-2 (
+  meet-cases-reads.Asked,
+  meet-cases-reads.Learnt,
+  build-cases-below t,
+  build-cases.Post,
+  default-matrix-reads.Asked,
+  default-matrix-reads.Learnt,
+  put-switch-reads.Asked,
+  put-switch-reads.Learnt,
+  do-build-tree-below t,
+  do-build-tree.Post,
+) (build-switch-at t) build-switch.Post
+build-switch-add-put-switch-2 t c = search needs
+
+-- src/build.rt:133:5
+build-switch-put-switch-requires-2 : (t : ℕ) → build-switch-lts.Need-put-switch-requires-2 (
+  meet-cases-reads.Asked,
+  meet-cases-reads.Learnt,
+  build-cases-below t,
+  build-cases.Post,
+  default-matrix-reads.Asked,
+  default-matrix-reads.Learnt,
+  put-switch-reads.Asked,
+  put-switch-reads.Learnt,
+  do-build-tree-below t,
+  do-build-tree.Post,
+) (build-switch-at t) build-switch.Post
+build-switch-put-switch-requires-2 t c κs = search needs
+
+-- src/build.rt:134:5
+build-switch-do-build-tree-requires : (t : ℕ) → build-switch-lts.Need-do-build-tree-requires (
+  meet-cases-reads.Asked,
+  meet-cases-reads.Learnt,
+  build-cases-below t,
+  build-cases.Post,
+  default-matrix-reads.Asked,
+  default-matrix-reads.Learnt,
+  put-switch-reads.Asked,
+  put-switch-reads.Learnt,
+  do-build-tree-below t,
+  do-build-tree.Post,
+) (build-switch-at t) build-switch.Post
+build-switch-do-build-tree-requires t c κs = search needs
+
+-- src/build.rt:106:1
+build-switch-same-length-4 : (t : ℕ) → build-switch-lts.Need-same-length-4 (
+  meet-cases-reads.Asked,
+  meet-cases-reads.Learnt,
+  build-cases-below t,
+  build-cases.Post,
+  default-matrix-reads.Asked,
+  default-matrix-reads.Learnt,
+  put-switch-reads.Asked,
+  put-switch-reads.Learnt,
+  do-build-tree-below t,
+  do-build-tree.Post,
+) (build-switch-at t) build-switch.Post
+build-switch-same-length-4 t c = search needs
+
+-- src/build.rt:106:1
+build-switch-returns-4 : (t : ℕ) → build-switch-lts.Need-returns-4 (
+  meet-cases-reads.Asked,
+  meet-cases-reads.Learnt,
+  build-cases-below t,
+  build-cases.Post,
+  default-matrix-reads.Asked,
+  default-matrix-reads.Learnt,
+  put-switch-reads.Asked,
+  put-switch-reads.Learnt,
+  do-build-tree-below t,
+  do-build-tree.Post,
+) (build-switch-at t) build-switch.Post
+build-switch-returns-4 t c = search needs
+
+-- src/build.rt:143:9
+do-build-tree-returns : (t : ℕ) → do-build-tree-lts.Need-returns (
+  highest-occurrence-reads.Asked,
+  highest-occurrence-reads.Learnt,
+  put-leaf-reads.Asked,
+  put-leaf-reads.Learnt,
+  build-switch-below t,
+  build-switch.Post,
+) (do-build-tree-at t) do-build-tree.Post
+do-build-tree-returns t c = search needs
+
+-- src/build.rt:145:9
+do-build-tree-highest-occurrence-requires :
+    (t : ℕ) → do-build-tree-lts.Need-highest-occurrence-requires (
+      highest-occurrence-reads.Asked,
+      highest-occurrence-reads.Learnt,
+      put-leaf-reads.Asked,
+      put-leaf-reads.Learnt,
+      build-switch-below t,
+      build-switch.Post,
+    ) (do-build-tree-at t) do-build-tree.Post
+do-build-tree-highest-occurrence-requires t c κs = search needs
+
+-- src/build.rt:146:24
+do-build-tree-enum-known-choice : (t : ℕ) → do-build-tree-lts.Need-enum-known-choice (
+  highest-occurrence-reads.Asked,
+  highest-occurrence-reads.Learnt,
+  put-leaf-reads.Asked,
+  put-leaf-reads.Learnt,
+  build-switch-below t,
+  build-switch.Post,
+) (do-build-tree-at t) do-build-tree.Post
+do-build-tree-enum-known-choice t c = search needs
+
+-- src/build.rt:147:41
+do-build-tree-enum-told : (t : ℕ) → do-build-tree-lts.Need-enum-told (
+  highest-occurrence-reads.Asked,
+  highest-occurrence-reads.Learnt,
+  put-leaf-reads.Asked,
+  put-leaf-reads.Learnt,
+  build-switch-below t,
+  build-switch.Post,
+) (do-build-tree-at t) do-build-tree.Post
+do-build-tree-enum-told t c = search needs
+
+-- src/build.rt:147:13
+do-build-tree-put-leaf-requires : (t : ℕ) → do-build-tree-lts.Need-put-leaf-requires (
+  highest-occurrence-reads.Asked,
+  highest-occurrence-reads.Learnt,
+  put-leaf-reads.Asked,
+  put-leaf-reads.Learnt,
+  build-switch-below t,
+  build-switch.Post,
+) (do-build-tree-at t) do-build-tree.Post
+do-build-tree-put-leaf-requires t c κs = search needs
+
+-- src/build.rt:148:9
+do-build-tree-same-length : (t : ℕ) → do-build-tree-lts.Need-same-length (
+  highest-occurrence-reads.Asked,
+  highest-occurrence-reads.Learnt,
+  put-leaf-reads.Asked,
+  put-leaf-reads.Learnt,
+  build-switch-below t,
+  build-switch.Post,
+) (do-build-tree-at t) do-build-tree.Post
+do-build-tree-same-length t c = search needs
+
+-- src/build.rt:148:9
+do-build-tree-returns-2 : (t : ℕ) → do-build-tree-lts.Need-returns-2 (
+  highest-occurrence-reads.Asked,
+  highest-occurrence-reads.Learnt,
+  put-leaf-reads.Asked,
+  put-leaf-reads.Learnt,
+  build-switch-below t,
+  build-switch.Post,
+) (do-build-tree-at t) do-build-tree.Post
+do-build-tree-returns-2 t c = search needs
+
+-- src/build.rt:153:5
+do-build-tree-build-switch-requires : (t : ℕ) → do-build-tree-lts.Need-build-switch-requires (
+  highest-occurrence-reads.Asked,
+  highest-occurrence-reads.Learnt,
+  put-leaf-reads.Asked,
+  put-leaf-reads.Learnt,
+  build-switch-below t,
+  build-switch.Post,
+) (do-build-tree-at t) do-build-tree.Post
+do-build-tree-build-switch-requires t c κs = search needs
+
+-- src/build.rt:138:1
+do-build-tree-same-length-2 : (t : ℕ) → do-build-tree-lts.Need-same-length-2 (
+  highest-occurrence-reads.Asked,
+  highest-occurrence-reads.Learnt,
+  put-leaf-reads.Asked,
+  put-leaf-reads.Learnt,
+  build-switch-below t,
+  build-switch.Post,
+) (do-build-tree-at t) do-build-tree.Post
+do-build-tree-same-length-2 t c = search needs
+
+-- src/build.rt:138:1
+do-build-tree-returns-3 : (t : ℕ) → do-build-tree-lts.Need-returns-3 (
+  highest-occurrence-reads.Asked,
+  highest-occurrence-reads.Learnt,
+  put-leaf-reads.Asked,
+  put-leaf-reads.Learnt,
+  build-switch-below t,
+  build-switch.Post,
+) (do-build-tree-at t) do-build-tree.Post
+do-build-tree-returns-3 t c = search needs
+
+pub +build-cases+build-switch+do-build-tree-spec : {M : Type 1} → statement M
++build-cases+build-switch+do-build-tree-spec =
+    close μ-build-cases μ-build-switch μ-do-build-tree (λ t. build-cases-lts.spec (
+      case-at-reads.Asked,
+      case-at-reads.Learnt,
+      case-matrix-reads.Asked,
+      case-matrix-reads.Learnt,
+      put-child-reads.Asked,
+      put-child-reads.Learnt,
+      do-build-tree-below t,
+      do-build-tree.Post,
+    )
+    (build-cases-at t)
+    build-cases.Post
+    build-cases-Inv-loop
+    build-cases-μ-loop
+    (build-cases-sub-count t)
+    (build-cases-loop-holds t)
+    (build-cases-add-case-at t)
+    (build-cases-case-at-requires t)
+    (build-cases-case-matrix-requires t)
+    (build-cases-add-put-child t)
+    (build-cases-cast-put-child t)
+    (build-cases-put-child-requires t)
+    (build-cases-do-build-tree-requires t)
+    (build-cases-same-length t)
+    (build-cases-returns t)
+    (build-cases-add-i t)
+    (build-cases-loop-less t)
+    (build-cases-loop-again t)
+    (build-cases-same-length-2 t)
+    (build-cases-returns-2 t))
+    (λ t. build-switch-lts.spec (
+      meet-cases-reads.Asked,
+      meet-cases-reads.Learnt,
+      build-cases-below t,
+      build-cases.Post,
+      default-matrix-reads.Asked,
+      default-matrix-reads.Learnt,
+      put-switch-reads.Asked,
+      put-switch-reads.Learnt,
+      do-build-tree-below t,
+      do-build-tree.Post,
+    )
+    (build-switch-at t)
+    build-switch.Post
+    (build-switch-meet-cases-requires t)
+    (build-switch-enum-known-meeting t)
+    (build-switch-enum-told t)
+    (build-switch-same-length t)
+    (build-switch-returns t)
+    (build-switch-add-put-switch t)
+    (build-switch-build-cases-requires t)
+    (build-switch-same-length-2 t)
+    (build-switch-returns-2 t)
+    (build-switch-default-matrix-requires t)
+    (build-switch-put-switch-requires t)
+    (build-switch-same-length-3 t)
+    (build-switch-returns-3 t)
+    (build-switch-add-put-switch-2 t)
+    (build-switch-put-switch-requires-2 t)
+    (build-switch-do-build-tree-requires t)
+    (build-switch-same-length-4 t)
+    (build-switch-returns-4 t))
+    λ t. do-build-tree-lts.spec (
+      highest-occurrence-reads.Asked,
+      highest-occurrence-reads.Learnt,
+      put-leaf-reads.Asked,
+      put-leaf-reads.Learnt,
+      build-switch-below t,
+      build-switch.Post,
+    )
+    (do-build-tree-at t)
+    do-build-tree.Post
+    (do-build-tree-returns t)
+    (do-build-tree-highest-occurrence-requires t)
+    (do-build-tree-enum-known-choice t)
+    (do-build-tree-enum-told t)
+    (do-build-tree-put-leaf-requires t)
+    (do-build-tree-same-length t)
+    (do-build-tree-returns-2 t)
+    (do-build-tree-build-switch-requires t)
+    (do-build-tree-same-length-2 t)
+    (do-build-tree-returns-3 t)
