@@ -16,3 +16,4 @@ pub mod MatricesLaws
 pub mod Reading
 pub mod ReadingLaws
 pub mod Ready
+pub mod PuttingLaws

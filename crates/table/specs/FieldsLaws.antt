@@ -47,8 +47,22 @@ kept-fields t u q above step index type owner clause same f = record {
     at-field : {k : ℕ} (n : ℕ) → 1 ≤ n → n ≤ 7 → (n ≡ 6 → ⊥) → k ≡ 192 * n + q → FieldAt q k
     at-field n low high other here = record { field = n; low = low; high = high; other = other; here = here }
 
-same-clause : (u : List ℕ) (q above step index type owner clause other : ℕ) → clause ≡ other → Fields u q above step index type owner clause → Fields u q above step index type owner other
-same-clause u q above step index type owner clause other e f = rw e at f
+-- fields by other names
+pub fields-as : {u : List ℕ} {q above step index type owner clause above' step' index' type' owner' clause' : ℕ}
+    → above ≡ above' → step ≡ step' → index ≡ index' → type ≡ type' → owner ≡ owner' → clause ≡ clause'
+    → Fields u q above step index type owner clause → Fields u q above' step' index' type' owner' clause'
+fields-as a s i t o c f = record {
+  is-above = f .is-above ∙ a;
+  is-step = f .is-step ∙ s;
+  is-index = f .is-index ∙ i;
+  is-type = f .is-type ∙ t;
+  is-owner = f .is-owner ∙ o;
+  is-clause = f .is-clause ∙ c;
+}
+
+-- those of the same pattern
+pub fields-of : {u : List ℕ} {q r above step index type owner clause : ℕ} → q ≡ r → Fields u q above step index type owner clause → Fields u r above step index type owner clause
+fields-of e f = rw e at f
 
 -- ---- six bytes stored one after the other
 -- a byte elsewhere
@@ -131,17 +145,10 @@ module _ (t : List ℕ) (p q step index type owner : ℕ) where
         })
 
 -- ---- several children
-module _ (s : List ℕ) (p step e stride owner : ℕ) where
+module _ (s : List ℕ) (p : ℕ) where
   -- the i-th child
   abbrev part : ℕ → ℕ
   part i = child s (patternFirst s p + i)
-
-  pub each-other : (t : List ℕ) (i n k : ℕ) → ((j : ℕ) → i ≤ j → j < i + n → FieldAt (part j) k → ⊥) → getD (placedEach s t p step e stride owner i n) k 0 ≡ getD t k 0
-  unfolding placedEach
-  each-other t i zero k free = refl
-  each-other t i (suc n) k free =
-      each-other (placed t p (part i) step i (entry s (e + stride * i)) owner) (i + 1) n k (λ j low high. free j (omega arith) (omega arith))
-      ∙ placed-other t p (part i) step i (entry s (e + stride * i)) owner k (free i (omega arith) (omega arith))
 
   -- the children are patterns, none of them p, and all different
   pub record Apart (i n : ℕ) : Type 0 where
@@ -156,37 +163,45 @@ module _ (s : List ℕ) (p step e stride owner : ℕ) where
     different = λ j k l h u v. a .different j k (omega arith) (omega arith) (omega arith) (omega arith);
   }
 
-  pub each-fields : (t : List ℕ) (i n : ℕ) → length t ≡ tableSize → p < 192 → Apart i n → (j : ℕ) → i ≤ j → j < i + n
-      → Fields (placedEach s t p step e stride owner i n) (part j) p step j (entry s (e + stride * j)) owner (getD t (clauseAt + p) 0)
-  unfolding placedEach
-  each-fields t i zero long parent a j low high = absurd (omega arith)
-  each-fields t i (suc n) long parent a j low high =
-      ⊎-elim here (later (each-fields u (i + 1) n (length-placed t p (part i) step i (entry s (e + stride * i)) owner ∙ long) parent (apart-rest i n a) j)) (first-or-rest i j n low high)
-    where
-      u : List ℕ
-      u = placed t p (part i) step i (entry s (e + stride * i)) owner
+  module _ (step e stride owner : ℕ) where
+    pub each-other : (t : List ℕ) (i n k : ℕ) → ((j : ℕ) → i ≤ j → j < i + n → FieldAt (part j) k → ⊥) → getD (placedEach s t p step e stride owner i n) k 0 ≡ getD t k 0
+    unfolding placedEach
+    each-other t i zero k free = refl
+    each-other t i (suc n) k free =
+        each-other (placed t p (part i) step i (entry s (e + stride * i)) owner) (i + 1) n k (λ j low high. free j (omega arith) (omega arith))
+        ∙ placed-other t p (part i) step i (entry s (e + stride * i)) owner k (free i (omega arith) (omega arith))
 
-      -- the i-th stays as it was put
-      stays : (k : ℕ) → FieldAt (part i) k → getD (placedEach s u p step e stride owner (i + 1) n) k 0 ≡ getD u k 0
-      stays k f =
-          each-other u (i + 1) n k
-          (λ x l h g.
-          let same = one-field (part i) (part x) k (a .known i (omega arith) (omega arith)) (a .known x (omega arith) (omega arith)) f g in
-          let equal = a .different i x (omega arith) (omega arith) (omega arith) (omega arith) same in
-          omega arith)
+    pub each-fields : (t : List ℕ) (i n : ℕ) → length t ≡ tableSize → p < 192 → Apart i n → (j : ℕ) → i ≤ j → j < i + n
+        → Fields (placedEach s t p step e stride owner i n) (part j) p step j (entry s (e + stride * j)) owner (getD t (clauseAt + p) 0)
+    unfolding placedEach
+    each-fields t i zero long parent a j low high = absurd (omega arith)
+    each-fields t i (suc n) long parent a j low high =
+        ⊎-elim here (later (each-fields u (i + 1) n (length-placed t p (part i) step i (entry s (e + stride * i)) owner ∙ long) parent (apart-rest i n a) j)) (first-or-rest i j n low high)
+      where
+        u : List ℕ
+        u = placed t p (part i) step i (entry s (e + stride * i)) owner
 
-      here : j ≡ i → Fields (placedEach s u p step e stride owner (i + 1) n) (part j) p step j (entry s (e + stride * j)) owner (getD t (clauseAt + p) 0)
-      here d =
-          rw d
-          (kept-fields u (placedEach s u p step e stride owner (i + 1) n) (part i) p step i (entry s (e + stride * i)) owner (getD t (clauseAt + p) 0) stays
-          (placed-fields t p (part i) step i (entry s (e + stride * i)) owner long (a .known i (omega arith) (omega arith))))
+        -- the i-th stays as it was put
+        stays : (k : ℕ) → FieldAt (part i) k → getD (placedEach s u p step e stride owner (i + 1) n) k 0 ≡ getD u k 0
+        stays k f =
+            each-other u (i + 1) n k
+            (λ x l h g.
+            let same = one-field (part i) (part x) k (a .known i (omega arith) (omega arith)) (a .known x (omega arith) (omega arith)) f g in
+            let equal = a .different i x (omega arith) (omega arith) (omega arith) (omega arith) same in
+            omega arith)
 
-      -- the parent's clause is not touched
-      clause-stays : getD u (clauseAt + p) 0 ≡ getD t (clauseAt + p) 0
-      clause-stays =
-          placed-other t p (part i) step i (entry s (e + stride * i)) owner (clauseAt + p)
-          (λ f. a .not-parent i (omega arith) (omega arith) (omega (arith, f .here, f .high, a .known i (omega arith) (omega arith))))
+        here : j ≡ i → Fields (placedEach s u p step e stride owner (i + 1) n) (part j) p step j (entry s (e + stride * j)) owner (getD t (clauseAt + p) 0)
+        here d =
+            rw d
+            (kept-fields u (placedEach s u p step e stride owner (i + 1) n) (part i) p step i (entry s (e + stride * i)) owner (getD t (clauseAt + p) 0) stays
+            (placed-fields t p (part i) step i (entry s (e + stride * i)) owner long (a .known i (omega arith) (omega arith))))
 
-      later : (i + 1 ≤ j → j < i + 1 + n → Fields (placedEach s u p step e stride owner (i + 1) n) (part j) p step j (entry s (e + stride * j)) owner (getD u (clauseAt + p) 0))
-          → (i + 1 ≤ j) × (j < i + 1 + n) → Fields (placedEach s u p step e stride owner (i + 1) n) (part j) p step j (entry s (e + stride * j)) owner (getD t (clauseAt + p) 0)
-      later ih w = same-clause (placedEach s u p step e stride owner (i + 1) n) (part j) p step j (entry s (e + stride * j)) owner (getD u (clauseAt + p) 0) (getD t (clauseAt + p) 0) clause-stays (ih (w .0) (w .1))
+        -- the parent's clause is not touched
+        clause-stays : getD u (clauseAt + p) 0 ≡ getD t (clauseAt + p) 0
+        clause-stays =
+            placed-other t p (part i) step i (entry s (e + stride * i)) owner (clauseAt + p)
+            (λ f. a .not-parent i (omega arith) (omega arith) (omega (arith, f .here, f .high, a .known i (omega arith) (omega arith))))
+
+        later : (i + 1 ≤ j → j < i + 1 + n → Fields (placedEach s u p step e stride owner (i + 1) n) (part j) p step j (entry s (e + stride * j)) owner (getD u (clauseAt + p) 0))
+            → (i + 1 ≤ j) × (j < i + 1 + n) → Fields (placedEach s u p step e stride owner (i + 1) n) (part j) p step j (entry s (e + stride * j)) owner (getD t (clauseAt + p) 0)
+        later ih w = fields-as refl refl refl refl refl clause-stays (ih (w .0) (w .1))

@@ -14,5 +14,8 @@ pub mod Tabled
 pub mod PlacingLaws
 pub mod ClassingLaws
 pub mod FieldsLaws
+pub mod FilledLaws
+pub mod ChildrenLaws
+pub mod RootsLaws
 pub mod TabledLaws
 pub mod Examples

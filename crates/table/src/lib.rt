@@ -9,6 +9,7 @@ use sheet::records::entry_at;
 use sheet::records::pattern_at;
 use sheet::records::root_at;
 use sheet::records::type_at;
+use words::zero_all;
 ghost use mathlib.Core.Path.{_≡_};
 ghost use Prim.Native.Nat.{ℕ, _+_, _<_, _≤_};
 ghost use lib.Dec.{eqb};
@@ -19,7 +20,7 @@ ghost use Rattle.rules.specs.SheetFile.{patterns, clauses};
 ghost use Rattle.rules.specs.Patterns.{ListWithRest, Constructor};
 ghost use Rattle.table.specs.Standing.{kindOf, typeOf, ownerOf, isTest};
 ghost use Rattle.table.specs.Table.{typeAt, depthAt, tableSize, placed, placedEach, placedBelow, rooted, rootedEach, aboveIn, sameStepIn, classIn, classed, indexed, tested, firstBefore, indicesIn};
-ghost use Rattle.table.specs.Tabled.{Checked, Placed, Classed, Parts, Reading, Ranged, RowBelow};
+ghost use Rattle.table.specs.Tabled.{Checked, Placed, Classed, Tabled, Filled, Parts, Reading, Ranged, RowBelow};
 
 // By pattern number: the lowest pattern with the same path, one more than the test that it is inside of (or 0), the pattern that
 // its path goes on from, its type, the step (SAME: none), the step's index, how many steps its path has, its clause, their indices.
@@ -286,6 +287,31 @@ fn put_roots(s: &[u8], m: Map, t: &mut [u8])
     while c < m.counts.clauses {
         put_root(t, root_at(s, m, c), c, m.subject);
         c += 1;
+    }
+}
+
+// Pattern p, whose own fields are set: its class, its indices, its cell, and what it gives to its children.
+fn fill_at(s: &[u8], m: Map, t: &mut [u8], p: usize)
+    requires { ⌜ Checked (now s) m × (p < patterns (now s)) × Filled (now s) (now t) p p p p ⌝ }
+    ensures { λ _. ⌜ Filled (now (s .entry)) (now (t .exit)) (p + 1) (p + 1) (p + 1) (p + 1) ⌝ }
+{
+    put_class(t, p);
+    put_indices(t, p);
+    put_test(s, m, t, p);
+    place_children(s, m, t, p);
+}
+
+// The table of a checked sheet, whatever stood there before.
+pub fn fill(s: &[u8], m: Map, t: &mut [u8])
+    requires { ⌜ Checked (now s) m × (length (now t) ≡ tableSize) ⌝ }
+    ensures { λ _. ⌜ Tabled (now (s .entry)) (now (t .exit)) ⌝ }
+{
+    zero_all(t);
+    put_roots(s, m, t);
+    let mut p: usize = 0;
+    while p < m.counts.patterns {
+        fill_at(s, m, t, p);
+        p += 1;
     }
 }
 
