@@ -3,7 +3,7 @@
 use mathlib.Core.Path.{_≡_}
 use mathlib.Core.Bool.{Bool, true, false}
 use mathlib.Core.List.{List, [], _∷_, _++_}
-use Prim.Native.Nat.{ℕ, _+_, _*_, _≤_, _<_, min}
+use Prim.Native.Nat.{ℕ, _+_, _*_, _≤_, _<_}
 use lib.ListN.{length, getD}
 use Rattle.words.specs.Words.{pick}
 use Rattle.rules.specs.Limits.{clausesMost, nodesMost, bindingsMost, caseSize}
@@ -16,12 +16,9 @@ use Rattle.filing.specs.StandingLaws.{Stands}
 use Rattle.matching.specs.Depth.{casesOn}
 use Rattle.arena.specs.Arena.{casesStart, casesMost, arenaEnd, Held, HeldOf}
 use Rattle.arena.specs.WritingLaws.{Kept}
+use Rattle.leaves.specs.Bindings.{capped}
 use Rattle.building.specs.declared.tops.Tops.{Tops}
 use Rattle.building.specs.declared.tops.Built.{Built}
-
--- how many bindings there are, told up to one more than there is room for
-abbrev pub capped : ℕ → ℕ
-capped n = min n (bindingsMost + 1)
 
 -- the records of cases whose children are not known yet
 unfoldable pub caseRecords : List Met → List ℕ

@@ -22,8 +22,9 @@ use Rattle.filing.specs.StandingLaws.{Stands, stands-byte}
 use Rattle.filing.specs.LengthLaws.{length-nodesFromOf}
 use Rattle.arena.specs.Arena.{casesStart, casesMost, bindingsStart, arenaEnd, Held, HeldOf}
 use Rattle.arena.specs.WritingLaws.{Kept, kept-refl, kept-trans, kept-weaken, kept-node, stands-room, stands-bytes, stands-stored, absent-held, leaf-made}
+use Rattle.leaves.specs.Bindings.{capped}
 use Rattle.building.specs.declared.tops.Tops.{Tops}
-use Rattle.building.specs.Built.{capped, Counted, Roomy, Put}
+use Rattle.building.specs.Built.{Counted, Roomy, Put}
 
 -- ---- what stands apart from a store stays
 pub stands-apart : (t : List ℕ) (i : ℕ) (xs : List ℕ) (j : ℕ) (vs : List ℕ) → (j + length vs ≤ i) ⊎ (i + length xs ≤ j) → Stands t i xs → Stands (stored t j vs) i xs
@@ -49,6 +50,17 @@ heldOf-apart w table k c b cs at vs o l m h =
         → (at + length vs ≤ nodeSize * k) ⊎ (nodeSize * k + length (nodesFromOf table k c b cs) ≤ at)
     apart (inl x) = inl x
     apart (inr x) = inr (omega (arith, length-nodesFromOf table k c b cs))
+
+-- a run of cases stored at number i or at a later one
+pub kept-cases : (k c b i : ℕ) (w xs : List ℕ) → k ≤ nodesMost → c ≤ i → casesStart + caseSize * i + length xs ≤ bindingsStart
+    → Kept k c b w (stored w (casesStart + caseSize * i) xs)
+kept-cases k c b i w xs f g h =
+    record {
+      same-length = length-stored w (casesStart + caseSize * i) xs;
+      nodes = λ j l. getD-stored-below w (casesStart + caseSize * i) xs j 0 (omega arith);
+      cases = λ j l. getD-stored-below w (casesStart + caseSize * i) xs (casesStart + j) 0 (omega arith);
+      bindings = λ j l. getD-stored-above w (casesStart + caseSize * i) xs (bindingsStart + j) 0 (omega arith);
+    }
 
 -- ---- counts
 either-pick : (x y : Bool) (n : ℕ) → pick y 1 (pick x 1 n) ≡ pick (either x y) 1 n

@@ -31,7 +31,7 @@ use Rattle.arena.specs.Numbered.{joined}
 use Rattle.arena.specs.NumberedLaws.{nodesInOf-joined}
 use Rattle.building.specs.declared.tops.Tops.{Tops}
 use Rattle.building.specs.declared.tops.Built.{Built}
-use Rattle.building.specs.Built.{capped, caseRecords, Counted, Roomy, Put, TooMany, Builds, CasesPut, Partly, TooManyOf, BuildsCases, CasesOpen}
+use Rattle.building.specs.Built.{caseRecords, Counted, Roomy, Put, TooMany, Builds, CasesPut, Partly, TooManyOf, BuildsCases, CasesOpen}
 use Rattle.building.specs.JoinedLaws.{casesInOf-joined, bindingsInOf-joined, hasLeafOf-joined, ownCases-joined, casesOn-append, howMany-casesOn, heldOf-joined}
 use Rattle.building.specs.BuiltLaws.{stands-apart, heldOf-apart, counted-then, counted-as}
 

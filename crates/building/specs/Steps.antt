@@ -28,16 +28,14 @@ use Rattle.arena.specs.declared.reading.Test.{Test}
 use Rattle.arena.specs.Reading.{testFor}
 use Rattle.arena.specs.Arena.{casesStart, casesMost, bindingsStart}
 use Rattle.arena.specs.WritingLaws.{Kept}
+use Rattle.leaves.specs.Bindings.{numbered}
 use Rattle.building.specs.declared.tops.Tops.{Tops}
 use Rattle.building.specs.declared.tops.Built.{Built}
 use Rattle.building.specs.declared.stand_in.Meeting.{Meeting}
 use Rattle.building.specs.declared.stand_in.Meeting.the-variants.{Met as MetTo, TooMany as NoRoom}
 use Rattle.building.specs.declared.stand_in.CasesMet.{CasesMet}
-use Rattle.building.specs.Built.{capped, caseRecords, Roomy, Builds, CasesOpen, BuildsCases}
+use Rattle.building.specs.Built.{caseRecords, Roomy, Builds, CasesOpen, BuildsCases}
 use Rattle.building.specs.SwitchLaws.{inOrder}
-
-abbrev pub inNumbers : Matrix → Numbered
-inNumbers x = record { rows = numbersIn (x .rows); columns = classesIn (x .columns); tested = classesIn (x .tested); opened = x .opened }
 
 pub record WholeMatrix (x : Matrix) : Type 0 where
   pub rows : WholeRows (x .rows)
@@ -47,8 +45,8 @@ pub record WholeMatrix (x : Matrix) : Type 0 where
 -- a matrix with a row, sound
 pub record MatrixThere (s : List ℕ) (x : Matrix) : Type 0 where
   pub whole : WholeMatrix x
-  pub sound : SoundOf s (inNumbers x)
-  pub some-row : 1 ≤ length ((inNumbers x) .rows)
+  pub sound : SoundOf s (numbered x)
+  pub some-row : 1 ≤ length ((numbered x) .rows)
 
 unfoldable pub meant : List ℕ → Test → splitting.Test
 meant s (Test.Constr number) = splitting.Constr number
@@ -77,7 +75,7 @@ caseTree s k M u = treeAt s (caseNumbered s k u M)
 abbrev pub defaultTree : List ℕ → ℕ → Numbered → Tree
 defaultTree s k M = treeAt s (defaultNumbered s k M)
 
--- ---- what is told of its cases met, and of a leaf's bindings
+-- ---- what is told of its cases met
 pub record CasesMade (s : List ℕ) (k : ℕ) (M : Numbered) (first : ℕ) (w w' : List ℕ) (c : CasesMet) : Type 0 where
   pub mid-is : c .mid ≡ first + length (only isExact (casesOf (columnOf s k M)))
   pub end-is : c .end ≡ c .mid + length (only isTail (casesOf (columnOf s k M)))
@@ -89,17 +87,6 @@ abbrev pub MeetsTo : List ℕ → ℕ → Numbered → ℕ → List ℕ → List
 MeetsTo s k M first w w' (MetTo c) = CasesMade s k M first w w' c
 MeetsTo s k M first w w' NoRoom = casesMost ≤ first + length (casesOf (columnOf s k M))
 
-abbrev pub leafClause : Matrix → ℕ
-leafClause x = getD (x .rows .list) 0 0
-
-abbrev pub leafBindings : List ℕ → Matrix → List Binding
-leafBindings s x = map (bindingAt s) (boundNumbers s (inNumbers x) (leafClause x))
-
-pub record LeafBound (s : List ℕ) (x : Matrix) (w : List ℕ) (top : ℕ) (w' : List ℕ) (r : ℕ) : Type 0 where
-  pub top-is : r ≡ capped (top + length (leafBindings s x))
-  pub kept : Kept nodesMost casesMost top w w'
-  pub stand : top + length (leafBindings s x) ≤ bindingsMost → Stands w' (bindingsStart + bindingSize * top) (bindingsBytes (sheetPaths s) (leafBindings s x))
-
 -- ---- what building asks
 pub record Asked (s : List ℕ) (m : Map) (t : List ℕ) (x : Matrix) (w : List ℕ) (tops : Tops) : Type 0 where
   pub ready : Ready s m t
@@ -110,4 +97,4 @@ pub record Asked (s : List ℕ) (m : Map) (t : List ℕ) (x : Matrix) (w : List 
 pub record AskedColumn (s : List ℕ) (m : Map) (t : List ℕ) (x : Matrix) (k : ℕ) : Type 0 where
   pub ready : Ready s m t
   pub there : MatrixThere s x
-  pub chosen : chosenIn s (inNumbers x) ≡ Column k
+  pub chosen : chosenIn s (numbered x) ≡ Column k

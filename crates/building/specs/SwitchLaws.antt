@@ -26,7 +26,7 @@ use Rattle.arena.specs.WritingLaws.{Kept, kept-trans, kept-weaken, kept-node, c
 use Rattle.arena.specs.Numbered.{joined}
 use Rattle.arena.specs.NumberedLaws.{nodesInOf-joined}
 use Rattle.building.specs.declared.tops.Tops.{Tops}
-use Rattle.building.specs.Built.{capped, caseRecords, Counted, Roomy, Put, TooMany, CasesPut, TooManyOf}
+use Rattle.building.specs.Built.{caseRecords, Counted, Roomy, Put, TooMany, CasesPut, TooManyOf}
 use Rattle.building.specs.CasesLaws.{There, each-node}
 use Rattle.building.specs.JoinedLaws.{casesInOf-joined, bindingsInOf-joined, hasLeafOf-joined, ownCases-joined, casesOn-append, howMany-casesOn, front-held, back-held}
 use Rattle.building.specs.BuiltLaws.{stands-apart, heldOf-apart, counted-then, counted-as}

@@ -5,13 +5,13 @@ use crate::stand_in::Meeting;
 use crate::stand_in::case_matrix;
 use crate::stand_in::default_matrix;
 use crate::stand_in::highest_occurrence;
-use crate::stand_in::leaf_bindings;
 use crate::stand_in::meet_cases;
 use crate::tops::Built;
 use crate::tops::Tops;
 use arena::reading::case_at;
 use arena::writing::put_child;
 use arena::writing::put_node;
+use leaves::leaf_bindings;
 use matrix::Choice;
 use matrix::Matrix;
 use matrix::wide;
@@ -26,9 +26,10 @@ ghost use Rattle.rules.specs.TreeFile.{firstOf, nodeBytes};
 ghost use Rattle.table.specs.Standing.{sheetPaths};
 ghost use Rattle.matrix.specs.declared.Choice.the-variants.{Leaf};
 ghost use Rattle.matrix.specs.Numbered.{chosenIn, treeAt};
+ghost use Rattle.leaves.specs.Bindings.{numbered};
 ghost use Rattle.arena.specs.Arena.{arenaEnd, casesMost};
 ghost use Rattle.building.specs.Built.{Put, Roomy, CasesOpen, Builds, BuildsCases};
-ghost use Rattle.building.specs.Steps.{inNumbers, caseList, caseTree, Asked, AskedColumn};
+ghost use Rattle.building.specs.Steps.{caseList, caseTree, Asked, AskedColumn};
 
 pub const NODES_MOST: usize = 1024;
 
@@ -44,8 +45,8 @@ fn first_of(count: usize, first: usize) -> usize
 
 // The leaf of the first row.
 fn put_leaf(s: &[u8], m: Map, t: &[u8], x: Matrix, work: &mut [u8], tops: Tops) -> Tops
-    requires { ⌜ Asked (now s) m (now t) x (now work) tops × (tops .nodes < nodesMost) × (chosenIn (now s) (inNumbers x) ≡ Leaf) ⌝ }
-    ensures { λ r. ⌜ Put (sheetPaths (now (s .entry))) (now (work .entry)) (now (work .exit)) (treeAt (now (s .entry)) (inNumbers x)) tops r ⌝ }
+    requires { ⌜ Asked (now s) m (now t) x (now work) tops × (tops .nodes < nodesMost) × (chosenIn (now s) (numbered x) ≡ Leaf) ⌝ }
+    ensures { λ r. ⌜ Put (sheetPaths (now (s .entry))) (now (work .entry)) (now (work .exit)) (treeAt (now (s .entry)) (numbered x)) tops r ⌝ }
 {
     let rows = x.rows;
     let clause = wide(rows.list[0]);
@@ -81,8 +82,8 @@ fn put_switch(work: &mut [u8], k: usize, class: usize, first: usize, met: CasesM
 // The cases whose records stand from number `first` on, up to the tops' own number of cases: each gets its tree.
 fn build_cases(s: &[u8], m: Map, t: &[u8], x: Matrix, class: usize, work: &mut [u8], first: usize, from: Tops) -> Built
     requires { ⌜ AskedColumn (now s) m (now t) x class ⌝ }
-    requires { ⌜ CasesOpen (caseList (now s) class (inNumbers x)) first (now work) from ⌝ }
-    ensures { λ r. ⌜ BuildsCases (sheetPaths (now (s .entry))) (caseTree (now (s .entry)) class (inNumbers x)) (caseList (now (s .entry)) class (inNumbers x)) first (now (work .entry)) (now (work .exit)) from r ⌝ }
+    requires { ⌜ CasesOpen (caseList (now s) class (numbered x)) first (now work) from ⌝ }
+    ensures { λ r. ⌜ BuildsCases (sheetPaths (now (s .entry))) (caseTree (now (s .entry)) class (numbered x)) (caseList (now (s .entry)) class (numbered x)) first (now (work .entry)) (now (work .exit)) from r ⌝ }
 {
     let count = from.cases - first;
     let mut tops = from;
@@ -105,7 +106,7 @@ fn build_cases(s: &[u8], m: Map, t: &[u8], x: Matrix, class: usize, work: &mut [
 // A switch on the column of this class.
 fn build_switch(s: &[u8], m: Map, t: &[u8], x: Matrix, class: usize, work: &mut [u8], tops: Tops) -> Built
     requires { ⌜ AskedColumn (now s) m (now t) x class × Roomy (now work) tops × (tops .nodes < nodesMost) ⌝ }
-    ensures { λ r. ⌜ Builds (sheetPaths (now (s .entry))) (now (work .entry)) (now (work .exit)) (treeAt (now (s .entry)) (inNumbers x)) tops r ⌝ }
+    ensures { λ r. ⌜ Builds (sheetPaths (now (s .entry))) (now (work .entry)) (now (work .exit)) (treeAt (now (s .entry)) (numbered x)) tops r ⌝ }
 {
     let first = tops.cases;
     let meeting = meet_cases(s, m, t, x, class, work, first);
@@ -137,7 +138,7 @@ fn build_switch(s: &[u8], m: Map, t: &[u8], x: Matrix, class: usize, work: &mut 
 // The tree of the matrix x, with at least one row, from the tops on.
 pub fn do_build_tree(s: &[u8], m: Map, t: &[u8], x: Matrix, work: &mut [u8], tops: Tops) -> Built
     requires { ⌜ Asked (now s) m (now t) x (now work) tops ⌝ }
-    ensures { λ r. ⌜ Builds (sheetPaths (now (s .entry))) (now (work .entry)) (now (work .exit)) (treeAt (now (s .entry)) (inNumbers x)) tops r ⌝ }
+    ensures { λ r. ⌜ Builds (sheetPaths (now (s .entry))) (now (work .entry)) (now (work .exit)) (treeAt (now (s .entry)) (numbered x)) tops r ⌝ }
 {
     if tops.nodes == NODES_MOST {
         return Built { fits: false, tops };

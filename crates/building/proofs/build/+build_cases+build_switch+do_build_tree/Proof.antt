@@ -1,5 +1,16 @@
 use borrow.Author.Needs.{needs}
-use Prim.Native.Nat.{ℕ, _<_}
+use borrow.Author.Tests.{not-true, not-false}
+use mathlib.Core.Bool.{true, false}
+use native.Mathlib.Omega.{arith}
+use mathlib.Core.Path.{_≡_, refl, sym, ap, subst, _∙_}
+use lib.ListN.{length}
+use Rattle.table.specs.Standing.{sheetPaths}
+use Rattle.arena.specs.declared.reading.Case.{Case}
+use Rattle.leaves.specs.Bindings.{numbered}
+use Rattle.building.specs.Built.{Partly}
+use Rattle.building.specs.Steps.{caseList, caseTree, MeetsTo}
+use Rattle.building.specs.StepsLaws.{tested-room, turn-room, turn-asked, turn-deeper, turn-done, turn-over, loop-begin, loop-end, no-room, met-made, switch-open, switch-cases-over, switch-node-asked, switch-met-asked, switch-asked, switch-done, switch-default, default-deeper, node-left, leaf-builds, full-builds}
+use Prim.Native.Nat.{ℕ, _+_, _-_, _*_, _≤_, _<_}
 use borrow.Fn.Kinds.{In}
 use borrow.Fn.PlainCycle.{Measures, is, falls, and}
 use Rattle.building.proofs.build.build_cases.Reads as build-cases
@@ -23,13 +34,13 @@ use Rattle.building.proofs.build.+build_cases+build_switch+do_build_tre
 use Rattle.building.proofs.build.+build_cases+build_switch+do_build_tree.Tie.{close}
 
 abbrev μ-build-cases : Measures 3 build-cases-kinds.ps ℕ
-μ-build-cases κs a = ?
+μ-build-cases κs a = 3 * (192 - a .1 .1 .1 .0 .tested .count)
 
 abbrev μ-build-switch : Measures 3 build-switch-kinds.ps ℕ
-μ-build-switch κs a = ?
+μ-build-switch κs a = 3 * (192 - a .1 .1 .1 .0 .tested .count) + 1
 
 abbrev μ-do-build-tree : Measures 3 do-build-tree-kinds.ps ℕ
-μ-do-build-tree κs a = ?
+μ-do-build-tree κs a = 3 * (192 - a .1 .1 .1 .0 .tested .count) + 2
 
 abbrev build-cases-at : ℕ → In 3 build-cases-kinds.ps
 build-cases-at t =
@@ -64,12 +75,13 @@ do-build-tree-below t =
     do-build-tree.Pre
 
 abbrev build-cases-Inv-loop : build-cases-lts.InvT-loop
-build-cases-Inv-loop s m t x class work₀ first count tops₀ i₀ work tops i = ?
+build-cases-Inv-loop s m t x class work₀ first count tops₀ i₀ work tops i =
+    (i ≤ count) × (length work ≡ length work₀) × Partly (sheetPaths s) (caseTree s class (numbered x)) (caseList s class (numbered x)) first i work₀ work tops₀ tops
 
 abbrev build-cases-μ-loop : build-cases-lts.MeasureT-loop
-build-cases-μ-loop s m t x class work₀ first count tops₀ i₀ work tops i = ?
+build-cases-μ-loop s m t x class work₀ first count tops₀ i₀ work tops i = count - i
 
--- src/build.rt:87:17
+-- src/build.rt:88:17
 build-cases-sub-count : (t : ℕ) → build-cases-lts.Need-sub-count (
   case-at-reads.Asked,
   case-at-reads.Learnt,
@@ -80,9 +92,9 @@ build-cases-sub-count : (t : ℕ) → build-cases-lts.Need-sub-count (
   do-build-tree-below t,
   do-build-tree.Post,
 ) (build-cases-at t) build-cases.Post build-cases-Inv-loop build-cases-μ-loop
-build-cases-sub-count t c = search needs
+build-cases-sub-count t c = omega (arith, (c .before .before .before .before .pre .1 .1) .to-come)
 
--- src/build.rt:90:5
+-- src/build.rt:91:5
 build-cases-loop-holds : (t : ℕ) → build-cases-lts.Need-loop-holds (
   case-at-reads.Asked,
   case-at-reads.Learnt,
@@ -93,9 +105,9 @@ build-cases-loop-holds : (t : ℕ) → build-cases-lts.Need-loop-holds (
   do-build-tree-below t,
   do-build-tree.Post,
 ) (build-cases-at t) build-cases.Post build-cases-Inv-loop build-cases-μ-loop
-build-cases-loop-holds t c = search needs
+build-cases-loop-holds t c = (omega arith, refl, loop-begin (c .before .before .before .before .pre .1 .0) (c .before .before .before .before .args .first) (c .before .before .before .before .args .work .now) (c .before .before .before .before .args .from) (c .before .before .before .before .pre .1 .1))
 
--- src/build.rt:91:34
+-- src/build.rt:92:34
 build-cases-add-case-at : (t : ℕ) → build-cases-lts.Need-add-case-at (
   case-at-reads.Asked,
   case-at-reads.Learnt,
@@ -106,9 +118,9 @@ build-cases-add-case-at : (t : ℕ) → build-cases-lts.Need-add-case-at (
   do-build-tree-below t,
   do-build-tree.Post,
 ) (build-cases-at t) build-cases.Post build-cases-Inv-loop build-cases-μ-loop
-build-cases-add-case-at t c = search needs
+build-cases-add-case-at t c = omega (arith, turn-room (c .before .before .before .before .before .before .before .pre .1 .0) (c .before .before .before .before .before .before .before .args .first) (c .before .before .before .before .before .before .before .args .work .now) (c .before .before .before .before .before .before .before .args .from) (c .before .before .before .before .before .before .before .pre .1 .1) (c .before .before .loop .i) (c .before .before .loop .work) (c .before .before .loop .tops) (c .before .before .loop .inv .2) (c .before .loop-test .taken))
 
--- src/build.rt:91:13
+-- src/build.rt:92:13
 build-cases-case-at-requires : (t : ℕ) → build-cases-lts.Need-case-at-requires (
   case-at-reads.Asked,
   case-at-reads.Learnt,
@@ -119,9 +131,9 @@ build-cases-case-at-requires : (t : ℕ) → build-cases-lts.Need-case-at-requir
   do-build-tree-below t,
   do-build-tree.Post,
 ) (build-cases-at t) build-cases.Post build-cases-Inv-loop build-cases-μ-loop
-build-cases-case-at-requires t c κs = search needs
+build-cases-case-at-requires t c κs = ((turn-room (c .before .before .before .before .before .before .before .pre .1 .0) (c .before .before .before .before .before .before .before .args .first) (c .before .before .before .before .before .before .before .args .work .now) (c .before .before .before .before .before .before .before .args .from) (c .before .before .before .before .before .before .before .pre .1 .1) (c .before .before .loop .i) (c .before .before .loop .work) (c .before .before .loop .tops) (c .before .before .loop .inv .2) (c .before .loop-test .taken)) .2, (turn-room (c .before .before .before .before .before .before .before .pre .1 .0) (c .before .before .before .before .before .before .before .args .first) (c .before .before .before .before .before .before .before .args .work .now) (c .before .before .before .before .before .before .before .args .from) (c .before .before .before .before .before .before .before .pre .1 .1) (c .before .before .loop .i) (c .before .before .loop .work) (c .before .before .loop .tops) (c .before .before .loop .inv .2) (c .before .loop-test .taken)) .0)
 
--- src/build.rt:93:13
+-- src/build.rt:94:13
 build-cases-case-matrix-requires : (t : ℕ) → build-cases-lts.Need-case-matrix-requires (
   case-at-reads.Asked,
   case-at-reads.Learnt,
@@ -132,9 +144,9 @@ build-cases-case-matrix-requires : (t : ℕ) → build-cases-lts.Need-case-matri
   do-build-tree-below t,
   do-build-tree.Post,
 ) (build-cases-at t) build-cases.Post build-cases-Inv-loop build-cases-μ-loop
-build-cases-case-matrix-requires t c κs = search needs
+build-cases-case-matrix-requires t c κs = ((c .before .before .before .before .before .before .before .before .pre .1 .0) .ready, (c .before .before .before .before .before .before .before .before .pre .1 .0) .there, (c .before .before .before .before .before .before .before .before .pre .1 .0) .chosen)
 
--- src/build.rt:94:25
+-- src/build.rt:95:25
 build-cases-add-put-child : (t : ℕ) → build-cases-lts.Need-add-put-child (
   case-at-reads.Asked,
   case-at-reads.Learnt,
@@ -145,9 +157,9 @@ build-cases-add-put-child : (t : ℕ) → build-cases-lts.Need-add-put-child (
   do-build-tree-below t,
   do-build-tree.Post,
 ) (build-cases-at t) build-cases.Post build-cases-Inv-loop build-cases-μ-loop
-build-cases-add-put-child t c = search needs
+build-cases-add-put-child t c = omega (arith, turn-room (c .before .before .before .before .before .before .before .before .before .before .pre .1 .0) (c .before .before .before .before .before .before .before .before .before .before .args .first) (c .before .before .before .before .before .before .before .before .before .before .args .work .now) (c .before .before .before .before .before .before .before .before .before .before .args .from) (c .before .before .before .before .before .before .before .before .before .before .pre .1 .1) (c .before .before .before .before .before .loop .i) (c .before .before .before .before .before .loop .work) (c .before .before .before .before .before .loop .tops) (c .before .before .before .before .before .loop .inv .2) (c .before .before .before .before .loop-test .taken))
 
--- src/build.rt:94:36
+-- src/build.rt:95:36
 build-cases-cast-put-child : (t : ℕ) → build-cases-lts.Need-cast-put-child (
   case-at-reads.Asked,
   case-at-reads.Learnt,
@@ -158,9 +170,9 @@ build-cases-cast-put-child : (t : ℕ) → build-cases-lts.Need-cast-put-child (
   do-build-tree-below t,
   do-build-tree.Post,
 ) (build-cases-at t) build-cases.Post build-cases-Inv-loop build-cases-μ-loop
-build-cases-cast-put-child t c = search needs
+build-cases-cast-put-child t c = omega (arith, turn-room (c .before .before .before .before .before .before .before .before .before .before .before .pre .1 .0) (c .before .before .before .before .before .before .before .before .before .before .before .args .first) (c .before .before .before .before .before .before .before .before .before .before .before .args .work .now) (c .before .before .before .before .before .before .before .before .before .before .before .args .from) (c .before .before .before .before .before .before .before .before .before .before .before .pre .1 .1) (c .before .before .before .before .before .before .loop .i) (c .before .before .before .before .before .before .loop .work) (c .before .before .before .before .before .before .loop .tops) (c .before .before .before .before .before .before .loop .inv .2) (c .before .before .before .before .before .loop-test .taken))
 
--- src/build.rt:94:9
+-- src/build.rt:95:9
 build-cases-put-child-requires : (t : ℕ) → build-cases-lts.Need-put-child-requires (
   case-at-reads.Asked,
   case-at-reads.Learnt,
@@ -171,9 +183,9 @@ build-cases-put-child-requires : (t : ℕ) → build-cases-lts.Need-put-child-re
   do-build-tree-below t,
   do-build-tree.Post,
 ) (build-cases-at t) build-cases.Post build-cases-Inv-loop build-cases-μ-loop
-build-cases-put-child-requires t c κs = search needs
+build-cases-put-child-requires t c κs = ((turn-room (c .before .before .before .before .before .before .before .before .before .before .before .pre .1 .0) (c .before .before .before .before .before .before .before .before .before .before .before .args .first) (c .before .before .before .before .before .before .before .before .before .before .before .args .work .now) (c .before .before .before .before .before .before .before .before .before .before .before .args .from) (c .before .before .before .before .before .before .before .before .before .before .before .pre .1 .1) (c .before .before .before .before .before .before .loop .i) (c .before .before .before .before .before .before .loop .work) (c .before .before .before .before .before .before .loop .tops) (c .before .before .before .before .before .before .loop .inv .2) (c .before .before .before .before .before .loop-test .taken)) .2, (turn-room (c .before .before .before .before .before .before .before .before .before .before .before .pre .1 .0) (c .before .before .before .before .before .before .before .before .before .before .before .args .first) (c .before .before .before .before .before .before .before .before .before .before .before .args .work .now) (c .before .before .before .before .before .before .before .before .before .before .before .args .from) (c .before .before .before .before .before .before .before .before .before .before .before .pre .1 .1) (c .before .before .before .before .before .before .loop .i) (c .before .before .before .before .before .before .loop .work) (c .before .before .before .before .before .before .loop .tops) (c .before .before .before .before .before .before .loop .inv .2) (c .before .before .before .before .before .loop-test .taken)) .0)
 
--- src/build.rt:95:13
+-- src/build.rt:96:13
 build-cases-do-build-tree-requires : (t : ℕ) → build-cases-lts.Need-do-build-tree-requires (
   case-at-reads.Asked,
   case-at-reads.Learnt,
@@ -184,9 +196,9 @@ build-cases-do-build-tree-requires : (t : ℕ) → build-cases-lts.Need-do-build
   do-build-tree-below t,
   do-build-tree.Post,
 ) (build-cases-at t) build-cases.Post build-cases-Inv-loop build-cases-μ-loop
-build-cases-do-build-tree-requires t c κs = search needs
+build-cases-do-build-tree-requires t c κs = (omega (arith, (c .before .before .before .before .before .before .before .before .before .before .before .before .before .before .before .pre .0), turn-deeper (c .before .before .before .before .before .before .before .before .before .before .before .before .before .before .before .pre .1 .0) (c .before .before .before .before .before .before .before .before .before .before .before .before .before .before .before .args .first) (c .before .before .before .before .before .before .before .before .before .before .before .before .before .before .before .args .work .now) (c .before .before .before .before .before .before .before .before .before .before .before .before .before .before .before .args .from) (c .before .before .before .before .before .before .before .before .before .before .before .before .before .before .before .pre .1 .1) (c .before .before .before .before .before .before .before .before .before .before .loop .i) (c .before .before .before .before .before .before .before .before .before .before .loop .work) (c .before .before .before .before .before .before .before .before .before .before .loop .tops) (c .before .before .before .before .before .before .before .before .before .before .loop .inv .2) (c .before .before .before .before .before .before .before .before .before .loop-test .taken) (c .before .before .before .before .before .before .before .case-at .result .test) (ap (λ (z : Case). z .test) (c .before .before .before .before .before .before .before .case-at .ensures)) (c .before .before .before .before .before .before .case-matrix .result) (c .before .before .before .before .before .before .case-matrix .ensures .0) (c .before .before .before .before .before .before .case-matrix .ensures .1), tested-room (c .before .before .before .before .before .before .before .before .before .before .before .before .before .before .before .pre .1 .0)), turn-asked (c .before .before .before .before .before .before .before .before .before .before .before .before .before .before .before .pre .1 .0) (c .before .before .before .before .before .before .before .before .before .before .before .before .before .before .before .args .first) (c .before .before .before .before .before .before .before .before .before .before .before .before .before .before .before .args .work .now) (c .before .before .before .before .before .before .before .before .before .before .before .before .before .before .before .args .from) (c .before .before .before .before .before .before .before .before .before .before .before .before .before .before .before .pre .1 .1) (c .before .before .before .before .before .before .before .before .before .before .loop .i) (c .before .before .before .before .before .before .before .before .before .before .loop .work) (c .before .before .before .before .before .before .before .before .before .before .loop .tops) (c .before .before .before .before .before .before .before .before .before .before .loop .inv .2) (c .before .before .before .before .before .before .before .before .before .loop-test .taken) (c .before .before .before .before .before .before .before .case-at .result .test) (ap (λ (z : Case). z .test) (c .before .before .before .before .before .before .before .case-at .ensures)) (c .before .before .before .before .before .before .case-matrix .result) (c .before .before .before .before .before .before .case-matrix .ensures .0) (c .before .before .before .before .before .before .case-matrix .ensures .1) (c .before .before .before .put-child .last .0) (c .before .before .before .put-child .ensures))
 
--- src/build.rt:97:13
+-- src/build.rt:98:13
 build-cases-same-length : (t : ℕ) → build-cases-lts.Need-same-length (
   case-at-reads.Asked,
   case-at-reads.Learnt,
@@ -197,9 +209,9 @@ build-cases-same-length : (t : ℕ) → build-cases-lts.Need-same-length (
   do-build-tree-below t,
   do-build-tree.Post,
 ) (build-cases-at t) build-cases.Post build-cases-Inv-loop build-cases-μ-loop
-build-cases-same-length t c = search needs
+build-cases-same-length t c = (c .before .before .before .before .do-build-tree .kept .1 .1 .1 .1 .0) ∙ (c .before .before .before .before .before .before .before .before .put-child .kept .0) ∙ (c .before .before .before .before .before .before .before .before .before .before .before .before .before .before .before .loop .inv .1)
 
--- src/build.rt:97:13
+-- src/build.rt:98:13
 build-cases-returns : (t : ℕ) → build-cases-lts.Need-returns (
   case-at-reads.Asked,
   case-at-reads.Learnt,
@@ -210,9 +222,9 @@ build-cases-returns : (t : ℕ) → build-cases-lts.Need-returns (
   do-build-tree-below t,
   do-build-tree.Post,
 ) (build-cases-at t) build-cases.Post build-cases-Inv-loop build-cases-μ-loop
-build-cases-returns t c = search needs
+build-cases-returns t c = turn-over (c .before .before .before .before .before .before .before .before .before .before .before .before .before .before .before .before .before .before .before .before .pre .1 .0) (c .before .before .before .before .before .before .before .before .before .before .before .before .before .before .before .before .before .before .before .before .args .first) (c .before .before .before .before .before .before .before .before .before .before .before .before .before .before .before .before .before .before .before .before .args .work .now) (c .before .before .before .before .before .before .before .before .before .before .before .before .before .before .before .before .before .before .before .before .args .from) (c .before .before .before .before .before .before .before .before .before .before .before .before .before .before .before .before .before .before .before .before .pre .1 .1) (c .before .before .before .before .before .before .before .before .before .before .before .before .before .before .before .loop .i) (c .before .before .before .before .before .before .before .before .before .before .before .before .before .before .before .loop .work) (c .before .before .before .before .before .before .before .before .before .before .before .before .before .before .before .loop .tops) (c .before .before .before .before .before .before .before .before .before .before .before .before .before .before .before .loop .inv .2) (c .before .before .before .before .before .before .before .before .before .before .before .before .before .before .loop-test .taken) (c .before .before .before .before .before .before .before .before .before .before .before .before .case-at .result .test) (ap (λ (z : Case). z .test) (c .before .before .before .before .before .before .before .before .before .before .before .before .case-at .ensures)) (c .before .before .before .before .before .before .before .before .before .before .before .case-matrix .result) (c .before .before .before .before .before .before .before .before .before .before .before .case-matrix .ensures .0) (c .before .before .before .before .before .before .before .before .before .before .before .case-matrix .ensures .1) (c .before .before .before .before .before .before .before .before .put-child .last .0) (c .before .before .before .before .before .before .before .before .put-child .ensures) (c .before .before .before .before .do-build-tree .last .1 .1 .1 .1 .0) (c .before .before .before .before .do-build-tree .result) (c .before .before .before .before .do-build-tree .ensures) (not-true (c .before .before .before .before .do-build-tree .result .fits) (c .if1 .taken))
 
--- src/build.rt:100:9
+-- src/build.rt:101:9
 build-cases-add-i : (t : ℕ) → build-cases-lts.Need-add-i (
   case-at-reads.Asked,
   case-at-reads.Learnt,
@@ -223,9 +235,9 @@ build-cases-add-i : (t : ℕ) → build-cases-lts.Need-add-i (
   do-build-tree-below t,
   do-build-tree.Post,
 ) (build-cases-at t) build-cases.Post build-cases-Inv-loop build-cases-μ-loop
-build-cases-add-i t c = search needs
+build-cases-add-i t c = omega (arith, turn-room (c .before .before .before .before .before .before .before .before .before .before .before .before .before .before .before .before .before .before .before .before .before .pre .1 .0) (c .before .before .before .before .before .before .before .before .before .before .before .before .before .before .before .before .before .before .before .before .before .args .first) (c .before .before .before .before .before .before .before .before .before .before .before .before .before .before .before .before .before .before .before .before .before .args .work .now) (c .before .before .before .before .before .before .before .before .before .before .before .before .before .before .before .before .before .before .before .before .before .args .from) (c .before .before .before .before .before .before .before .before .before .before .before .before .before .before .before .before .before .before .before .before .before .pre .1 .1) (c .before .before .before .before .before .before .before .before .before .before .before .before .before .before .before .before .loop .i) (c .before .before .before .before .before .before .before .before .before .before .before .before .before .before .before .before .loop .work) (c .before .before .before .before .before .before .before .before .before .before .before .before .before .before .before .before .loop .tops) (c .before .before .before .before .before .before .before .before .before .before .before .before .before .before .before .before .loop .inv .2) (c .before .before .before .before .before .before .before .before .before .before .before .before .before .before .before .loop-test .taken))
 
--- src/build.rt:90:5
+-- src/build.rt:91:5
 build-cases-loop-less : (t : ℕ) → build-cases-lts.Need-loop-less (
   case-at-reads.Asked,
   case-at-reads.Learnt,
@@ -238,7 +250,7 @@ build-cases-loop-less : (t : ℕ) → build-cases-lts.Need-loop-less (
 ) (build-cases-at t) build-cases.Post build-cases-Inv-loop build-cases-μ-loop
 build-cases-loop-less t c = search needs
 
--- src/build.rt:90:5
+-- src/build.rt:91:5
 build-cases-loop-again : (t : ℕ) → build-cases-lts.Need-loop-again (
   case-at-reads.Asked,
   case-at-reads.Learnt,
@@ -249,9 +261,9 @@ build-cases-loop-again : (t : ℕ) → build-cases-lts.Need-loop-again (
   do-build-tree-below t,
   do-build-tree.Post,
 ) (build-cases-at t) build-cases.Post build-cases-Inv-loop build-cases-μ-loop
-build-cases-loop-again t c = search needs
+build-cases-loop-again t c = (search needs, (c .before .before .before .before .before .do-build-tree .kept .1 .1 .1 .1 .0) ∙ (c .before .before .before .before .before .before .before .before .before .put-child .kept .0) ∙ (c .before .before .before .before .before .before .before .before .before .before .before .before .before .before .before .before .loop .inv .1), turn-done (c .before .before .before .before .before .before .before .before .before .before .before .before .before .before .before .before .before .before .before .before .before .pre .1 .0) (c .before .before .before .before .before .before .before .before .before .before .before .before .before .before .before .before .before .before .before .before .before .args .first) (c .before .before .before .before .before .before .before .before .before .before .before .before .before .before .before .before .before .before .before .before .before .args .work .now) (c .before .before .before .before .before .before .before .before .before .before .before .before .before .before .before .before .before .before .before .before .before .args .from) (c .before .before .before .before .before .before .before .before .before .before .before .before .before .before .before .before .before .before .before .before .before .pre .1 .1) (c .before .before .before .before .before .before .before .before .before .before .before .before .before .before .before .before .loop .i) (c .before .before .before .before .before .before .before .before .before .before .before .before .before .before .before .before .loop .work) (c .before .before .before .before .before .before .before .before .before .before .before .before .before .before .before .before .loop .tops) (c .before .before .before .before .before .before .before .before .before .before .before .before .before .before .before .before .loop .inv .2) (c .before .before .before .before .before .before .before .before .before .before .before .before .before .before .before .loop-test .taken) (c .before .before .before .before .before .before .before .before .before .before .before .before .before .case-at .result .test) (ap (λ (z : Case). z .test) (c .before .before .before .before .before .before .before .before .before .before .before .before .before .case-at .ensures)) (c .before .before .before .before .before .before .before .before .before .before .before .before .case-matrix .result) (c .before .before .before .before .before .before .before .before .before .before .before .before .case-matrix .ensures .0) (c .before .before .before .before .before .before .before .before .before .before .before .before .case-matrix .ensures .1) (c .before .before .before .before .before .before .before .before .before .put-child .last .0) (c .before .before .before .before .before .before .before .before .before .put-child .ensures) (c .before .before .before .before .before .do-build-tree .last .1 .1 .1 .1 .0) (c .before .before .before .before .before .do-build-tree .result) (c .before .before .before .before .before .do-build-tree .ensures) (not-false (c .before .before .before .before .before .do-build-tree .result .fits) (c .before .if1 .left)))
 
--- src/build.rt:82:1
+-- src/build.rt:83:1
 build-cases-same-length-2 : (t : ℕ) → build-cases-lts.Need-same-length-2 (
   case-at-reads.Asked,
   case-at-reads.Learnt,
@@ -264,7 +276,7 @@ build-cases-same-length-2 : (t : ℕ) → build-cases-lts.Need-same-length-2 (
 ) (build-cases-at t) build-cases.Post build-cases-Inv-loop build-cases-μ-loop
 build-cases-same-length-2 t c = search needs
 
--- src/build.rt:82:1
+-- src/build.rt:83:1
 build-cases-returns-2 : (t : ℕ) → build-cases-lts.Need-returns-2 (
   case-at-reads.Asked,
   case-at-reads.Learnt,
@@ -275,9 +287,9 @@ build-cases-returns-2 : (t : ℕ) → build-cases-lts.Need-returns-2 (
   do-build-tree-below t,
   do-build-tree.Post,
 ) (build-cases-at t) build-cases.Post build-cases-Inv-loop build-cases-μ-loop
-build-cases-returns-2 t c = search needs
+build-cases-returns-2 t c = loop-end (c .before .before .before .before .before .before .pre .1 .0) (c .before .before .before .before .before .before .args .first) (c .before .before .before .before .before .before .args .work .now) (c .before .before .before .before .before .before .args .from) (c .before .before .before .before .before .before .pre .1 .1) (c .before .loop .i) (c .before .loop .work) (c .before .loop .tops) (record { fits = true; tops = (c .before .loop .tops) }) (c .before .loop .inv .2) (c .loop-test .left) refl
 
--- src/build.rt:111:9
+-- src/build.rt:112:9
 build-switch-meet-cases-requires : (t : ℕ) → build-switch-lts.Need-meet-cases-requires (
   meet-cases-reads.Asked,
   meet-cases-reads.Learnt,
@@ -290,9 +302,9 @@ build-switch-meet-cases-requires : (t : ℕ) → build-switch-lts.Need-meet-case
   do-build-tree-below t,
   do-build-tree.Post,
 ) (build-switch-at t) build-switch.Post
-build-switch-meet-cases-requires t c κs = search needs
+build-switch-meet-cases-requires t c κs = (((c .before .before .before .before .pre .1 .0) .ready, (c .before .before .before .before .pre .1 .0) .there, (c .before .before .before .before .pre .1 .0) .chosen), ((c .before .before .before .before .pre .1 .1) .long, (c .before .before .before .before .pre .1 .1) .cases-most))
 
--- src/build.rt:112:22
+-- src/build.rt:113:22
 build-switch-enum-known-meeting : (t : ℕ) → build-switch-lts.Need-enum-known-meeting (
   meet-cases-reads.Asked,
   meet-cases-reads.Learnt,
@@ -307,7 +319,7 @@ build-switch-enum-known-meeting : (t : ℕ) → build-switch-lts.Need-enum-known
 ) (build-switch-at t) build-switch.Post
 build-switch-enum-known-meeting t c = search needs
 
--- src/build.rt:113:9
+-- src/build.rt:114:9
 build-switch-enum-told : (t : ℕ) → build-switch-lts.Need-enum-told (
   meet-cases-reads.Asked,
   meet-cases-reads.Learnt,
@@ -322,7 +334,7 @@ build-switch-enum-told : (t : ℕ) → build-switch-lts.Need-enum-told (
 ) (build-switch-at t) build-switch.Post
 build-switch-enum-told t c = search needs
 
--- src/build.rt:113:9
+-- src/build.rt:114:9
 build-switch-same-length : (t : ℕ) → build-switch-lts.Need-same-length (
   meet-cases-reads.Asked,
   meet-cases-reads.Learnt,
@@ -335,9 +347,9 @@ build-switch-same-length : (t : ℕ) → build-switch-lts.Need-same-length (
   do-build-tree-below t,
   do-build-tree.Post,
 ) (build-switch-at t) build-switch.Post
-build-switch-same-length t c = search needs
+build-switch-same-length t c = (c .before .before .before .before .meet-cases .kept .1 .1 .1 .1 .1 .0)
 
--- src/build.rt:113:9
+-- src/build.rt:114:9
 build-switch-returns : (t : ℕ) → build-switch-lts.Need-returns (
   meet-cases-reads.Asked,
   meet-cases-reads.Learnt,
@@ -350,9 +362,9 @@ build-switch-returns : (t : ℕ) → build-switch-lts.Need-returns (
   do-build-tree-below t,
   do-build-tree.Post,
 ) (build-switch-at t) build-switch.Post
-build-switch-returns t c = search needs
+build-switch-returns t c = no-room (c .before .before .before .before .before .before .before .before .before .pre .1 .0) (c .before .before .before .before .before .before .before .before .before .args .work .now) (c .before .before .before .before .before .before .before .before .before .args .tops) (c .before .before .before .before .before .before .before .before .before .pre .1 .1) (c .before .before .before .before .before .before .before .before .before .pre .1 .2) (c .before .before .before .before .meet-cases .last .1 .1 .1 .1 .1 .0) (record { fits = false; tops = (c .before .before .before .before .before .before .before .before .before .args .tops) }) (subst (λ z. MeetsTo (c .before .before .before .before .before .before .before .before .before .args .s .now) (c .before .before .before .before .before .before .before .before .before .args .class) (numbered (c .before .before .before .before .before .before .before .before .before .args .x)) ((c .before .before .before .before .before .before .before .before .before .args .tops) .cases) (c .before .before .before .before .before .before .before .before .before .args .work .now) (c .before .before .before .before .meet-cases .last .1 .1 .1 .1 .1 .0) z) (c .enum-told .given .1) (c .before .before .before .before .meet-cases .ensures)) refl
 
--- src/build.rt:117:16
+-- src/build.rt:118:16
 build-switch-add-put-switch : (t : ℕ) → build-switch-lts.Need-add-put-switch (
   meet-cases-reads.Asked,
   meet-cases-reads.Learnt,
@@ -365,9 +377,9 @@ build-switch-add-put-switch : (t : ℕ) → build-switch-lts.Need-add-put-switch
   do-build-tree-below t,
   do-build-tree.Post,
 ) (build-switch-at t) build-switch.Post
-build-switch-add-put-switch t c = search needs
+build-switch-add-put-switch t c = omega (arith, (c .before .before .before .before .before .before .before .before .before .before .before .before .pre .1 .2))
 
--- src/build.rt:122:9
+-- src/build.rt:123:9
 build-switch-build-cases-requires : (t : ℕ) → build-switch-lts.Need-build-cases-requires (
   meet-cases-reads.Asked,
   meet-cases-reads.Learnt,
@@ -380,9 +392,9 @@ build-switch-build-cases-requires : (t : ℕ) → build-switch-lts.Need-build-ca
   do-build-tree-below t,
   do-build-tree.Post,
 ) (build-switch-at t) build-switch.Post
-build-switch-build-cases-requires t c κs = search needs
+build-switch-build-cases-requires t c κs = (omega (arith, (c .before .before .before .before .before .before .before .before .before .before .before .before .before .pre .0)), ((c .before .before .before .before .before .before .before .before .before .before .before .before .before .pre .1 .0), switch-open (c .before .before .before .before .before .before .before .before .before .before .before .before .before .pre .1 .0) (c .before .before .before .before .before .before .before .before .before .before .before .before .before .args .work .now) (c .before .before .before .before .before .before .before .before .before .before .before .before .before .args .tops) (c .before .before .before .before .before .before .before .before .before .before .before .before .before .pre .1 .1) (c .before .before .before .before .before .before .before .before .before .before .before .before .before .pre .1 .2) (c .before .before .before .before .before .before .before .before .meet-cases .last .1 .1 .1 .1 .1 .0) (c .before .before .before .before .meeting .given .0 .0) (met-made (c .before .before .before .before .before .before .before .before .before .before .before .before .before .pre .1 .0) (c .before .before .before .before .before .before .before .before .before .before .before .before .before .args .work .now) (c .before .before .before .before .before .before .before .before .before .before .before .before .before .args .tops) (c .before .before .before .before .before .before .before .before .before .before .before .before .before .pre .1 .1) (c .before .before .before .before .before .before .before .before .before .before .before .before .before .pre .1 .2) (c .before .before .before .before .before .before .before .before .meet-cases .last .1 .1 .1 .1 .1 .0) (c .before .before .before .before .before .before .before .before .meet-cases .result) (c .before .before .before .before .meeting .given .0 .0) (c .before .before .before .before .meeting .given .1) (c .before .before .before .before .before .before .before .before .meet-cases .ensures)) (record { nodes = (c .before .before .before .before .before .before .before .before .before .before .before .before .before .args .tops) .nodes + 1; cases = (c .before .before .before .before .meeting .given .0 .0) .end; bindings = (c .before .before .before .before .before .before .before .before .before .before .before .before .before .args .tops) .bindings; leaves = (c .before .before .before .before .before .before .before .before .before .before .before .before .before .args .tops) .leaves }) refl))
 
--- src/build.rt:124:9
+-- src/build.rt:125:9
 build-switch-same-length-2 : (t : ℕ) → build-switch-lts.Need-same-length-2 (
   meet-cases-reads.Asked,
   meet-cases-reads.Learnt,
@@ -395,9 +407,9 @@ build-switch-same-length-2 : (t : ℕ) → build-switch-lts.Need-same-length-2 (
   do-build-tree-below t,
   do-build-tree.Post,
 ) (build-switch-at t) build-switch.Post
-build-switch-same-length-2 t c = search needs
+build-switch-same-length-2 t c = (c .before .before .before .before .build-cases .kept .1 .1 .1 .1 .1 .0) ∙ (c .before .before .before .before .before .before .before .before .before .before .before .before .before .meet-cases .kept .1 .1 .1 .1 .1 .0)
 
--- src/build.rt:124:9
+-- src/build.rt:125:9
 build-switch-returns-2 : (t : ℕ) → build-switch-lts.Need-returns-2 (
   meet-cases-reads.Asked,
   meet-cases-reads.Learnt,
@@ -410,9 +422,9 @@ build-switch-returns-2 : (t : ℕ) → build-switch-lts.Need-returns-2 (
   do-build-tree-below t,
   do-build-tree.Post,
 ) (build-switch-at t) build-switch.Post
-build-switch-returns-2 t c = search needs
+build-switch-returns-2 t c = switch-cases-over (c .before .before .before .before .before .before .before .before .before .before .before .before .before .before .before .before .before .before .pre .1 .0) (c .before .before .before .before .before .before .before .before .before .before .before .before .before .before .before .before .before .before .args .work .now) (c .before .before .before .before .before .before .before .before .before .before .before .before .before .before .before .before .before .before .args .tops) (c .before .before .before .before .before .before .before .before .before .before .before .before .before .before .before .before .before .before .pre .1 .1) (c .before .before .before .before .before .before .before .before .before .before .before .before .before .before .before .before .before .before .pre .1 .2) (c .before .before .before .before .before .before .before .before .before .before .before .before .before .meet-cases .last .1 .1 .1 .1 .1 .0) (c .before .before .before .before .before .before .before .before .before .meeting .given .0 .0) (met-made (c .before .before .before .before .before .before .before .before .before .before .before .before .before .before .before .before .before .before .pre .1 .0) (c .before .before .before .before .before .before .before .before .before .before .before .before .before .before .before .before .before .before .args .work .now) (c .before .before .before .before .before .before .before .before .before .before .before .before .before .before .before .before .before .before .args .tops) (c .before .before .before .before .before .before .before .before .before .before .before .before .before .before .before .before .before .before .pre .1 .1) (c .before .before .before .before .before .before .before .before .before .before .before .before .before .before .before .before .before .before .pre .1 .2) (c .before .before .before .before .before .before .before .before .before .before .before .before .before .meet-cases .last .1 .1 .1 .1 .1 .0) (c .before .before .before .before .before .before .before .before .before .before .before .before .before .meet-cases .result) (c .before .before .before .before .before .before .before .before .before .meeting .given .0 .0) (c .before .before .before .before .before .before .before .before .before .meeting .given .1) (c .before .before .before .before .before .before .before .before .before .before .before .before .before .meet-cases .ensures)) (record { nodes = (c .before .before .before .before .before .before .before .before .before .before .before .before .before .before .before .before .before .before .args .tops) .nodes + 1; cases = (c .before .before .before .before .before .before .before .before .before .meeting .given .0 .0) .end; bindings = (c .before .before .before .before .before .before .before .before .before .before .before .before .before .before .before .before .before .before .args .tops) .bindings; leaves = (c .before .before .before .before .before .before .before .before .before .before .before .before .before .before .before .before .before .before .args .tops) .leaves }) refl (c .before .before .before .before .build-cases .last .1 .1 .1 .1 .1 .0) (c .before .before .before .before .build-cases .result) (not-true (c .before .before .before .before .build-cases .result .fits) (c .if1 .taken)) (c .before .before .before .before .build-cases .ensures)
 
--- src/build.rt:127:9
+-- src/build.rt:128:9
 build-switch-default-matrix-requires : (t : ℕ) → build-switch-lts.Need-default-matrix-requires (
   meet-cases-reads.Asked,
   meet-cases-reads.Learnt,
@@ -425,9 +437,9 @@ build-switch-default-matrix-requires : (t : ℕ) → build-switch-lts.Need-defau
   do-build-tree-below t,
   do-build-tree.Post,
 ) (build-switch-at t) build-switch.Post
-build-switch-default-matrix-requires t c κs = search needs
+build-switch-default-matrix-requires t c κs = ((c .before .before .before .before .before .before .before .before .before .before .before .before .before .before .before .before .before .before .before .pre .1 .0) .ready, (c .before .before .before .before .before .before .before .before .before .before .before .before .before .before .before .before .before .before .before .pre .1 .0) .there, (c .before .before .before .before .before .before .before .before .before .before .before .before .before .before .before .before .before .before .before .pre .1 .0) .chosen)
 
--- src/build.rt:130:9
+-- src/build.rt:131:9
 build-switch-put-switch-requires : (t : ℕ) → build-switch-lts.Need-put-switch-requires (
   meet-cases-reads.Asked,
   meet-cases-reads.Learnt,
@@ -440,9 +452,9 @@ build-switch-put-switch-requires : (t : ℕ) → build-switch-lts.Need-put-switc
   do-build-tree-below t,
   do-build-tree.Post,
 ) (build-switch-at t) build-switch.Post
-build-switch-put-switch-requires t c κs = search needs
+build-switch-put-switch-requires t c κs = let a = switch-node-asked (c .before .before .before .before .before .before .before .before .before .before .before .before .before .before .before .before .before .before .before .before .before .before .before .before .pre .1 .0) (c .before .before .before .before .before .before .before .before .before .before .before .before .before .before .before .before .before .before .before .before .before .before .before .before .args .work .now) (c .before .before .before .before .before .before .before .before .before .before .before .before .before .before .before .before .before .before .before .before .before .before .before .before .args .tops) (c .before .before .before .before .before .before .before .before .before .before .before .before .before .before .before .before .before .before .before .before .before .before .before .before .pre .1 .1) (c .before .before .before .before .before .before .before .before .before .before .before .before .before .before .before .before .before .before .before .before .before .before .before .before .pre .1 .2) (c .before .before .before .before .before .before .before .before .before .before .before .before .before .before .before .before .before .before .before .meet-cases .last .1 .1 .1 .1 .1 .0) (c .before .before .before .before .before .before .before .before .before .before .before .before .before .before .before .meeting .given .0 .0) (met-made (c .before .before .before .before .before .before .before .before .before .before .before .before .before .before .before .before .before .before .before .before .before .before .before .before .pre .1 .0) (c .before .before .before .before .before .before .before .before .before .before .before .before .before .before .before .before .before .before .before .before .before .before .before .before .args .work .now) (c .before .before .before .before .before .before .before .before .before .before .before .before .before .before .before .before .before .before .before .before .before .before .before .before .args .tops) (c .before .before .before .before .before .before .before .before .before .before .before .before .before .before .before .before .before .before .before .before .before .before .before .before .pre .1 .1) (c .before .before .before .before .before .before .before .before .before .before .before .before .before .before .before .before .before .before .before .before .before .before .before .before .pre .1 .2) (c .before .before .before .before .before .before .before .before .before .before .before .before .before .before .before .before .before .before .before .meet-cases .last .1 .1 .1 .1 .1 .0) (c .before .before .before .before .before .before .before .before .before .before .before .before .before .before .before .before .before .before .before .meet-cases .result) (c .before .before .before .before .before .before .before .before .before .before .before .before .before .before .before .meeting .given .0 .0) (c .before .before .before .before .before .before .before .before .before .before .before .before .before .before .before .meeting .given .1) (c .before .before .before .before .before .before .before .before .before .before .before .before .before .before .before .before .before .before .before .meet-cases .ensures)) (record { nodes = (c .before .before .before .before .before .before .before .before .before .before .before .before .before .before .before .before .before .before .before .before .before .before .before .before .args .tops) .nodes + 1; cases = (c .before .before .before .before .before .before .before .before .before .before .before .before .before .before .before .meeting .given .0 .0) .end; bindings = (c .before .before .before .before .before .before .before .before .before .before .before .before .before .before .before .before .before .before .before .before .before .before .before .before .args .tops) .bindings; leaves = (c .before .before .before .before .before .before .before .before .before .before .before .before .before .before .before .before .before .before .before .before .before .before .before .before .args .tops) .leaves }) refl (c .before .before .before .before .before .before .before .before .before .before .build-cases .last .1 .1 .1 .1 .1 .0) (c .before .before .before .before .before .before .before .before .before .before .build-cases .result) (not-false (c .before .before .before .before .before .before .before .before .before .before .build-cases .result .fits) (c .before .before .before .before .before .before .if1 .left)) (c .before .before .before .before .before .before .before .before .before .before .build-cases .ensures) (c .before .before .before .before .default-matrix .result) (c .before .before .before .before .default-matrix .ensures .0) (c .before .before .before .before .default-matrix .ensures .1) in ((a .0, a .1, a .2, omega arith), switch-met-asked (c .before .before .before .before .before .before .before .before .before .before .before .before .before .before .before .before .before .before .before .before .before .before .before .before .pre .1 .0) (c .before .before .before .before .before .before .before .before .before .before .before .before .before .before .before .before .before .before .before .before .before .before .before .before .args .work .now) (c .before .before .before .before .before .before .before .before .before .before .before .before .before .before .before .before .before .before .before .before .before .before .before .before .args .tops) (c .before .before .before .before .before .before .before .before .before .before .before .before .before .before .before .before .before .before .before .before .before .before .before .before .pre .1 .1) (c .before .before .before .before .before .before .before .before .before .before .before .before .before .before .before .before .before .before .before .before .before .before .before .before .pre .1 .2) (c .before .before .before .before .before .before .before .before .before .before .before .before .before .before .before .before .before .before .before .meet-cases .last .1 .1 .1 .1 .1 .0) (c .before .before .before .before .before .before .before .before .before .before .before .before .before .before .before .meeting .given .0 .0) (met-made (c .before .before .before .before .before .before .before .before .before .before .before .before .before .before .before .before .before .before .before .before .before .before .before .before .pre .1 .0) (c .before .before .before .before .before .before .before .before .before .before .before .before .before .before .before .before .before .before .before .before .before .before .before .before .args .work .now) (c .before .before .before .before .before .before .before .before .before .before .before .before .before .before .before .before .before .before .before .before .before .before .before .before .args .tops) (c .before .before .before .before .before .before .before .before .before .before .before .before .before .before .before .before .before .before .before .before .before .before .before .before .pre .1 .1) (c .before .before .before .before .before .before .before .before .before .before .before .before .before .before .before .before .before .before .before .before .before .before .before .before .pre .1 .2) (c .before .before .before .before .before .before .before .before .before .before .before .before .before .before .before .before .before .before .before .meet-cases .last .1 .1 .1 .1 .1 .0) (c .before .before .before .before .before .before .before .before .before .before .before .before .before .before .before .before .before .before .before .meet-cases .result) (c .before .before .before .before .before .before .before .before .before .before .before .before .before .before .before .meeting .given .0 .0) (c .before .before .before .before .before .before .before .before .before .before .before .before .before .before .before .meeting .given .1) (c .before .before .before .before .before .before .before .before .before .before .before .before .before .before .before .before .before .before .before .meet-cases .ensures)) (record { nodes = (c .before .before .before .before .before .before .before .before .before .before .before .before .before .before .before .before .before .before .before .before .before .before .before .before .args .tops) .nodes + 1; cases = (c .before .before .before .before .before .before .before .before .before .before .before .before .before .before .before .meeting .given .0 .0) .end; bindings = (c .before .before .before .before .before .before .before .before .before .before .before .before .before .before .before .before .before .before .before .before .before .before .before .before .args .tops) .bindings; leaves = (c .before .before .before .before .before .before .before .before .before .before .before .before .before .before .before .before .before .before .before .before .before .before .before .before .args .tops) .leaves }) refl (c .before .before .before .before .before .before .before .before .before .before .build-cases .last .1 .1 .1 .1 .1 .0) (c .before .before .before .before .before .before .before .before .before .before .build-cases .result) (not-false (c .before .before .before .before .before .before .before .before .before .before .build-cases .result .fits) (c .before .before .before .before .before .before .if1 .left)) (c .before .before .before .before .before .before .before .before .before .before .build-cases .ensures) (c .before .before .before .before .default-matrix .result) (c .before .before .before .before .default-matrix .ensures .0) (c .before .before .before .before .default-matrix .ensures .1))
 
--- src/build.rt:131:9
+-- src/build.rt:132:9
 build-switch-same-length-3 : (t : ℕ) → build-switch-lts.Need-same-length-3 (
   meet-cases-reads.Asked,
   meet-cases-reads.Learnt,
@@ -455,9 +467,9 @@ build-switch-same-length-3 : (t : ℕ) → build-switch-lts.Need-same-length-3 (
   do-build-tree-below t,
   do-build-tree.Post,
 ) (build-switch-at t) build-switch.Post
-build-switch-same-length-3 t c = search needs
+build-switch-same-length-3 t c = (c .before .before .put-switch .kept .0) ∙ (c .before .before .before .before .before .before .before .before .before .before .before .before .before .build-cases .kept .1 .1 .1 .1 .1 .0) ∙ (c .before .before .before .before .before .before .before .before .before .before .before .before .before .before .before .before .before .before .before .before .before .before .meet-cases .kept .1 .1 .1 .1 .1 .0)
 
--- src/build.rt:131:9
+-- src/build.rt:132:9
 build-switch-returns-3 : (t : ℕ) → build-switch-lts.Need-returns-3 (
   meet-cases-reads.Asked,
   meet-cases-reads.Learnt,
@@ -470,9 +482,9 @@ build-switch-returns-3 : (t : ℕ) → build-switch-lts.Need-returns-3 (
   do-build-tree-below t,
   do-build-tree.Post,
 ) (build-switch-at t) build-switch.Post
-build-switch-returns-3 t c = search needs
+build-switch-returns-3 t c = switch-done (c .before .before .before .before .before .before .before .before .before .before .before .before .before .before .before .before .before .before .before .before .before .before .before .before .before .before .before .pre .1 .0) (c .before .before .before .before .before .before .before .before .before .before .before .before .before .before .before .before .before .before .before .before .before .before .before .before .before .before .before .args .work .now) (c .before .before .before .before .before .before .before .before .before .before .before .before .before .before .before .before .before .before .before .before .before .before .before .before .before .before .before .args .tops) (c .before .before .before .before .before .before .before .before .before .before .before .before .before .before .before .before .before .before .before .before .before .before .before .before .before .before .before .pre .1 .1) (c .before .before .before .before .before .before .before .before .before .before .before .before .before .before .before .before .before .before .before .before .before .before .before .before .before .before .before .pre .1 .2) (c .before .before .before .before .before .before .before .before .before .before .before .before .before .before .before .before .before .before .before .before .before .before .meet-cases .last .1 .1 .1 .1 .1 .0) (c .before .before .before .before .before .before .before .before .before .before .before .before .before .before .before .before .before .before .meeting .given .0 .0) (met-made (c .before .before .before .before .before .before .before .before .before .before .before .before .before .before .before .before .before .before .before .before .before .before .before .before .before .before .before .pre .1 .0) (c .before .before .before .before .before .before .before .before .before .before .before .before .before .before .before .before .before .before .before .before .before .before .before .before .before .before .before .args .work .now) (c .before .before .before .before .before .before .before .before .before .before .before .before .before .before .before .before .before .before .before .before .before .before .before .before .before .before .before .args .tops) (c .before .before .before .before .before .before .before .before .before .before .before .before .before .before .before .before .before .before .before .before .before .before .before .before .before .before .before .pre .1 .1) (c .before .before .before .before .before .before .before .before .before .before .before .before .before .before .before .before .before .before .before .before .before .before .before .before .before .before .before .pre .1 .2) (c .before .before .before .before .before .before .before .before .before .before .before .before .before .before .before .before .before .before .before .before .before .before .meet-cases .last .1 .1 .1 .1 .1 .0) (c .before .before .before .before .before .before .before .before .before .before .before .before .before .before .before .before .before .before .before .before .before .before .meet-cases .result) (c .before .before .before .before .before .before .before .before .before .before .before .before .before .before .before .before .before .before .meeting .given .0 .0) (c .before .before .before .before .before .before .before .before .before .before .before .before .before .before .before .before .before .before .meeting .given .1) (c .before .before .before .before .before .before .before .before .before .before .before .before .before .before .before .before .before .before .before .before .before .before .meet-cases .ensures)) (record { nodes = (c .before .before .before .before .before .before .before .before .before .before .before .before .before .before .before .before .before .before .before .before .before .before .before .before .before .before .before .args .tops) .nodes + 1; cases = (c .before .before .before .before .before .before .before .before .before .before .before .before .before .before .before .before .before .before .meeting .given .0 .0) .end; bindings = (c .before .before .before .before .before .before .before .before .before .before .before .before .before .before .before .before .before .before .before .before .before .before .before .before .before .before .before .args .tops) .bindings; leaves = (c .before .before .before .before .before .before .before .before .before .before .before .before .before .before .before .before .before .before .before .before .before .before .before .before .before .before .before .args .tops) .leaves }) refl (c .before .before .before .before .before .before .before .before .before .before .before .before .before .build-cases .last .1 .1 .1 .1 .1 .0) (c .before .before .before .before .before .before .before .before .before .before .before .before .before .build-cases .result) (not-false (c .before .before .before .before .before .before .before .before .before .before .before .before .before .build-cases .result .fits) (c .before .before .before .before .before .before .before .before .before .if1 .left)) (c .before .before .before .before .before .before .before .before .before .before .before .before .before .build-cases .ensures) (c .before .before .before .before .before .before .before .default-matrix .result) (c .before .before .before .before .before .before .before .default-matrix .ensures .0) (c .before .before .before .before .before .before .before .default-matrix .ensures .1) (c .before .before .put-switch .last .0) 0 (c .before .before .put-switch .ensures) (c .before .before .before .before .if2 .taken) refl
 
--- src/build.rt:133:53
+-- src/build.rt:134:53
 build-switch-add-put-switch-2 : (t : ℕ) → build-switch-lts.Need-add-put-switch-2 (
   meet-cases-reads.Asked,
   meet-cases-reads.Learnt,
@@ -485,9 +497,9 @@ build-switch-add-put-switch-2 : (t : ℕ) → build-switch-lts.Need-add-put-swit
   do-build-tree-below t,
   do-build-tree.Post,
 ) (build-switch-at t) build-switch.Post
-build-switch-add-put-switch-2 t c = search needs
+build-switch-add-put-switch-2 t c = omega (arith, switch-node-asked (c .before .before .before .before .before .before .before .before .before .before .before .before .before .before .before .before .before .before .before .before .before .before .before .before .before .pre .1 .0) (c .before .before .before .before .before .before .before .before .before .before .before .before .before .before .before .before .before .before .before .before .before .before .before .before .before .args .work .now) (c .before .before .before .before .before .before .before .before .before .before .before .before .before .before .before .before .before .before .before .before .before .before .before .before .before .args .tops) (c .before .before .before .before .before .before .before .before .before .before .before .before .before .before .before .before .before .before .before .before .before .before .before .before .before .pre .1 .1) (c .before .before .before .before .before .before .before .before .before .before .before .before .before .before .before .before .before .before .before .before .before .before .before .before .before .pre .1 .2) (c .before .before .before .before .before .before .before .before .before .before .before .before .before .before .before .before .before .before .before .before .meet-cases .last .1 .1 .1 .1 .1 .0) (c .before .before .before .before .before .before .before .before .before .before .before .before .before .before .before .before .meeting .given .0 .0) (met-made (c .before .before .before .before .before .before .before .before .before .before .before .before .before .before .before .before .before .before .before .before .before .before .before .before .before .pre .1 .0) (c .before .before .before .before .before .before .before .before .before .before .before .before .before .before .before .before .before .before .before .before .before .before .before .before .before .args .work .now) (c .before .before .before .before .before .before .before .before .before .before .before .before .before .before .before .before .before .before .before .before .before .before .before .before .before .args .tops) (c .before .before .before .before .before .before .before .before .before .before .before .before .before .before .before .before .before .before .before .before .before .before .before .before .before .pre .1 .1) (c .before .before .before .before .before .before .before .before .before .before .before .before .before .before .before .before .before .before .before .before .before .before .before .before .before .pre .1 .2) (c .before .before .before .before .before .before .before .before .before .before .before .before .before .before .before .before .before .before .before .before .meet-cases .last .1 .1 .1 .1 .1 .0) (c .before .before .before .before .before .before .before .before .before .before .before .before .before .before .before .before .before .before .before .before .meet-cases .result) (c .before .before .before .before .before .before .before .before .before .before .before .before .before .before .before .before .meeting .given .0 .0) (c .before .before .before .before .before .before .before .before .before .before .before .before .before .before .before .before .meeting .given .1) (c .before .before .before .before .before .before .before .before .before .before .before .before .before .before .before .before .before .before .before .before .meet-cases .ensures)) (record { nodes = (c .before .before .before .before .before .before .before .before .before .before .before .before .before .before .before .before .before .before .before .before .before .before .before .before .before .args .tops) .nodes + 1; cases = (c .before .before .before .before .before .before .before .before .before .before .before .before .before .before .before .before .meeting .given .0 .0) .end; bindings = (c .before .before .before .before .before .before .before .before .before .before .before .before .before .before .before .before .before .before .before .before .before .before .before .before .before .args .tops) .bindings; leaves = (c .before .before .before .before .before .before .before .before .before .before .before .before .before .before .before .before .before .before .before .before .before .before .before .before .before .args .tops) .leaves }) refl (c .before .before .before .before .before .before .before .before .before .before .before .build-cases .last .1 .1 .1 .1 .1 .0) (c .before .before .before .before .before .before .before .before .before .before .before .build-cases .result) (not-false (c .before .before .before .before .before .before .before .before .before .before .before .build-cases .result .fits) (c .before .before .before .before .before .before .before .if1 .left)) (c .before .before .before .before .before .before .before .before .before .before .before .build-cases .ensures) (c .before .before .before .before .before .default-matrix .result) (c .before .before .before .before .before .default-matrix .ensures .0) (c .before .before .before .before .before .default-matrix .ensures .1))
 
--- src/build.rt:133:5
+-- src/build.rt:134:5
 build-switch-put-switch-requires-2 : (t : ℕ) → build-switch-lts.Need-put-switch-requires-2 (
   meet-cases-reads.Asked,
   meet-cases-reads.Learnt,
@@ -500,9 +512,9 @@ build-switch-put-switch-requires-2 : (t : ℕ) → build-switch-lts.Need-put-swi
   do-build-tree-below t,
   do-build-tree.Post,
 ) (build-switch-at t) build-switch.Post
-build-switch-put-switch-requires-2 t c κs = search needs
+build-switch-put-switch-requires-2 t c κs = let a = switch-node-asked (c .before .before .before .before .before .before .before .before .before .before .before .before .before .before .before .before .before .before .before .before .before .before .before .before .before .pre .1 .0) (c .before .before .before .before .before .before .before .before .before .before .before .before .before .before .before .before .before .before .before .before .before .before .before .before .before .args .work .now) (c .before .before .before .before .before .before .before .before .before .before .before .before .before .before .before .before .before .before .before .before .before .before .before .before .before .args .tops) (c .before .before .before .before .before .before .before .before .before .before .before .before .before .before .before .before .before .before .before .before .before .before .before .before .before .pre .1 .1) (c .before .before .before .before .before .before .before .before .before .before .before .before .before .before .before .before .before .before .before .before .before .before .before .before .before .pre .1 .2) (c .before .before .before .before .before .before .before .before .before .before .before .before .before .before .before .before .before .before .before .before .meet-cases .last .1 .1 .1 .1 .1 .0) (c .before .before .before .before .before .before .before .before .before .before .before .before .before .before .before .before .meeting .given .0 .0) (met-made (c .before .before .before .before .before .before .before .before .before .before .before .before .before .before .before .before .before .before .before .before .before .before .before .before .before .pre .1 .0) (c .before .before .before .before .before .before .before .before .before .before .before .before .before .before .before .before .before .before .before .before .before .before .before .before .before .args .work .now) (c .before .before .before .before .before .before .before .before .before .before .before .before .before .before .before .before .before .before .before .before .before .before .before .before .before .args .tops) (c .before .before .before .before .before .before .before .before .before .before .before .before .before .before .before .before .before .before .before .before .before .before .before .before .before .pre .1 .1) (c .before .before .before .before .before .before .before .before .before .before .before .before .before .before .before .before .before .before .before .before .before .before .before .before .before .pre .1 .2) (c .before .before .before .before .before .before .before .before .before .before .before .before .before .before .before .before .before .before .before .before .meet-cases .last .1 .1 .1 .1 .1 .0) (c .before .before .before .before .before .before .before .before .before .before .before .before .before .before .before .before .before .before .before .before .meet-cases .result) (c .before .before .before .before .before .before .before .before .before .before .before .before .before .before .before .before .meeting .given .0 .0) (c .before .before .before .before .before .before .before .before .before .before .before .before .before .before .before .before .meeting .given .1) (c .before .before .before .before .before .before .before .before .before .before .before .before .before .before .before .before .before .before .before .before .meet-cases .ensures)) (record { nodes = (c .before .before .before .before .before .before .before .before .before .before .before .before .before .before .before .before .before .before .before .before .before .before .before .before .before .args .tops) .nodes + 1; cases = (c .before .before .before .before .before .before .before .before .before .before .before .before .before .before .before .before .meeting .given .0 .0) .end; bindings = (c .before .before .before .before .before .before .before .before .before .before .before .before .before .before .before .before .before .before .before .before .before .before .before .before .before .args .tops) .bindings; leaves = (c .before .before .before .before .before .before .before .before .before .before .before .before .before .before .before .before .before .before .before .before .before .before .before .before .before .args .tops) .leaves }) refl (c .before .before .before .before .before .before .before .before .before .before .before .build-cases .last .1 .1 .1 .1 .1 .0) (c .before .before .before .before .before .before .before .before .before .before .before .build-cases .result) (not-false (c .before .before .before .before .before .before .before .before .before .before .before .build-cases .result .fits) (c .before .before .before .before .before .before .before .if1 .left)) (c .before .before .before .before .before .before .before .before .before .before .before .build-cases .ensures) (c .before .before .before .before .before .default-matrix .result) (c .before .before .before .before .before .default-matrix .ensures .0) (c .before .before .before .before .before .default-matrix .ensures .1) in ((a .0, a .1, a .2, a .3), switch-met-asked (c .before .before .before .before .before .before .before .before .before .before .before .before .before .before .before .before .before .before .before .before .before .before .before .before .before .pre .1 .0) (c .before .before .before .before .before .before .before .before .before .before .before .before .before .before .before .before .before .before .before .before .before .before .before .before .before .args .work .now) (c .before .before .before .before .before .before .before .before .before .before .before .before .before .before .before .before .before .before .before .before .before .before .before .before .before .args .tops) (c .before .before .before .before .before .before .before .before .before .before .before .before .before .before .before .before .before .before .before .before .before .before .before .before .before .pre .1 .1) (c .before .before .before .before .before .before .before .before .before .before .before .before .before .before .before .before .before .before .before .before .before .before .before .before .before .pre .1 .2) (c .before .before .before .before .before .before .before .before .before .before .before .before .before .before .before .before .before .before .before .before .meet-cases .last .1 .1 .1 .1 .1 .0) (c .before .before .before .before .before .before .before .before .before .before .before .before .before .before .before .before .meeting .given .0 .0) (met-made (c .before .before .before .before .before .before .before .before .before .before .before .before .before .before .before .before .before .before .before .before .before .before .before .before .before .pre .1 .0) (c .before .before .before .before .before .before .before .before .before .before .before .before .before .before .before .before .before .before .before .before .before .before .before .before .before .args .work .now) (c .before .before .before .before .before .before .before .before .before .before .before .before .before .before .before .before .before .before .before .before .before .before .before .before .before .args .tops) (c .before .before .before .before .before .before .before .before .before .before .before .before .before .before .before .before .before .before .before .before .before .before .before .before .before .pre .1 .1) (c .before .before .before .before .before .before .before .before .before .before .before .before .before .before .before .before .before .before .before .before .before .before .before .before .before .pre .1 .2) (c .before .before .before .before .before .before .before .before .before .before .before .before .before .before .before .before .before .before .before .before .meet-cases .last .1 .1 .1 .1 .1 .0) (c .before .before .before .before .before .before .before .before .before .before .before .before .before .before .before .before .before .before .before .before .meet-cases .result) (c .before .before .before .before .before .before .before .before .before .before .before .before .before .before .before .before .meeting .given .0 .0) (c .before .before .before .before .before .before .before .before .before .before .before .before .before .before .before .before .meeting .given .1) (c .before .before .before .before .before .before .before .before .before .before .before .before .before .before .before .before .before .before .before .before .meet-cases .ensures)) (record { nodes = (c .before .before .before .before .before .before .before .before .before .before .before .before .before .before .before .before .before .before .before .before .before .before .before .before .before .args .tops) .nodes + 1; cases = (c .before .before .before .before .before .before .before .before .before .before .before .before .before .before .before .before .meeting .given .0 .0) .end; bindings = (c .before .before .before .before .before .before .before .before .before .before .before .before .before .before .before .before .before .before .before .before .before .before .before .before .before .args .tops) .bindings; leaves = (c .before .before .before .before .before .before .before .before .before .before .before .before .before .before .before .before .before .before .before .before .before .before .before .before .before .args .tops) .leaves }) refl (c .before .before .before .before .before .before .before .before .before .before .before .build-cases .last .1 .1 .1 .1 .1 .0) (c .before .before .before .before .before .before .before .before .before .before .before .build-cases .result) (not-false (c .before .before .before .before .before .before .before .before .before .before .before .build-cases .result .fits) (c .before .before .before .before .before .before .before .if1 .left)) (c .before .before .before .before .before .before .before .before .before .before .before .build-cases .ensures) (c .before .before .before .before .before .default-matrix .result) (c .before .before .before .before .before .default-matrix .ensures .0) (c .before .before .before .before .before .default-matrix .ensures .1))
 
--- src/build.rt:134:5
+-- src/build.rt:135:5
 build-switch-do-build-tree-requires : (t : ℕ) → build-switch-lts.Need-do-build-tree-requires (
   meet-cases-reads.Asked,
   meet-cases-reads.Learnt,
@@ -515,9 +527,9 @@ build-switch-do-build-tree-requires : (t : ℕ) → build-switch-lts.Need-do-bui
   do-build-tree-below t,
   do-build-tree.Post,
 ) (build-switch-at t) build-switch.Post
-build-switch-do-build-tree-requires t c κs = search needs
+build-switch-do-build-tree-requires t c κs = (omega (arith, (c .before .before .before .before .before .before .before .before .before .before .before .before .before .before .before .before .before .before .before .before .before .before .before .before .before .before .before .before .before .pre .0), default-deeper (c .before .before .before .before .before .before .before .before .before .before .before .before .before .before .before .before .before .before .before .before .before .before .before .before .before .before .before .before .before .pre .1 .0) (c .before .before .before .before .before .before .before .before .before .default-matrix .result) (c .before .before .before .before .before .before .before .before .before .default-matrix .ensures .0) (c .before .before .before .before .before .before .before .before .before .default-matrix .ensures .1), tested-room (c .before .before .before .before .before .before .before .before .before .before .before .before .before .before .before .before .before .before .before .before .before .before .before .before .before .before .before .before .before .pre .1 .0)), switch-asked (c .before .before .before .before .before .before .before .before .before .before .before .before .before .before .before .before .before .before .before .before .before .before .before .before .before .before .before .before .before .pre .1 .0) (c .before .before .before .before .before .before .before .before .before .before .before .before .before .before .before .before .before .before .before .before .before .before .before .before .before .before .before .before .before .args .work .now) (c .before .before .before .before .before .before .before .before .before .before .before .before .before .before .before .before .before .before .before .before .before .before .before .before .before .before .before .before .before .args .tops) (c .before .before .before .before .before .before .before .before .before .before .before .before .before .before .before .before .before .before .before .before .before .before .before .before .before .before .before .before .before .pre .1 .1) (c .before .before .before .before .before .before .before .before .before .before .before .before .before .before .before .before .before .before .before .before .before .before .before .before .before .before .before .before .before .pre .1 .2) (c .before .before .before .before .before .before .before .before .before .before .before .before .before .before .before .before .before .before .before .before .before .before .before .before .meet-cases .last .1 .1 .1 .1 .1 .0) (c .before .before .before .before .before .before .before .before .before .before .before .before .before .before .before .before .before .before .before .before .meeting .given .0 .0) (met-made (c .before .before .before .before .before .before .before .before .before .before .before .before .before .before .before .before .before .before .before .before .before .before .before .before .before .before .before .before .before .pre .1 .0) (c .before .before .before .before .before .before .before .before .before .before .before .before .before .before .before .before .before .before .before .before .before .before .before .before .before .before .before .before .before .args .work .now) (c .before .before .before .before .before .before .before .before .before .before .before .before .before .before .before .before .before .before .before .before .before .before .before .before .before .before .before .before .before .args .tops) (c .before .before .before .before .before .before .before .before .before .before .before .before .before .before .before .before .before .before .before .before .before .before .before .before .before .before .before .before .before .pre .1 .1) (c .before .before .before .before .before .before .before .before .before .before .before .before .before .before .before .before .before .before .before .before .before .before .before .before .before .before .before .before .before .pre .1 .2) (c .before .before .before .before .before .before .before .before .before .before .before .before .before .before .before .before .before .before .before .before .before .before .before .before .meet-cases .last .1 .1 .1 .1 .1 .0) (c .before .before .before .before .before .before .before .before .before .before .before .before .before .before .before .before .before .before .before .before .before .before .before .before .meet-cases .result) (c .before .before .before .before .before .before .before .before .before .before .before .before .before .before .before .before .before .before .before .before .meeting .given .0 .0) (c .before .before .before .before .before .before .before .before .before .before .before .before .before .before .before .before .before .before .before .before .meeting .given .1) (c .before .before .before .before .before .before .before .before .before .before .before .before .before .before .before .before .before .before .before .before .before .before .before .before .meet-cases .ensures)) (record { nodes = (c .before .before .before .before .before .before .before .before .before .before .before .before .before .before .before .before .before .before .before .before .before .before .before .before .before .before .before .before .before .args .tops) .nodes + 1; cases = (c .before .before .before .before .before .before .before .before .before .before .before .before .before .before .before .before .before .before .before .before .meeting .given .0 .0) .end; bindings = (c .before .before .before .before .before .before .before .before .before .before .before .before .before .before .before .before .before .before .before .before .before .before .before .before .before .before .before .before .before .args .tops) .bindings; leaves = (c .before .before .before .before .before .before .before .before .before .before .before .before .before .before .before .before .before .before .before .before .before .before .before .before .before .before .before .before .before .args .tops) .leaves }) refl (c .before .before .before .before .before .before .before .before .before .before .before .before .before .before .before .build-cases .last .1 .1 .1 .1 .1 .0) (c .before .before .before .before .before .before .before .before .before .before .before .before .before .before .before .build-cases .result) (not-false (c .before .before .before .before .before .before .before .before .before .before .before .before .before .before .before .build-cases .result .fits) (c .before .before .before .before .before .before .before .before .before .before .before .if1 .left)) (c .before .before .before .before .before .before .before .before .before .before .before .before .before .before .before .build-cases .ensures) (c .before .before .before .before .before .before .before .before .before .default-matrix .result) (c .before .before .before .before .before .before .before .before .before .default-matrix .ensures .0) (c .before .before .before .before .before .before .before .before .before .default-matrix .ensures .1) (c .before .before .before .put-switch2 .last .0) ((c .before .before .before .before .before .before .before .before .before .before .before .before .before .before .before .build-cases .result .tops .nodes) + 1) (c .before .before .before .put-switch2 .ensures) (c .before .before .before .before .before .before .if2 .left))
 
--- src/build.rt:106:1
+-- src/build.rt:107:1
 build-switch-same-length-4 : (t : ℕ) → build-switch-lts.Need-same-length-4 (
   meet-cases-reads.Asked,
   meet-cases-reads.Learnt,
@@ -530,9 +542,9 @@ build-switch-same-length-4 : (t : ℕ) → build-switch-lts.Need-same-length-4 (
   do-build-tree-below t,
   do-build-tree.Post,
 ) (build-switch-at t) build-switch.Post
-build-switch-same-length-4 t c = search needs
+build-switch-same-length-4 t c = (c .before .before .do-build-tree .kept .1 .1 .1 .1 .0) ∙ (c .before .before .before .before .before .before .put-switch2 .kept .0) ∙ (c .before .before .before .before .before .before .before .before .before .before .before .before .before .before .before .before .before .before .build-cases .kept .1 .1 .1 .1 .1 .0) ∙ (c .before .before .before .before .before .before .before .before .before .before .before .before .before .before .before .before .before .before .before .before .before .before .before .before .before .before .before .meet-cases .kept .1 .1 .1 .1 .1 .0)
 
--- src/build.rt:106:1
+-- src/build.rt:107:1
 build-switch-returns-4 : (t : ℕ) → build-switch-lts.Need-returns-4 (
   meet-cases-reads.Asked,
   meet-cases-reads.Learnt,
@@ -545,9 +557,9 @@ build-switch-returns-4 : (t : ℕ) → build-switch-lts.Need-returns-4 (
   do-build-tree-below t,
   do-build-tree.Post,
 ) (build-switch-at t) build-switch.Post
-build-switch-returns-4 t c = search needs
+build-switch-returns-4 t c = switch-default (c .before .before .before .before .before .before .before .before .before .before .before .before .before .before .before .before .before .before .before .before .before .before .before .before .before .before .before .before .before .before .before .before .pre .1 .0) (c .before .before .before .before .before .before .before .before .before .before .before .before .before .before .before .before .before .before .before .before .before .before .before .before .before .before .before .before .before .before .before .before .args .work .now) (c .before .before .before .before .before .before .before .before .before .before .before .before .before .before .before .before .before .before .before .before .before .before .before .before .before .before .before .before .before .before .before .before .args .tops) (c .before .before .before .before .before .before .before .before .before .before .before .before .before .before .before .before .before .before .before .before .before .before .before .before .before .before .before .before .before .before .before .before .pre .1 .1) (c .before .before .before .before .before .before .before .before .before .before .before .before .before .before .before .before .before .before .before .before .before .before .before .before .before .before .before .before .before .before .before .before .pre .1 .2) (c .before .before .before .before .before .before .before .before .before .before .before .before .before .before .before .before .before .before .before .before .before .before .before .before .before .before .before .meet-cases .last .1 .1 .1 .1 .1 .0) (c .before .before .before .before .before .before .before .before .before .before .before .before .before .before .before .before .before .before .before .before .before .before .before .meeting .given .0 .0) (met-made (c .before .before .before .before .before .before .before .before .before .before .before .before .before .before .before .before .before .before .before .before .before .before .before .before .before .before .before .before .before .before .before .before .pre .1 .0) (c .before .before .before .before .before .before .before .before .before .before .before .before .before .before .before .before .before .before .before .before .before .before .before .before .before .before .before .before .before .before .before .before .args .work .now) (c .before .before .before .before .before .before .before .before .before .before .before .before .before .before .before .before .before .before .before .before .before .before .before .before .before .before .before .before .before .before .before .before .args .tops) (c .before .before .before .before .before .before .before .before .before .before .before .before .before .before .before .before .before .before .before .before .before .before .before .before .before .before .before .before .before .before .before .before .pre .1 .1) (c .before .before .before .before .before .before .before .before .before .before .before .before .before .before .before .before .before .before .before .before .before .before .before .before .before .before .before .before .before .before .before .before .pre .1 .2) (c .before .before .before .before .before .before .before .before .before .before .before .before .before .before .before .before .before .before .before .before .before .before .before .before .before .before .before .meet-cases .last .1 .1 .1 .1 .1 .0) (c .before .before .before .before .before .before .before .before .before .before .before .before .before .before .before .before .before .before .before .before .before .before .before .before .before .before .before .meet-cases .result) (c .before .before .before .before .before .before .before .before .before .before .before .before .before .before .before .before .before .before .before .before .before .before .before .meeting .given .0 .0) (c .before .before .before .before .before .before .before .before .before .before .before .before .before .before .before .before .before .before .before .before .before .before .before .meeting .given .1) (c .before .before .before .before .before .before .before .before .before .before .before .before .before .before .before .before .before .before .before .before .before .before .before .before .before .before .before .meet-cases .ensures)) (record { nodes = (c .before .before .before .before .before .before .before .before .before .before .before .before .before .before .before .before .before .before .before .before .before .before .before .before .before .before .before .before .before .before .before .before .args .tops) .nodes + 1; cases = (c .before .before .before .before .before .before .before .before .before .before .before .before .before .before .before .before .before .before .before .before .before .before .before .meeting .given .0 .0) .end; bindings = (c .before .before .before .before .before .before .before .before .before .before .before .before .before .before .before .before .before .before .before .before .before .before .before .before .before .before .before .before .before .before .before .before .args .tops) .bindings; leaves = (c .before .before .before .before .before .before .before .before .before .before .before .before .before .before .before .before .before .before .before .before .before .before .before .before .before .before .before .before .before .before .before .before .args .tops) .leaves }) refl (c .before .before .before .before .before .before .before .before .before .before .before .before .before .before .before .before .before .before .build-cases .last .1 .1 .1 .1 .1 .0) (c .before .before .before .before .before .before .before .before .before .before .before .before .before .before .before .before .before .before .build-cases .result) (not-false (c .before .before .before .before .before .before .before .before .before .before .before .before .before .before .before .before .before .before .build-cases .result .fits) (c .before .before .before .before .before .before .before .before .before .before .before .before .before .before .if1 .left)) (c .before .before .before .before .before .before .before .before .before .before .before .before .before .before .before .before .before .before .build-cases .ensures) (c .before .before .before .before .before .before .before .before .before .before .before .before .default-matrix .result) (c .before .before .before .before .before .before .before .before .before .before .before .before .default-matrix .ensures .0) (c .before .before .before .before .before .before .before .before .before .before .before .before .default-matrix .ensures .1) (c .before .before .before .before .before .before .put-switch2 .last .0) ((c .before .before .before .before .before .before .before .before .before .before .before .before .before .before .before .before .before .before .build-cases .result .tops .nodes) + 1) (c .before .before .before .before .before .before .put-switch2 .ensures) (c .before .before .do-build-tree .last .1 .1 .1 .1 .0) (c .before .before .do-build-tree .result) (c .before .before .before .before .before .before .before .before .before .if2 .left) refl (c .before .before .do-build-tree .ensures)
 
--- src/build.rt:143:9
+-- src/build.rt:144:9
 do-build-tree-returns : (t : ℕ) → do-build-tree-lts.Need-returns (
   highest-occurrence-reads.Asked,
   highest-occurrence-reads.Learnt,
@@ -556,9 +568,9 @@ do-build-tree-returns : (t : ℕ) → do-build-tree-lts.Need-returns (
   build-switch-below t,
   build-switch.Post,
 ) (do-build-tree-at t) do-build-tree.Post
-do-build-tree-returns t c = search needs
+do-build-tree-returns t c = full-builds ((c .before .before .before .before .before .pre .1) .ready .checked .ok) ((c .before .before .before .before .before .pre .1) .there) (c .before .before .before .before .before .args .work .now) (c .before .before .before .before .before .args .work .now) (c .before .before .before .before .before .args .tops) (record { fits = false; tops = (c .before .before .before .before .before .args .tops) }) (c .if1 .taken) refl
 
--- src/build.rt:145:9
+-- src/build.rt:146:9
 do-build-tree-highest-occurrence-requires :
     (t : ℕ) → do-build-tree-lts.Need-highest-occurrence-requires (
       highest-occurrence-reads.Asked,
@@ -568,9 +580,9 @@ do-build-tree-highest-occurrence-requires :
       build-switch-below t,
       build-switch.Post,
     ) (do-build-tree-at t) do-build-tree.Post
-do-build-tree-highest-occurrence-requires t c κs = search needs
+do-build-tree-highest-occurrence-requires t c κs = ((c .before .before .before .before .before .pre .1) .ready, (c .before .before .before .before .before .pre .1) .there)
 
--- src/build.rt:146:24
+-- src/build.rt:147:24
 do-build-tree-enum-known-choice : (t : ℕ) → do-build-tree-lts.Need-enum-known-choice (
   highest-occurrence-reads.Asked,
   highest-occurrence-reads.Learnt,
@@ -581,7 +593,7 @@ do-build-tree-enum-known-choice : (t : ℕ) → do-build-tree-lts.Need-enum-know
 ) (do-build-tree-at t) do-build-tree.Post
 do-build-tree-enum-known-choice t c = search needs
 
--- src/build.rt:147:41
+-- src/build.rt:148:41
 do-build-tree-enum-told : (t : ℕ) → do-build-tree-lts.Need-enum-told (
   highest-occurrence-reads.Asked,
   highest-occurrence-reads.Learnt,
@@ -592,7 +604,7 @@ do-build-tree-enum-told : (t : ℕ) → do-build-tree-lts.Need-enum-told (
 ) (do-build-tree-at t) do-build-tree.Post
 do-build-tree-enum-told t c = search needs
 
--- src/build.rt:147:13
+-- src/build.rt:148:13
 do-build-tree-put-leaf-requires : (t : ℕ) → do-build-tree-lts.Need-put-leaf-requires (
   highest-occurrence-reads.Asked,
   highest-occurrence-reads.Learnt,
@@ -601,9 +613,9 @@ do-build-tree-put-leaf-requires : (t : ℕ) → do-build-tree-lts.Need-put-leaf-
   build-switch-below t,
   build-switch.Post,
 ) (do-build-tree-at t) do-build-tree.Post
-do-build-tree-put-leaf-requires t c κs = search needs
+do-build-tree-put-leaf-requires t c κs = ((c .before .before .before .before .before .before .before .before .before .pre .1), node-left ((c .before .before .before .before .before .before .before .before .before .pre .1) .room .nodes-most) (c .before .before .before .before .if1 .left), (sym (c .before .before .before .highest-occurrence .ensures) ∙ (c .before .enum-told .given .1)))
 
--- src/build.rt:148:9
+-- src/build.rt:149:9
 do-build-tree-same-length : (t : ℕ) → do-build-tree-lts.Need-same-length (
   highest-occurrence-reads.Asked,
   highest-occurrence-reads.Learnt,
@@ -612,9 +624,9 @@ do-build-tree-same-length : (t : ℕ) → do-build-tree-lts.Need-same-length (
   build-switch-below t,
   build-switch.Post,
 ) (do-build-tree-at t) do-build-tree.Post
-do-build-tree-same-length t c = search needs
+do-build-tree-same-length t c = (c .before .before .put-leaf .kept .1 .1 .1 .1 .0)
 
--- src/build.rt:148:9
+-- src/build.rt:149:9
 do-build-tree-returns-2 : (t : ℕ) → do-build-tree-lts.Need-returns-2 (
   highest-occurrence-reads.Asked,
   highest-occurrence-reads.Learnt,
@@ -623,9 +635,9 @@ do-build-tree-returns-2 : (t : ℕ) → do-build-tree-lts.Need-returns-2 (
   build-switch-below t,
   build-switch.Post,
 ) (do-build-tree-at t) do-build-tree.Post
-do-build-tree-returns-2 t c = search needs
+do-build-tree-returns-2 t c = leaf-builds ((c .before .before .before .before .before .before .before .before .before .before .before .before .pre .1) .ready .checked .ok) ((c .before .before .before .before .before .before .before .before .before .before .before .before .pre .1) .there) (c .before .before .before .before .before .before .before .before .before .before .before .before .args .work .now) (c .before .before .put-leaf .last .1 .1 .1 .1 .0) (c .before .before .before .before .before .before .before .before .before .before .before .before .args .tops) (c .before .before .put-leaf .result) (record { fits = true; tops = (c .before .before .put-leaf .result) }) (sym (c .before .before .before .before .before .before .highest-occurrence .ensures) ∙ (c .before .before .before .before .enum-told .given .1)) refl (c .before .before .put-leaf .ensures)
 
--- src/build.rt:153:5
+-- src/build.rt:154:5
 do-build-tree-build-switch-requires : (t : ℕ) → do-build-tree-lts.Need-build-switch-requires (
   highest-occurrence-reads.Asked,
   highest-occurrence-reads.Learnt,
@@ -634,9 +646,9 @@ do-build-tree-build-switch-requires : (t : ℕ) → do-build-tree-lts.Need-build
   build-switch-below t,
   build-switch.Post,
 ) (do-build-tree-at t) do-build-tree.Post
-do-build-tree-build-switch-requires t c κs = search needs
+do-build-tree-build-switch-requires t c κs = (omega (arith, (c .before .before .before .before .before .before .before .before .before .before .pre .0)), (record { ready = (c .before .before .before .before .before .before .before .before .before .before .pre .1) .ready; there = (c .before .before .before .before .before .before .before .before .before .before .pre .1) .there; chosen = sym (c .before .before .before .before .highest-occurrence .ensures) ∙ search needs }, (c .before .before .before .before .before .before .before .before .before .before .pre .1) .room, node-left ((c .before .before .before .before .before .before .before .before .before .before .pre .1) .room .nodes-most) (c .before .before .before .before .before .if1 .left)))
 
--- src/build.rt:138:1
+-- src/build.rt:139:1
 do-build-tree-same-length-2 : (t : ℕ) → do-build-tree-lts.Need-same-length-2 (
   highest-occurrence-reads.Asked,
   highest-occurrence-reads.Learnt,
@@ -645,9 +657,9 @@ do-build-tree-same-length-2 : (t : ℕ) → do-build-tree-lts.Need-same-length-2
   build-switch-below t,
   build-switch.Post,
 ) (do-build-tree-at t) do-build-tree.Post
-do-build-tree-same-length-2 t c = search needs
+do-build-tree-same-length-2 t c = (c .before .before .build-switch .kept .1 .1 .1 .1 .1 .0)
 
--- src/build.rt:138:1
+-- src/build.rt:139:1
 do-build-tree-returns-3 : (t : ℕ) → do-build-tree-lts.Need-returns-3 (
   highest-occurrence-reads.Asked,
   highest-occurrence-reads.Learnt,
@@ -656,7 +668,7 @@ do-build-tree-returns-3 : (t : ℕ) → do-build-tree-lts.Need-returns-3 (
   build-switch-below t,
   build-switch.Post,
 ) (do-build-tree-at t) do-build-tree.Post
-do-build-tree-returns-3 t c = search needs
+do-build-tree-returns-3 t c = (c .before .before .build-switch .ensures)
 
 pub +build-cases+build-switch+do-build-tree-spec : {M : Type 1} → statement M
 +build-cases+build-switch+do-build-tree-spec =

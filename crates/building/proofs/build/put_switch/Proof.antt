@@ -67,7 +67,7 @@ same-length c = search needs
 
 -- src/build.rt:67:1
 returns : tie.Need-returns
-returns c = search needs
+returns c = rw (c .before .before .before .before .if1 .taken) (c .before .before .put-node .ensures)
 
 -- src/build.rt:67:1
 same-length-2 : tie.Need-same-length-2
@@ -75,7 +75,7 @@ same-length-2 c = search needs
 
 -- src/build.rt:67:1
 returns-2 : tie.Need-returns-2
-returns-2 c = search needs
+returns-2 c = rw (c .before .before .before .before .if1 .left) (c .before .before .put-node2 .ensures)
 
 pub put-switch-spec : {M : Type 1} → statement M
 put-switch-spec =
