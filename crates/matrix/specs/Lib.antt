@@ -17,3 +17,6 @@ pub mod Reading
 pub mod ReadingLaws
 pub mod Ready
 pub mod PuttingLaws
+pub mod InNumbers
+pub mod InNumbersLaws
+pub mod SplitLaws

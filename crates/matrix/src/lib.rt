@@ -2,6 +2,7 @@
 // Counting and choosing a column are in rows, putting columns in order in columns, the matrices themselves in splitting.
 pub mod columns;
 pub mod rows;
+pub mod splitting;
 
 ghost use mathlib.Core.Path.{_≡_};
 

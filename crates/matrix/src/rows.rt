@@ -13,9 +13,9 @@ ghost use mathlib.Core.List.{List, [], _∷_, _++_};
 ghost use Prim.Native.Nat.{ℕ, _+_, _<_, _≤_};
 ghost use lib.ListN.{length};
 ghost use Rattle.rules.specs.SplittingLaws.{All};
-ghost use Rattle.matrix.specs.HeldRows.{countOf, bestOf, wildOf};
-ghost use Rattle.matrix.specs.Lists.{numbersIn, classesIn, WholeRows, HoldsRows, Whole};
-ghost use Rattle.matrix.specs.declared.Choice.the-variants.{Leaf};
+ghost use Rattle.matrix.specs.HeldRows.{countOf, wildOf};
+ghost use Rattle.matrix.specs.InNumbers.{inNumbers, Readable, chosenRead};
+ghost use Rattle.matrix.specs.Lists.{numbersIn, WholeRows, HoldsRows};
 ghost use Rattle.matrix.specs.Reading.{heldIn, InTable, counted, bettered, kept};
 
 // What clause c's row has in the column of this class: its test there, if it is not opened and the test that it is inside of is.
@@ -106,8 +106,8 @@ fn better_of(best: Best, class: usize, amount: usize) -> Best
 
 // The column to test: the one with the most rows before its first wildcard.
 pub fn highest_occurrence(t: &[u8], x: Matrix) -> Choice
-    requires { ⌜ WholeRows (x .rows) × Whole (x .columns) × All (λ k. All (InTable (now t) k) (numbersIn (x .rows))) (classesIn (x .columns)) ⌝ }
-    ensures { λ r. ⌜ r ≡ bestOf (λ k. countOf (heldIn (now (t .entry)) (x .opened) k) (numbersIn (x .rows))) Leaf 0 (classesIn (x .columns)) ⌝ }
+    requires { ⌜ Readable (now t) x ⌝ }
+    ensures { λ r. ⌜ r ≡ chosenRead (now (t .entry)) (inNumbers x) ⌝ }
 {
     let rows = x.rows;
     let columns = x.columns;

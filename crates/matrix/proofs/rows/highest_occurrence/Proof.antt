@@ -7,6 +7,7 @@ use lib.Seq.{slice}
 use Rattle.rules.specs.SplittingLaws.{All}
 use Rattle.matrix.specs.declared.Choice.the-variants.{Leaf}
 use Rattle.matrix.specs.HeldRows.{countOf, bestOf}
+use Rattle.matrix.specs.InNumbers.{chosenRead}
 use Rattle.matrix.specs.Lists.{numbersIn, classesIn}
 use Rattle.matrix.specs.Reading.{heldIn, InTable, bettered}
 use Rattle.matrix.specs.ReadingLaws.{best-more, best-end, all-at, slice-on, slice-end}
@@ -33,7 +34,7 @@ loop-holds c = (search needs, refl)
 
 -- src/rows.rt:121:26
 element-copy-out-wide : tie.Need-element-copy-out-wide Inv-loop μ-loop
-element-copy-out-wide c = omega (arith, c .before .before .before .before .before .before .pre .1 .most)
+element-copy-out-wide c = omega (arith, c .before .before .before .before .before .before .pre .whole .whole-columns .most)
 
 -- src/rows.rt:121:13
 wide-requires : tie.Need-wide-requires Inv-loop μ-loop
@@ -45,7 +46,7 @@ occurrence-requires c κs =
     let s = c .before .before .before .before .before .before .before .before .before in
     let a = s .args in
     let l = c .before .before .before .before .loop in
-    (s .pre .0, rw (c .before .wide .ensures) (all-at (λ k. All (InTable (a .t .now) k) (numbersIn (a .x .rows))) (a .x .columns .list) (a .x .columns .count) (l .i) (omega (arith, c .before .before .before .loop-test .taken)) (omega (arith, s .pre .1 .long, s .pre .1 .most)) (s .pre .2)))
+    (s .pre .whole .whole-rows, rw (c .before .wide .ensures) (all-at (λ k. All (InTable (a .t .now) k) (numbersIn (a .x .rows))) (a .x .columns .list) (a .x .columns .count) (l .i) (omega (arith, c .before .before .before .loop-test .taken)) (omega (arith, s .pre .whole .whole-columns .long, s .pre .whole .whole-columns .most)) (s .pre .cells)))
 
 -- src/rows.rt:122:9
 better-of-requires : tie.Need-better-of-requires Inv-loop μ-loop
@@ -73,11 +74,12 @@ loop-again c =
       search needs,
       best-more counts (l .best) (c .better-of .result) k (c .before .occurrence .result) (slice (l .i + 1) (columns .count) (columns .list))
           (c .before .occurrence .ensures ∙ ap counts (wide .ensures)) (c .better-of .ensures ∙ ap (λ (x : ℕ). bettered (l .best) x (c .before .occurrence .result)) (wide .ensures))
-          ∙ ap (bestOf counts (l .best .choice) (l .best .amount)) (sym (slice-on (columns .list) (l .i) (columns .count) i-in (omega (arith, s .pre .1 .long, s .pre .1 .most)))) ∙ l .inv .1,
+          ∙ ap (bestOf counts (l .best .choice) (l .best .amount)) (sym (slice-on (columns .list) (l .i) (columns .count) i-in (omega (arith, s .pre .whole .whole-columns .long, s .pre .whole .whole-columns .most)))) ∙ l .inv .1,
     )
 
 -- src/rows.rt:108:1
 returns : tie.Need-returns Inv-loop μ-loop
+unfolding chosenRead
 returns c =
     let s = c .before .before .before .before .before .before in
     let a = s .args in
