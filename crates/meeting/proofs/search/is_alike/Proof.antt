@@ -1,0 +1,67 @@
+-- `meeting::search::is_alike` meets its contract: each way out is one comparison of fields.
+use borrow.Author.Needs.{needs}
+use borrow.Author.Tests.{eq-eqb, ne-eqb}
+use Rattle.meeting.specs.Fields.{isAlike}
+use Rattle.meeting.specs.FieldsLaws.{alike-number}
+use Rattle.meeting.proofs.search.is_alike.Statement.{statement}
+use Rattle.meeting.proofs.search.is_alike.Tie as tie
+use Rattle.meeting.proofs.search.is_alike.Reads as reads
+use Rattle.meeting.proofs.search.is_alike.Lts as lts
+use Rattle.arena.proofs.reading.case_kind.Reads as case-kind-reads
+use Rattle.arena.proofs.reading.case_length.Reads as case-length-reads
+use Rattle.arena.proofs.reading.case_number.Reads as case-number-reads
+
+-- src/search.rt:61:8
+case-kind-requires : tie.Need-case-kind-requires
+case-kind-requires c κs = search needs
+
+-- src/search.rt:62:9
+returns : tie.Need-returns
+unfolding isAlike
+returns c = simp (← c .before .before .case-kind .ensures, ne-eqb _ _ (c .if1 .taken))
+
+-- src/search.rt:64:8
+case-length-requires : tie.Need-case-length-requires
+case-length-requires c κs = search needs
+
+-- src/search.rt:65:9
+returns-2 : tie.Need-returns-2
+unfolding isAlike
+returns-2 c = simp (← c .before .before .before .before .before .case-kind .ensures, eq-eqb _ _ (c .before .before .before .if1 .left), ← c .before .before .case-length .ensures, ne-eqb _ _ (c .if2 .taken))
+
+-- src/search.rt:68:9
+returns-3 : tie.Need-returns-3
+unfolding isAlike
+returns-3 c = simp (← c .before .before .before .before .before .before .before .case-kind .ensures, eq-eqb _ _ (c .before .before .before .before .before .if1 .left), ← c .before .before .before .before .case-length .ensures, eq-eqb _ _ (c .before .before .if2 .left), eq-eqb _ _ (c .if3 .taken))
+
+-- src/search.rt:71:9
+returns-4 : tie.Need-returns-4
+unfolding isAlike
+returns-4 c = simp (← c .before .before .before .before .before .before .before .before .before .case-kind .ensures, eq-eqb _ _ (c .before .before .before .before .before .before .before .if1 .left), ← c .before .before .before .before .before .before .case-length .ensures, eq-eqb _ _ (c .before .before .before .before .if2 .left), ne-eqb _ _ (c .before .before .if3 .left), eq-eqb _ _ (c .if4 .taken))
+
+-- src/search.rt:73:5
+case-number-requires : tie.Need-case-number-requires
+case-number-requires c κs = search needs
+
+-- src/search.rt:57:1
+returns-5 : tie.Need-returns-5
+unfolding isAlike
+returns-5 c =
+    let b = c .before .before .before .before .before .before in
+    let a = b .before .before .before .before .before .before .before .args in
+    alike-number (a .work .now) (a .i) (a .f .kind) (a .f .number) (a .f .len) (b .before .before .before .before .before .case-kind .result) (b .before .before .case-length .result) (c .before .case-number .result)
+    (b .before .before .before .before .before .case-kind .ensures) (b .before .before .before .if1 .left) (b .before .before .case-length .ensures) (b .if2 .left)
+    (c .before .before .before .before .if3 .left) (c .before .before .if4 .left) (c .before .case-number .ensures)
+
+pub is-alike-spec : {M : Type 1} → statement M
+is-alike-spec =
+    tie.close
+    (tie.spec
+    case-kind-requires
+    returns
+    case-length-requires
+    returns-2
+    returns-3
+    returns-4
+    case-number-requires
+    returns-5)
