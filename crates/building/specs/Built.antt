@@ -11,20 +11,15 @@ use Rattle.rules.specs.Rows.{Path, Binding}
 use Rattle.rules.specs.Splitting.{Test, Met}
 use Rattle.rules.specs.Building.{Tree, Cases}
 use Rattle.rules.specs.Hoisting.{nodesIn, nodesInOf, bindingsIn, bindingsInOf, hasLeaf, hasLeafOf}
-use Rattle.rules.specs.TreeFile.{casesIn, casesInOf, caseBytes, ownCases}
+use Rattle.rules.specs.TreeFile.{casesIn, casesInOf, ownCases}
 use Rattle.filing.specs.StandingLaws.{Stands}
 use Rattle.matching.specs.Depth.{casesOn}
 use Rattle.arena.specs.Arena.{casesStart, casesMost, arenaEnd, Held, HeldOf}
 use Rattle.arena.specs.WritingLaws.{Kept}
 use Rattle.leaves.specs.Bindings.{capped}
+use Rattle.meeting.specs.Passes.{caseRecords}
 use Rattle.building.specs.declared.tops.Tops.{Tops}
 use Rattle.building.specs.declared.tops.Built.{Built}
-
--- the records of cases whose children are not known yet
-unfoldable pub caseRecords : List Met → List ℕ
-unfolding caseBytes
-caseRecords [] = []
-caseRecords (m ∷ ms) = caseBytes (m .test) (m .start) 0 ++ caseRecords ms
 
 -- ---- how far
 -- n nodes, c cases, the bindings bs and leaves of the clauses that `has` says are there besides

@@ -29,17 +29,13 @@ use Rattle.arena.specs.ReadingLaws.{child-stored}
 use Rattle.arena.specs.WritingLaws.{Kept, kept-refl, kept-trans, kept-weaken, kept-case, cases-kept, heldOf-kept, stands-room, stands-join, stands-stored, no-cases-held, cases-made}
 use Rattle.arena.specs.Numbered.{joined}
 use Rattle.arena.specs.NumberedLaws.{nodesInOf-joined}
+use Rattle.meeting.specs.Passes.{caseRecords}
+use Rattle.meeting.specs.SoFarLaws.{length-caseRecords}
 use Rattle.building.specs.declared.tops.Tops.{Tops}
 use Rattle.building.specs.declared.tops.Built.{Built}
-use Rattle.building.specs.Built.{caseRecords, Counted, Roomy, Put, TooMany, Builds, CasesPut, Partly, TooManyOf, BuildsCases, CasesOpen}
+use Rattle.building.specs.Built.{Counted, Roomy, Put, TooMany, Builds, CasesPut, Partly, TooManyOf, BuildsCases, CasesOpen}
 use Rattle.building.specs.JoinedLaws.{casesInOf-joined, bindingsInOf-joined, hasLeafOf-joined, ownCases-joined, casesOn-append, howMany-casesOn, heldOf-joined}
 use Rattle.building.specs.BuiltLaws.{stands-apart, heldOf-apart, counted-then, counted-as}
-
-pub length-caseRecords : (ms : List Met) → length (caseRecords ms) ≡ caseSize * length ms
-unfolding caseRecords
-length-caseRecords [] = refl
-length-caseRecords (m ∷ ms) =
-    omega (arith, length-append (caseBytes (m .test) (m .start) 0) (caseRecords ms), length-caseBytes (m .test) (m .start) 0, length-caseRecords ms)
 
 -- ---- a child written into a case that stands
 child-put : (w : List ℕ) (at : ℕ) (u : Test) (start before child : ℕ) → Stands w at (caseBytes u start before) → Stands (stored w (at + 6) (wordBytes child)) at (caseBytes u start child)

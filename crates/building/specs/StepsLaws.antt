@@ -14,7 +14,7 @@ use Rattle.words.specs.WordsLaws.{either-first-true, either-second-true}
 use Rattle.words.specs.Stored.{stored}
 use Rattle.words.specs.StoredLaws.{length-stored}
 use Rattle.rules.specs.Limits.{clausesMost, patternsMost, nodesMost, bindingsMost, nodeSize, caseSize, bindingSize}
-use Rattle.rules.specs.SheetFile.{clauses, patterns}
+use Rattle.rules.specs.SheetRefusals.{isIn}
 use Rattle.rules.specs.Patterns.{Pat}
 use Rattle.rules.specs.Rows.{Path, Binding, Row}
 use Rattle.rules.specs.Columns.{testAt}
@@ -26,6 +26,8 @@ use Rattle.rules.specs.Hoisting.{nodesIn}
 use Rattle.rules.specs.TreeFile.{pathNumber, firstOf, nodeBytes, casesIn, defaultField, caseBytes}
 use Rattle.facts.specs.SheetFacts.{Accepted}
 use Rattle.matching.specs.Depth.{isTail, isExact, only, nodeOn, met-here, met-there, only-met}
+use Rattle.filing.specs.Writable.{testKind}
+use Rattle.filing.specs.RecordsLaws.{testNumber, testLength}
 use Rattle.matching.specs.Lists.{all-back}
 use Rattle.matching.specs.Tests.{isTest, TestRow, row-test}
 use Rattle.matching.specs.Switches.{ownTest, own-met}
@@ -33,10 +35,13 @@ use Rattle.sheet.specs.declared.Map.{Map}
 use Rattle.table.specs.Standing.{sheetPaths, pathOf, patternOf, classOf}
 use Rattle.matrix.specs.declared.Matrix.{Matrix}
 use Rattle.matrix.specs.declared.Held.{Held}
+use Rattle.matrix.specs.declared.Choice.{Choice}
 use Rattle.matrix.specs.declared.Choice.the-variants.{Column, Leaf}
 use Rattle.matrix.specs.Lists.{numbersIn, classesIn}
 use Rattle.matrix.specs.Numbered.{Numbered, SoundOf, defaultNumbered, caseNumbered, chosenIn, testsIn, treeAt}
 use Rattle.matrix.specs.Bound.{boundNumbers}
+use Rattle.matrix.specs.InNumbers.{inNumbers, WholeMatrix, StandsFor, Readable, Splits, chosenRead, defaultRead}
+use Rattle.matrix.specs.InNumbersLaws.{chosen-read, default-read, readable, splits}
 use Rattle.matrix.specs.Live.{liveIn}
 use Rattle.matrix.specs.HeldRows.{heldTests}
 use Rattle.matrix.specs.Matrices.{rowsAt}
@@ -49,19 +54,26 @@ use Rattle.arena.specs.RecordsLaws.{case-is}
 use Rattle.arena.specs.Reading.{caseOf, testFor}
 use Rattle.arena.specs.ReadingLaws.{case-read}
 use Rattle.arena.specs.WritingLaws.{Kept, stands-stored}
-use Rattle.leaves.specs.Bindings.{bound, boundAll, numbered, firstClause, leafBindings, WithRow}
+use Rattle.leaves.specs.Bindings.{bound, boundAll, firstClause, leafBindings, WithRow}
 use Rattle.leaves.specs.PuttingLaws.{row-clause}
 use Rattle.leaves.specs.StandsLaws.{leaf-is, leaf-bound}
+use Rattle.meeting.specs.declared.CasesMet.{CasesMet}
+use Rattle.meeting.specs.declared.Meeting.{Meeting}
+use Rattle.meeting.specs.declared.Meeting.the-variants.{Met as MetTo}
+use Rattle.meeting.specs.Passes.{caseRecords}
+use Rattle.meeting.specs.PassesLaws.{sorts-length}
+use Rattle.meeting.specs.Fields.{testIn}
+use Rattle.meeting.specs.SoFar.{InSheet}
+use Rattle.meeting.specs.SoFarLaws.{length-caseRecords}
+use Rattle.meeting.specs.Made.{CasesMade, MeetsTo}
 use Rattle.building.specs.declared.tops.Tops.{Tops}
 use Rattle.building.specs.declared.tops.Built.{Built}
-use Rattle.building.specs.declared.stand_in.CasesMet.{CasesMet}
-use Rattle.building.specs.declared.stand_in.Meeting.{Meeting}
-use Rattle.building.specs.declared.stand_in.Meeting.the-variants.{Met as MetTo}
-use Rattle.building.specs.Built.{caseRecords, Roomy, Put, Builds, CasesPut, Partly, TooMany, TooManyOf, BuildsCases, CasesOpen}
+use Rattle.building.specs.Built.{Roomy, Put, Builds, CasesPut, Partly, TooMany, TooManyOf, BuildsCases, CasesOpen}
 use Rattle.building.specs.BuiltLaws.{leaf-put, absent-put, kept-cases}
-use Rattle.building.specs.CasesLaws.{length-caseRecords, There, Next, next-case, next-stands, case-built, case-over, cases-begin, cases-end}
+use Rattle.building.specs.CasesLaws.{There, Next, next-case, next-stands, case-built, case-over, cases-begin, cases-end}
 use Rattle.building.specs.SwitchLaws.{inOrder, switchKind, SwitchPut, switch-put, switch-fewer, full-over, met-over, cases-over, default-over}
-use Rattle.building.specs.Steps.{WholeMatrix, MatrixThere, meant, Meant, columnOf, caseList, caseTree, defaultTree, CasesMade, MeetsTo, Asked, AskedColumn}
+use Rattle.building.specs.StandIn.{meant, InPool}
+use Rattle.building.specs.Steps.{MatrixThere, Asked, chosenColumn, caseList, caseTree, defaultTree, AskedColumn, AskedCases}
 
 -- ---- "first 0 at count 0"
 pub first-none : (count first : ℕ) → count ≡ 0 → 0 ≡ firstOf count first
@@ -119,19 +131,19 @@ unfolding heldTests
 held-some held rows f = rw (f .are) (rw (f .holds, heldTests) (omega arith))
 
 -- ---- how many rows and columns tested
-tested-is : {x : Matrix} → WholeMatrix x → length ((numbered x) .tested) ≡ x .tested .count
-tested-is {x} h = length-take-le (x .tested .count) (x .tested .list) (omega (arith, h .tested .long, h .tested .most))
+tested-is : {x : Matrix} → WholeMatrix x → length ((inNumbers x) .tested) ≡ x .tested .count
+tested-is {x} h = length-take-le (x .tested .count) (x .tested .list) (omega (arith, h .whole-tested .long, h .whole-tested .most))
 
-rows-count : {x : Matrix} → WholeMatrix x → length ((numbered x) .rows) ≡ x .rows .count
-rows-count {x} h = length-take-le (x .rows .count) (x .rows .list) (omega (arith, h .rows .long, h .rows .most))
+rows-count : {x : Matrix} → WholeMatrix x → length ((inNumbers x) .rows) ≡ x .rows .count
+rows-count {x} h = length-take-le (x .rows .count) (x .rows .list) (omega (arith, h .whole-rows .long, h .whole-rows .most))
 
 -- ---- a leaf
 module _ {s : List ℕ} (ok : Accepted s) {x : Matrix} (there : MatrixThere s x) where
   pub with-row : WithRow s x
   with-row =
       record {
-        rows = there .whole .rows;
-        tested = there .whole .tested;
+        rows = there .whole .whole-rows;
+        tested = there .whole .whole-tested;
         sound = there .sound;
         some-row = omega (arith, there .some-row, rows-count (there .whole));
       }
@@ -139,8 +151,8 @@ module _ {s : List ℕ} (ok : Accepted s) {x : Matrix} (there : MatrixThere s x)
   pub leaf-clause : firstClause x < clausesMost
   leaf-clause = omega (arith, row-clause s x with-row (firstClause x) refl, ok .is-counted .clauses-most)
 
-  leaf-tree : chosenIn s (numbered x) ≡ Leaf → treeAt s (numbered x) ≡ leaf (firstClause x) (leafBindings s x)
-  leaf-tree e = tree-leaf ok (numbered x) (there .sound) e ∙ leaf-is s ok x with-row
+  leaf-tree : chosenIn s (inNumbers x) ≡ Leaf → treeAt s (inNumbers x) ≡ leaf (firstClause x) (leafBindings s x)
+  leaf-tree e = tree-leaf ok (inNumbers x) (there .sound) e ∙ leaf-is s ok x with-row
 
   -- as the code has them
   pub first-small : (count first from : ℕ) → first ≡ firstOf count from → first ≤ from
@@ -152,18 +164,18 @@ module _ {s : List ℕ} (ok : Accepted s) {x : Matrix} (there : MatrixThere s x)
   clause-small clause e = rw e leaf-clause
 
   pub leaf-top : (w w₁ : List ℕ) (from top : ℕ) → arenaEnd ≤ length w → from ≤ bindingsMost + 1
-      → bound w₁ top ≡ boundAll s (bound w from) (boundNumbers s (numbered x) (firstClause x)) → (from ≤ top) × (top ≤ bindingsMost + 1) × (length w₁ ≡ length w)
+      → bound w₁ top ≡ boundAll s (bound w from) (boundNumbers s (inNumbers x) (firstClause x)) → (from ≤ top) × (top ≤ bindingsMost + 1) × (length w₁ ≡ length w)
   leaf-top w w₁ from top l h bs =
       let b = leaf-bound s ok x with-row w from w₁ top (record { long = l; most = h }) bs in
       (omega (arith, b .count), omega (arith, b .count), b .kept .same-length)
 
   -- the leaf's record behind its bindings
-  pub leaf-step : (w w₁ w' : List ℕ) (tops to : Tops) (clause top count first : ℕ) → chosenIn s (numbered x) ≡ Leaf → Roomy w tops → tops .nodes < nodesMost
-      → bound w₁ top ≡ boundAll s (bound w (tops .bindings)) (boundNumbers s (numbered x) (firstClause x))
+  pub leaf-step : (w w₁ w' : List ℕ) (tops to : Tops) (clause top count first : ℕ) → chosenIn s (inNumbers x) ≡ Leaf → Roomy w tops → tops .nodes < nodesMost
+      → bound w₁ top ≡ boundAll s (bound w (tops .bindings)) (boundNumbers s (inNumbers x) (firstClause x))
       → clause ≡ firstClause x → count ≡ top - tops .bindings → first ≡ firstOf count (tops .bindings)
       → w' ≡ stored w₁ (nodeSize * tops .nodes) (nodeBytes 2 clause first count 0 0)
       → to ≡ record { nodes = tops .nodes + 1; cases = tops .cases; bindings = top; leaves = set (tops .leaves) clause 1 }
-      → Put (sheetPaths s) w w' (treeAt s (numbered x)) tops to
+      → Put (sheetPaths s) w w' (treeAt s (inNumbers x)) tops to
   leaf-step w w₁ w' tops to clause top count first e room l bs clause-is count-is first-is put to-is =
       let b = leaf-bound s ok x with-row w (tops .bindings) w₁ top (record { long = room .long; most = room .bindings-most }) bs in
       rw (leaf-tree e)
@@ -174,8 +186,8 @@ module _ {s : List ℕ} (ok : Accepted s) {x : Matrix} (there : MatrixThere s x)
       (ap (λ (z : Tops). z .leaves) to-is ∙ ap (λ z. set (tops .leaves) z 1) clause-is))
 
   -- it is built
-  pub leaf-builds : (w w' : List ℕ) (tops to : Tops) (r : Built) → chosenIn s (numbered x) ≡ Leaf → r ≡ record { fits = true; tops = to }
-      → Put (sheetPaths s) w w' (treeAt s (numbered x)) tops to → Builds (sheetPaths s) w w' (treeAt s (numbered x)) tops r
+  pub leaf-builds : (w w' : List ℕ) (tops to : Tops) (r : Built) → chosenIn s (inNumbers x) ≡ Leaf → r ≡ record { fits = true; tops = to }
+      → Put (sheetPaths s) w w' (treeAt s (inNumbers x)) tops to → Builds (sheetPaths s) w w' (treeAt s (inNumbers x)) tops r
   leaf-builds w w' tops to r e r-is p =
       rw r-is
       (record {
@@ -186,17 +198,42 @@ module _ {s : List ℕ} (ok : Accepted s) {x : Matrix} (there : MatrixThere s x)
 
   -- ---- no node more
   pub full-builds : (w w' : List ℕ) (tops : Tops) (r : Built) → tops .nodes ≡ nodesMost → r ≡ record { fits = false; tops = tops }
-      → Builds (sheetPaths s) w w' (treeAt s (numbered x)) tops r
+      → Builds (sheetPaths s) w w' (treeAt s (inNumbers x)) tops r
   full-builds w w' tops r e r-is =
       rw r-is
       (record {
         put = λ f. absurd (false≢true f);
         fewer-cases = λ f. absurd (false≢true f);
-        over = λ _. full-over (treeAt s (numbered x)) tops e (some-tree s (numbered x) (there .some-row));
+        over = λ _. full-over (treeAt s (inNumbers x)) tops e (some-tree s (inNumbers x) (there .some-row));
       })
+
+-- the column that the table tells
+module _ {s : List ℕ} {m : Map} {t : List ℕ} {x : Matrix} {w : List ℕ} {tops : Tops} (asked : Asked s m t x w tops) where
+  pub asked-readable : Readable t x
+  asked-readable = readable (asked .ready) x (asked .there .whole) (asked .there .sound)
+
+  pub asked-chosen : (r : Choice) → r ≡ chosenRead t (inNumbers x) → {o : Choice} → r ≡ o → chosenIn s (inNumbers x) ≡ o
+  asked-chosen r e f = sym (chosen-read (asked .ready) (inNumbers x) (asked .there .sound)) ∙ sym e ∙ f
 
 pub node-left : {n : ℕ} → n ≤ nodesMost → (n ≡ nodesMost → ⊥) → n < nodesMost
 node-left l h = omega arith
+
+-- ---- a case's test, as it is read
+-- a case met means its test, and its text lies in the sheet's pool
+module _ (s : List ℕ) where
+  abbrev Meant : Met → Type 0
+  Meant m = (meant s (testFor (m .start) (m .test)) ≡ m .test) × InPool s (testFor (m .start) (m .test))
+
+  sheet-meant : (m : Met) → InSheet s m → Meant m
+  unfolding meant testFor testIn testKind testNumber testLength
+  sheet-meant m h = go (m .test) refl
+    where
+      go : (u : splitting.Test) → m .test ≡ u → Meant m
+      go (splitting.Constr a) e = rw e (refl, tt)
+      go (splitting.Int v) e = rw e (rw e at (h .meant), (rw e at (h .fit)) .inside refl)
+      go (splitting.Bytes v) e = rw e (rw e at (h .meant), (rw e at (h .fit)) .inside refl)
+      go (splitting.ListOf n) e = rw e (refl, tt)
+      go (splitting.ListWithTail n) e = rw e (refl, tt)
 
 -- ---- the matrices of the column chosen
 -- a case of a list is met in it
@@ -226,16 +263,6 @@ order-parts : (qs : List Pat) → length (inOrder qs) ≡ length (only isExact (
 unfolding inOrder
 order-parts qs = length-append (only isExact (casesOf qs)) (only isTail (casesOf qs))
 
-sorts-length : (ms : List Met) → length (only isExact ms) + length (only isTail ms) ≡ length ms
-unfolding only
-sorts-length [] = refl
-sorts-length (m ∷ ms) = go (isTail (m .test)) refl (sorts-length ms)
-  where
-    go : (b : Bool) → isTail (m .test) ≡ b → length (only isExact ms) + length (only isTail ms) ≡ length ms
-        → length (only isExact (m ∷ ms)) + length (only isTail (m ∷ ms)) ≡ suc (length ms)
-    go true e ih = rw (e, only) (omega arith)
-    go false e ih = rw (e, only) (omega arith)
-
 order-length : (qs : List Pat) → length (inOrder qs) ≡ length (casesOf qs)
 order-length qs = order-parts qs ∙ sorts-length (casesOf qs)
 
@@ -255,74 +282,97 @@ module _ {s : List ℕ} {m : Map} {t : List ℕ} {x : Matrix} {k : ℕ} (col : A
 
   -- fewer columns than patterns are tested
   pub tested-room : x .tested .count < patternsMost
-  tested-room = omega (arith, chosen-room ok (numbered x) (col .there .sound) k (col .chosen), tested-is (col .there .whole))
+  tested-room = omega (arith, chosen-room ok (inNumbers x) (col .there .sound) k (col .chosen), tested-is (col .there .whole))
+
+  class-known : k < patternsMost
+  class-known = omega (arith, chosen-class ok (inNumbers x) (col .there .sound) k (col .chosen) .known, ok .is-counted .patterns-most)
+
+  -- what its parts ask
+  pub column-in : isIn k (classesIn (x .columns)) ≡ true
+  column-in = chosen-there s (inNumbers x) k (col .chosen)
+
+  pub column-splits : Splits t x k
+  column-splits = splits (col .ready) x (col .there .whole) (col .there .sound) k column-in
+
+  pub column-known : k < patternsMost
+  column-known = class-known
 
   -- every case has a node
-  pub cases-there : All (There (caseTree s k (numbered x))) (caseList s k (numbered x))
+  pub cases-there : All (There (caseTree s k (inNumbers x))) (caseList s k (inNumbers x))
   cases-there =
-      each-met (λ u. 1 ≤ nodesIn (caseTree s k (numbered x) u)) (columnOf s k (numbered x))
-      (λ u e. some-tree s (caseNumbered s k u (numbered x)) (case-some s (numbered x) k u e))
-
-  -- its texts are parts of the sheet's pool
-  all-meant : All (Meant s) (caseList s k (numbered x))
-  all-meant = ?
+      each-met (λ u. 1 ≤ nodesIn (caseTree s k (inNumbers x) u)) (chosenColumn s k (inNumbers x))
+      (λ u e. some-tree s (caseNumbered s k u (inNumbers x)) (case-some s (inNumbers x) k u e))
 
   -- a case's matrix
-  module _ (y : Matrix) (u : splitting.Test) (whole : WholeMatrix y) (is : numbered y ≡ caseNumbered s k u (numbered x)) where
-    pub case-there : isMet u (casesOf (columnOf s k (numbered x))) ≡ true → MatrixThere s y
+  module _ (y : Matrix) (u : splitting.Test) (whole : WholeMatrix y) (is : inNumbers y ≡ caseNumbered s k u (inNumbers x)) where
+    pub case-there : isMet u (casesOf (chosenColumn s k (inNumbers x))) ≡ true → MatrixThere s y
     case-there e =
         record {
           whole = whole;
-          sound = subst (λ (M : Numbered). SoundOf s M) (sym is) (sound-case ok (numbered x) (col .there .sound) k (chosen-there s (numbered x) k (col .chosen)) u);
-          some-row = subst (λ (M : Numbered). 1 ≤ length (M .rows)) (sym is) (case-some s (numbered x) k u e);
+          sound = subst (λ (M : Numbered). SoundOf s M) (sym is) (sound-case ok (inNumbers x) (col .there .sound) k (chosen-there s (inNumbers x) k (col .chosen)) u);
+          some-row = subst (λ (M : Numbered). 1 ≤ length (M .rows)) (sym is) (case-some s (inNumbers x) k u e);
         }
 
     pub case-deeper : y .tested .count ≡ x .tested .count + 1
     case-deeper =
-        omega (arith, tested-is whole, tested-is (col .there .whole), ap (λ (M : Numbered). length (M .tested)) is, case-tested s (numbered x) k u)
+        omega (arith, tested-is whole, tested-is (col .there .whole), ap (λ (M : Numbered). length (M .tested)) is, case-tested s (inNumbers x) k u)
 
   -- the default's
-  module _ (d : Matrix) (whole : WholeMatrix d) (is : numbered d ≡ defaultNumbered s k (numbered x)) where
+  module _ (d : Matrix) (stands : StandsFor d (defaultRead t k (inNumbers x))) where
+    whole : WholeMatrix d
+    whole = stands .whole
+
+    is : inNumbers d ≡ defaultNumbered s k (inNumbers x)
+    is = stands .are ∙ default-read (col .ready) (inNumbers x) (col .there .sound) k class-known
+
     pub default-there : (d .rows .count ≡ 0 → ⊥) → MatrixThere s d
     default-there e =
         record {
           whole = whole;
-          sound = subst (λ (M : Numbered). SoundOf s M) (sym is) (sound-default ok (numbered x) (col .there .sound) k (chosen-there s (numbered x) k (col .chosen)));
+          sound = subst (λ (M : Numbered). SoundOf s M) (sym is) (sound-default ok (inNumbers x) (col .there .sound) k (chosen-there s (inNumbers x) k (col .chosen)));
           some-row = omega (arith, rows-count whole);
         }
 
-    pub default-none : d .rows .count ≡ 0 → defaultTree s k (numbered x) ≡ absent
-    default-none e = no-tree s (defaultNumbered s k (numbered x)) (rw (← is) (ap (λ z. take z (d .rows .list)) e))
+    pub default-none : d .rows .count ≡ 0 → defaultTree s k (inNumbers x) ≡ absent
+    default-none e = no-tree s (defaultNumbered s k (inNumbers x)) (rw (← is) (ap (λ z. take z (d .rows .list)) e))
 
     pub default-deeper : d .tested .count ≡ x .tested .count + 1
     default-deeper =
-        omega (arith, tested-is whole, tested-is (col .there .whole), ap (λ (M : Numbered). length (M .tested)) is, default-tested s (numbered x) k)
+        omega (arith, tested-is whole, tested-is (col .there .whole), ap (λ (M : Numbered). length (M .tested)) is, default-tested s (inNumbers x) k)
 
   -- ---- the loop over the cases
-  module _ (first : ℕ) (w₀ : List ℕ) (from : Tops) (begun : CasesOpen (caseList s k (numbered x)) first w₀ from) where
-    abbrev Done : ℕ → List ℕ → Tops → Type 0
-    Done i w tops = Partly (sheetPaths s) (caseTree s k (numbered x)) (caseList s k (numbered x)) first i w₀ w from tops
+  module _ (first : ℕ) (w₀ : List ℕ) (from : Tops) (asked : AskedCases s k (inNumbers x) first w₀ from) where
+    abbrev begun : CasesOpen (caseList s k (inNumbers x)) first w₀ from
+    begun = asked .begun
 
-    count-is : from .cases - first ≡ length (caseList s k (numbered x))
+    abbrev Done : ℕ → List ℕ → Tops → Type 0
+    Done i w tops = Partly (sheetPaths s) (caseTree s k (inNumbers x)) (caseList s k (inNumbers x)) first i w₀ w from tops
+
+    count-is : from .cases - first ≡ length (caseList s k (inNumbers x))
     count-is = omega (arith, begun .to-come)
 
     module _ (i : ℕ) (w : List ℕ) (tops : Tops) (part : Done i w tops) (l : i < from .cases - first) where
-      next : Next (sheetPaths s) (caseTree s k (numbered x)) (caseList s k (numbered x)) first w₀ from i w tops
-      next = next-case (sheetPaths s) (caseTree s k (numbered x)) (caseList s k (numbered x)) first w₀ from i w tops (omega (arith, count-is)) part
+      next : Next (sheetPaths s) (caseTree s k (inNumbers x)) (caseList s k (inNumbers x)) first w₀ from i w tops
+      next = next-case (sheetPaths s) (caseTree s k (inNumbers x)) (caseList s k (inNumbers x)) first w₀ from i w tops (omega (arith, count-is)) part
 
       abbrev u : splitting.Test
       u = next .case .test
 
-      u-met : isMet u (casesOf (columnOf s k (numbered x))) ≡ true
-      u-met = order-met (columnOf s k (numbered x)) u (rw (next .whole) (met-among (next .done) (next .case) (next .rest)))
+      u-met : isMet u (casesOf (chosenColumn s k (inNumbers x))) ≡ true
+      u-met = order-met (chosenColumn s k (inNumbers x)) u (rw (next .whole) (met-among (next .done) (next .case) (next .rest)))
 
       -- the test that is read is its own
-      test-is : (test : Test) → test ≡ (caseOf w (first + i)) .test → meant s test ≡ u
+      test-is : (test : Test) → test ≡ (caseOf w (first + i)) .test → test ≡ testFor (next .case .start) u
       test-is test e =
-          let stands = next-stands (sheetPaths s) (caseTree s k (numbered x)) (caseList s k (numbered x)) first w₀ from begun i w tops next in
+          let stands = next-stands (sheetPaths s) (caseTree s k (inNumbers x)) (caseList s k (inNumbers x)) first w₀ from begun i w tops next in
           let read = case-read w (first + i) u (next .case .start) 0 (case-is w (first + i) u (next .case .start) 0 stands) in
-          ap (meant s) (e ∙ ap (λ (z : Case). z .test) read)
-          ∙ (all-back (Meant s) (next .done) (next .case ∷ next .rest) (subst (All (Meant s)) (next .whole) all-meant)) .0
+          e ∙ ap (λ (z : Case). z .test) read
+
+      u-meant : Meant s (next .case)
+      u-meant = sheet-meant s (next .case) ((all-back (InSheet s) (next .done) (next .case ∷ next .rest) (subst (All (InSheet s)) (next .whole) (asked .each))) .0)
+
+      pub turn-in-pool : (test : Test) → test ≡ (caseOf w (first + i)) .test → InPool s test
+      turn-in-pool test e = subst (InPool s) (sym (test-is test e)) (u-meant .1)
 
       pub turn-room : (first + i < casesMost) × (tops .nodes ≤ nodesMost) × (arenaEnd ≤ length w)
       turn-room =
@@ -330,16 +380,16 @@ module _ {s : List ℕ} {m : Map} {t : List ℕ} {x : Matrix} {k : ℕ} (col : A
           (omega (arith, begun .room .cases-most), r .nodes-most, r .long)
 
       -- the case's matrix y
-      module _ (test : Test) (e : test ≡ (caseOf w (first + i)) .test) (y : Matrix) (whole : WholeMatrix y)
-          (is : numbered y ≡ caseNumbered s k (meant s test) (numbered x)) where
-        y-is : numbered y ≡ caseNumbered s k u (numbered x)
-        y-is = is ∙ ap (λ z. caseNumbered s k z (numbered x)) (test-is test e)
+      module _ (test : Test) (e : test ≡ (caseOf w (first + i)) .test) (y : Matrix)
+          (stands : StandsFor y (caseNumbered s k (meant s test) (inNumbers x))) where
+        y-is : inNumbers y ≡ caseNumbered s k u (inNumbers x)
+        y-is = stands .are ∙ ap (λ z. caseNumbered s k z (inNumbers x)) (ap (meant s) (test-is test e) ∙ u-meant .0)
 
         pub turn-there : MatrixThere s y
-        turn-there = case-there y u whole y-is u-met
+        turn-there = case-there y u (stands .whole) y-is u-met
 
         pub turn-deeper : y .tested .count ≡ x .tested .count + 1
-        turn-deeper = case-deeper y u whole y-is
+        turn-deeper = case-deeper y u (stands .whole) y-is
 
         -- its child is written
         module _ (w₁ : List ℕ) (child : w₁ ≡ stored w (casesStart + caseSize * (first + i) + 6) (wordBytes (tops .nodes))) where
@@ -359,34 +409,34 @@ module _ {s : List ℕ} {m : Map} {t : List ℕ} {x : Matrix} {k : ℕ} (col : A
               }
 
           -- its tree is built, or has too many nodes
-          module _ (w₂ : List ℕ) (r : Built) (b : Builds (sheetPaths s) w₁ w₂ (treeAt s (numbered y)) tops r) where
-            as-case : treeAt s (numbered y) ≡ caseTree s k (numbered x) u
+          module _ (w₂ : List ℕ) (r : Built) (b : Builds (sheetPaths s) w₁ w₂ (treeAt s (inNumbers y)) tops r) where
+            as-case : treeAt s (inNumbers y) ≡ caseTree s k (inNumbers x) u
             as-case = ap (treeAt s) y-is
 
             pub turn-done : r .fits ≡ true → Done (i + 1) w₂ (r .tops)
             turn-done f =
-                case-built (sheetPaths s) (caseTree s k (numbered x)) (caseList s k (numbered x)) first w₀ from begun i w tops next w₁ w₂ (r .tops) child
+                case-built (sheetPaths s) (caseTree s k (inNumbers x)) (caseList s k (inNumbers x)) first w₀ from begun i w tops next w₁ w₂ (r .tops) child
                 (subst (λ (a : Tree). Put (sheetPaths s) w₁ w₂ a tops (r .tops)) as-case (b .put f)) (subst (λ (a : Tree). casesIn a < nodesIn a) as-case (b .fewer-cases f))
 
-            pub turn-over : r .fits ≡ false → BuildsCases (sheetPaths s) (caseTree s k (numbered x)) (caseList s k (numbered x)) first w₀ w₂ from r
+            pub turn-over : r .fits ≡ false → BuildsCases (sheetPaths s) (caseTree s k (inNumbers x)) (caseList s k (inNumbers x)) first w₀ w₂ from r
             turn-over f =
                 record {
                   put = λ g. absurd (false≢true (sym f ∙ g));
                   over = λ _.
-                      case-over (sheetPaths s) (caseTree s k (numbered x)) (caseList s k (numbered x)) first w₀ from begun i w tops next cases-there
+                      case-over (sheetPaths s) (caseTree s k (inNumbers x)) (caseList s k (inNumbers x)) first w₀ from begun i w tops next cases-there
                       (subst (λ (a : Tree). TooMany a tops) as-case (b .over f));
                 }
 
     pub loop-begin : Done 0 w₀ from
-    loop-begin = cases-begin (sheetPaths s) (caseTree s k (numbered x)) (caseList s k (numbered x)) first w₀ from begun
+    loop-begin = cases-begin (sheetPaths s) (caseTree s k (inNumbers x)) (caseList s k (inNumbers x)) first w₀ from begun
 
     pub loop-end : (i : ℕ) (w : List ℕ) (tops : Tops) (r : Built) → Done i w tops → from .cases - first ≤ i → r ≡ record { fits = true; tops = tops }
-        → BuildsCases (sheetPaths s) (caseTree s k (numbered x)) (caseList s k (numbered x)) first w₀ w from r
+        → BuildsCases (sheetPaths s) (caseTree s k (inNumbers x)) (caseList s k (inNumbers x)) first w₀ w from r
     loop-end i w tops r part l e =
         rw e
         (record {
           put = λ _.
-              cases-end (sheetPaths s) (caseTree s k (numbered x)) (caseList s k (numbered x)) first w₀ from i w tops (omega (arith, count-is)) part;
+              cases-end (sheetPaths s) (caseTree s k (inNumbers x)) (caseList s k (inNumbers x)) first w₀ from i w tops (omega (arith, count-is)) part;
           over = λ f. absurd (false≢true (sym f));
         })
 
@@ -394,58 +444,66 @@ module _ {s : List ℕ} {m : Map} {t : List ℕ} {x : Matrix} {k : ℕ} (col : A
   abbrev table : List Path
   table = sheetPaths s
 
-  as-switch : treeAt s (numbered x) ≡ nodeOn (pathOf s k) (columnOf s k (numbered x)) (caseTree s k (numbered x)) (defaultTree s k (numbered x))
-  as-switch = tree-switch ok (numbered x) (col .there .sound) k (col .chosen)
+  as-switch : treeAt s (inNumbers x) ≡ nodeOn (pathOf s k) (chosenColumn s k (inNumbers x)) (caseTree s k (inNumbers x)) (defaultTree s k (inNumbers x))
+  as-switch = tree-switch ok (inNumbers x) (col .there .sound) k (col .chosen)
 
   -- a column chosen has a case
-  some-case : 1 ≤ length (caseList s k (numbered x))
+  some-case : 1 ≤ length (caseList s k (inNumbers x))
   some-case =
-      let M = numbered x in
+      let M = inNumbers x in
       let first = chosen-first s M k (col .chosen) in
-      let qs = columnOf s k M in
+      let qs = chosenColumn s k M in
       let tests : All (λ q. isTest q ≡ true) qs =
       subst (All (λ q. isTest q ≡ true)) (column-is ok (col .there .sound) k (chosen-class ok M (col .there .sound) k (col .chosen)) ∙ tests-are)
       (column-tests (pathOf s k) (rowsAt s (M .tested) (M .rows)) (rows-tests s (map (pathOf s) (M .tested)) (M .rows))) in
       omega (arith, order-length qs, cases-some qs tests (omega (arith, length-map (testsIn s k M) (patternOf s), tests-some first)))
     where
-      tests-some : FirstTest (liveIn s (x .opened) k) ((numbered x) .rows) → 1 ≤ length (testsIn s k (numbered x))
-      tests-some f = unfold testsIn in (held-some (liveIn s (x .opened) k) ((numbered x) .rows) f)
+      tests-some : FirstTest (liveIn s (x .opened) k) ((inNumbers x) .rows) → 1 ≤ length (testsIn s k (inNumbers x))
+      tests-some f = unfold testsIn in (held-some (liveIn s (x .opened) k) ((inNumbers x) .rows) f)
 
-      tests-are : map (patternOf s) (heldTests (liveIn s (x .opened) k) ((numbered x) .rows)) ≡ columnOf s k (numbered x)
+      tests-are : map (patternOf s) (heldTests (liveIn s (x .opened) k) ((inNumbers x) .rows)) ≡ chosenColumn s k (inNumbers x)
       tests-are = unfold testsIn in refl
 
   module _ (w : List ℕ) (tops : Tops) (room : Roomy w tops) (node-room : tops .nodes < nodesMost) where
     Whole-switch : Built → List ℕ → Type 0
-    Whole-switch r w' = Builds table w w' (treeAt s (numbered x)) tops r
+    Whole-switch r w' = Builds table w w' (treeAt s (inNumbers x)) tops r
 
     -- there is no room for the cases
-    pub no-room : (w' : List ℕ) (r : Built) → casesMost ≤ tops .cases + length (casesOf (columnOf s k (numbered x))) → r ≡ record { fits = false; tops = tops }
-        → Builds table w w' (treeAt s (numbered x)) tops r
+    pub no-room : (w' : List ℕ) (r : Built) → casesMost ≤ tops .cases + length (casesOf (chosenColumn s k (inNumbers x))) → r ≡ record { fits = false; tops = tops }
+        → Builds table w w' (treeAt s (inNumbers x)) tops r
     no-room w' r l e =
         rw (e, as-switch)
         (record {
           put = λ f. absurd (false≢true f);
           fewer-cases = λ f. absurd (false≢true f);
           over = λ _.
-              met-over (pathOf s k) (columnOf s k (numbered x)) (caseTree s k (numbered x)) (defaultTree s k (numbered x)) tops cases-there
-              (omega (arith, order-length (columnOf s k (numbered x))));
+              met-over (pathOf s k) (chosenColumn s k (inNumbers x)) (caseTree s k (inNumbers x)) (defaultTree s k (inNumbers x)) tops cases-there
+              (omega (arith, order-length (chosenColumn s k (inNumbers x))));
         })
 
-    pub met-made : (w₁ : List ℕ) (r : Meeting) (c : CasesMet) → r ≡ MetTo c → MeetsTo s k (numbered x) (tops .cases) w w₁ r
-        → CasesMade s k (numbered x) (tops .cases) w w₁ c
-    met-made w₁ r c e h = subst (MeetsTo s k (numbered x) (tops .cases) w w₁) e h
+    pub met-made : (w₁ : List ℕ) (r : Meeting) (c : CasesMet) → r ≡ MetTo c → MeetsTo s (chosenColumn s k (inNumbers x)) (tops .cases) w w₁ r
+        → CasesMade s (chosenColumn s k (inNumbers x)) (tops .cases) w w₁ c
+    met-made w₁ r c e h = subst (MeetsTo s (chosenColumn s k (inNumbers x)) (tops .cases) w w₁) e h
 
     -- the cases are met
-    module _ (w₁ : List ℕ) (c : CasesMet) (made : CasesMade s k (numbered x) (tops .cases) w w₁ c) (from : Tops)
+    module _ (w₁ : List ℕ) (c : CasesMet) (made : CasesMade s (chosenColumn s k (inNumbers x)) (tops .cases) w w₁ c) (from : Tops)
         (from-is : from ≡ record { nodes = tops .nodes + 1; cases = c .end; bindings = tops .bindings; leaves = tops .leaves }) where
-      end-is : c .end ≡ tops .cases + length (caseList s k (numbered x))
-      end-is = omega (arith, made .mid-is, made .end-is, order-parts (columnOf s k (numbered x)))
+      end-is : c .end ≡ tops .cases + length (caseList s k (inNumbers x))
+      end-is = omega (arith, made .mid-is, made .end-is, order-parts (chosenColumn s k (inNumbers x)))
+
+      written : w₁ ≡ stored w (casesStart + caseSize * tops .cases) (caseRecords (caseList s k (inNumbers x)))
+      unfolding inOrder
+      written = made .written
+
+      all-in-sheet : All (InSheet s) (caseList s k (inNumbers x))
+      unfolding inOrder
+      all-in-sheet = made .each
 
       written-length : length w₁ ≡ length w
-      written-length = ap length (made .written) ∙ length-stored w (casesStart + caseSize * tops .cases) (caseRecords (caseList s k (numbered x)))
+      written-length = ap length written ∙ length-stored w (casesStart + caseSize * tops .cases) (caseRecords (caseList s k (inNumbers x)))
 
-      pub switch-open : CasesOpen (caseList s k (numbered x)) (tops .cases) w₁ from
-      switch-open =
+      cases-open : CasesOpen (caseList s k (inNumbers x)) (tops .cases) w₁ from
+      cases-open =
           rw from-is
           (record {
             room = record {
@@ -456,54 +514,57 @@ module _ {s : List ℕ} {m : Map} {t : List ℕ} {x : Matrix} {k : ℕ} (col : A
               leaves-long = room .leaves-long;
             };
             written =
-                rw (made .written)
-                (stands-stored w (casesStart + caseSize * tops .cases) (caseRecords (caseList s k (numbered x)))
-                (omega (arith, room .long, made .small, end-is, length-caseRecords (caseList s k (numbered x)))));
+                rw written
+                (stands-stored w (casesStart + caseSize * tops .cases) (caseRecords (caseList s k (inNumbers x)))
+                (omega (arith, room .long, made .small, end-is, length-caseRecords (caseList s k (inNumbers x)))));
             to-come = end-is;
           })
 
+      pub switch-open : AskedCases s k (inNumbers x) (tops .cases) w₁ from
+      switch-open = record { begun = cases-open; each = all-in-sheet }
+
       kept₁ : Kept (tops .nodes) (tops .cases) (tops .bindings) w w₁
       kept₁ =
-          rw (made .written)
-          (kept-cases (tops .nodes) (tops .cases) (tops .bindings) (tops .cases) w (caseRecords (caseList s k (numbered x))) (room .nodes-most) (omega arith)
-          (omega (arith, made .small, end-is, length-caseRecords (caseList s k (numbered x)))))
+          rw written
+          (kept-cases (tops .nodes) (tops .cases) (tops .bindings) (tops .cases) w (caseRecords (caseList s k (inNumbers x))) (room .nodes-most) (omega arith)
+          (omega (arith, made .small, end-is, length-caseRecords (caseList s k (inNumbers x)))))
 
       -- the cases have too many nodes
       pub switch-cases-over : (w' : List ℕ) (r : Built) → r .fits ≡ false
-          → BuildsCases table (caseTree s k (numbered x)) (caseList s k (numbered x)) (tops .cases) w₁ w' from r → Builds table w w' (treeAt s (numbered x)) tops r
+          → BuildsCases table (caseTree s k (inNumbers x)) (caseList s k (inNumbers x)) (tops .cases) w₁ w' from r → Builds table w w' (treeAt s (inNumbers x)) tops r
       switch-cases-over w' r f b =
           rw as-switch
           (record {
             put = λ g. absurd (false≢true (sym f ∙ g));
             fewer-cases = λ g. absurd (false≢true (sym f ∙ g));
             over = λ _.
-                cases-over (pathOf s k) (columnOf s k (numbered x)) (caseTree s k (numbered x)) (defaultTree s k (numbered x)) tops from
+                cases-over (pathOf s k) (chosenColumn s k (inNumbers x)) (caseTree s k (inNumbers x)) (defaultTree s k (inNumbers x)) tops from
                 (ap (λ (z : Tops). z .nodes) from-is) (b .over f);
           })
 
       -- the cases are built
       module _ (w₂ : List ℕ) (r : Built) (f : r .fits ≡ true)
-          (b : BuildsCases table (caseTree s k (numbered x)) (caseList s k (numbered x)) (tops .cases) w₁ w₂ from r)
-          (d : Matrix) (whole : WholeMatrix d) (is : numbered d ≡ defaultNumbered s k (numbered x)) where
+          (b : BuildsCases table (caseTree s k (inNumbers x)) (caseList s k (inNumbers x)) (tops .cases) w₁ w₂ from r)
+          (d : Matrix) (stands : StandsFor d (defaultRead t k (inNumbers x))) where
         pub switch-node-asked : (arenaEnd ≤ length w₂) × (tops .nodes < nodesMost) × (k < 192) × (r .tops .nodes + 1 ≤ nodesMost + 1)
         switch-node-asked =
-            (b .put f .room .long, node-room, omega (arith, chosen-class ok (numbered x) (col .there .sound) k (col .chosen) .known, ok .is-counted .patterns-most), omega (arith, b .put f .room .nodes-most))
+            (b .put f .room .long, node-room, omega (arith, chosen-class ok (inNumbers x) (col .there .sound) k (col .chosen) .known, ok .is-counted .patterns-most), omega (arith, b .put f .room .nodes-most))
 
         pub switch-met-asked : (tops .cases ≤ c .mid) × (c .mid ≤ c .end) × (c .end < casesMost)
         switch-met-asked = (omega (arith, made .mid-is), omega (arith, made .end-is), made .small)
 
         module _ (w₃ : List ℕ) (default : ℕ)
             (node : w₃ ≡ stored w₂ (nodeSize * tops .nodes) (nodeBytes (pick (c .list) 1 0) k (tops .cases) (c .mid - tops .cases) (c .end - c .mid) default)) where
-          node-is : default ≡ defaultField (r .tops .nodes) (defaultTree s k (numbered x))
+          node-is : default ≡ defaultField (r .tops .nodes) (defaultTree s k (inNumbers x))
               → w₃
               ≡ stored w₂ (nodeSize * tops .nodes)
-              (nodeBytes (switchKind (columnOf s k (numbered x))) (pathNumber table (pathOf s k)) (tops .cases) (length (only isExact (casesOf (columnOf s k (numbered x)))))
-              (length (only isTail (casesOf (columnOf s k (numbered x))))) (defaultField (r .tops .nodes) (defaultTree s k (numbered x))))
+              (nodeBytes (switchKind (chosenColumn s k (inNumbers x))) (pathNumber table (pathOf s k)) (tops .cases) (length (only isExact (casesOf (chosenColumn s k (inNumbers x)))))
+              (length (only isTail (casesOf (chosenColumn s k (inNumbers x))))) (defaultField (r .tops .nodes) (defaultTree s k (inNumbers x))))
           unfolding classOf
           node-is e =
-              let class : k ≡ pathNumber table (pathOf s k) = sym (chosen-class ok (numbered x) (col .there .sound) k (col .chosen) .itself) in
-              let cases : c .mid - tops .cases ≡ length (only isExact (casesOf (columnOf s k (numbered x)))) = omega (arith, made .mid-is) in
-              let tails : c .end - c .mid ≡ length (only isTail (casesOf (columnOf s k (numbered x)))) = omega (arith, made .end-is) in
+              let class : k ≡ pathNumber table (pathOf s k) = sym (chosen-class ok (inNumbers x) (col .there .sound) k (col .chosen) .itself) in
+              let cases : c .mid - tops .cases ≡ length (only isExact (casesOf (chosenColumn s k (inNumbers x)))) = omega (arith, made .mid-is) in
+              let tails : c .end - c .mid ≡ length (only isTail (casesOf (chosenColumn s k (inNumbers x)))) = omega (arith, made .end-is) in
               node ∙ (λ i. stored w₂ (nodeSize * tops .nodes) (nodeBytes (pick (made .list-is i) 1 0) (class i) (tops .cases) (cases i) (tails i) (e i)))
 
           node-length : length w₃ ≡ length w₂
@@ -511,9 +572,9 @@ module _ {s : List ℕ} {m : Map} {t : List ℕ} {x : Matrix} {k : ℕ} (col : A
               ap length node
               ∙ length-stored w₂ (nodeSize * tops .nodes) (nodeBytes (pick (c .list) 1 0) k (tops .cases) (c .mid - tops .cases) (c .end - c .mid) default)
 
-          parts : {w' : List ℕ} {to : Tops} → default ≡ defaultField (r .tops .nodes) (defaultTree s k (numbered x))
-              → Put table w₃ w' (defaultTree s k (numbered x)) (r .tops) to
-              → SwitchPut table (pathOf s k) (columnOf s k (numbered x)) (caseTree s k (numbered x)) (defaultTree s k (numbered x)) w w₁ w₂ w₃ w' tops from (r .tops) to
+          parts : {w' : List ℕ} {to : Tops} → default ≡ defaultField (r .tops .nodes) (defaultTree s k (inNumbers x))
+              → Put table w₃ w' (defaultTree s k (inNumbers x)) (r .tops) to
+              → SwitchPut table (pathOf s k) (chosenColumn s k (inNumbers x)) (caseTree s k (inNumbers x)) (defaultTree s k (inNumbers x)) w w₁ w₂ w₃ w' tops from (r .tops) to
           parts e p =
               record {
                 room = room;
@@ -541,12 +602,12 @@ module _ {s : List ℕ} {m : Map} {t : List ℕ} {x : Matrix} {k : ℕ} (col : A
 
           -- the default's matrix
           pub switch-asked : (d .rows .count ≡ 0 → ⊥) → Asked s m t d w₃ (r .tops)
-          switch-asked filled = record { ready = col .ready; there = default-there d whole is filled; room = room₃ }
+          switch-asked filled = record { ready = col .ready; there = default-there d stands filled; room = room₃ }
 
           -- there is no default
-          pub switch-done : d .rows .count ≡ 0 → default ≡ 0 → Builds table w w₃ (treeAt s (numbered x)) tops r
+          pub switch-done : d .rows .count ≡ 0 → default ≡ 0 → Builds table w w₃ (treeAt s (inNumbers x)) tops r
           switch-done empty zero-is =
-              let gone : defaultTree s k (numbered x) ≡ absent = default-none d whole is empty in
+              let gone : defaultTree s k (inNumbers x) ≡ absent = default-none d stands empty in
               let p = parts (zero-is ∙ no-default (r .tops .nodes) ∙ ap (defaultField (r .tops .nodes)) (sym gone))
               (subst (λ (a : Tree). Put table w₃ w₃ a (r .tops) (r .tops)) (sym gone) (absent-put table w₃ (r .tops) room₃)) in
               rw as-switch
@@ -558,18 +619,18 @@ module _ {s : List ℕ} {m : Map} {t : List ℕ} {x : Matrix} {k : ℕ} (col : A
 
           -- the default is built, or has too many nodes
           pub switch-default : (w' : List ℕ) (r' : Built) → (d .rows .count ≡ 0 → ⊥) → default ≡ r .tops .nodes + 1
-              → Builds table w₃ w' (treeAt s (numbered d)) (r .tops) r' → Builds table w w' (treeAt s (numbered x)) tops r'
+              → Builds table w₃ w' (treeAt s (inNumbers d)) (r .tops) r' → Builds table w w' (treeAt s (inNumbers x)) tops r'
           switch-default w' r' filled default-is bd =
-              let same : treeAt s (numbered d) ≡ defaultTree s k (numbered x) = ap (treeAt s) is in
-              let there : 1 ≤ nodesIn (defaultTree s k (numbered x)) =
-              subst (λ (a : Tree). 1 ≤ nodesIn a) same (some-tree s (numbered d) (default-there d whole is filled .some-row)) in
-              let field : default ≡ defaultField (r .tops .nodes) (defaultTree s k (numbered x)) = default-is ∙ there-field (r .tops .nodes) (defaultTree s k (numbered x)) there in
+              let same : treeAt s (inNumbers d) ≡ defaultTree s k (inNumbers x) = ap (treeAt s) (is d stands) in
+              let there : 1 ≤ nodesIn (defaultTree s k (inNumbers x)) =
+              subst (λ (a : Tree). 1 ≤ nodesIn a) same (some-tree s (inNumbers d) (default-there d stands filled .some-row)) in
+              let field : default ≡ defaultField (r .tops .nodes) (defaultTree s k (inNumbers x)) = default-is ∙ there-field (r .tops .nodes) (defaultTree s k (inNumbers x)) there in
               let whole-bd = subst (λ (a : Tree). Builds table w₃ w' a (r .tops) r') same bd in
               rw as-switch
               (record {
                 put = λ g. switch-put (parts field (whole-bd .put g));
                 fewer-cases = λ g. switch-fewer (parts field (whole-bd .put g)) (omega (arith, whole-bd .fewer-cases g));
                 over = λ g.
-                    default-over (pathOf s k) (columnOf s k (numbered x)) (caseTree s k (numbered x)) (defaultTree s k (numbered x)) tops w₁ w₂ table from (r .tops)
+                    default-over (pathOf s k) (chosenColumn s k (inNumbers x)) (caseTree s k (inNumbers x)) (defaultTree s k (inNumbers x)) tops w₁ w₂ table from (r .tops)
                     (ap (λ (z : Tops). z .nodes) from-is) (ap (λ (z : Tops). z .cases) from-is ∙ end-is) (b .put f) (whole-bd .over g);
               })

@@ -25,8 +25,9 @@ use Rattle.arena.specs.Arena.{casesStart, casesMost, bindingsStart, arenaEnd, H
 use Rattle.arena.specs.WritingLaws.{Kept, kept-trans, kept-weaken, kept-node, cases-kept, nodes-kept, heldOf-kept, stands-stored, switch-made, list-switch-made}
 use Rattle.arena.specs.Numbered.{joined}
 use Rattle.arena.specs.NumberedLaws.{nodesInOf-joined}
+use Rattle.meeting.specs.Passes.{caseRecords}
 use Rattle.building.specs.declared.tops.Tops.{Tops}
-use Rattle.building.specs.Built.{caseRecords, Counted, Roomy, Put, TooMany, CasesPut, TooManyOf}
+use Rattle.building.specs.Built.{Counted, Roomy, Put, TooMany, CasesPut, TooManyOf}
 use Rattle.building.specs.CasesLaws.{There, each-node}
 use Rattle.building.specs.JoinedLaws.{casesInOf-joined, bindingsInOf-joined, hasLeafOf-joined, ownCases-joined, casesOn-append, howMany-casesOn, front-held, back-held}
 use Rattle.building.specs.BuiltLaws.{stands-apart, heldOf-apart, counted-then, counted-as}

@@ -1,10 +1,6 @@
 // The tree of a matrix: a leaf where no column is chosen, else a switch with the trees of its cases and of its default.
 // One more column is tested at each call, and there are no more columns than patterns: 192 less the columns tested falls.
-use crate::stand_in::CasesMet;
-use crate::stand_in::Meeting;
 use crate::stand_in::case_matrix;
-use crate::stand_in::default_matrix;
-use crate::stand_in::highest_occurrence;
 use crate::stand_in::meet_cases;
 use crate::tops::Built;
 use crate::tops::Tops;
@@ -14,7 +10,11 @@ use arena::writing::put_node;
 use leaves::leaf_bindings;
 use matrix::Choice;
 use matrix::Matrix;
+use matrix::rows::highest_occurrence;
+use matrix::splitting::default_matrix;
 use matrix::wide;
+use meeting::CasesMet;
+use meeting::Meeting;
 use sheet::Map;
 ghost use mathlib.Core.Path.{_≡_};
 ghost use Prim.Native.Nat.{_<_, _≤_, _+_, _*_, _-_};
@@ -26,10 +26,10 @@ ghost use Rattle.rules.specs.TreeFile.{firstOf, nodeBytes};
 ghost use Rattle.table.specs.Standing.{sheetPaths};
 ghost use Rattle.matrix.specs.declared.Choice.the-variants.{Leaf};
 ghost use Rattle.matrix.specs.Numbered.{chosenIn, treeAt};
-ghost use Rattle.leaves.specs.Bindings.{numbered};
+ghost use Rattle.matrix.specs.InNumbers.{inNumbers};
 ghost use Rattle.arena.specs.Arena.{arenaEnd, casesMost};
-ghost use Rattle.building.specs.Built.{Put, Roomy, CasesOpen, Builds, BuildsCases};
-ghost use Rattle.building.specs.Steps.{caseList, caseTree, Asked, AskedColumn};
+ghost use Rattle.building.specs.Built.{Put, Roomy, Builds, BuildsCases};
+ghost use Rattle.building.specs.Steps.{caseList, caseTree, Asked, AskedColumn, AskedCases};
 
 pub const NODES_MOST: usize = 1024;
 
@@ -45,8 +45,8 @@ fn first_of(count: usize, first: usize) -> usize
 
 // The leaf of the first row.
 fn put_leaf(s: &[u8], m: Map, t: &[u8], x: Matrix, work: &mut [u8], tops: Tops) -> Tops
-    requires { ⌜ Asked (now s) m (now t) x (now work) tops × (tops .nodes < nodesMost) × (chosenIn (now s) (numbered x) ≡ Leaf) ⌝ }
-    ensures { λ r. ⌜ Put (sheetPaths (now (s .entry))) (now (work .entry)) (now (work .exit)) (treeAt (now (s .entry)) (numbered x)) tops r ⌝ }
+    requires { ⌜ Asked (now s) m (now t) x (now work) tops × (tops .nodes < nodesMost) × (chosenIn (now s) (inNumbers x) ≡ Leaf) ⌝ }
+    ensures { λ r. ⌜ Put (sheetPaths (now (s .entry))) (now (work .entry)) (now (work .exit)) (treeAt (now (s .entry)) (inNumbers x)) tops r ⌝ }
 {
     let rows = x.rows;
     let clause = wide(rows.list[0]);
@@ -82,8 +82,8 @@ fn put_switch(work: &mut [u8], k: usize, class: usize, first: usize, met: CasesM
 // The cases whose records stand from number `first` on, up to the tops' own number of cases: each gets its tree.
 fn build_cases(s: &[u8], m: Map, t: &[u8], x: Matrix, class: usize, work: &mut [u8], first: usize, from: Tops) -> Built
     requires { ⌜ AskedColumn (now s) m (now t) x class ⌝ }
-    requires { ⌜ CasesOpen (caseList (now s) class (numbered x)) first (now work) from ⌝ }
-    ensures { λ r. ⌜ BuildsCases (sheetPaths (now (s .entry))) (caseTree (now (s .entry)) class (numbered x)) (caseList (now (s .entry)) class (numbered x)) first (now (work .entry)) (now (work .exit)) from r ⌝ }
+    requires { ⌜ AskedCases (now s) class (inNumbers x) first (now work) from ⌝ }
+    ensures { λ r. ⌜ BuildsCases (sheetPaths (now (s .entry))) (caseTree (now (s .entry)) class (inNumbers x)) (caseList (now (s .entry)) class (inNumbers x)) first (now (work .entry)) (now (work .exit)) from r ⌝ }
 {
     let count = from.cases - first;
     let mut tops = from;
@@ -106,7 +106,7 @@ fn build_cases(s: &[u8], m: Map, t: &[u8], x: Matrix, class: usize, work: &mut [
 // A switch on the column of this class.
 fn build_switch(s: &[u8], m: Map, t: &[u8], x: Matrix, class: usize, work: &mut [u8], tops: Tops) -> Built
     requires { ⌜ AskedColumn (now s) m (now t) x class × Roomy (now work) tops × (tops .nodes < nodesMost) ⌝ }
-    ensures { λ r. ⌜ Builds (sheetPaths (now (s .entry))) (now (work .entry)) (now (work .exit)) (treeAt (now (s .entry)) (numbered x)) tops r ⌝ }
+    ensures { λ r. ⌜ Builds (sheetPaths (now (s .entry))) (now (work .entry)) (now (work .exit)) (treeAt (now (s .entry)) (inNumbers x)) tops r ⌝ }
 {
     let first = tops.cases;
     let meeting = meet_cases(s, m, t, x, class, work, first);
@@ -125,7 +125,7 @@ fn build_switch(s: &[u8], m: Map, t: &[u8], x: Matrix, class: usize, work: &mut 
         return built;
     }
     let next = built.tops;
-    let d = default_matrix(s, m, t, x, class);
+    let d = default_matrix(t, x, class);
     let rows = d.rows;
     if rows.count == 0 {
         put_switch(work, tops.nodes, class, first, met, 0);
@@ -138,12 +138,12 @@ fn build_switch(s: &[u8], m: Map, t: &[u8], x: Matrix, class: usize, work: &mut 
 // The tree of the matrix x, with at least one row, from the tops on.
 pub fn do_build_tree(s: &[u8], m: Map, t: &[u8], x: Matrix, work: &mut [u8], tops: Tops) -> Built
     requires { ⌜ Asked (now s) m (now t) x (now work) tops ⌝ }
-    ensures { λ r. ⌜ Builds (sheetPaths (now (s .entry))) (now (work .entry)) (now (work .exit)) (treeAt (now (s .entry)) (numbered x)) tops r ⌝ }
+    ensures { λ r. ⌜ Builds (sheetPaths (now (s .entry))) (now (work .entry)) (now (work .exit)) (treeAt (now (s .entry)) (inNumbers x)) tops r ⌝ }
 {
     if tops.nodes == NODES_MOST {
         return Built { fits: false, tops };
     }
-    let choice = highest_occurrence(s, m, t, x);
+    let choice = highest_occurrence(t, x);
     let Choice::Column(class) = choice else {
         let next = put_leaf(s, m, t, x, work, tops);
         return Built {

@@ -1,15 +1,16 @@
 use borrow.Author.Needs.{needs}
 use borrow.Author.Tests.{not-true, not-false}
-use mathlib.Core.Bool.{true, false}
 use native.Mathlib.Omega.{arith}
 use mathlib.Core.Path.{_≡_, refl, sym, ap, subst, _∙_}
+use mathlib.Core.Bool.{true, false}
 use lib.ListN.{length}
 use Rattle.table.specs.Standing.{sheetPaths}
 use Rattle.arena.specs.declared.reading.Case.{Case}
-use Rattle.leaves.specs.Bindings.{numbered}
+use Rattle.matrix.specs.InNumbers.{inNumbers}
 use Rattle.building.specs.Built.{Partly}
-use Rattle.building.specs.Steps.{caseList, caseTree, MeetsTo}
-use Rattle.building.specs.StepsLaws.{tested-room, turn-room, turn-asked, turn-deeper, turn-done, turn-over, loop-begin, loop-end, no-room, met-made, switch-open, switch-cases-over, switch-node-asked, switch-met-asked, switch-asked, switch-done, switch-default, default-deeper, node-left, leaf-builds, full-builds}
+use Rattle.building.specs.Steps.{chosenColumn, caseList, caseTree}
+use Rattle.meeting.specs.Made.{MeetsTo}
+use Rattle.building.specs.StepsLaws.{column-in, column-splits, column-known, asked-readable, asked-chosen, turn-in-pool, tested-room, turn-room, turn-asked, turn-deeper, turn-done, turn-over, loop-begin, loop-end, no-room, met-made, switch-open, switch-cases-over, switch-node-asked, switch-met-asked, switch-asked, switch-done, switch-default, default-deeper, node-left, leaf-builds, full-builds}
 use Prim.Native.Nat.{ℕ, _+_, _-_, _*_, _≤_, _<_}
 use borrow.Fn.Kinds.{In}
 use borrow.Fn.PlainCycle.{Measures, is, falls, and}
@@ -27,9 +28,9 @@ use Rattle.arena.proofs.writing.put_child.Reads as put-child-reads
 use Rattle.building.proofs.build.put_leaf.Reads as put-leaf-reads
 use Rattle.building.proofs.build.put_switch.Reads as put-switch-reads
 use Rattle.building.proofs.stand_in.case_matrix.Reads as case-matrix-reads
-use Rattle.building.proofs.stand_in.default_matrix.Reads as default-matrix-reads
-use Rattle.building.proofs.stand_in.highest_occurrence.Reads as highest-occurrence-reads
 use Rattle.building.proofs.stand_in.meet_cases.Reads as meet-cases-reads
+use Rattle.matrix.proofs.rows.highest_occurrence.Reads as highest-occurrence-reads
+use Rattle.matrix.proofs.splitting.default_matrix.Reads as default-matrix-reads
 use Rattle.building.proofs.build.+build_cases+build_switch+do_build_tree.{statement}
 use Rattle.building.proofs.build.+build_cases+build_switch+do_build_tree.Tie.{close}
 
@@ -76,7 +77,7 @@ do-build-tree-below t =
 
 abbrev build-cases-Inv-loop : build-cases-lts.InvT-loop
 build-cases-Inv-loop s m t x class work₀ first count tops₀ i₀ work tops i =
-    (i ≤ count) × (length work ≡ length work₀) × Partly (sheetPaths s) (caseTree s class (numbered x)) (caseList s class (numbered x)) first i work₀ work tops₀ tops
+    (i ≤ count) × (length work ≡ length work₀) × Partly (sheetPaths s) (caseTree s class (inNumbers x)) (caseList s class (inNumbers x)) first i work₀ work tops₀ tops
 
 abbrev build-cases-μ-loop : build-cases-lts.MeasureT-loop
 build-cases-μ-loop s m t x class work₀ first count tops₀ i₀ work tops i = count - i
@@ -92,7 +93,7 @@ build-cases-sub-count : (t : ℕ) → build-cases-lts.Need-sub-count (
   do-build-tree-below t,
   do-build-tree.Post,
 ) (build-cases-at t) build-cases.Post build-cases-Inv-loop build-cases-μ-loop
-build-cases-sub-count t c = omega (arith, (c .before .before .before .before .pre .1 .1) .to-come)
+build-cases-sub-count t c = omega (arith, (c .before .before .before .before .pre .1 .1) .begun .to-come)
 
 -- src/build.rt:91:5
 build-cases-loop-holds : (t : ℕ) → build-cases-lts.Need-loop-holds (
@@ -144,7 +145,7 @@ build-cases-case-matrix-requires : (t : ℕ) → build-cases-lts.Need-case-matri
   do-build-tree-below t,
   do-build-tree.Post,
 ) (build-cases-at t) build-cases.Post build-cases-Inv-loop build-cases-μ-loop
-build-cases-case-matrix-requires t c κs = ((c .before .before .before .before .before .before .before .before .pre .1 .0) .ready, (c .before .before .before .before .before .before .before .before .pre .1 .0) .there, (c .before .before .before .before .before .before .before .before .pre .1 .0) .chosen)
+build-cases-case-matrix-requires t c κs = ((c .before .before .before .before .before .before .before .before .pre .1 .0) .ready, (c .before .before .before .before .before .before .before .before .pre .1 .0) .there .whole, (c .before .before .before .before .before .before .before .before .pre .1 .0) .there .sound, column-in (c .before .before .before .before .before .before .before .before .pre .1 .0), turn-in-pool (c .before .before .before .before .before .before .before .before .pre .1 .0) (c .before .before .before .before .before .before .before .before .args .first) (c .before .before .before .before .before .before .before .before .args .work .now) (c .before .before .before .before .before .before .before .before .args .from) (c .before .before .before .before .before .before .before .before .pre .1 .1) (c .before .before .before .loop .i) (c .before .before .before .loop .work) (c .before .before .before .loop .tops) (c .before .before .before .loop .inv .2) (c .before .before .loop-test .taken) (c .case-at .result .test) (ap (λ (z : Case). z .test) (c .case-at .ensures)))
 
 -- src/build.rt:95:25
 build-cases-add-put-child : (t : ℕ) → build-cases-lts.Need-add-put-child (
@@ -196,7 +197,7 @@ build-cases-do-build-tree-requires : (t : ℕ) → build-cases-lts.Need-do-build
   do-build-tree-below t,
   do-build-tree.Post,
 ) (build-cases-at t) build-cases.Post build-cases-Inv-loop build-cases-μ-loop
-build-cases-do-build-tree-requires t c κs = (omega (arith, (c .before .before .before .before .before .before .before .before .before .before .before .before .before .before .before .pre .0), turn-deeper (c .before .before .before .before .before .before .before .before .before .before .before .before .before .before .before .pre .1 .0) (c .before .before .before .before .before .before .before .before .before .before .before .before .before .before .before .args .first) (c .before .before .before .before .before .before .before .before .before .before .before .before .before .before .before .args .work .now) (c .before .before .before .before .before .before .before .before .before .before .before .before .before .before .before .args .from) (c .before .before .before .before .before .before .before .before .before .before .before .before .before .before .before .pre .1 .1) (c .before .before .before .before .before .before .before .before .before .before .loop .i) (c .before .before .before .before .before .before .before .before .before .before .loop .work) (c .before .before .before .before .before .before .before .before .before .before .loop .tops) (c .before .before .before .before .before .before .before .before .before .before .loop .inv .2) (c .before .before .before .before .before .before .before .before .before .loop-test .taken) (c .before .before .before .before .before .before .before .case-at .result .test) (ap (λ (z : Case). z .test) (c .before .before .before .before .before .before .before .case-at .ensures)) (c .before .before .before .before .before .before .case-matrix .result) (c .before .before .before .before .before .before .case-matrix .ensures .0) (c .before .before .before .before .before .before .case-matrix .ensures .1), tested-room (c .before .before .before .before .before .before .before .before .before .before .before .before .before .before .before .pre .1 .0)), turn-asked (c .before .before .before .before .before .before .before .before .before .before .before .before .before .before .before .pre .1 .0) (c .before .before .before .before .before .before .before .before .before .before .before .before .before .before .before .args .first) (c .before .before .before .before .before .before .before .before .before .before .before .before .before .before .before .args .work .now) (c .before .before .before .before .before .before .before .before .before .before .before .before .before .before .before .args .from) (c .before .before .before .before .before .before .before .before .before .before .before .before .before .before .before .pre .1 .1) (c .before .before .before .before .before .before .before .before .before .before .loop .i) (c .before .before .before .before .before .before .before .before .before .before .loop .work) (c .before .before .before .before .before .before .before .before .before .before .loop .tops) (c .before .before .before .before .before .before .before .before .before .before .loop .inv .2) (c .before .before .before .before .before .before .before .before .before .loop-test .taken) (c .before .before .before .before .before .before .before .case-at .result .test) (ap (λ (z : Case). z .test) (c .before .before .before .before .before .before .before .case-at .ensures)) (c .before .before .before .before .before .before .case-matrix .result) (c .before .before .before .before .before .before .case-matrix .ensures .0) (c .before .before .before .before .before .before .case-matrix .ensures .1) (c .before .before .before .put-child .last .0) (c .before .before .before .put-child .ensures))
+build-cases-do-build-tree-requires t c κs = (omega (arith, (c .before .before .before .before .before .before .before .before .before .before .before .before .before .before .before .pre .0), turn-deeper (c .before .before .before .before .before .before .before .before .before .before .before .before .before .before .before .pre .1 .0) (c .before .before .before .before .before .before .before .before .before .before .before .before .before .before .before .args .first) (c .before .before .before .before .before .before .before .before .before .before .before .before .before .before .before .args .work .now) (c .before .before .before .before .before .before .before .before .before .before .before .before .before .before .before .args .from) (c .before .before .before .before .before .before .before .before .before .before .before .before .before .before .before .pre .1 .1) (c .before .before .before .before .before .before .before .before .before .before .loop .i) (c .before .before .before .before .before .before .before .before .before .before .loop .work) (c .before .before .before .before .before .before .before .before .before .before .loop .tops) (c .before .before .before .before .before .before .before .before .before .before .loop .inv .2) (c .before .before .before .before .before .before .before .before .before .loop-test .taken) (c .before .before .before .before .before .before .before .case-at .result .test) (ap (λ (z : Case). z .test) (c .before .before .before .before .before .before .before .case-at .ensures)) (c .before .before .before .before .before .before .case-matrix .result) (c .before .before .before .before .before .before .case-matrix .ensures), tested-room (c .before .before .before .before .before .before .before .before .before .before .before .before .before .before .before .pre .1 .0)), turn-asked (c .before .before .before .before .before .before .before .before .before .before .before .before .before .before .before .pre .1 .0) (c .before .before .before .before .before .before .before .before .before .before .before .before .before .before .before .args .first) (c .before .before .before .before .before .before .before .before .before .before .before .before .before .before .before .args .work .now) (c .before .before .before .before .before .before .before .before .before .before .before .before .before .before .before .args .from) (c .before .before .before .before .before .before .before .before .before .before .before .before .before .before .before .pre .1 .1) (c .before .before .before .before .before .before .before .before .before .before .loop .i) (c .before .before .before .before .before .before .before .before .before .before .loop .work) (c .before .before .before .before .before .before .before .before .before .before .loop .tops) (c .before .before .before .before .before .before .before .before .before .before .loop .inv .2) (c .before .before .before .before .before .before .before .before .before .loop-test .taken) (c .before .before .before .before .before .before .before .case-at .result .test) (ap (λ (z : Case). z .test) (c .before .before .before .before .before .before .before .case-at .ensures)) (c .before .before .before .before .before .before .case-matrix .result) (c .before .before .before .before .before .before .case-matrix .ensures) (c .before .before .before .put-child .last .0) (c .before .before .before .put-child .ensures))
 
 -- src/build.rt:98:13
 build-cases-same-length : (t : ℕ) → build-cases-lts.Need-same-length (
@@ -222,7 +223,7 @@ build-cases-returns : (t : ℕ) → build-cases-lts.Need-returns (
   do-build-tree-below t,
   do-build-tree.Post,
 ) (build-cases-at t) build-cases.Post build-cases-Inv-loop build-cases-μ-loop
-build-cases-returns t c = turn-over (c .before .before .before .before .before .before .before .before .before .before .before .before .before .before .before .before .before .before .before .before .pre .1 .0) (c .before .before .before .before .before .before .before .before .before .before .before .before .before .before .before .before .before .before .before .before .args .first) (c .before .before .before .before .before .before .before .before .before .before .before .before .before .before .before .before .before .before .before .before .args .work .now) (c .before .before .before .before .before .before .before .before .before .before .before .before .before .before .before .before .before .before .before .before .args .from) (c .before .before .before .before .before .before .before .before .before .before .before .before .before .before .before .before .before .before .before .before .pre .1 .1) (c .before .before .before .before .before .before .before .before .before .before .before .before .before .before .before .loop .i) (c .before .before .before .before .before .before .before .before .before .before .before .before .before .before .before .loop .work) (c .before .before .before .before .before .before .before .before .before .before .before .before .before .before .before .loop .tops) (c .before .before .before .before .before .before .before .before .before .before .before .before .before .before .before .loop .inv .2) (c .before .before .before .before .before .before .before .before .before .before .before .before .before .before .loop-test .taken) (c .before .before .before .before .before .before .before .before .before .before .before .before .case-at .result .test) (ap (λ (z : Case). z .test) (c .before .before .before .before .before .before .before .before .before .before .before .before .case-at .ensures)) (c .before .before .before .before .before .before .before .before .before .before .before .case-matrix .result) (c .before .before .before .before .before .before .before .before .before .before .before .case-matrix .ensures .0) (c .before .before .before .before .before .before .before .before .before .before .before .case-matrix .ensures .1) (c .before .before .before .before .before .before .before .before .put-child .last .0) (c .before .before .before .before .before .before .before .before .put-child .ensures) (c .before .before .before .before .do-build-tree .last .1 .1 .1 .1 .0) (c .before .before .before .before .do-build-tree .result) (c .before .before .before .before .do-build-tree .ensures) (not-true (c .before .before .before .before .do-build-tree .result .fits) (c .if1 .taken))
+build-cases-returns t c = turn-over (c .before .before .before .before .before .before .before .before .before .before .before .before .before .before .before .before .before .before .before .before .pre .1 .0) (c .before .before .before .before .before .before .before .before .before .before .before .before .before .before .before .before .before .before .before .before .args .first) (c .before .before .before .before .before .before .before .before .before .before .before .before .before .before .before .before .before .before .before .before .args .work .now) (c .before .before .before .before .before .before .before .before .before .before .before .before .before .before .before .before .before .before .before .before .args .from) (c .before .before .before .before .before .before .before .before .before .before .before .before .before .before .before .before .before .before .before .before .pre .1 .1) (c .before .before .before .before .before .before .before .before .before .before .before .before .before .before .before .loop .i) (c .before .before .before .before .before .before .before .before .before .before .before .before .before .before .before .loop .work) (c .before .before .before .before .before .before .before .before .before .before .before .before .before .before .before .loop .tops) (c .before .before .before .before .before .before .before .before .before .before .before .before .before .before .before .loop .inv .2) (c .before .before .before .before .before .before .before .before .before .before .before .before .before .before .loop-test .taken) (c .before .before .before .before .before .before .before .before .before .before .before .before .case-at .result .test) (ap (λ (z : Case). z .test) (c .before .before .before .before .before .before .before .before .before .before .before .before .case-at .ensures)) (c .before .before .before .before .before .before .before .before .before .before .before .case-matrix .result) (c .before .before .before .before .before .before .before .before .before .before .before .case-matrix .ensures) (c .before .before .before .before .before .before .before .before .put-child .last .0) (c .before .before .before .before .before .before .before .before .put-child .ensures) (c .before .before .before .before .do-build-tree .last .1 .1 .1 .1 .0) (c .before .before .before .before .do-build-tree .result) (c .before .before .before .before .do-build-tree .ensures) (not-true (c .before .before .before .before .do-build-tree .result .fits) (c .if1 .taken))
 
 -- src/build.rt:101:9
 build-cases-add-i : (t : ℕ) → build-cases-lts.Need-add-i (
@@ -261,7 +262,7 @@ build-cases-loop-again : (t : ℕ) → build-cases-lts.Need-loop-again (
   do-build-tree-below t,
   do-build-tree.Post,
 ) (build-cases-at t) build-cases.Post build-cases-Inv-loop build-cases-μ-loop
-build-cases-loop-again t c = (search needs, (c .before .before .before .before .before .do-build-tree .kept .1 .1 .1 .1 .0) ∙ (c .before .before .before .before .before .before .before .before .before .put-child .kept .0) ∙ (c .before .before .before .before .before .before .before .before .before .before .before .before .before .before .before .before .loop .inv .1), turn-done (c .before .before .before .before .before .before .before .before .before .before .before .before .before .before .before .before .before .before .before .before .before .pre .1 .0) (c .before .before .before .before .before .before .before .before .before .before .before .before .before .before .before .before .before .before .before .before .before .args .first) (c .before .before .before .before .before .before .before .before .before .before .before .before .before .before .before .before .before .before .before .before .before .args .work .now) (c .before .before .before .before .before .before .before .before .before .before .before .before .before .before .before .before .before .before .before .before .before .args .from) (c .before .before .before .before .before .before .before .before .before .before .before .before .before .before .before .before .before .before .before .before .before .pre .1 .1) (c .before .before .before .before .before .before .before .before .before .before .before .before .before .before .before .before .loop .i) (c .before .before .before .before .before .before .before .before .before .before .before .before .before .before .before .before .loop .work) (c .before .before .before .before .before .before .before .before .before .before .before .before .before .before .before .before .loop .tops) (c .before .before .before .before .before .before .before .before .before .before .before .before .before .before .before .before .loop .inv .2) (c .before .before .before .before .before .before .before .before .before .before .before .before .before .before .before .loop-test .taken) (c .before .before .before .before .before .before .before .before .before .before .before .before .before .case-at .result .test) (ap (λ (z : Case). z .test) (c .before .before .before .before .before .before .before .before .before .before .before .before .before .case-at .ensures)) (c .before .before .before .before .before .before .before .before .before .before .before .before .case-matrix .result) (c .before .before .before .before .before .before .before .before .before .before .before .before .case-matrix .ensures .0) (c .before .before .before .before .before .before .before .before .before .before .before .before .case-matrix .ensures .1) (c .before .before .before .before .before .before .before .before .before .put-child .last .0) (c .before .before .before .before .before .before .before .before .before .put-child .ensures) (c .before .before .before .before .before .do-build-tree .last .1 .1 .1 .1 .0) (c .before .before .before .before .before .do-build-tree .result) (c .before .before .before .before .before .do-build-tree .ensures) (not-false (c .before .before .before .before .before .do-build-tree .result .fits) (c .before .if1 .left)))
+build-cases-loop-again t c = (search needs, (c .before .before .before .before .before .do-build-tree .kept .1 .1 .1 .1 .0) ∙ (c .before .before .before .before .before .before .before .before .before .put-child .kept .0) ∙ (c .before .before .before .before .before .before .before .before .before .before .before .before .before .before .before .before .loop .inv .1), turn-done (c .before .before .before .before .before .before .before .before .before .before .before .before .before .before .before .before .before .before .before .before .before .pre .1 .0) (c .before .before .before .before .before .before .before .before .before .before .before .before .before .before .before .before .before .before .before .before .before .args .first) (c .before .before .before .before .before .before .before .before .before .before .before .before .before .before .before .before .before .before .before .before .before .args .work .now) (c .before .before .before .before .before .before .before .before .before .before .before .before .before .before .before .before .before .before .before .before .before .args .from) (c .before .before .before .before .before .before .before .before .before .before .before .before .before .before .before .before .before .before .before .before .before .pre .1 .1) (c .before .before .before .before .before .before .before .before .before .before .before .before .before .before .before .before .loop .i) (c .before .before .before .before .before .before .before .before .before .before .before .before .before .before .before .before .loop .work) (c .before .before .before .before .before .before .before .before .before .before .before .before .before .before .before .before .loop .tops) (c .before .before .before .before .before .before .before .before .before .before .before .before .before .before .before .before .loop .inv .2) (c .before .before .before .before .before .before .before .before .before .before .before .before .before .before .before .loop-test .taken) (c .before .before .before .before .before .before .before .before .before .before .before .before .before .case-at .result .test) (ap (λ (z : Case). z .test) (c .before .before .before .before .before .before .before .before .before .before .before .before .before .case-at .ensures)) (c .before .before .before .before .before .before .before .before .before .before .before .before .case-matrix .result) (c .before .before .before .before .before .before .before .before .before .before .before .before .case-matrix .ensures) (c .before .before .before .before .before .before .before .before .before .put-child .last .0) (c .before .before .before .before .before .before .before .before .before .put-child .ensures) (c .before .before .before .before .before .do-build-tree .last .1 .1 .1 .1 .0) (c .before .before .before .before .before .do-build-tree .result) (c .before .before .before .before .before .do-build-tree .ensures) (not-false (c .before .before .before .before .before .do-build-tree .result .fits) (c .before .if1 .left)))
 
 -- src/build.rt:83:1
 build-cases-same-length-2 : (t : ℕ) → build-cases-lts.Need-same-length-2 (
@@ -302,7 +303,7 @@ build-switch-meet-cases-requires : (t : ℕ) → build-switch-lts.Need-meet-case
   do-build-tree-below t,
   do-build-tree.Post,
 ) (build-switch-at t) build-switch.Post
-build-switch-meet-cases-requires t c κs = (((c .before .before .before .before .pre .1 .0) .ready, (c .before .before .before .before .pre .1 .0) .there, (c .before .before .before .before .pre .1 .0) .chosen), ((c .before .before .before .before .pre .1 .1) .long, (c .before .before .before .before .pre .1 .1) .cases-most))
+build-switch-meet-cases-requires t c κs = (((c .before .before .before .before .pre .1 .0) .ready, (c .before .before .before .before .pre .1 .0) .there .whole, (c .before .before .before .before .pre .1 .0) .there .sound, column-known (c .before .before .before .before .pre .1 .0)), ((c .before .before .before .before .pre .1 .1) .long, omega (arith, (c .before .before .before .before .pre .1 .1) .cases-most)))
 
 -- src/build.rt:113:22
 build-switch-enum-known-meeting : (t : ℕ) → build-switch-lts.Need-enum-known-meeting (
@@ -362,7 +363,7 @@ build-switch-returns : (t : ℕ) → build-switch-lts.Need-returns (
   do-build-tree-below t,
   do-build-tree.Post,
 ) (build-switch-at t) build-switch.Post
-build-switch-returns t c = no-room (c .before .before .before .before .before .before .before .before .before .pre .1 .0) (c .before .before .before .before .before .before .before .before .before .args .work .now) (c .before .before .before .before .before .before .before .before .before .args .tops) (c .before .before .before .before .before .before .before .before .before .pre .1 .1) (c .before .before .before .before .before .before .before .before .before .pre .1 .2) (c .before .before .before .before .meet-cases .last .1 .1 .1 .1 .1 .0) (record { fits = false; tops = (c .before .before .before .before .before .before .before .before .before .args .tops) }) (subst (λ z. MeetsTo (c .before .before .before .before .before .before .before .before .before .args .s .now) (c .before .before .before .before .before .before .before .before .before .args .class) (numbered (c .before .before .before .before .before .before .before .before .before .args .x)) ((c .before .before .before .before .before .before .before .before .before .args .tops) .cases) (c .before .before .before .before .before .before .before .before .before .args .work .now) (c .before .before .before .before .meet-cases .last .1 .1 .1 .1 .1 .0) z) (c .enum-told .given .1) (c .before .before .before .before .meet-cases .ensures)) refl
+build-switch-returns t c = no-room (c .before .before .before .before .before .before .before .before .before .pre .1 .0) (c .before .before .before .before .before .before .before .before .before .args .work .now) (c .before .before .before .before .before .before .before .before .before .args .tops) (c .before .before .before .before .before .before .before .before .before .pre .1 .1) (c .before .before .before .before .before .before .before .before .before .pre .1 .2) (c .before .before .before .before .meet-cases .last .1 .1 .1 .1 .1 .0) (record { fits = false; tops = (c .before .before .before .before .before .before .before .before .before .args .tops) }) ((subst (λ z. MeetsTo (c .before .before .before .before .before .before .before .before .before .args .s .now) (chosenColumn (c .before .before .before .before .before .before .before .before .before .args .s .now) (c .before .before .before .before .before .before .before .before .before .args .class) (inNumbers (c .before .before .before .before .before .before .before .before .before .args .x))) ((c .before .before .before .before .before .before .before .before .before .args .tops) .cases) (c .before .before .before .before .before .before .before .before .before .args .work .now) (c .before .before .before .before .meet-cases .last .1 .1 .1 .1 .1 .0) z) (c .enum-told .given .1) (c .before .before .before .before .meet-cases .ensures)) .more) refl
 
 -- src/build.rt:118:16
 build-switch-add-put-switch : (t : ℕ) → build-switch-lts.Need-add-put-switch (
@@ -437,7 +438,7 @@ build-switch-default-matrix-requires : (t : ℕ) → build-switch-lts.Need-defau
   do-build-tree-below t,
   do-build-tree.Post,
 ) (build-switch-at t) build-switch.Post
-build-switch-default-matrix-requires t c κs = ((c .before .before .before .before .before .before .before .before .before .before .before .before .before .before .before .before .before .before .before .pre .1 .0) .ready, (c .before .before .before .before .before .before .before .before .before .before .before .before .before .before .before .before .before .before .before .pre .1 .0) .there, (c .before .before .before .before .before .before .before .before .before .before .before .before .before .before .before .before .before .before .before .pre .1 .0) .chosen)
+build-switch-default-matrix-requires t c κs = column-splits (c .before .before .before .before .before .before .before .before .before .before .before .before .before .before .before .before .before .before .before .pre .1 .0)
 
 -- src/build.rt:131:9
 build-switch-put-switch-requires : (t : ℕ) → build-switch-lts.Need-put-switch-requires (
@@ -452,7 +453,7 @@ build-switch-put-switch-requires : (t : ℕ) → build-switch-lts.Need-put-switc
   do-build-tree-below t,
   do-build-tree.Post,
 ) (build-switch-at t) build-switch.Post
-build-switch-put-switch-requires t c κs = let a = switch-node-asked (c .before .before .before .before .before .before .before .before .before .before .before .before .before .before .before .before .before .before .before .before .before .before .before .before .pre .1 .0) (c .before .before .before .before .before .before .before .before .before .before .before .before .before .before .before .before .before .before .before .before .before .before .before .before .args .work .now) (c .before .before .before .before .before .before .before .before .before .before .before .before .before .before .before .before .before .before .before .before .before .before .before .before .args .tops) (c .before .before .before .before .before .before .before .before .before .before .before .before .before .before .before .before .before .before .before .before .before .before .before .before .pre .1 .1) (c .before .before .before .before .before .before .before .before .before .before .before .before .before .before .before .before .before .before .before .before .before .before .before .before .pre .1 .2) (c .before .before .before .before .before .before .before .before .before .before .before .before .before .before .before .before .before .before .before .meet-cases .last .1 .1 .1 .1 .1 .0) (c .before .before .before .before .before .before .before .before .before .before .before .before .before .before .before .meeting .given .0 .0) (met-made (c .before .before .before .before .before .before .before .before .before .before .before .before .before .before .before .before .before .before .before .before .before .before .before .before .pre .1 .0) (c .before .before .before .before .before .before .before .before .before .before .before .before .before .before .before .before .before .before .before .before .before .before .before .before .args .work .now) (c .before .before .before .before .before .before .before .before .before .before .before .before .before .before .before .before .before .before .before .before .before .before .before .before .args .tops) (c .before .before .before .before .before .before .before .before .before .before .before .before .before .before .before .before .before .before .before .before .before .before .before .before .pre .1 .1) (c .before .before .before .before .before .before .before .before .before .before .before .before .before .before .before .before .before .before .before .before .before .before .before .before .pre .1 .2) (c .before .before .before .before .before .before .before .before .before .before .before .before .before .before .before .before .before .before .before .meet-cases .last .1 .1 .1 .1 .1 .0) (c .before .before .before .before .before .before .before .before .before .before .before .before .before .before .before .before .before .before .before .meet-cases .result) (c .before .before .before .before .before .before .before .before .before .before .before .before .before .before .before .meeting .given .0 .0) (c .before .before .before .before .before .before .before .before .before .before .before .before .before .before .before .meeting .given .1) (c .before .before .before .before .before .before .before .before .before .before .before .before .before .before .before .before .before .before .before .meet-cases .ensures)) (record { nodes = (c .before .before .before .before .before .before .before .before .before .before .before .before .before .before .before .before .before .before .before .before .before .before .before .before .args .tops) .nodes + 1; cases = (c .before .before .before .before .before .before .before .before .before .before .before .before .before .before .before .meeting .given .0 .0) .end; bindings = (c .before .before .before .before .before .before .before .before .before .before .before .before .before .before .before .before .before .before .before .before .before .before .before .before .args .tops) .bindings; leaves = (c .before .before .before .before .before .before .before .before .before .before .before .before .before .before .before .before .before .before .before .before .before .before .before .before .args .tops) .leaves }) refl (c .before .before .before .before .before .before .before .before .before .before .build-cases .last .1 .1 .1 .1 .1 .0) (c .before .before .before .before .before .before .before .before .before .before .build-cases .result) (not-false (c .before .before .before .before .before .before .before .before .before .before .build-cases .result .fits) (c .before .before .before .before .before .before .if1 .left)) (c .before .before .before .before .before .before .before .before .before .before .build-cases .ensures) (c .before .before .before .before .default-matrix .result) (c .before .before .before .before .default-matrix .ensures .0) (c .before .before .before .before .default-matrix .ensures .1) in ((a .0, a .1, a .2, omega arith), switch-met-asked (c .before .before .before .before .before .before .before .before .before .before .before .before .before .before .before .before .before .before .before .before .before .before .before .before .pre .1 .0) (c .before .before .before .before .before .before .before .before .before .before .before .before .before .before .before .before .before .before .before .before .before .before .before .before .args .work .now) (c .before .before .before .before .before .before .before .before .before .before .before .before .before .before .before .before .before .before .before .before .before .before .before .before .args .tops) (c .before .before .before .before .before .before .before .before .before .before .before .before .before .before .before .before .before .before .before .before .before .before .before .before .pre .1 .1) (c .before .before .before .before .before .before .before .before .before .before .before .before .before .before .before .before .before .before .before .before .before .before .before .before .pre .1 .2) (c .before .before .before .before .before .before .before .before .before .before .before .before .before .before .before .before .before .before .before .meet-cases .last .1 .1 .1 .1 .1 .0) (c .before .before .before .before .before .before .before .before .before .before .before .before .before .before .before .meeting .given .0 .0) (met-made (c .before .before .before .before .before .before .before .before .before .before .before .before .before .before .before .before .before .before .before .before .before .before .before .before .pre .1 .0) (c .before .before .before .before .before .before .before .before .before .before .before .before .before .before .before .before .before .before .before .before .before .before .before .before .args .work .now) (c .before .before .before .before .before .before .before .before .before .before .before .before .before .before .before .before .before .before .before .before .before .before .before .before .args .tops) (c .before .before .before .before .before .before .before .before .before .before .before .before .before .before .before .before .before .before .before .before .before .before .before .before .pre .1 .1) (c .before .before .before .before .before .before .before .before .before .before .before .before .before .before .before .before .before .before .before .before .before .before .before .before .pre .1 .2) (c .before .before .before .before .before .before .before .before .before .before .before .before .before .before .before .before .before .before .before .meet-cases .last .1 .1 .1 .1 .1 .0) (c .before .before .before .before .before .before .before .before .before .before .before .before .before .before .before .before .before .before .before .meet-cases .result) (c .before .before .before .before .before .before .before .before .before .before .before .before .before .before .before .meeting .given .0 .0) (c .before .before .before .before .before .before .before .before .before .before .before .before .before .before .before .meeting .given .1) (c .before .before .before .before .before .before .before .before .before .before .before .before .before .before .before .before .before .before .before .meet-cases .ensures)) (record { nodes = (c .before .before .before .before .before .before .before .before .before .before .before .before .before .before .before .before .before .before .before .before .before .before .before .before .args .tops) .nodes + 1; cases = (c .before .before .before .before .before .before .before .before .before .before .before .before .before .before .before .meeting .given .0 .0) .end; bindings = (c .before .before .before .before .before .before .before .before .before .before .before .before .before .before .before .before .before .before .before .before .before .before .before .before .args .tops) .bindings; leaves = (c .before .before .before .before .before .before .before .before .before .before .before .before .before .before .before .before .before .before .before .before .before .before .before .before .args .tops) .leaves }) refl (c .before .before .before .before .before .before .before .before .before .before .build-cases .last .1 .1 .1 .1 .1 .0) (c .before .before .before .before .before .before .before .before .before .before .build-cases .result) (not-false (c .before .before .before .before .before .before .before .before .before .before .build-cases .result .fits) (c .before .before .before .before .before .before .if1 .left)) (c .before .before .before .before .before .before .before .before .before .before .build-cases .ensures) (c .before .before .before .before .default-matrix .result) (c .before .before .before .before .default-matrix .ensures .0) (c .before .before .before .before .default-matrix .ensures .1))
+build-switch-put-switch-requires t c κs = let a = switch-node-asked (c .before .before .before .before .before .before .before .before .before .before .before .before .before .before .before .before .before .before .before .before .before .before .before .before .pre .1 .0) (c .before .before .before .before .before .before .before .before .before .before .before .before .before .before .before .before .before .before .before .before .before .before .before .before .args .work .now) (c .before .before .before .before .before .before .before .before .before .before .before .before .before .before .before .before .before .before .before .before .before .before .before .before .args .tops) (c .before .before .before .before .before .before .before .before .before .before .before .before .before .before .before .before .before .before .before .before .before .before .before .before .pre .1 .1) (c .before .before .before .before .before .before .before .before .before .before .before .before .before .before .before .before .before .before .before .before .before .before .before .before .pre .1 .2) (c .before .before .before .before .before .before .before .before .before .before .before .before .before .before .before .before .before .before .before .meet-cases .last .1 .1 .1 .1 .1 .0) (c .before .before .before .before .before .before .before .before .before .before .before .before .before .before .before .meeting .given .0 .0) (met-made (c .before .before .before .before .before .before .before .before .before .before .before .before .before .before .before .before .before .before .before .before .before .before .before .before .pre .1 .0) (c .before .before .before .before .before .before .before .before .before .before .before .before .before .before .before .before .before .before .before .before .before .before .before .before .args .work .now) (c .before .before .before .before .before .before .before .before .before .before .before .before .before .before .before .before .before .before .before .before .before .before .before .before .args .tops) (c .before .before .before .before .before .before .before .before .before .before .before .before .before .before .before .before .before .before .before .before .before .before .before .before .pre .1 .1) (c .before .before .before .before .before .before .before .before .before .before .before .before .before .before .before .before .before .before .before .before .before .before .before .before .pre .1 .2) (c .before .before .before .before .before .before .before .before .before .before .before .before .before .before .before .before .before .before .before .meet-cases .last .1 .1 .1 .1 .1 .0) (c .before .before .before .before .before .before .before .before .before .before .before .before .before .before .before .before .before .before .before .meet-cases .result) (c .before .before .before .before .before .before .before .before .before .before .before .before .before .before .before .meeting .given .0 .0) (c .before .before .before .before .before .before .before .before .before .before .before .before .before .before .before .meeting .given .1) (c .before .before .before .before .before .before .before .before .before .before .before .before .before .before .before .before .before .before .before .meet-cases .ensures)) (record { nodes = (c .before .before .before .before .before .before .before .before .before .before .before .before .before .before .before .before .before .before .before .before .before .before .before .before .args .tops) .nodes + 1; cases = (c .before .before .before .before .before .before .before .before .before .before .before .before .before .before .before .meeting .given .0 .0) .end; bindings = (c .before .before .before .before .before .before .before .before .before .before .before .before .before .before .before .before .before .before .before .before .before .before .before .before .args .tops) .bindings; leaves = (c .before .before .before .before .before .before .before .before .before .before .before .before .before .before .before .before .before .before .before .before .before .before .before .before .args .tops) .leaves }) refl (c .before .before .before .before .before .before .before .before .before .before .build-cases .last .1 .1 .1 .1 .1 .0) (c .before .before .before .before .before .before .before .before .before .before .build-cases .result) (not-false (c .before .before .before .before .before .before .before .before .before .before .build-cases .result .fits) (c .before .before .before .before .before .before .if1 .left)) (c .before .before .before .before .before .before .before .before .before .before .build-cases .ensures) (c .before .before .before .before .default-matrix .result) (c .before .before .before .before .default-matrix .ensures) in ((a .0, a .1, a .2, omega arith), switch-met-asked (c .before .before .before .before .before .before .before .before .before .before .before .before .before .before .before .before .before .before .before .before .before .before .before .before .pre .1 .0) (c .before .before .before .before .before .before .before .before .before .before .before .before .before .before .before .before .before .before .before .before .before .before .before .before .args .work .now) (c .before .before .before .before .before .before .before .before .before .before .before .before .before .before .before .before .before .before .before .before .before .before .before .before .args .tops) (c .before .before .before .before .before .before .before .before .before .before .before .before .before .before .before .before .before .before .before .before .before .before .before .before .pre .1 .1) (c .before .before .before .before .before .before .before .before .before .before .before .before .before .before .before .before .before .before .before .before .before .before .before .before .pre .1 .2) (c .before .before .before .before .before .before .before .before .before .before .before .before .before .before .before .before .before .before .before .meet-cases .last .1 .1 .1 .1 .1 .0) (c .before .before .before .before .before .before .before .before .before .before .before .before .before .before .before .meeting .given .0 .0) (met-made (c .before .before .before .before .before .before .before .before .before .before .before .before .before .before .before .before .before .before .before .before .before .before .before .before .pre .1 .0) (c .before .before .before .before .before .before .before .before .before .before .before .before .before .before .before .before .before .before .before .before .before .before .before .before .args .work .now) (c .before .before .before .before .before .before .before .before .before .before .before .before .before .before .before .before .before .before .before .before .before .before .before .before .args .tops) (c .before .before .before .before .before .before .before .before .before .before .before .before .before .before .before .before .before .before .before .before .before .before .before .before .pre .1 .1) (c .before .before .before .before .before .before .before .before .before .before .before .before .before .before .before .before .before .before .before .before .before .before .before .before .pre .1 .2) (c .before .before .before .before .before .before .before .before .before .before .before .before .before .before .before .before .before .before .before .meet-cases .last .1 .1 .1 .1 .1 .0) (c .before .before .before .before .before .before .before .before .before .before .before .before .before .before .before .before .before .before .before .meet-cases .result) (c .before .before .before .before .before .before .before .before .before .before .before .before .before .before .before .meeting .given .0 .0) (c .before .before .before .before .before .before .before .before .before .before .before .before .before .before .before .meeting .given .1) (c .before .before .before .before .before .before .before .before .before .before .before .before .before .before .before .before .before .before .before .meet-cases .ensures)) (record { nodes = (c .before .before .before .before .before .before .before .before .before .before .before .before .before .before .before .before .before .before .before .before .before .before .before .before .args .tops) .nodes + 1; cases = (c .before .before .before .before .before .before .before .before .before .before .before .before .before .before .before .meeting .given .0 .0) .end; bindings = (c .before .before .before .before .before .before .before .before .before .before .before .before .before .before .before .before .before .before .before .before .before .before .before .before .args .tops) .bindings; leaves = (c .before .before .before .before .before .before .before .before .before .before .before .before .before .before .before .before .before .before .before .before .before .before .before .before .args .tops) .leaves }) refl (c .before .before .before .before .before .before .before .before .before .before .build-cases .last .1 .1 .1 .1 .1 .0) (c .before .before .before .before .before .before .before .before .before .before .build-cases .result) (not-false (c .before .before .before .before .before .before .before .before .before .before .build-cases .result .fits) (c .before .before .before .before .before .before .if1 .left)) (c .before .before .before .before .before .before .before .before .before .before .build-cases .ensures) (c .before .before .before .before .default-matrix .result) (c .before .before .before .before .default-matrix .ensures))
 
 -- src/build.rt:132:9
 build-switch-same-length-3 : (t : ℕ) → build-switch-lts.Need-same-length-3 (
@@ -482,7 +483,7 @@ build-switch-returns-3 : (t : ℕ) → build-switch-lts.Need-returns-3 (
   do-build-tree-below t,
   do-build-tree.Post,
 ) (build-switch-at t) build-switch.Post
-build-switch-returns-3 t c = switch-done (c .before .before .before .before .before .before .before .before .before .before .before .before .before .before .before .before .before .before .before .before .before .before .before .before .before .before .before .pre .1 .0) (c .before .before .before .before .before .before .before .before .before .before .before .before .before .before .before .before .before .before .before .before .before .before .before .before .before .before .before .args .work .now) (c .before .before .before .before .before .before .before .before .before .before .before .before .before .before .before .before .before .before .before .before .before .before .before .before .before .before .before .args .tops) (c .before .before .before .before .before .before .before .before .before .before .before .before .before .before .before .before .before .before .before .before .before .before .before .before .before .before .before .pre .1 .1) (c .before .before .before .before .before .before .before .before .before .before .before .before .before .before .before .before .before .before .before .before .before .before .before .before .before .before .before .pre .1 .2) (c .before .before .before .before .before .before .before .before .before .before .before .before .before .before .before .before .before .before .before .before .before .before .meet-cases .last .1 .1 .1 .1 .1 .0) (c .before .before .before .before .before .before .before .before .before .before .before .before .before .before .before .before .before .before .meeting .given .0 .0) (met-made (c .before .before .before .before .before .before .before .before .before .before .before .before .before .before .before .before .before .before .before .before .before .before .before .before .before .before .before .pre .1 .0) (c .before .before .before .before .before .before .before .before .before .before .before .before .before .before .before .before .before .before .before .before .before .before .before .before .before .before .before .args .work .now) (c .before .before .before .before .before .before .before .before .before .before .before .before .before .before .before .before .before .before .before .before .before .before .before .before .before .before .before .args .tops) (c .before .before .before .before .before .before .before .before .before .before .before .before .before .before .before .before .before .before .before .before .before .before .before .before .before .before .before .pre .1 .1) (c .before .before .before .before .before .before .before .before .before .before .before .before .before .before .before .before .before .before .before .before .before .before .before .before .before .before .before .pre .1 .2) (c .before .before .before .before .before .before .before .before .before .before .before .before .before .before .before .before .before .before .before .before .before .before .meet-cases .last .1 .1 .1 .1 .1 .0) (c .before .before .before .before .before .before .before .before .before .before .before .before .before .before .before .before .before .before .before .before .before .before .meet-cases .result) (c .before .before .before .before .before .before .before .before .before .before .before .before .before .before .before .before .before .before .meeting .given .0 .0) (c .before .before .before .before .before .before .before .before .before .before .before .before .before .before .before .before .before .before .meeting .given .1) (c .before .before .before .before .before .before .before .before .before .before .before .before .before .before .before .before .before .before .before .before .before .before .meet-cases .ensures)) (record { nodes = (c .before .before .before .before .before .before .before .before .before .before .before .before .before .before .before .before .before .before .before .before .before .before .before .before .before .before .before .args .tops) .nodes + 1; cases = (c .before .before .before .before .before .before .before .before .before .before .before .before .before .before .before .before .before .before .meeting .given .0 .0) .end; bindings = (c .before .before .before .before .before .before .before .before .before .before .before .before .before .before .before .before .before .before .before .before .before .before .before .before .before .before .before .args .tops) .bindings; leaves = (c .before .before .before .before .before .before .before .before .before .before .before .before .before .before .before .before .before .before .before .before .before .before .before .before .before .before .before .args .tops) .leaves }) refl (c .before .before .before .before .before .before .before .before .before .before .before .before .before .build-cases .last .1 .1 .1 .1 .1 .0) (c .before .before .before .before .before .before .before .before .before .before .before .before .before .build-cases .result) (not-false (c .before .before .before .before .before .before .before .before .before .before .before .before .before .build-cases .result .fits) (c .before .before .before .before .before .before .before .before .before .if1 .left)) (c .before .before .before .before .before .before .before .before .before .before .before .before .before .build-cases .ensures) (c .before .before .before .before .before .before .before .default-matrix .result) (c .before .before .before .before .before .before .before .default-matrix .ensures .0) (c .before .before .before .before .before .before .before .default-matrix .ensures .1) (c .before .before .put-switch .last .0) 0 (c .before .before .put-switch .ensures) (c .before .before .before .before .if2 .taken) refl
+build-switch-returns-3 t c = switch-done (c .before .before .before .before .before .before .before .before .before .before .before .before .before .before .before .before .before .before .before .before .before .before .before .before .before .before .before .pre .1 .0) (c .before .before .before .before .before .before .before .before .before .before .before .before .before .before .before .before .before .before .before .before .before .before .before .before .before .before .before .args .work .now) (c .before .before .before .before .before .before .before .before .before .before .before .before .before .before .before .before .before .before .before .before .before .before .before .before .before .before .before .args .tops) (c .before .before .before .before .before .before .before .before .before .before .before .before .before .before .before .before .before .before .before .before .before .before .before .before .before .before .before .pre .1 .1) (c .before .before .before .before .before .before .before .before .before .before .before .before .before .before .before .before .before .before .before .before .before .before .before .before .before .before .before .pre .1 .2) (c .before .before .before .before .before .before .before .before .before .before .before .before .before .before .before .before .before .before .before .before .before .before .meet-cases .last .1 .1 .1 .1 .1 .0) (c .before .before .before .before .before .before .before .before .before .before .before .before .before .before .before .before .before .before .meeting .given .0 .0) (met-made (c .before .before .before .before .before .before .before .before .before .before .before .before .before .before .before .before .before .before .before .before .before .before .before .before .before .before .before .pre .1 .0) (c .before .before .before .before .before .before .before .before .before .before .before .before .before .before .before .before .before .before .before .before .before .before .before .before .before .before .before .args .work .now) (c .before .before .before .before .before .before .before .before .before .before .before .before .before .before .before .before .before .before .before .before .before .before .before .before .before .before .before .args .tops) (c .before .before .before .before .before .before .before .before .before .before .before .before .before .before .before .before .before .before .before .before .before .before .before .before .before .before .before .pre .1 .1) (c .before .before .before .before .before .before .before .before .before .before .before .before .before .before .before .before .before .before .before .before .before .before .before .before .before .before .before .pre .1 .2) (c .before .before .before .before .before .before .before .before .before .before .before .before .before .before .before .before .before .before .before .before .before .before .meet-cases .last .1 .1 .1 .1 .1 .0) (c .before .before .before .before .before .before .before .before .before .before .before .before .before .before .before .before .before .before .before .before .before .before .meet-cases .result) (c .before .before .before .before .before .before .before .before .before .before .before .before .before .before .before .before .before .before .meeting .given .0 .0) (c .before .before .before .before .before .before .before .before .before .before .before .before .before .before .before .before .before .before .meeting .given .1) (c .before .before .before .before .before .before .before .before .before .before .before .before .before .before .before .before .before .before .before .before .before .before .meet-cases .ensures)) (record { nodes = (c .before .before .before .before .before .before .before .before .before .before .before .before .before .before .before .before .before .before .before .before .before .before .before .before .before .before .before .args .tops) .nodes + 1; cases = (c .before .before .before .before .before .before .before .before .before .before .before .before .before .before .before .before .before .before .meeting .given .0 .0) .end; bindings = (c .before .before .before .before .before .before .before .before .before .before .before .before .before .before .before .before .before .before .before .before .before .before .before .before .before .before .before .args .tops) .bindings; leaves = (c .before .before .before .before .before .before .before .before .before .before .before .before .before .before .before .before .before .before .before .before .before .before .before .before .before .before .before .args .tops) .leaves }) refl (c .before .before .before .before .before .before .before .before .before .before .before .before .before .build-cases .last .1 .1 .1 .1 .1 .0) (c .before .before .before .before .before .before .before .before .before .before .before .before .before .build-cases .result) (not-false (c .before .before .before .before .before .before .before .before .before .before .before .before .before .build-cases .result .fits) (c .before .before .before .before .before .before .before .before .before .if1 .left)) (c .before .before .before .before .before .before .before .before .before .before .before .before .before .build-cases .ensures) (c .before .before .before .before .before .before .before .default-matrix .result) (c .before .before .before .before .before .before .before .default-matrix .ensures) (c .before .before .put-switch .last .0) 0 (c .before .before .put-switch .ensures) (c .before .before .before .before .if2 .taken) refl
 
 -- src/build.rt:134:53
 build-switch-add-put-switch-2 : (t : ℕ) → build-switch-lts.Need-add-put-switch-2 (
@@ -497,7 +498,7 @@ build-switch-add-put-switch-2 : (t : ℕ) → build-switch-lts.Need-add-put-swit
   do-build-tree-below t,
   do-build-tree.Post,
 ) (build-switch-at t) build-switch.Post
-build-switch-add-put-switch-2 t c = omega (arith, switch-node-asked (c .before .before .before .before .before .before .before .before .before .before .before .before .before .before .before .before .before .before .before .before .before .before .before .before .before .pre .1 .0) (c .before .before .before .before .before .before .before .before .before .before .before .before .before .before .before .before .before .before .before .before .before .before .before .before .before .args .work .now) (c .before .before .before .before .before .before .before .before .before .before .before .before .before .before .before .before .before .before .before .before .before .before .before .before .before .args .tops) (c .before .before .before .before .before .before .before .before .before .before .before .before .before .before .before .before .before .before .before .before .before .before .before .before .before .pre .1 .1) (c .before .before .before .before .before .before .before .before .before .before .before .before .before .before .before .before .before .before .before .before .before .before .before .before .before .pre .1 .2) (c .before .before .before .before .before .before .before .before .before .before .before .before .before .before .before .before .before .before .before .before .meet-cases .last .1 .1 .1 .1 .1 .0) (c .before .before .before .before .before .before .before .before .before .before .before .before .before .before .before .before .meeting .given .0 .0) (met-made (c .before .before .before .before .before .before .before .before .before .before .before .before .before .before .before .before .before .before .before .before .before .before .before .before .before .pre .1 .0) (c .before .before .before .before .before .before .before .before .before .before .before .before .before .before .before .before .before .before .before .before .before .before .before .before .before .args .work .now) (c .before .before .before .before .before .before .before .before .before .before .before .before .before .before .before .before .before .before .before .before .before .before .before .before .before .args .tops) (c .before .before .before .before .before .before .before .before .before .before .before .before .before .before .before .before .before .before .before .before .before .before .before .before .before .pre .1 .1) (c .before .before .before .before .before .before .before .before .before .before .before .before .before .before .before .before .before .before .before .before .before .before .before .before .before .pre .1 .2) (c .before .before .before .before .before .before .before .before .before .before .before .before .before .before .before .before .before .before .before .before .meet-cases .last .1 .1 .1 .1 .1 .0) (c .before .before .before .before .before .before .before .before .before .before .before .before .before .before .before .before .before .before .before .before .meet-cases .result) (c .before .before .before .before .before .before .before .before .before .before .before .before .before .before .before .before .meeting .given .0 .0) (c .before .before .before .before .before .before .before .before .before .before .before .before .before .before .before .before .meeting .given .1) (c .before .before .before .before .before .before .before .before .before .before .before .before .before .before .before .before .before .before .before .before .meet-cases .ensures)) (record { nodes = (c .before .before .before .before .before .before .before .before .before .before .before .before .before .before .before .before .before .before .before .before .before .before .before .before .before .args .tops) .nodes + 1; cases = (c .before .before .before .before .before .before .before .before .before .before .before .before .before .before .before .before .meeting .given .0 .0) .end; bindings = (c .before .before .before .before .before .before .before .before .before .before .before .before .before .before .before .before .before .before .before .before .before .before .before .before .before .args .tops) .bindings; leaves = (c .before .before .before .before .before .before .before .before .before .before .before .before .before .before .before .before .before .before .before .before .before .before .before .before .before .args .tops) .leaves }) refl (c .before .before .before .before .before .before .before .before .before .before .before .build-cases .last .1 .1 .1 .1 .1 .0) (c .before .before .before .before .before .before .before .before .before .before .before .build-cases .result) (not-false (c .before .before .before .before .before .before .before .before .before .before .before .build-cases .result .fits) (c .before .before .before .before .before .before .before .if1 .left)) (c .before .before .before .before .before .before .before .before .before .before .before .build-cases .ensures) (c .before .before .before .before .before .default-matrix .result) (c .before .before .before .before .before .default-matrix .ensures .0) (c .before .before .before .before .before .default-matrix .ensures .1))
+build-switch-add-put-switch-2 t c = omega (arith, switch-node-asked (c .before .before .before .before .before .before .before .before .before .before .before .before .before .before .before .before .before .before .before .before .before .before .before .before .before .pre .1 .0) (c .before .before .before .before .before .before .before .before .before .before .before .before .before .before .before .before .before .before .before .before .before .before .before .before .before .args .work .now) (c .before .before .before .before .before .before .before .before .before .before .before .before .before .before .before .before .before .before .before .before .before .before .before .before .before .args .tops) (c .before .before .before .before .before .before .before .before .before .before .before .before .before .before .before .before .before .before .before .before .before .before .before .before .before .pre .1 .1) (c .before .before .before .before .before .before .before .before .before .before .before .before .before .before .before .before .before .before .before .before .before .before .before .before .before .pre .1 .2) (c .before .before .before .before .before .before .before .before .before .before .before .before .before .before .before .before .before .before .before .before .meet-cases .last .1 .1 .1 .1 .1 .0) (c .before .before .before .before .before .before .before .before .before .before .before .before .before .before .before .before .meeting .given .0 .0) (met-made (c .before .before .before .before .before .before .before .before .before .before .before .before .before .before .before .before .before .before .before .before .before .before .before .before .before .pre .1 .0) (c .before .before .before .before .before .before .before .before .before .before .before .before .before .before .before .before .before .before .before .before .before .before .before .before .before .args .work .now) (c .before .before .before .before .before .before .before .before .before .before .before .before .before .before .before .before .before .before .before .before .before .before .before .before .before .args .tops) (c .before .before .before .before .before .before .before .before .before .before .before .before .before .before .before .before .before .before .before .before .before .before .before .before .before .pre .1 .1) (c .before .before .before .before .before .before .before .before .before .before .before .before .before .before .before .before .before .before .before .before .before .before .before .before .before .pre .1 .2) (c .before .before .before .before .before .before .before .before .before .before .before .before .before .before .before .before .before .before .before .before .meet-cases .last .1 .1 .1 .1 .1 .0) (c .before .before .before .before .before .before .before .before .before .before .before .before .before .before .before .before .before .before .before .before .meet-cases .result) (c .before .before .before .before .before .before .before .before .before .before .before .before .before .before .before .before .meeting .given .0 .0) (c .before .before .before .before .before .before .before .before .before .before .before .before .before .before .before .before .meeting .given .1) (c .before .before .before .before .before .before .before .before .before .before .before .before .before .before .before .before .before .before .before .before .meet-cases .ensures)) (record { nodes = (c .before .before .before .before .before .before .before .before .before .before .before .before .before .before .before .before .before .before .before .before .before .before .before .before .before .args .tops) .nodes + 1; cases = (c .before .before .before .before .before .before .before .before .before .before .before .before .before .before .before .before .meeting .given .0 .0) .end; bindings = (c .before .before .before .before .before .before .before .before .before .before .before .before .before .before .before .before .before .before .before .before .before .before .before .before .before .args .tops) .bindings; leaves = (c .before .before .before .before .before .before .before .before .before .before .before .before .before .before .before .before .before .before .before .before .before .before .before .before .before .args .tops) .leaves }) refl (c .before .before .before .before .before .before .before .before .before .before .before .build-cases .last .1 .1 .1 .1 .1 .0) (c .before .before .before .before .before .before .before .before .before .before .before .build-cases .result) (not-false (c .before .before .before .before .before .before .before .before .before .before .before .build-cases .result .fits) (c .before .before .before .before .before .before .before .if1 .left)) (c .before .before .before .before .before .before .before .before .before .before .before .build-cases .ensures) (c .before .before .before .before .before .default-matrix .result) (c .before .before .before .before .before .default-matrix .ensures))
 
 -- src/build.rt:134:5
 build-switch-put-switch-requires-2 : (t : ℕ) → build-switch-lts.Need-put-switch-requires-2 (
@@ -512,7 +513,7 @@ build-switch-put-switch-requires-2 : (t : ℕ) → build-switch-lts.Need-put-swi
   do-build-tree-below t,
   do-build-tree.Post,
 ) (build-switch-at t) build-switch.Post
-build-switch-put-switch-requires-2 t c κs = let a = switch-node-asked (c .before .before .before .before .before .before .before .before .before .before .before .before .before .before .before .before .before .before .before .before .before .before .before .before .before .pre .1 .0) (c .before .before .before .before .before .before .before .before .before .before .before .before .before .before .before .before .before .before .before .before .before .before .before .before .before .args .work .now) (c .before .before .before .before .before .before .before .before .before .before .before .before .before .before .before .before .before .before .before .before .before .before .before .before .before .args .tops) (c .before .before .before .before .before .before .before .before .before .before .before .before .before .before .before .before .before .before .before .before .before .before .before .before .before .pre .1 .1) (c .before .before .before .before .before .before .before .before .before .before .before .before .before .before .before .before .before .before .before .before .before .before .before .before .before .pre .1 .2) (c .before .before .before .before .before .before .before .before .before .before .before .before .before .before .before .before .before .before .before .before .meet-cases .last .1 .1 .1 .1 .1 .0) (c .before .before .before .before .before .before .before .before .before .before .before .before .before .before .before .before .meeting .given .0 .0) (met-made (c .before .before .before .before .before .before .before .before .before .before .before .before .before .before .before .before .before .before .before .before .before .before .before .before .before .pre .1 .0) (c .before .before .before .before .before .before .before .before .before .before .before .before .before .before .before .before .before .before .before .before .before .before .before .before .before .args .work .now) (c .before .before .before .before .before .before .before .before .before .before .before .before .before .before .before .before .before .before .before .before .before .before .before .before .before .args .tops) (c .before .before .before .before .before .before .before .before .before .before .before .before .before .before .before .before .before .before .before .before .before .before .before .before .before .pre .1 .1) (c .before .before .before .before .before .before .before .before .before .before .before .before .before .before .before .before .before .before .before .before .before .before .before .before .before .pre .1 .2) (c .before .before .before .before .before .before .before .before .before .before .before .before .before .before .before .before .before .before .before .before .meet-cases .last .1 .1 .1 .1 .1 .0) (c .before .before .before .before .before .before .before .before .before .before .before .before .before .before .before .before .before .before .before .before .meet-cases .result) (c .before .before .before .before .before .before .before .before .before .before .before .before .before .before .before .before .meeting .given .0 .0) (c .before .before .before .before .before .before .before .before .before .before .before .before .before .before .before .before .meeting .given .1) (c .before .before .before .before .before .before .before .before .before .before .before .before .before .before .before .before .before .before .before .before .meet-cases .ensures)) (record { nodes = (c .before .before .before .before .before .before .before .before .before .before .before .before .before .before .before .before .before .before .before .before .before .before .before .before .before .args .tops) .nodes + 1; cases = (c .before .before .before .before .before .before .before .before .before .before .before .before .before .before .before .before .meeting .given .0 .0) .end; bindings = (c .before .before .before .before .before .before .before .before .before .before .before .before .before .before .before .before .before .before .before .before .before .before .before .before .before .args .tops) .bindings; leaves = (c .before .before .before .before .before .before .before .before .before .before .before .before .before .before .before .before .before .before .before .before .before .before .before .before .before .args .tops) .leaves }) refl (c .before .before .before .before .before .before .before .before .before .before .before .build-cases .last .1 .1 .1 .1 .1 .0) (c .before .before .before .before .before .before .before .before .before .before .before .build-cases .result) (not-false (c .before .before .before .before .before .before .before .before .before .before .before .build-cases .result .fits) (c .before .before .before .before .before .before .before .if1 .left)) (c .before .before .before .before .before .before .before .before .before .before .before .build-cases .ensures) (c .before .before .before .before .before .default-matrix .result) (c .before .before .before .before .before .default-matrix .ensures .0) (c .before .before .before .before .before .default-matrix .ensures .1) in ((a .0, a .1, a .2, a .3), switch-met-asked (c .before .before .before .before .before .before .before .before .before .before .before .before .before .before .before .before .before .before .before .before .before .before .before .before .before .pre .1 .0) (c .before .before .before .before .before .before .before .before .before .before .before .before .before .before .before .before .before .before .before .before .before .before .before .before .before .args .work .now) (c .before .before .before .before .before .before .before .before .before .before .before .before .before .before .before .before .before .before .before .before .before .before .before .before .before .args .tops) (c .before .before .before .before .before .before .before .before .before .before .before .before .before .before .before .before .before .before .before .before .before .before .before .before .before .pre .1 .1) (c .before .before .before .before .before .before .before .before .before .before .before .before .before .before .before .before .before .before .before .before .before .before .before .before .before .pre .1 .2) (c .before .before .before .before .before .before .before .before .before .before .before .before .before .before .before .before .before .before .before .before .meet-cases .last .1 .1 .1 .1 .1 .0) (c .before .before .before .before .before .before .before .before .before .before .before .before .before .before .before .before .meeting .given .0 .0) (met-made (c .before .before .before .before .before .before .before .before .before .before .before .before .before .before .before .before .before .before .before .before .before .before .before .before .before .pre .1 .0) (c .before .before .before .before .before .before .before .before .before .before .before .before .before .before .before .before .before .before .before .before .before .before .before .before .before .args .work .now) (c .before .before .before .before .before .before .before .before .before .before .before .before .before .before .before .before .before .before .before .before .before .before .before .before .before .args .tops) (c .before .before .before .before .before .before .before .before .before .before .before .before .before .before .before .before .before .before .before .before .before .before .before .before .before .pre .1 .1) (c .before .before .before .before .before .before .before .before .before .before .before .before .before .before .before .before .before .before .before .before .before .before .before .before .before .pre .1 .2) (c .before .before .before .before .before .before .before .before .before .before .before .before .before .before .before .before .before .before .before .before .meet-cases .last .1 .1 .1 .1 .1 .0) (c .before .before .before .before .before .before .before .before .before .before .before .before .before .before .before .before .before .before .before .before .meet-cases .result) (c .before .before .before .before .before .before .before .before .before .before .before .before .before .before .before .before .meeting .given .0 .0) (c .before .before .before .before .before .before .before .before .before .before .before .before .before .before .before .before .meeting .given .1) (c .before .before .before .before .before .before .before .before .before .before .before .before .before .before .before .before .before .before .before .before .meet-cases .ensures)) (record { nodes = (c .before .before .before .before .before .before .before .before .before .before .before .before .before .before .before .before .before .before .before .before .before .before .before .before .before .args .tops) .nodes + 1; cases = (c .before .before .before .before .before .before .before .before .before .before .before .before .before .before .before .before .meeting .given .0 .0) .end; bindings = (c .before .before .before .before .before .before .before .before .before .before .before .before .before .before .before .before .before .before .before .before .before .before .before .before .before .args .tops) .bindings; leaves = (c .before .before .before .before .before .before .before .before .before .before .before .before .before .before .before .before .before .before .before .before .before .before .before .before .before .args .tops) .leaves }) refl (c .before .before .before .before .before .before .before .before .before .before .before .build-cases .last .1 .1 .1 .1 .1 .0) (c .before .before .before .before .before .before .before .before .before .before .before .build-cases .result) (not-false (c .before .before .before .before .before .before .before .before .before .before .before .build-cases .result .fits) (c .before .before .before .before .before .before .before .if1 .left)) (c .before .before .before .before .before .before .before .before .before .before .before .build-cases .ensures) (c .before .before .before .before .before .default-matrix .result) (c .before .before .before .before .before .default-matrix .ensures .0) (c .before .before .before .before .before .default-matrix .ensures .1))
+build-switch-put-switch-requires-2 t c κs = let a = switch-node-asked (c .before .before .before .before .before .before .before .before .before .before .before .before .before .before .before .before .before .before .before .before .before .before .before .before .before .pre .1 .0) (c .before .before .before .before .before .before .before .before .before .before .before .before .before .before .before .before .before .before .before .before .before .before .before .before .before .args .work .now) (c .before .before .before .before .before .before .before .before .before .before .before .before .before .before .before .before .before .before .before .before .before .before .before .before .before .args .tops) (c .before .before .before .before .before .before .before .before .before .before .before .before .before .before .before .before .before .before .before .before .before .before .before .before .before .pre .1 .1) (c .before .before .before .before .before .before .before .before .before .before .before .before .before .before .before .before .before .before .before .before .before .before .before .before .before .pre .1 .2) (c .before .before .before .before .before .before .before .before .before .before .before .before .before .before .before .before .before .before .before .before .meet-cases .last .1 .1 .1 .1 .1 .0) (c .before .before .before .before .before .before .before .before .before .before .before .before .before .before .before .before .meeting .given .0 .0) (met-made (c .before .before .before .before .before .before .before .before .before .before .before .before .before .before .before .before .before .before .before .before .before .before .before .before .before .pre .1 .0) (c .before .before .before .before .before .before .before .before .before .before .before .before .before .before .before .before .before .before .before .before .before .before .before .before .before .args .work .now) (c .before .before .before .before .before .before .before .before .before .before .before .before .before .before .before .before .before .before .before .before .before .before .before .before .before .args .tops) (c .before .before .before .before .before .before .before .before .before .before .before .before .before .before .before .before .before .before .before .before .before .before .before .before .before .pre .1 .1) (c .before .before .before .before .before .before .before .before .before .before .before .before .before .before .before .before .before .before .before .before .before .before .before .before .before .pre .1 .2) (c .before .before .before .before .before .before .before .before .before .before .before .before .before .before .before .before .before .before .before .before .meet-cases .last .1 .1 .1 .1 .1 .0) (c .before .before .before .before .before .before .before .before .before .before .before .before .before .before .before .before .before .before .before .before .meet-cases .result) (c .before .before .before .before .before .before .before .before .before .before .before .before .before .before .before .before .meeting .given .0 .0) (c .before .before .before .before .before .before .before .before .before .before .before .before .before .before .before .before .meeting .given .1) (c .before .before .before .before .before .before .before .before .before .before .before .before .before .before .before .before .before .before .before .before .meet-cases .ensures)) (record { nodes = (c .before .before .before .before .before .before .before .before .before .before .before .before .before .before .before .before .before .before .before .before .before .before .before .before .before .args .tops) .nodes + 1; cases = (c .before .before .before .before .before .before .before .before .before .before .before .before .before .before .before .before .meeting .given .0 .0) .end; bindings = (c .before .before .before .before .before .before .before .before .before .before .before .before .before .before .before .before .before .before .before .before .before .before .before .before .before .args .tops) .bindings; leaves = (c .before .before .before .before .before .before .before .before .before .before .before .before .before .before .before .before .before .before .before .before .before .before .before .before .before .args .tops) .leaves }) refl (c .before .before .before .before .before .before .before .before .before .before .before .build-cases .last .1 .1 .1 .1 .1 .0) (c .before .before .before .before .before .before .before .before .before .before .before .build-cases .result) (not-false (c .before .before .before .before .before .before .before .before .before .before .before .build-cases .result .fits) (c .before .before .before .before .before .before .before .if1 .left)) (c .before .before .before .before .before .before .before .before .before .before .before .build-cases .ensures) (c .before .before .before .before .before .default-matrix .result) (c .before .before .before .before .before .default-matrix .ensures) in ((a .0, a .1, a .2, a .3), switch-met-asked (c .before .before .before .before .before .before .before .before .before .before .before .before .before .before .before .before .before .before .before .before .before .before .before .before .before .pre .1 .0) (c .before .before .before .before .before .before .before .before .before .before .before .before .before .before .before .before .before .before .before .before .before .before .before .before .before .args .work .now) (c .before .before .before .before .before .before .before .before .before .before .before .before .before .before .before .before .before .before .before .before .before .before .before .before .before .args .tops) (c .before .before .before .before .before .before .before .before .before .before .before .before .before .before .before .before .before .before .before .before .before .before .before .before .before .pre .1 .1) (c .before .before .before .before .before .before .before .before .before .before .before .before .before .before .before .before .before .before .before .before .before .before .before .before .before .pre .1 .2) (c .before .before .before .before .before .before .before .before .before .before .before .before .before .before .before .before .before .before .before .before .meet-cases .last .1 .1 .1 .1 .1 .0) (c .before .before .before .before .before .before .before .before .before .before .before .before .before .before .before .before .meeting .given .0 .0) (met-made (c .before .before .before .before .before .before .before .before .before .before .before .before .before .before .before .before .before .before .before .before .before .before .before .before .before .pre .1 .0) (c .before .before .before .before .before .before .before .before .before .before .before .before .before .before .before .before .before .before .before .before .before .before .before .before .before .args .work .now) (c .before .before .before .before .before .before .before .before .before .before .before .before .before .before .before .before .before .before .before .before .before .before .before .before .before .args .tops) (c .before .before .before .before .before .before .before .before .before .before .before .before .before .before .before .before .before .before .before .before .before .before .before .before .before .pre .1 .1) (c .before .before .before .before .before .before .before .before .before .before .before .before .before .before .before .before .before .before .before .before .before .before .before .before .before .pre .1 .2) (c .before .before .before .before .before .before .before .before .before .before .before .before .before .before .before .before .before .before .before .before .meet-cases .last .1 .1 .1 .1 .1 .0) (c .before .before .before .before .before .before .before .before .before .before .before .before .before .before .before .before .before .before .before .before .meet-cases .result) (c .before .before .before .before .before .before .before .before .before .before .before .before .before .before .before .before .meeting .given .0 .0) (c .before .before .before .before .before .before .before .before .before .before .before .before .before .before .before .before .meeting .given .1) (c .before .before .before .before .before .before .before .before .before .before .before .before .before .before .before .before .before .before .before .before .meet-cases .ensures)) (record { nodes = (c .before .before .before .before .before .before .before .before .before .before .before .before .before .before .before .before .before .before .before .before .before .before .before .before .before .args .tops) .nodes + 1; cases = (c .before .before .before .before .before .before .before .before .before .before .before .before .before .before .before .before .meeting .given .0 .0) .end; bindings = (c .before .before .before .before .before .before .before .before .before .before .before .before .before .before .before .before .before .before .before .before .before .before .before .before .before .args .tops) .bindings; leaves = (c .before .before .before .before .before .before .before .before .before .before .before .before .before .before .before .before .before .before .before .before .before .before .before .before .before .args .tops) .leaves }) refl (c .before .before .before .before .before .before .before .before .before .before .before .build-cases .last .1 .1 .1 .1 .1 .0) (c .before .before .before .before .before .before .before .before .before .before .before .build-cases .result) (not-false (c .before .before .before .before .before .before .before .before .before .before .before .build-cases .result .fits) (c .before .before .before .before .before .before .before .if1 .left)) (c .before .before .before .before .before .before .before .before .before .before .before .build-cases .ensures) (c .before .before .before .before .before .default-matrix .result) (c .before .before .before .before .before .default-matrix .ensures))
 
 -- src/build.rt:135:5
 build-switch-do-build-tree-requires : (t : ℕ) → build-switch-lts.Need-do-build-tree-requires (
@@ -527,7 +528,7 @@ build-switch-do-build-tree-requires : (t : ℕ) → build-switch-lts.Need-do-bui
   do-build-tree-below t,
   do-build-tree.Post,
 ) (build-switch-at t) build-switch.Post
-build-switch-do-build-tree-requires t c κs = (omega (arith, (c .before .before .before .before .before .before .before .before .before .before .before .before .before .before .before .before .before .before .before .before .before .before .before .before .before .before .before .before .before .pre .0), default-deeper (c .before .before .before .before .before .before .before .before .before .before .before .before .before .before .before .before .before .before .before .before .before .before .before .before .before .before .before .before .before .pre .1 .0) (c .before .before .before .before .before .before .before .before .before .default-matrix .result) (c .before .before .before .before .before .before .before .before .before .default-matrix .ensures .0) (c .before .before .before .before .before .before .before .before .before .default-matrix .ensures .1), tested-room (c .before .before .before .before .before .before .before .before .before .before .before .before .before .before .before .before .before .before .before .before .before .before .before .before .before .before .before .before .before .pre .1 .0)), switch-asked (c .before .before .before .before .before .before .before .before .before .before .before .before .before .before .before .before .before .before .before .before .before .before .before .before .before .before .before .before .before .pre .1 .0) (c .before .before .before .before .before .before .before .before .before .before .before .before .before .before .before .before .before .before .before .before .before .before .before .before .before .before .before .before .before .args .work .now) (c .before .before .before .before .before .before .before .before .before .before .before .before .before .before .before .before .before .before .before .before .before .before .before .before .before .before .before .before .before .args .tops) (c .before .before .before .before .before .before .before .before .before .before .before .before .before .before .before .before .before .before .before .before .before .before .before .before .before .before .before .before .before .pre .1 .1) (c .before .before .before .before .before .before .before .before .before .before .before .before .before .before .before .before .before .before .before .before .before .before .before .before .before .before .before .before .before .pre .1 .2) (c .before .before .before .before .before .before .before .before .before .before .before .before .before .before .before .before .before .before .before .before .before .before .before .before .meet-cases .last .1 .1 .1 .1 .1 .0) (c .before .before .before .before .before .before .before .before .before .before .before .before .before .before .before .before .before .before .before .before .meeting .given .0 .0) (met-made (c .before .before .before .before .before .before .before .before .before .before .before .before .before .before .before .before .before .before .before .before .before .before .before .before .before .before .before .before .before .pre .1 .0) (c .before .before .before .before .before .before .before .before .before .before .before .before .before .before .before .before .before .before .before .before .before .before .before .before .before .before .before .before .before .args .work .now) (c .before .before .before .before .before .before .before .before .before .before .before .before .before .before .before .before .before .before .before .before .before .before .before .before .before .before .before .before .before .args .tops) (c .before .before .before .before .before .before .before .before .before .before .before .before .before .before .before .before .before .before .before .before .before .before .before .before .before .before .before .before .before .pre .1 .1) (c .before .before .before .before .before .before .before .before .before .before .before .before .before .before .before .before .before .before .before .before .before .before .before .before .before .before .before .before .before .pre .1 .2) (c .before .before .before .before .before .before .before .before .before .before .before .before .before .before .before .before .before .before .before .before .before .before .before .before .meet-cases .last .1 .1 .1 .1 .1 .0) (c .before .before .before .before .before .before .before .before .before .before .before .before .before .before .before .before .before .before .before .before .before .before .before .before .meet-cases .result) (c .before .before .before .before .before .before .before .before .before .before .before .before .before .before .before .before .before .before .before .before .meeting .given .0 .0) (c .before .before .before .before .before .before .before .before .before .before .before .before .before .before .before .before .before .before .before .before .meeting .given .1) (c .before .before .before .before .before .before .before .before .before .before .before .before .before .before .before .before .before .before .before .before .before .before .before .before .meet-cases .ensures)) (record { nodes = (c .before .before .before .before .before .before .before .before .before .before .before .before .before .before .before .before .before .before .before .before .before .before .before .before .before .before .before .before .before .args .tops) .nodes + 1; cases = (c .before .before .before .before .before .before .before .before .before .before .before .before .before .before .before .before .before .before .before .before .meeting .given .0 .0) .end; bindings = (c .before .before .before .before .before .before .before .before .before .before .before .before .before .before .before .before .before .before .before .before .before .before .before .before .before .before .before .before .before .args .tops) .bindings; leaves = (c .before .before .before .before .before .before .before .before .before .before .before .before .before .before .before .before .before .before .before .before .before .before .before .before .before .before .before .before .before .args .tops) .leaves }) refl (c .before .before .before .before .before .before .before .before .before .before .before .before .before .before .before .build-cases .last .1 .1 .1 .1 .1 .0) (c .before .before .before .before .before .before .before .before .before .before .before .before .before .before .before .build-cases .result) (not-false (c .before .before .before .before .before .before .before .before .before .before .before .before .before .before .before .build-cases .result .fits) (c .before .before .before .before .before .before .before .before .before .before .before .if1 .left)) (c .before .before .before .before .before .before .before .before .before .before .before .before .before .before .before .build-cases .ensures) (c .before .before .before .before .before .before .before .before .before .default-matrix .result) (c .before .before .before .before .before .before .before .before .before .default-matrix .ensures .0) (c .before .before .before .before .before .before .before .before .before .default-matrix .ensures .1) (c .before .before .before .put-switch2 .last .0) ((c .before .before .before .before .before .before .before .before .before .before .before .before .before .before .before .build-cases .result .tops .nodes) + 1) (c .before .before .before .put-switch2 .ensures) (c .before .before .before .before .before .before .if2 .left))
+build-switch-do-build-tree-requires t c κs = (omega (arith, (c .before .before .before .before .before .before .before .before .before .before .before .before .before .before .before .before .before .before .before .before .before .before .before .before .before .before .before .before .before .pre .0), default-deeper (c .before .before .before .before .before .before .before .before .before .before .before .before .before .before .before .before .before .before .before .before .before .before .before .before .before .before .before .before .before .pre .1 .0) (c .before .before .before .before .before .before .before .before .before .default-matrix .result) (c .before .before .before .before .before .before .before .before .before .default-matrix .ensures), tested-room (c .before .before .before .before .before .before .before .before .before .before .before .before .before .before .before .before .before .before .before .before .before .before .before .before .before .before .before .before .before .pre .1 .0)), switch-asked (c .before .before .before .before .before .before .before .before .before .before .before .before .before .before .before .before .before .before .before .before .before .before .before .before .before .before .before .before .before .pre .1 .0) (c .before .before .before .before .before .before .before .before .before .before .before .before .before .before .before .before .before .before .before .before .before .before .before .before .before .before .before .before .before .args .work .now) (c .before .before .before .before .before .before .before .before .before .before .before .before .before .before .before .before .before .before .before .before .before .before .before .before .before .before .before .before .before .args .tops) (c .before .before .before .before .before .before .before .before .before .before .before .before .before .before .before .before .before .before .before .before .before .before .before .before .before .before .before .before .before .pre .1 .1) (c .before .before .before .before .before .before .before .before .before .before .before .before .before .before .before .before .before .before .before .before .before .before .before .before .before .before .before .before .before .pre .1 .2) (c .before .before .before .before .before .before .before .before .before .before .before .before .before .before .before .before .before .before .before .before .before .before .before .before .meet-cases .last .1 .1 .1 .1 .1 .0) (c .before .before .before .before .before .before .before .before .before .before .before .before .before .before .before .before .before .before .before .before .meeting .given .0 .0) (met-made (c .before .before .before .before .before .before .before .before .before .before .before .before .before .before .before .before .before .before .before .before .before .before .before .before .before .before .before .before .before .pre .1 .0) (c .before .before .before .before .before .before .before .before .before .before .before .before .before .before .before .before .before .before .before .before .before .before .before .before .before .before .before .before .before .args .work .now) (c .before .before .before .before .before .before .before .before .before .before .before .before .before .before .before .before .before .before .before .before .before .before .before .before .before .before .before .before .before .args .tops) (c .before .before .before .before .before .before .before .before .before .before .before .before .before .before .before .before .before .before .before .before .before .before .before .before .before .before .before .before .before .pre .1 .1) (c .before .before .before .before .before .before .before .before .before .before .before .before .before .before .before .before .before .before .before .before .before .before .before .before .before .before .before .before .before .pre .1 .2) (c .before .before .before .before .before .before .before .before .before .before .before .before .before .before .before .before .before .before .before .before .before .before .before .before .meet-cases .last .1 .1 .1 .1 .1 .0) (c .before .before .before .before .before .before .before .before .before .before .before .before .before .before .before .before .before .before .before .before .before .before .before .before .meet-cases .result) (c .before .before .before .before .before .before .before .before .before .before .before .before .before .before .before .before .before .before .before .before .meeting .given .0 .0) (c .before .before .before .before .before .before .before .before .before .before .before .before .before .before .before .before .before .before .before .before .meeting .given .1) (c .before .before .before .before .before .before .before .before .before .before .before .before .before .before .before .before .before .before .before .before .before .before .before .before .meet-cases .ensures)) (record { nodes = (c .before .before .before .before .before .before .before .before .before .before .before .before .before .before .before .before .before .before .before .before .before .before .before .before .before .before .before .before .before .args .tops) .nodes + 1; cases = (c .before .before .before .before .before .before .before .before .before .before .before .before .before .before .before .before .before .before .before .before .meeting .given .0 .0) .end; bindings = (c .before .before .before .before .before .before .before .before .before .before .before .before .before .before .before .before .before .before .before .before .before .before .before .before .before .before .before .before .before .args .tops) .bindings; leaves = (c .before .before .before .before .before .before .before .before .before .before .before .before .before .before .before .before .before .before .before .before .before .before .before .before .before .before .before .before .before .args .tops) .leaves }) refl (c .before .before .before .before .before .before .before .before .before .before .before .before .before .before .before .build-cases .last .1 .1 .1 .1 .1 .0) (c .before .before .before .before .before .before .before .before .before .before .before .before .before .before .before .build-cases .result) (not-false (c .before .before .before .before .before .before .before .before .before .before .before .before .before .before .before .build-cases .result .fits) (c .before .before .before .before .before .before .before .before .before .before .before .if1 .left)) (c .before .before .before .before .before .before .before .before .before .before .before .before .before .before .before .build-cases .ensures) (c .before .before .before .before .before .before .before .before .before .default-matrix .result) (c .before .before .before .before .before .before .before .before .before .default-matrix .ensures) (c .before .before .before .put-switch2 .last .0) ((c .before .before .before .before .before .before .before .before .before .before .before .before .before .before .before .build-cases .result .tops .nodes) + 1) (c .before .before .before .put-switch2 .ensures) (c .before .before .before .before .before .before .if2 .left))
 
 -- src/build.rt:107:1
 build-switch-same-length-4 : (t : ℕ) → build-switch-lts.Need-same-length-4 (
@@ -557,7 +558,7 @@ build-switch-returns-4 : (t : ℕ) → build-switch-lts.Need-returns-4 (
   do-build-tree-below t,
   do-build-tree.Post,
 ) (build-switch-at t) build-switch.Post
-build-switch-returns-4 t c = switch-default (c .before .before .before .before .before .before .before .before .before .before .before .before .before .before .before .before .before .before .before .before .before .before .before .before .before .before .before .before .before .before .before .before .pre .1 .0) (c .before .before .before .before .before .before .before .before .before .before .before .before .before .before .before .before .before .before .before .before .before .before .before .before .before .before .before .before .before .before .before .before .args .work .now) (c .before .before .before .before .before .before .before .before .before .before .before .before .before .before .before .before .before .before .before .before .before .before .before .before .before .before .before .before .before .before .before .before .args .tops) (c .before .before .before .before .before .before .before .before .before .before .before .before .before .before .before .before .before .before .before .before .before .before .before .before .before .before .before .before .before .before .before .before .pre .1 .1) (c .before .before .before .before .before .before .before .before .before .before .before .before .before .before .before .before .before .before .before .before .before .before .before .before .before .before .before .before .before .before .before .before .pre .1 .2) (c .before .before .before .before .before .before .before .before .before .before .before .before .before .before .before .before .before .before .before .before .before .before .before .before .before .before .before .meet-cases .last .1 .1 .1 .1 .1 .0) (c .before .before .before .before .before .before .before .before .before .before .before .before .before .before .before .before .before .before .before .before .before .before .before .meeting .given .0 .0) (met-made (c .before .before .before .before .before .before .before .before .before .before .before .before .before .before .before .before .before .before .before .before .before .before .before .before .before .before .before .before .before .before .before .before .pre .1 .0) (c .before .before .before .before .before .before .before .before .before .before .before .before .before .before .before .before .before .before .before .before .before .before .before .before .before .before .before .before .before .before .before .before .args .work .now) (c .before .before .before .before .before .before .before .before .before .before .before .before .before .before .before .before .before .before .before .before .before .before .before .before .before .before .before .before .before .before .before .before .args .tops) (c .before .before .before .before .before .before .before .before .before .before .before .before .before .before .before .before .before .before .before .before .before .before .before .before .before .before .before .before .before .before .before .before .pre .1 .1) (c .before .before .before .before .before .before .before .before .before .before .before .before .before .before .before .before .before .before .before .before .before .before .before .before .before .before .before .before .before .before .before .before .pre .1 .2) (c .before .before .before .before .before .before .before .before .before .before .before .before .before .before .before .before .before .before .before .before .before .before .before .before .before .before .before .meet-cases .last .1 .1 .1 .1 .1 .0) (c .before .before .before .before .before .before .before .before .before .before .before .before .before .before .before .before .before .before .before .before .before .before .before .before .before .before .before .meet-cases .result) (c .before .before .before .before .before .before .before .before .before .before .before .before .before .before .before .before .before .before .before .before .before .before .before .meeting .given .0 .0) (c .before .before .before .before .before .before .before .before .before .before .before .before .before .before .before .before .before .before .before .before .before .before .before .meeting .given .1) (c .before .before .before .before .before .before .before .before .before .before .before .before .before .before .before .before .before .before .before .before .before .before .before .before .before .before .before .meet-cases .ensures)) (record { nodes = (c .before .before .before .before .before .before .before .before .before .before .before .before .before .before .before .before .before .before .before .before .before .before .before .before .before .before .before .before .before .before .before .before .args .tops) .nodes + 1; cases = (c .before .before .before .before .before .before .before .before .before .before .before .before .before .before .before .before .before .before .before .before .before .before .before .meeting .given .0 .0) .end; bindings = (c .before .before .before .before .before .before .before .before .before .before .before .before .before .before .before .before .before .before .before .before .before .before .before .before .before .before .before .before .before .before .before .before .args .tops) .bindings; leaves = (c .before .before .before .before .before .before .before .before .before .before .before .before .before .before .before .before .before .before .before .before .before .before .before .before .before .before .before .before .before .before .before .before .args .tops) .leaves }) refl (c .before .before .before .before .before .before .before .before .before .before .before .before .before .before .before .before .before .before .build-cases .last .1 .1 .1 .1 .1 .0) (c .before .before .before .before .before .before .before .before .before .before .before .before .before .before .before .before .before .before .build-cases .result) (not-false (c .before .before .before .before .before .before .before .before .before .before .before .before .before .before .before .before .before .before .build-cases .result .fits) (c .before .before .before .before .before .before .before .before .before .before .before .before .before .before .if1 .left)) (c .before .before .before .before .before .before .before .before .before .before .before .before .before .before .before .before .before .before .build-cases .ensures) (c .before .before .before .before .before .before .before .before .before .before .before .before .default-matrix .result) (c .before .before .before .before .before .before .before .before .before .before .before .before .default-matrix .ensures .0) (c .before .before .before .before .before .before .before .before .before .before .before .before .default-matrix .ensures .1) (c .before .before .before .before .before .before .put-switch2 .last .0) ((c .before .before .before .before .before .before .before .before .before .before .before .before .before .before .before .before .before .before .build-cases .result .tops .nodes) + 1) (c .before .before .before .before .before .before .put-switch2 .ensures) (c .before .before .do-build-tree .last .1 .1 .1 .1 .0) (c .before .before .do-build-tree .result) (c .before .before .before .before .before .before .before .before .before .if2 .left) refl (c .before .before .do-build-tree .ensures)
+build-switch-returns-4 t c = switch-default (c .before .before .before .before .before .before .before .before .before .before .before .before .before .before .before .before .before .before .before .before .before .before .before .before .before .before .before .before .before .before .before .before .pre .1 .0) (c .before .before .before .before .before .before .before .before .before .before .before .before .before .before .before .before .before .before .before .before .before .before .before .before .before .before .before .before .before .before .before .before .args .work .now) (c .before .before .before .before .before .before .before .before .before .before .before .before .before .before .before .before .before .before .before .before .before .before .before .before .before .before .before .before .before .before .before .before .args .tops) (c .before .before .before .before .before .before .before .before .before .before .before .before .before .before .before .before .before .before .before .before .before .before .before .before .before .before .before .before .before .before .before .before .pre .1 .1) (c .before .before .before .before .before .before .before .before .before .before .before .before .before .before .before .before .before .before .before .before .before .before .before .before .before .before .before .before .before .before .before .before .pre .1 .2) (c .before .before .before .before .before .before .before .before .before .before .before .before .before .before .before .before .before .before .before .before .before .before .before .before .before .before .before .meet-cases .last .1 .1 .1 .1 .1 .0) (c .before .before .before .before .before .before .before .before .before .before .before .before .before .before .before .before .before .before .before .before .before .before .before .meeting .given .0 .0) (met-made (c .before .before .before .before .before .before .before .before .before .before .before .before .before .before .before .before .before .before .before .before .before .before .before .before .before .before .before .before .before .before .before .before .pre .1 .0) (c .before .before .before .before .before .before .before .before .before .before .before .before .before .before .before .before .before .before .before .before .before .before .before .before .before .before .before .before .before .before .before .before .args .work .now) (c .before .before .before .before .before .before .before .before .before .before .before .before .before .before .before .before .before .before .before .before .before .before .before .before .before .before .before .before .before .before .before .before .args .tops) (c .before .before .before .before .before .before .before .before .before .before .before .before .before .before .before .before .before .before .before .before .before .before .before .before .before .before .before .before .before .before .before .before .pre .1 .1) (c .before .before .before .before .before .before .before .before .before .before .before .before .before .before .before .before .before .before .before .before .before .before .before .before .before .before .before .before .before .before .before .before .pre .1 .2) (c .before .before .before .before .before .before .before .before .before .before .before .before .before .before .before .before .before .before .before .before .before .before .before .before .before .before .before .meet-cases .last .1 .1 .1 .1 .1 .0) (c .before .before .before .before .before .before .before .before .before .before .before .before .before .before .before .before .before .before .before .before .before .before .before .before .before .before .before .meet-cases .result) (c .before .before .before .before .before .before .before .before .before .before .before .before .before .before .before .before .before .before .before .before .before .before .before .meeting .given .0 .0) (c .before .before .before .before .before .before .before .before .before .before .before .before .before .before .before .before .before .before .before .before .before .before .before .meeting .given .1) (c .before .before .before .before .before .before .before .before .before .before .before .before .before .before .before .before .before .before .before .before .before .before .before .before .before .before .before .meet-cases .ensures)) (record { nodes = (c .before .before .before .before .before .before .before .before .before .before .before .before .before .before .before .before .before .before .before .before .before .before .before .before .before .before .before .before .before .before .before .before .args .tops) .nodes + 1; cases = (c .before .before .before .before .before .before .before .before .before .before .before .before .before .before .before .before .before .before .before .before .before .before .before .meeting .given .0 .0) .end; bindings = (c .before .before .before .before .before .before .before .before .before .before .before .before .before .before .before .before .before .before .before .before .before .before .before .before .before .before .before .before .before .before .before .before .args .tops) .bindings; leaves = (c .before .before .before .before .before .before .before .before .before .before .before .before .before .before .before .before .before .before .before .before .before .before .before .before .before .before .before .before .before .before .before .before .args .tops) .leaves }) refl (c .before .before .before .before .before .before .before .before .before .before .before .before .before .before .before .before .before .before .build-cases .last .1 .1 .1 .1 .1 .0) (c .before .before .before .before .before .before .before .before .before .before .before .before .before .before .before .before .before .before .build-cases .result) (not-false (c .before .before .before .before .before .before .before .before .before .before .before .before .before .before .before .before .before .before .build-cases .result .fits) (c .before .before .before .before .before .before .before .before .before .before .before .before .before .before .if1 .left)) (c .before .before .before .before .before .before .before .before .before .before .before .before .before .before .before .before .before .before .build-cases .ensures) (c .before .before .before .before .before .before .before .before .before .before .before .before .default-matrix .result) (c .before .before .before .before .before .before .before .before .before .before .before .before .default-matrix .ensures) (c .before .before .before .before .before .before .put-switch2 .last .0) ((c .before .before .before .before .before .before .before .before .before .before .before .before .before .before .before .before .before .before .build-cases .result .tops .nodes) + 1) (c .before .before .before .before .before .before .put-switch2 .ensures) (c .before .before .do-build-tree .last .1 .1 .1 .1 .0) (c .before .before .do-build-tree .result) (c .before .before .before .before .before .before .before .before .before .if2 .left) refl (c .before .before .do-build-tree .ensures)
 
 -- src/build.rt:144:9
 do-build-tree-returns : (t : ℕ) → do-build-tree-lts.Need-returns (
@@ -580,7 +581,7 @@ do-build-tree-highest-occurrence-requires :
       build-switch-below t,
       build-switch.Post,
     ) (do-build-tree-at t) do-build-tree.Post
-do-build-tree-highest-occurrence-requires t c κs = ((c .before .before .before .before .before .pre .1) .ready, (c .before .before .before .before .before .pre .1) .there)
+do-build-tree-highest-occurrence-requires t c κs = asked-readable (c .before .before .before .before .before .pre .1)
 
 -- src/build.rt:147:24
 do-build-tree-enum-known-choice : (t : ℕ) → do-build-tree-lts.Need-enum-known-choice (
@@ -613,7 +614,7 @@ do-build-tree-put-leaf-requires : (t : ℕ) → do-build-tree-lts.Need-put-leaf-
   build-switch-below t,
   build-switch.Post,
 ) (do-build-tree-at t) do-build-tree.Post
-do-build-tree-put-leaf-requires t c κs = ((c .before .before .before .before .before .before .before .before .before .pre .1), node-left ((c .before .before .before .before .before .before .before .before .before .pre .1) .room .nodes-most) (c .before .before .before .before .if1 .left), (sym (c .before .before .before .highest-occurrence .ensures) ∙ (c .before .enum-told .given .1)))
+do-build-tree-put-leaf-requires t c κs = ((c .before .before .before .before .before .before .before .before .before .pre .1), node-left ((c .before .before .before .before .before .before .before .before .before .pre .1) .room .nodes-most) (c .before .before .before .before .if1 .left), (asked-chosen (c .before .before .before .before .before .before .before .before .before .pre .1) (c .before .before .before .highest-occurrence .result) (c .before .before .before .highest-occurrence .ensures) (c .before .enum-told .given .1)))
 
 -- src/build.rt:149:9
 do-build-tree-same-length : (t : ℕ) → do-build-tree-lts.Need-same-length (
@@ -635,7 +636,7 @@ do-build-tree-returns-2 : (t : ℕ) → do-build-tree-lts.Need-returns-2 (
   build-switch-below t,
   build-switch.Post,
 ) (do-build-tree-at t) do-build-tree.Post
-do-build-tree-returns-2 t c = leaf-builds ((c .before .before .before .before .before .before .before .before .before .before .before .before .pre .1) .ready .checked .ok) ((c .before .before .before .before .before .before .before .before .before .before .before .before .pre .1) .there) (c .before .before .before .before .before .before .before .before .before .before .before .before .args .work .now) (c .before .before .put-leaf .last .1 .1 .1 .1 .0) (c .before .before .before .before .before .before .before .before .before .before .before .before .args .tops) (c .before .before .put-leaf .result) (record { fits = true; tops = (c .before .before .put-leaf .result) }) (sym (c .before .before .before .before .before .before .highest-occurrence .ensures) ∙ (c .before .before .before .before .enum-told .given .1)) refl (c .before .before .put-leaf .ensures)
+do-build-tree-returns-2 t c = leaf-builds ((c .before .before .before .before .before .before .before .before .before .before .before .before .pre .1) .ready .checked .ok) ((c .before .before .before .before .before .before .before .before .before .before .before .before .pre .1) .there) (c .before .before .before .before .before .before .before .before .before .before .before .before .args .work .now) (c .before .before .put-leaf .last .1 .1 .1 .1 .0) (c .before .before .before .before .before .before .before .before .before .before .before .before .args .tops) (c .before .before .put-leaf .result) (record { fits = true; tops = (c .before .before .put-leaf .result) }) (asked-chosen (c .before .before .before .before .before .before .before .before .before .before .before .before .pre .1) (c .before .before .before .before .before .before .highest-occurrence .result) (c .before .before .before .before .before .before .highest-occurrence .ensures) (c .before .before .before .before .enum-told .given .1)) refl (c .before .before .put-leaf .ensures)
 
 -- src/build.rt:154:5
 do-build-tree-build-switch-requires : (t : ℕ) → do-build-tree-lts.Need-build-switch-requires (
@@ -646,7 +647,7 @@ do-build-tree-build-switch-requires : (t : ℕ) → do-build-tree-lts.Need-build
   build-switch-below t,
   build-switch.Post,
 ) (do-build-tree-at t) do-build-tree.Post
-do-build-tree-build-switch-requires t c κs = (omega (arith, (c .before .before .before .before .before .before .before .before .before .before .pre .0)), (record { ready = (c .before .before .before .before .before .before .before .before .before .before .pre .1) .ready; there = (c .before .before .before .before .before .before .before .before .before .before .pre .1) .there; chosen = sym (c .before .before .before .before .highest-occurrence .ensures) ∙ search needs }, (c .before .before .before .before .before .before .before .before .before .before .pre .1) .room, node-left ((c .before .before .before .before .before .before .before .before .before .before .pre .1) .room .nodes-most) (c .before .before .before .before .before .if1 .left)))
+do-build-tree-build-switch-requires t c κs = (omega (arith, (c .before .before .before .before .before .before .before .before .before .before .pre .0)), (record { ready = (c .before .before .before .before .before .before .before .before .before .before .pre .1) .ready; there = (c .before .before .before .before .before .before .before .before .before .before .pre .1) .there; chosen = asked-chosen (c .before .before .before .before .before .before .before .before .before .before .pre .1) (c .before .before .before .before .highest-occurrence .result) (c .before .before .before .before .highest-occurrence .ensures) (c .before .before .choice .given .1) }, (c .before .before .before .before .before .before .before .before .before .before .pre .1) .room, node-left ((c .before .before .before .before .before .before .before .before .before .before .pre .1) .room .nodes-most) (c .before .before .before .before .before .if1 .left)))
 
 -- src/build.rt:139:1
 do-build-tree-same-length-2 : (t : ℕ) → do-build-tree-lts.Need-same-length-2 (

@@ -3,7 +3,7 @@ use Rattle.building.proofs.stand_in.case_matrix.Tie as tie
 use Rattle.building.proofs.stand_in.case_matrix.Reads as reads
 use Rattle.building.proofs.stand_in.case_matrix.Lts as lts
 
--- src/stand_in.rt:40:1
+-- src/stand_in.rt:19:1
 returns : tie.Need-returns
 returns c = ?
 

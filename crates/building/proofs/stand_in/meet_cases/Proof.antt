@@ -3,7 +3,7 @@ use Rattle.building.proofs.stand_in.meet_cases.Tie as tie
 use Rattle.building.proofs.stand_in.meet_cases.Reads as reads
 use Rattle.building.proofs.stand_in.meet_cases.Lts as lts
 
--- src/stand_in.rt:47:1
+-- src/stand_in.rt:26:1
 returns : tie.Need-returns
 returns c = ?
 
