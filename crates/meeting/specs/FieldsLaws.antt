@@ -3,7 +3,7 @@
 use mathlib.Core.Path.{_≡_, refl, sym, ap, ap₂, _∙_}
 use mathlib.Core.Logic.{⊎-elim}
 use mathlib.Core.Bool.{Bool, true, false, true≢false}
-use mathlib.Core.List.{List, [], _∷_}
+use mathlib.Core.List.{List}
 use Prim.Native.Nat.{ℕ, zero, suc, _+_, _-_, _≤_, _<_}
 use native.Mathlib.Omega.{arith}
 use borrow.Author.Tests.{eqb-true, eqb-false, eq-eqb, ne-eqb}
@@ -12,7 +12,7 @@ use lib.ListN.{length, getD, drop}
 use Rattle.words.specs.Words.{both, either, pick, textAt}
 use Rattle.words.specs.WordsLaws.{length-textAt, texts-agree, texts-differ, both-true, both-false, either-false}
 use Rattle.rules.specs.SheetFile.{poolAt, poolSize, poolText}
-use Rattle.rules.specs.Splitting.{Test, Constr, Int, Bytes, ListOf, ListWithTail, testFields, sameTest}
+use Rattle.rules.specs.Splitting.{Test, Int, Bytes, testFields, sameTest}
 use Rattle.rules.specs.SplittingLaws.{sameTest-sound, sameTest-make}
 use Rattle.facts.specs.SheetFacts.{Laid, text-inside}
 use Rattle.filing.specs.Writable.{testKind}
@@ -21,7 +21,7 @@ use Rattle.arena.specs.Arena.{caseKind, caseNumber, caseLength}
 use Rattle.arena.specs.declared.reading.Test as arena
 use Rattle.arena.specs.Reading.{kindOf, numberOf, lengthOf}
 use Rattle.meeting.specs.declared.search.Fields.{Fields}
-use Rattle.meeting.specs.Fields.{fieldsOf, isText, testIn, startIn, Fit, isAlike, hasTest, firstWhere, Readable}
+use Rattle.meeting.specs.Fields.{fieldsOf, isText, testIn, startIn, Fit, isAlike, hasTest, firstWhere}
 
 -- by kind
 pub five : (P : ℕ → Type 0) → P 0 → P 1 → P 2 → P 3 → P 4 → (k : ℕ) → k ≤ 4 → P k

@@ -6,5 +6,6 @@ pub mod SoFar
 pub mod SoFarLaws
 pub mod Rows
 pub mod RowsLaws
+pub mod ColumnLaws
 pub mod Made
 pub mod MadeLaws

@@ -1,21 +1,21 @@
 -- The laws of the two passes: the cases of one sort are what its pass meets, in the same order; and a pass that stops where there is
 -- no more room has the first of those cases. Rests on rule 4's laws of meeting.
 use mathlib.Core.Path.{_≡_, refl, sym, ap, ap₂, _∙_}
-use mathlib.Core.Bool.{Bool, true, false, not}
+use mathlib.Core.Bool.{Bool, true, false}
 use mathlib.Core.List.{List, [], _∷_, _++_, append-assoc, append-nil}
-use Prim.Native.Nat.{ℕ, zero, suc, _+_, _-_, _≤_, _<_}
+use Prim.Native.Nat.{ℕ, zero, suc, _+_, _-_, _≤_}
 use native.Mathlib.Omega.{arith}
 use native.Mathlib.Nat.{le-refl, add-zero}
 use borrow.Author.Tests.{leb-true, leb-false, ltb-true, ltb-false, lt-ltb, le-ltb}
 use lib.Dec.{leb, ltb}
 use lib.ListN.{length, take}
 use lib.Seq.{take-append-le, take-all, take-take, length-take-le}
-use Rattle.words.specs.Words.{both, either}
+use Rattle.words.specs.Words.{either}
 use Rattle.rules.specs.Patterns.{Text, Mark, Pat, Pats, many, discard, variable, assign, integer, bytestring, listed, tailed, constructor, opened}
 use Rattle.rules.specs.Splitting.{Test, Constr, Int, Bytes, ListOf, ListWithTail, Met, rising, joined, textStart, taillessLength, tailedLength, larger, longest, isMet, meet, meetAll, casesOf}
 use Rattle.rules.specs.Building.{isList, hasList}
 use Rattle.matching.specs.Depth.{only, isTail, isExact, isMet-only}
-use Rattle.meeting.specs.Passes.{tests, meetRow, meetRows, upTo, caseRecords}
+use Rattle.meeting.specs.Passes.{tests, meetRow, meetRows}
 
 -- ---- one sort of cases
 only-append : (f : Test → Bool) (ms ns : List Met) → only f (ms ++ ns) ≡ only f ms ++ only f ns

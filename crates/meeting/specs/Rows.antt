@@ -1,10 +1,9 @@
 -- What a row's test meets, as the code reads it: the one case of a test without a tail, the rising cases of one with, and the longest
 -- lengths of a column. RowsLaws has that these are rule 4's.
-use mathlib.Core.Path.{_≡_}
 use mathlib.Core.Bool.{Bool, true, false}
 use mathlib.Core.List.{List, [], _∷_, map}
-use Prim.Native.Nat.{ℕ, suc, _-_, _<_}
-use lib.Dec.{eqb, leb}
+use Prim.Native.Nat.{ℕ, suc, _<_}
+use lib.Dec.{eqb}
 use Rattle.words.specs.Words.{pick}
 use Rattle.rules.specs.Splitting.{Test, ListOf, ListWithTail, Met, rising, taillessLength, tailedLength, larger, longest, meet}
 use Rattle.matching.specs.Depth.{isTail, isExact}

@@ -61,16 +61,9 @@ fn meet_test(
 {
     let r = pattern_at(s, m, p);
     if r.kind == 6 {
-        return meet_rising(
-            s,
-            m,
-            work,
-            from,
-            to,
-            tail,
-            r.count - 1,
-            longest_with(l, tail),
-        );
+        let k = r.count - 1;
+        let end = longest_with(l, tail);
+        return meet_rising(s, m, work, from, to, tail, k, end);
     }
     if tail {
         return to;

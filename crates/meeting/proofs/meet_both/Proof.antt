@@ -4,20 +4,14 @@ use native.Mathlib.Omega.{arith}
 use mathlib.Core.Path.{refl}
 use Rattle.words.specs.WordsLaws.{bytes-of-fits}
 use Rattle.matrix.specs.Lists.{numbersIn}
-use Rattle.meeting.specs.RowsLaws.{longest-few}
+use Rattle.meeting.specs.ColumnLaws.{longest-few}
 use Rattle.meeting.specs.MadeLaws.{pass-begins, second-begins, passes-past, passes-made}
 use Rattle.meeting.proofs.meet_both.Statement.{statement}
 use Rattle.meeting.proofs.meet_both.Tie as tie
-use Rattle.meeting.proofs.meet_both.Reads as reads
-use Rattle.meeting.proofs.meet_both.Lts as lts
-use Rattle.meeting.proofs.column.longest_of.Reads as longest-of-reads
-use Rattle.meeting.proofs.rows.meet_rows.Reads as meet-rows-reads
 
--- src/lib.rt:40:9
 longest-of-requires : tie.Need-longest-of-requires
 longest-of-requires c κs = search needs
 
--- src/lib.rt:41:9
 meet-rows-requires : tie.Need-meet-rows-requires
 meet-rows-requires c κs =
     let s = c .before .before .before .before in
@@ -26,7 +20,6 @@ meet-rows-requires c κs =
     let few = longest-few (bytes-of-fits (a .s .now) (c .before .before .before .shared-slice-known .given)) (s .pre .0 .0 .ok) (numbersIn (a .tests)) (s .pre .0 .2) (l .result) (l .ensures) in
     ((s .pre .0 .0, s .pre .0 .1, s .pre .0 .2, few .0, few .1), pass-begins (a .s .now) (a .work .now) (a .first) (s .pre .1 .0) (s .pre .1 .1))
 
--- src/lib.rt:42:9
 meet-rows-requires-2 : tie.Need-meet-rows-requires-2
 meet-rows-requires-2 c κs =
     let s = c .before .before .before .before .before .before .before .before in
@@ -35,11 +28,9 @@ meet-rows-requires-2 c κs =
     let few = longest-few (bytes-of-fits (a .s .now) (c .before .before .before .before .before .before .before .shared-slice-known .given)) (s .pre .0 .0 .ok) (numbersIn (a .tests)) (s .pre .0 .2) (l .result) (l .ensures) in
     ((s .pre .0 .0, s .pre .0 .1, s .pre .0 .2, few .0, few .1), second-begins (numbersIn (a .tests)) (l .result) (l .ensures) (s .pre .1 .0) (s .pre .1 .1) (c .before .before .before .meet-rows .ensures))
 
--- src/lib.rt:44:9
 same-length : tie.Need-same-length
 same-length c = search needs
 
--- src/lib.rt:44:9
 returns : tie.Need-returns
 returns c =
     let s = c .before .before .before .before .before .before .before .before .before .before .before .before in
@@ -47,7 +38,6 @@ returns c =
     let l = c .before .before .before .before .before .before .before .before .before .longest-of in
     passes-past (numbersIn (a .tests)) (l .result) (l .ensures) (s .pre .1 .0) (s .pre .1 .1) (c .before .before .before .before .before .before .before .meet-rows .ensures) (c .before .before .before .meet-rows2 .ensures) (c .if1 .taken)
 
--- src/lib.rt:49:19
 add-t14 : tie.Need-add-t14
 add-t14 c =
     let s = c .before .before .before .before .before .before .before .before .before .before .before .before .before in
@@ -56,11 +46,9 @@ add-t14 c =
     let few = longest-few (bytes-of-fits (a .s .now) (c .before .before .before .before .before .before .before .before .before .before .before .before .shared-slice-known .given)) (s .pre .0 .0 .ok) (numbersIn (a .tests)) (s .pre .0 .2) (l .result) (l .ensures) in
     omega (arith, few .0, few .1)
 
--- src/lib.rt:35:1
 same-length-2 : tie.Need-same-length-2
 same-length-2 c = search needs
 
--- src/lib.rt:35:1
 returns-2 : tie.Need-returns-2
 returns-2 c =
     let s = c .before .before .before .before .before .before .before .before .before .before .before .before .before in

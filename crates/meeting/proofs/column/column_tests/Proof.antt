@@ -12,14 +12,9 @@ use Rattle.matrix.specs.ListsLaws.{holds-rows-count, holds-rows-same, whole-row
 use Rattle.matrix.specs.Reading.{heldIn, InTable}
 use Rattle.matrix.specs.ReadingLaws.{all-at, slice-on, slice-end}
 use Rattle.meeting.specs.Rows.{heldTest}
-use Rattle.meeting.specs.RowsLaws.{held-small, tests-step, tests-end, heldTest-most}
+use Rattle.meeting.specs.ColumnLaws.{held-small, tests-step, tests-end, heldTest-most}
 use Rattle.meeting.proofs.column.column_tests.Statement.{statement}
 use Rattle.meeting.proofs.column.column_tests.Tie as tie
-use Rattle.meeting.proofs.column.column_tests.Reads as reads
-use Rattle.meeting.proofs.column.column_tests.Lts as lts
-use Rattle.matrix.proofs.rows.test_at.Reads as test-at-reads
-use Rattle.matrix.proofs.wide.Reads as wide-reads
-use Rattle.meeting.proofs.column.keep_test.Reads as keep-test-reads
 
 abbrev Inv-loop : tie.InvT-loop
 Inv-loop t opened class rows out₀ i₀ out i =
@@ -29,19 +24,15 @@ Inv-loop t opened class rows out₀ i₀ out i =
 abbrev μ-loop : tie.MeasureT-loop
 μ-loop t opened class rows out₀ i₀ out i = rows .count - i
 
--- src/column.rt:41:5
 loop-holds : tie.Need-loop-holds Inv-loop μ-loop
 loop-holds c = (search needs, search needs, record { long = refl; most = omega arith; are = refl }, refl)
 
--- src/column.rt:42:54
 element-copy-out-wide : tie.Need-element-copy-out-wide Inv-loop μ-loop
 element-copy-out-wide c = omega (arith, c .before .before .before .pre .0 .most)
 
--- src/column.rt:42:49
 wide-requires : tie.Need-wide-requires Inv-loop μ-loop
 wide-requires c κs = search needs
 
--- src/column.rt:42:30
 test-at-requires : tie.Need-test-at-requires Inv-loop μ-loop
 test-at-requires c κs =
     let s = c .before .before .before .before .before in
@@ -49,7 +40,6 @@ test-at-requires c κs =
     let l = c .before .before .before .loop in
     rw (c .wide .ensures) (all-at (InTable (a .t .now) (a .class)) (a .t2 .list) (a .t2 .count) (l .i) (omega (arith, c .before .before .loop-test .taken)) (omega (arith, s .pre .0 .long, s .pre .0 .most)) (s .pre .1))
 
--- src/column.rt:42:9
 keep-test-requires : tie.Need-keep-test-requires Inv-loop μ-loop
 keep-test-requires c κs =
     let s = c .before .before .before .before .before .before in
@@ -62,15 +52,12 @@ keep-test-requires c κs =
       held-small (a .t .now) (a .opened .now) (a .class) row (c .test-at .result) there (c .test-at .ensures ∙ ap (heldIn (a .t .now) (a .opened .now) (a .class)) (c .before .wide .ensures)),
     )
 
--- src/column.rt:43:9
 add-i : tie.Need-add-i Inv-loop μ-loop
 add-i c = search needs
 
--- src/column.rt:41:5
 loop-less : tie.Need-loop-less Inv-loop μ-loop
 loop-less c = search needs
 
--- src/column.rt:41:5
 loop-again : tie.Need-loop-again Inv-loop μ-loop
 loop-again c =
     let s = c .before .before .before .before .before .before .before in
@@ -88,7 +75,6 @@ loop-again c =
           ∙ ap (λ (x : List ℕ). numbersIn (l .out) ++ heldTests held x) (sym (slice-on (a .t2 .list) (l .i) (a .t2 .count) i-in (omega (arith, s .pre .0 .long, s .pre .0 .most)))) ∙ l .inv .3,
     )
 
--- src/column.rt:35:1
 returns : tie.Need-returns Inv-loop μ-loop
 returns c =
     let s = c .before .before .before in

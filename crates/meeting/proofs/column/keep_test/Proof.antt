@@ -3,40 +3,31 @@ use borrow.Author.Needs.{needs}
 use native.Mathlib.Omega.{arith}
 use mathlib.Core.Path.{_≡_}
 use Rattle.matrix.specs.declared.Held.the-variants.{Test, Wildcard}
-use Rattle.meeting.specs.RowsLaws.{test-in-byte, keep-one, keep-none}
+use Rattle.meeting.specs.ColumnLaws.{test-in-byte, keep-one, keep-none}
 use Rattle.meeting.proofs.column.keep_test.Statement.{statement}
 use Rattle.meeting.proofs.column.keep_test.Tie as tie
-use Rattle.meeting.proofs.column.keep_test.Reads as reads
-use Rattle.meeting.proofs.column.keep_test.Lts as lts
-use Rattle.matrix.proofs.rows.push_row.Reads as push-row-reads
 
--- src/column.rt:29:20
 enum-known-held : tie.Need-enum-known-held
 enum-known-held c = search needs
 
--- src/column.rt:29:38
 cast-push-row : tie.Need-cast-push-row
 cast-push-row c =
     let a = c .before .before .before in
     let e : a .args .held ≡ Test (c .before .held .given .0 .0) = search needs in
     omega (arith, test-in-byte (a .args .held) (c .before .held .given .0 .0) e (a .pre .2))
 
--- src/column.rt:29:26
 push-row-requires : tie.Need-push-row-requires
 push-row-requires c κs = search needs
 
--- src/column.rt:30:27
 enum-told : tie.Need-enum-told
 enum-told c = search needs
 
--- src/column.rt:24:1
 returns : tie.Need-returns
 returns c =
     let a = c .before .before .before .before in
     let e : a .args .held ≡ Test (c .before .before .held .given .0 .0) = search needs in
     keep-one (a .args .r) (c .push-row .result) (a .args .held) (c .before .before .held .given .0 .0) e (c .push-row .ensures)
 
--- src/column.rt:24:1
 returns-2 : tie.Need-returns-2
 returns-2 c =
     let a = c .before .before in

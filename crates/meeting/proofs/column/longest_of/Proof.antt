@@ -1,21 +1,17 @@
 -- `meeting::column::longest_of` meets its contract. The loop's invariant: the longest lengths of the tests from i on.
 use borrow.Author.Needs.{needs}
-use mathlib.Core.Path.{_≡_, sym, _∙_}
-use Prim.Native.Nat.{ℕ, _-_, _≤_}
+use mathlib.Core.Path.{_≡_}
+use Prim.Native.Nat.{_-_, _≤_}
 use native.Mathlib.Omega.{arith}
 use lib.Seq.{slice}
 use Rattle.words.specs.WordsLaws.{bytes-of-fits}
 use Rattle.matrix.specs.ReadingLaws.{all-at}
 use Rattle.matrix.specs.Ready.{TestKnown}
 use Rattle.meeting.specs.Rows.{longestOf}
-use Rattle.meeting.specs.RowsLaws.{record-small, longest-starts, longest-step, longest-ends}
+use Rattle.meeting.specs.RowsLaws.{record-small}
+use Rattle.meeting.specs.ColumnLaws.{longest-starts, longest-step, longest-ends}
 use Rattle.meeting.proofs.column.longest_of.Statement.{statement}
 use Rattle.meeting.proofs.column.longest_of.Tie as tie
-use Rattle.meeting.proofs.column.longest_of.Reads as reads
-use Rattle.meeting.proofs.column.longest_of.Lts as lts
-use Rattle.matrix.proofs.wide.Reads as wide-reads
-use Rattle.meeting.proofs.tests.longer_of.Reads as longer-of-reads
-use Rattle.sheet.proofs.records.pattern_at.Reads as pattern-at-reads
 
 abbrev Inv-loop : tie.InvT-loop
 Inv-loop s m tests l₀ i₀ l i = (i ≤ tests .count) × (l ≡ longestOf s (slice i (tests .count) (tests .list)))
@@ -23,23 +19,18 @@ Inv-loop s m tests l₀ i₀ l i = (i ≤ tests .count) × (l ≡ longestOf s (s
 abbrev μ-loop : tie.MeasureT-loop
 μ-loop s m tests l₀ i₀ l i = i
 
--- src/column.rt:58:5
 loop-holds : tie.Need-loop-holds Inv-loop μ-loop
 loop-holds c = (search needs, longest-starts (c .before .args .s .now) (c .before .args .t3 .list) (c .before .args .t3 .count))
 
--- src/column.rt:59:9
 sub-i : tie.Need-sub-i Inv-loop μ-loop
 sub-i c = search needs
 
--- src/column.rt:60:45
 element-copy-out-wide : tie.Need-element-copy-out-wide Inv-loop μ-loop
 element-copy-out-wide c = omega (arith, c .before .before .before .pre .1 .most)
 
--- src/column.rt:60:40
 wide-requires : tie.Need-wide-requires Inv-loop μ-loop
 wide-requires c κs = search needs
 
--- src/column.rt:60:23
 pattern-at-requires : tie.Need-pattern-at-requires Inv-loop μ-loop
 pattern-at-requires c κs =
     let s = c .before .before .before .before .before in
@@ -48,17 +39,14 @@ pattern-at-requires c κs =
     let known = all-at (TestKnown (a .s .now)) (a .t3 .list) (a .t3 .count) (l .i - 1) (omega arith) (omega (arith, s .pre .1 .long, s .pre .1 .most)) (s .pre .2) in
     (s .pre .0 .ok .is-laid, s .pre .0 .is-map, rw (c .wide .ensures) (known .known))
 
--- src/column.rt:60:9
 longer-of-requires : tie.Need-longer-of-requires Inv-loop μ-loop
 longer-of-requires c κs =
     let s = c .before .before .before .before .before .before in
     record-small (bytes-of-fits (s .args .s .now) (c .before .before .before .before .before .shared-slice-known .given)) (c .before .wide .result) (c .pattern-at .result) (c .pattern-at .ensures)
 
--- src/column.rt:58:5
 loop-less : tie.Need-loop-less Inv-loop μ-loop
 loop-less c = search needs
 
--- src/column.rt:58:5
 loop-again : tie.Need-loop-again Inv-loop μ-loop
 loop-again c =
     let s = c .before .before .before .before .before .before .before in
@@ -69,7 +57,6 @@ loop-again c =
           (c .before .before .wide .result) (c .before .before .wide .ensures) (c .before .pattern-at .result) (c .before .pattern-at .ensures) (l .l) (c .longer-of .result) (l .inv .1) (c .longer-of .ensures),
     )
 
--- src/column.rt:49:1
 returns : tie.Need-returns Inv-loop μ-loop
 returns c =
     let a = c .before .before .before .args in

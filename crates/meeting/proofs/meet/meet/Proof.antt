@@ -8,21 +8,13 @@ use Rattle.meeting.specs.FieldsLaws.{fields-fit, fields-searched}
 use Rattle.meeting.specs.SoFarLaws.{begun-rises, begun-most, begun-room, begun-readable, meets-full, meets-found, meets-new}
 use Rattle.meeting.proofs.meet.meet.Statement.{statement}
 use Rattle.meeting.proofs.meet.meet.Tie as tie
-use Rattle.meeting.proofs.meet.meet.Reads as reads
-use Rattle.meeting.proofs.meet.meet.Lts as lts
-use Rattle.arena.proofs.writing.put_case.Reads as put-case-reads
-use Rattle.meeting.proofs.search.fields_of.Reads as fields-of-reads
-use Rattle.meeting.proofs.search.same_case.Reads as same-case-reads
 
--- src/meet.rt:26:9
 returns : tie.Need-returns
 returns c = meets-full (c .before .before .before .args .test) (c .if1 .taken)
 
--- src/meet.rt:28:48
 fields-of-requires : tie.Need-fields-of-requires
 fields-of-requires c κs = search needs
 
--- src/meet.rt:28:8
 same-case-requires : tie.Need-same-case-requires
 same-case-requires c κs =
     let a = c .before .before .before .before .before in (
@@ -30,30 +22,24 @@ same-case-requires c κs =
       (begun-room (a .pre .1), begun-rises (a .pre .1), begun-most (a .pre .1), begun-readable (a .pre .1)),
     )
 
--- src/meet.rt:29:9
 same-length : tie.Need-same-length
 same-length c = search needs
 
--- src/meet.rt:29:9
 returns-2 : tie.Need-returns-2
 returns-2 c =
     let a = c .before .before .before .before .before .before .before in
     let is = fields-searched (a .args .test) (c .before .before .fields-of .result) (c .before .before .fields-of .ensures) (a .args .s .now) (a .args .work .now) (a .args .from) (a .args .to - a .args .from) (c .before .same-case .result) (c .before .same-case .ensures) in
     meets-found (a .args .test) (c .before .same-case .result) is (c .if2 .taken)
 
--- src/meet.rt:31:5
 put-case-requires : tie.Need-put-case-requires
 put-case-requires c κs = search needs
 
--- src/meet.rt:32:5
 add-result : tie.Need-add-result
 add-result c = search needs
 
--- src/meet.rt:20:1
 same-length-2 : tie.Need-same-length-2
 same-length-2 c = search needs
 
--- src/meet.rt:20:1
 returns-3 : tie.Need-returns-3
 returns-3 c =
     let e = c .before .before .before .before in

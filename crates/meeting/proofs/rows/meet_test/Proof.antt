@@ -5,68 +5,50 @@ use Rattle.words.specs.WordsLaws.{bytes-of-fits}
 use Rattle.meeting.specs.RowsLaws.{longest-small, record-small, row-elements, row-fit, row-rises, row-meets, row-meets-none}
 use Rattle.meeting.proofs.rows.meet_test.Statement.{statement}
 use Rattle.meeting.proofs.rows.meet_test.Tie as tie
-use Rattle.meeting.proofs.rows.meet_test.Reads as reads
-use Rattle.meeting.proofs.rows.meet_test.Lts as lts
-use Rattle.meeting.proofs.rows.meet_rising.Reads as meet-rising-reads
-use Rattle.meeting.proofs.meet.meet.Reads as meet-reads
-use Rattle.meeting.proofs.tests.longest_with.Reads as longest-with-reads
-use Rattle.meeting.proofs.tests.test_of.Reads as test-of-reads
-use Rattle.sheet.proofs.records.pattern_at.Reads as pattern-at-reads
 
--- src/rows.rt:40:9
 pattern-at-requires : tie.Need-pattern-at-requires
 pattern-at-requires c κs = search needs
 
--- src/rows.rt:42:56
-sub-meet-rising : tie.Need-sub-meet-rising
-sub-meet-rising c =
-    let a = c .before .before .before .before .before .before .before in
-    omega (arith, row-elements (a .pre .0 .0) (a .args .p) (a .pre .0 .1) (c .before .before .before .before .pattern-at .result) (c .before .before .before .before .pattern-at .ensures) (c .before .before .if1 .taken))
+sub-k : tie.Need-sub-k
+sub-k c =
+    let a = c .before .before .before .before .before .before in
+    omega (arith, row-elements (a .pre .0 .0) (a .args .p) (a .pre .0 .1) (c .before .before .before .pattern-at .result) (c .before .before .before .pattern-at .ensures) (c .before .if1 .taken))
 
--- src/rows.rt:42:69
 longest-with-requires : tie.Need-longest-with-requires
 longest-with-requires c κs = search needs
 
--- src/rows.rt:42:9
 meet-rising-requires : tie.Need-meet-rising-requires
 meet-rising-requires c κs =
     let a = c .before .before .before .before .before .before .before .before in
-    ((a .pre .0 .0 .ok .is-laid, a .pre .0 .0 .is-map, longest-small (a .args .l) (a .args .tail) (c .longest-with .result) (c .longest-with .ensures) (a .pre .0 .2) (a .pre .0 .3)), a .pre .1)
+    ((a .pre .0 .0 .ok .is-laid, a .pre .0 .0 .is-map, longest-small (a .args .l) (a .args .tail) (c .before .longest-with .result) (c .before .longest-with .ensures) (a .pre .0 .2) (a .pre .0 .3)), a .pre .1)
 
--- src/rows.rt:42:9
 same-length : tie.Need-same-length
 same-length c = search needs
 
--- src/rows.rt:42:9
 returns : tie.Need-returns
 returns c =
     let a = c .before .before .before .before .before .before .before .before .before .before .before in
     row-rises (a .pre .0 .0) (a .args .p) (a .pre .0 .1) (c .before .before .before .before .before .before .before .before .pattern-at .result) (c .before .before .before .before .before .before .before .before .pattern-at .ensures) (a .args .tail) (a .args .l) (c .before .before .before .before .before .before .if1 .taken)
-    (c .before .before .before .longest-with .result) (c .before .before .before .longest-with .ensures) (c .before .before .meet-rising .ensures)
+    (c .before .before .before .before .longest-with .result) (c .before .before .before .before .longest-with .ensures) (c .before .before .meet-rising .ensures)
 
--- src/rows.rt:45:9
 returns-2 : tie.Need-returns-2
 returns-2 c =
     let a = c .before .before .before .before .before .before in
     row-meets-none (a .pre .0 .0) (a .args .p) (a .pre .0 .1) (c .before .before .before .pattern-at .result) (c .before .before .before .pattern-at .ensures) (a .args .tail) (a .args .l) (c .before .if1 .left) (c .if2 .taken)
 
--- src/rows.rt:47:32
 test-of-requires : tie.Need-test-of-requires
 test-of-requires c κs =
     let a = c .before .before .before .before .before .before .before in
     record-small (bytes-of-fits (a .args .s .now) (c .before .before .before .before .before .before .shared-slice-known .given)) (a .args .p) (c .before .before .before .before .pattern-at .result) (c .before .before .before .before .pattern-at .ensures)
 
--- src/rows.rt:47:5
 meet-requires : tie.Need-meet-requires
 meet-requires c κs =
     let a = c .before .before .before .before .before .before .before .before in
     ((a .pre .0 .0 .ok .is-laid, a .pre .0 .0 .is-map, row-fit (a .pre .0 .0) (a .args .p) (a .pre .0 .1) (c .before .before .before .before .before .pattern-at .result) (c .before .before .before .before .before .pattern-at .ensures) (c .before .before .before .if1 .left) (c .test-of .result) (c .test-of .ensures)), a .pre .1)
 
--- src/rows.rt:35:1
 same-length-2 : tie.Need-same-length-2
 same-length-2 c = search needs
 
--- src/rows.rt:35:1
 returns-3 : tie.Need-returns-3
 returns-3 c =
     let a = c .before .before .before .before .before .before .before .before .before .before .before in
@@ -78,7 +60,7 @@ meet-test-spec =
     tie.close
     (tie.spec
     pattern-at-requires
-    sub-meet-rising
+    sub-k
     longest-with-requires
     meet-rising-requires
     same-length

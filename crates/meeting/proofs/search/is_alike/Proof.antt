@@ -5,45 +5,32 @@ use Rattle.meeting.specs.Fields.{isAlike}
 use Rattle.meeting.specs.FieldsLaws.{alike-number}
 use Rattle.meeting.proofs.search.is_alike.Statement.{statement}
 use Rattle.meeting.proofs.search.is_alike.Tie as tie
-use Rattle.meeting.proofs.search.is_alike.Reads as reads
-use Rattle.meeting.proofs.search.is_alike.Lts as lts
-use Rattle.arena.proofs.reading.case_kind.Reads as case-kind-reads
-use Rattle.arena.proofs.reading.case_length.Reads as case-length-reads
-use Rattle.arena.proofs.reading.case_number.Reads as case-number-reads
 
--- src/search.rt:61:8
 case-kind-requires : tie.Need-case-kind-requires
 case-kind-requires c κs = search needs
 
--- src/search.rt:62:9
 returns : tie.Need-returns
 unfolding isAlike
 returns c = simp (← c .before .before .case-kind .ensures, ne-eqb _ _ (c .if1 .taken))
 
--- src/search.rt:64:8
 case-length-requires : tie.Need-case-length-requires
 case-length-requires c κs = search needs
 
--- src/search.rt:65:9
 returns-2 : tie.Need-returns-2
 unfolding isAlike
 returns-2 c = simp (← c .before .before .before .before .before .case-kind .ensures, eq-eqb _ _ (c .before .before .before .if1 .left), ← c .before .before .case-length .ensures, ne-eqb _ _ (c .if2 .taken))
 
--- src/search.rt:68:9
 returns-3 : tie.Need-returns-3
 unfolding isAlike
 returns-3 c = simp (← c .before .before .before .before .before .before .before .case-kind .ensures, eq-eqb _ _ (c .before .before .before .before .before .if1 .left), ← c .before .before .before .before .case-length .ensures, eq-eqb _ _ (c .before .before .if2 .left), eq-eqb _ _ (c .if3 .taken))
 
--- src/search.rt:71:9
 returns-4 : tie.Need-returns-4
 unfolding isAlike
 returns-4 c = simp (← c .before .before .before .before .before .before .before .before .before .case-kind .ensures, eq-eqb _ _ (c .before .before .before .before .before .before .before .if1 .left), ← c .before .before .before .before .before .before .case-length .ensures, eq-eqb _ _ (c .before .before .before .before .if2 .left), ne-eqb _ _ (c .before .before .if3 .left), eq-eqb _ _ (c .if4 .taken))
 
--- src/search.rt:73:5
 case-number-requires : tie.Need-case-number-requires
 case-number-requires c κs = search needs
 
--- src/search.rt:57:1
 returns-5 : tie.Need-returns-5
 unfolding isAlike
 returns-5 c =

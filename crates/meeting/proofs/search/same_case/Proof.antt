@@ -1,9 +1,9 @@
 -- `meeting::search::same_case` meets its contract. Of the outer loop: what the search gives from here is what it gives from the start; of
 -- the inner one: the bytes so far are equal.
 use borrow.Author.Needs.{needs}
-use borrow.Author.Count.{below-none, below-more}
+use borrow.Author.Count.{below-more}
 use native.Mathlib.Omega.{arith}
-use mathlib.Core.Path.{_≡_, sym, _∙_, refl}
+use mathlib.Core.Path.{_≡_, sym, _∙_}
 use mathlib.Core.Logic.{⊎-elim}
 use mathlib.Core.Bool.{true, false}
 use Prim.Native.Nat.{ℕ, _+_, _-_, _≤_, _<_}
@@ -12,11 +12,6 @@ use Rattle.meeting.specs.Fields.{hasTest, firstWhere}
 use Rattle.meeting.specs.FieldsLaws.{not-alike, read-inside, texts-same, texts-other, first-end, first-here, first-past}
 use Rattle.meeting.proofs.search.same_case.Statement.{statement}
 use Rattle.meeting.proofs.search.same_case.Tie as tie
-use Rattle.meeting.proofs.search.same_case.Reads as reads
-use Rattle.meeting.proofs.search.same_case.Lts as lts
-use Rattle.arena.proofs.reading.case_number.Reads as case-number-reads
-use Rattle.meeting.proofs.search.is_alike.Reads as is-alike-reads
-use Rattle.meeting.proofs.search.wide.Reads as wide-reads
 
 abbrev Inv-loop : tie.InvT-loop
 Inv-loop s pool work from to f start len i other k₀ k = (k ≤ len) × ((j : ℕ) → j < k → getD s (other + j) 0 ≡ getD s (start + j) 0)
@@ -31,47 +26,36 @@ Inv-cases s pool work from to f start len i₀ i =
 abbrev μ-cases : tie.MeasureT-cases
 μ-cases s pool work from to f start len i₀ i = to - i
 
--- src/search.rt:82:24
 wide-requires : tie.Need-wide-requires Inv-loop μ-loop Inv-cases μ-cases
 wide-requires c κs = search needs
 
--- src/search.rt:82:17
 add-start : tie.Need-add-start Inv-loop μ-loop Inv-cases μ-cases
 add-start c = search needs
 
--- src/search.rt:83:9
 wide-requires-2 : tie.Need-wide-requires-2 Inv-loop μ-loop Inv-cases μ-cases
 wide-requires-2 c κs = search needs
 
--- src/search.rt:85:9
 cases-holds : tie.Need-cases-holds Inv-loop μ-loop Inv-cases μ-cases
 cases-holds c = search needs
 
--- src/search.rt:89:12
 is-alike-requires : tie.Need-is-alike-requires Inv-loop μ-loop Inv-cases μ-cases
 is-alike-requires c κs = search needs
 
--- src/search.rt:90:37
 case-number-requires : tie.Need-case-number-requires Inv-loop μ-loop Inv-cases μ-cases
 case-number-requires c κs = search needs
 
--- src/search.rt:90:32
 wide-requires-3 : tie.Need-wide-requires-3 Inv-loop μ-loop Inv-cases μ-cases
 wide-requires-3 c κs = search needs
 
--- src/search.rt:90:25
 add-other : tie.Need-add-other Inv-loop μ-loop Inv-cases μ-cases
 add-other c = search needs
 
--- src/search.rt:92:13
 loop-holds : tie.Need-loop-holds Inv-loop μ-loop Inv-cases μ-cases
 loop-holds c = search needs
 
--- src/search.rt:96:22
 add-if4 : tie.Need-add-if4 Inv-loop μ-loop Inv-cases μ-cases
 add-if4 c = search needs
 
--- src/search.rt:96:20
 shared-slice-read-if4 : tie.Need-shared-slice-read-if4 Inv-loop μ-loop Inv-cases μ-cases
 shared-slice-read-if4 c =
     let l = c .before .before in
@@ -81,11 +65,9 @@ shared-slice-read-if4 c =
     (omega (arith, a .pre .0 .1, l .before .wide3 .ensures, l .before .before .case-number .ensures)) (omega (arith, a .pre .0 .1, l .before .before .before .before .before .before .before .before .wide .ensures))
     (sym (l .before .before .before .before .is-alike .ensures) ∙ l .before .before .before .if2 .taken) (l .loop .k) (omega arith) .0
 
--- src/search.rt:96:38
 add-if4-2 : tie.Need-add-if4-2 Inv-loop μ-loop Inv-cases μ-cases
 add-if4-2 c = search needs
 
--- src/search.rt:96:36
 shared-slice-read-if4-2 : tie.Need-shared-slice-read-if4-2 Inv-loop μ-loop Inv-cases μ-cases
 shared-slice-read-if4-2 c =
     let l = c .before .before .before in
@@ -95,27 +77,21 @@ shared-slice-read-if4-2 c =
     (omega (arith, a .pre .0 .1, l .before .wide3 .ensures, l .before .before .case-number .ensures)) (omega (arith, a .pre .0 .1, l .before .before .before .before .before .before .before .before .wide .ensures))
     (sym (l .before .before .before .before .is-alike .ensures) ∙ l .before .before .before .if2 .taken) (l .loop .k) (omega arith) .1
 
--- src/search.rt:99:17
 add-k : tie.Need-add-k Inv-loop μ-loop Inv-cases μ-cases
 add-k c = search needs
 
--- src/search.rt:92:13
 loop-less : tie.Need-loop-less Inv-loop μ-loop Inv-cases μ-cases
 loop-less c = search needs
 
--- src/search.rt:92:13
 loop-again : tie.Need-loop-again Inv-loop μ-loop Inv-cases μ-cases
 loop-again c = (search needs, below-more _ _ (c .before .before .before .before .loop .inv .1) (c .if4 .left))
 
--- src/search.rt:102:9
 add-i : tie.Need-add-i Inv-loop μ-loop Inv-cases μ-cases
 add-i c = search needs
 
--- src/search.rt:85:9
 cases-less : tie.Need-cases-less Inv-loop μ-loop Inv-cases μ-cases
 cases-less c = search needs
 
--- src/search.rt:85:9
 cases-again : tie.Need-cases-again Inv-loop μ-loop Inv-cases μ-cases
 cases-again c =
     let a = c .before .before .before .before .before .before .before .before in
@@ -132,14 +108,12 @@ cases-again c =
     (c .if2 .came) in
     (search needs, search needs, first-past h i (a .args .to) (omega arith) past ∙ c .before .before .before .cases .inv .2)
 
--- src/search.rt:77:1
 returns : tie.Need-returns Inv-loop μ-loop Inv-cases μ-cases
 returns c =
     let a = c .before .before .before .before .before .before in
     let h = hasTest (a .args .s .now) (a .args .work .now) (a .args .f .kind) (a .args .f .number) (a .args .f .len) in
     sym (c .if1 .taken) ∙ sym (first-end h (c .before .cases .i) (a .args .to) (omega arith)) ∙ c .before .cases .inv .2
 
--- src/search.rt:77:1
 returns-2 : tie.Need-returns-2 Inv-loop μ-loop Inv-cases μ-cases
 returns-2 c =
     let l = c .before in

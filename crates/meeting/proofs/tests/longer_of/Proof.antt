@@ -3,30 +3,22 @@ use borrow.Author.Needs.{needs}
 use Rattle.meeting.specs.RowsLaws.{longer-list, longer-list-not, longer-tailed, longer-tailed-not, longer-other}
 use Rattle.meeting.proofs.tests.longer_of.Statement.{statement}
 use Rattle.meeting.proofs.tests.longer_of.Tie as tie
-use Rattle.meeting.proofs.tests.longer_of.Reads as reads
-use Rattle.meeting.proofs.tests.longer_of.Lts as lts
 
--- src/tests.rt:24:27
 add-t5 : tie.Need-add-t5
 add-t5 c = search needs
 
--- src/tests.rt:23:13
 returns : tie.Need-returns
 returns c = longer-list (c .before .before .before .before .before .before .args .r) (c .before .before .before .before .before .before .args .l) (c .before .before .before .before .if1 .taken) (c .before .if2 .taken)
 
--- src/tests.rt:28:9
 returns-2 : tie.Need-returns-2
 returns-2 c = longer-list-not (c .before .before .before .before .before .args .r) (c .before .before .before .before .before .args .l) (c .before .before .before .if1 .taken) (c .if2 .left)
 
--- src/tests.rt:32:13
 returns-3 : tie.Need-returns-3
 returns-3 c = longer-tailed (c .before .before .before .before .before .before .before .args .r) (c .before .before .before .before .before .before .before .args .l) (c .before .before .before .if3 .taken) (c .if4 .taken)
 
--- src/tests.rt:17:1
 returns-4 : tie.Need-returns-4
 returns-4 c = longer-tailed-not (c .before .before .before .before .before .before .before .args .r) (c .before .before .before .before .before .before .before .args .l) (c .before .before .before .if3 .taken) (c .if4 .left)
 
--- src/tests.rt:17:1
 returns-5 : tie.Need-returns-5
 returns-5 c = longer-other (c .before .before .before .before .args .r) (c .before .before .before .before .args .l) (c .before .before .if1 .left) (c .if3 .left)
 

@@ -3,34 +3,25 @@ use borrow.Author.Needs.{needs}
 use borrow.Author.Tests.{ne-eqb}
 use Rattle.meeting.proofs.tests.test_of.Statement.{statement}
 use Rattle.meeting.proofs.tests.test_of.Tie as tie
-use Rattle.meeting.proofs.tests.test_of.Reads as reads
-use Rattle.meeting.proofs.tests.test_of.Lts as lts
 
--- src/tests.rt:47:17
 cast-start : tie.Need-cast-start
 cast-start c = search needs
 
--- src/tests.rt:48:17
 cast-count : tie.Need-cast-count
 cast-count c = search needs
 
--- src/tests.rt:61:27
 cast-t6 : tie.Need-cast-t6
 cast-t6 c = search needs
 
--- src/tests.rt:42:1
 returns : tie.Need-returns
 returns c = simp (c .match .keys1)
 
--- src/tests.rt:42:1
 returns-2 : tie.Need-returns-2
 returns-2 c = simp (c .match .keys2)
 
--- src/tests.rt:42:1
 returns-3 : tie.Need-returns-3
 returns-3 c = simp (c .match .keys3)
 
--- src/tests.rt:42:1
 returns-4 : tie.Need-returns-4
 returns-4 c =
     let m = c .before .match .rest in
