@@ -6,3 +6,5 @@ pub mod SwitchLaws
 pub mod StandIn
 pub mod Steps
 pub mod StepsLaws
+pub mod Raw
+pub mod RawLaws

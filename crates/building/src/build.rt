@@ -1,7 +1,6 @@
 // The tree of a matrix: a leaf where no column is chosen, else a switch with the trees of its cases and of its default.
 // One more column is tested at each call, and there are no more columns than patterns: 192 less the columns tested falls.
 use crate::stand_in::case_matrix;
-use crate::stand_in::meet_cases;
 use crate::tops::Built;
 use crate::tops::Tops;
 use arena::reading::case_at;
@@ -15,6 +14,7 @@ use matrix::splitting::default_matrix;
 use matrix::wide;
 use meeting::CasesMet;
 use meeting::Meeting;
+use meeting::meet_cases;
 use sheet::Map;
 ghost use mathlib.Core.Path.{_≡_};
 ghost use Prim.Native.Nat.{_<_, _≤_, _+_, _*_, _-_};

@@ -1,0 +1,27 @@
+use borrow.Author.Needs.{needs}
+use Rattle.building.proofs.raw.build_tree.Statement.{statement}
+use Rattle.building.proofs.raw.build_tree.Tie as tie
+use Rattle.building.proofs.raw.build_tree.Reads as reads
+use Rattle.building.proofs.raw.build_tree.Lts as lts
+use Rattle.building.proofs.build.do_build_tree.Reads as do-build-tree-reads
+use Rattle.matrix.proofs.splitting.first_matrix.Reads as first-matrix-reads
+
+-- src/raw.rt:20:9
+first-matrix-requires : tie.Need-first-matrix-requires
+first-matrix-requires c κs = search needs
+
+-- src/raw.rt:27:5
+do-build-tree-requires : tie.Need-do-build-tree-requires
+do-build-tree-requires c κs = search needs
+
+-- src/raw.rt:16:1
+same-length : tie.Need-same-length
+same-length c = search needs
+
+-- src/raw.rt:16:1
+returns : tie.Need-returns
+returns c = search needs
+
+pub build-tree-spec : {M : Type 1} → statement M
+build-tree-spec =
+    tie.close (tie.spec first-matrix-requires do-build-tree-requires same-length returns)
