@@ -20,3 +20,5 @@ pub mod PuttingLaws
 pub mod InNumbers
 pub mod InNumbersLaws
 pub mod SplitLaws
+pub mod Meant
+pub mod MeantLaws

@@ -25,7 +25,7 @@ use Rattle.table.specs.Table.{classAt, tableSize}
 use Rattle.table.specs.TabledLaws.{depth-inside, before-paths}
 use Rattle.table.specs.Seen.{testsOf, testsOfEach, openedTests}
 use Rattle.table.specs.SeenLaws.{tests-of-test, tests-of-parts, tests-plain, tests-text-or-list, opened-tests-each, opened-tests-none, no-test-of-plain, no-test-of-pair, test-kind, test-kind-most, tests-each-none, tests-each-some}
-use Rattle.table.specs.MembersLaws.{isIn-head, isIn-tail, isIn-eachOf, test-at}
+use Rattle.table.specs.MembersLaws.{isIn-head, isIn-tail, isIn-eachOf, test-at, test-inside}
 use Rattle.matrix.specs.declared.Classes.{Classes}
 use Rattle.matrix.specs.declared.columns.Given.{Given}
 use Rattle.matrix.specs.declared.columns.Given.the-variants.{Nothing, Itself, Inside}
@@ -129,6 +129,9 @@ module _ {s : List ℕ} {m : Map} {t : List ℕ} (ready : Ready s m t) where
       let w = isIn-eachOf (testsOf s) s q j n i in
       let o : Owns s p (w .0) = record { parent = c .parent; from = omega (arith, c .from, w .1); to = omega (arith, c .to, w .2) } in
       test-at (ok .is-shaped) (ok .is-counted) (child s (w .0)) q (owned-pattern (ok .is-shaped) p (w .0) (c .known) o) (w .3) .1 .known)
+
+  pub opened-known : (p : ℕ) → TestKnown s p → All Known (openedTests s p)
+  opened-known p k = all-from Known (openedTests s p) (λ q i. test-inside (ok .is-shaped) (ok .is-counted) p q (k .known) (k .test) i .1 .known)
 
   -- ---- what a pattern gives, by its record
   module _ (p : ℕ) (h : p < patterns s) (r : PatternRecord) (is : r ≡ patternOf s p) where
