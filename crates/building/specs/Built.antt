@@ -2,14 +2,14 @@
 -- cases of a switch that are built so far; and what is known where there are too many nodes.
 use mathlib.Core.Path.{_≡_}
 use mathlib.Core.Bool.{Bool, true, false}
-use mathlib.Core.List.{List, [], _∷_, _++_}
+use mathlib.Core.List.{List, [], _++_}
 use Prim.Native.Nat.{ℕ, _+_, _*_, _≤_, _<_}
 use lib.ListN.{length, getD}
 use Rattle.words.specs.Words.{pick}
 use Rattle.rules.specs.Limits.{clausesMost, nodesMost, bindingsMost, caseSize}
 use Rattle.rules.specs.Rows.{Path, Binding}
 use Rattle.rules.specs.Splitting.{Test, Met}
-use Rattle.rules.specs.Building.{Tree, Cases}
+use Rattle.rules.specs.Building.{Tree}
 use Rattle.rules.specs.Hoisting.{nodesIn, nodesInOf, bindingsIn, bindingsInOf, hasLeaf, hasLeafOf}
 use Rattle.rules.specs.TreeFile.{casesIn, casesInOf, ownCases}
 use Rattle.filing.specs.StandingLaws.{Stands}

@@ -1,10 +1,10 @@
 -- The steps of building a tree, as laws over plain values: the counts of what is put one after the other, a leaf put, nothing put.
 -- Rests on the arena's laws of stores.
-use mathlib.Core.Path.{_≡_, refl, sym, ap, ap₂, _∙_}
+use mathlib.Core.Path.{_≡_, refl, ap, _∙_}
 use mathlib.Core.Bool.{Bool, true, false}
-use mathlib.Core.List.{List, [], _∷_, _++_}
+use mathlib.Core.List.{List, _++_}
 use mathlib.Core.Logic.{_⊎_, inl, inr}
-use Prim.Native.Nat.{ℕ, _+_, _-_, _*_, _≤_, _<_, min}
+use Prim.Native.Nat.{ℕ, _+_, _-_, _*_, _≤_, _<_}
 use native.Mathlib.Omega.{arith}
 use lib.Dec.{eqb}
 use lib.ListN.{length, getD, set, length-append, length-set}
@@ -15,12 +15,12 @@ use Rattle.words.specs.Stored.{stored}
 use Rattle.words.specs.StoredLaws.{length-stored, getD-stored-below, getD-stored-above}
 use Rattle.rules.specs.Limits.{clausesMost, nodesMost, bindingsMost, nodeSize, caseSize, bindingSize}
 use Rattle.rules.specs.Rows.{Path, Binding}
-use Rattle.rules.specs.Building.{Tree, Cases, absent, leaf}
+use Rattle.rules.specs.Building.{Cases, absent, leaf}
 use Rattle.rules.specs.Hoisting.{nodesIn, nodesInOf, bindingsIn, bindingsInOf, hasLeaf}
 use Rattle.rules.specs.TreeFile.{firstOf, nodeBytes, casesIn, nodesFromOf, casesFromOf, bindingsBytes}
 use Rattle.filing.specs.StandingLaws.{Stands, stands-byte}
 use Rattle.filing.specs.LengthLaws.{length-nodesFromOf}
-use Rattle.arena.specs.Arena.{casesStart, casesMost, bindingsStart, arenaEnd, Held, HeldOf}
+use Rattle.arena.specs.Arena.{casesStart, casesMost, bindingsStart, Held, HeldOf}
 use Rattle.arena.specs.WritingLaws.{Kept, kept-refl, kept-trans, kept-weaken, kept-node, stands-room, stands-bytes, stands-stored, absent-held, leaf-made}
 use Rattle.leaves.specs.Bindings.{capped}
 use Rattle.building.specs.declared.tops.Tops.{Tops}

@@ -4,36 +4,33 @@ use mathlib.Core.Path.{_≡_, refl, sym, ap, _∙_}
 use mathlib.Core.Bool.{Bool, true, false}
 use mathlib.Core.List.{List, [], _∷_, _++_, append-assoc, append-nil}
 use mathlib.Core.Logic.{inl, inr}
-use Prim.Native.Nat.{ℕ, suc, _+_, _*_, _≤_, _<_}
+use Prim.Native.Nat.{ℕ, _+_, _*_, _≤_, _<_}
 use native.Mathlib.Omega.{arith}
 use lib.ListN.{length, length-append}
 use Rattle.words.specs.Words.{wordBytes, either}
 use Rattle.words.specs.Stored.{stored}
-use Rattle.words.specs.StoredLaws.{stored-append, length-stored}
-use Rattle.rules.specs.Limits.{nodesMost, bindingsMost, nodeSize, caseSize, bindingSize}
-use Rattle.rules.specs.Rows.{Path, Binding}
+use Rattle.rules.specs.Limits.{bindingsMost, caseSize}
+use Rattle.rules.specs.Rows.{Path}
 use Rattle.rules.specs.Splitting.{Test, Met}
 use Rattle.rules.specs.SplittingLaws.{All}
 use Rattle.rules.specs.Building.{Tree, Cases, cnil, ccons}
-use Rattle.rules.specs.Hoisting.{howMany, nodesIn, nodesInOf, bindingsIn, bindingsInOf, hasLeaf, hasLeafOf}
-use Rattle.rules.specs.TreeFile.{casesIn, casesInOf, nodesFromOf, caseBytes, ownCases, casesFromOf, bindingsBytes}
+use Rattle.rules.specs.Hoisting.{nodesIn, nodesInOf, bindingsIn, bindingsInOf, hasLeaf, hasLeafOf}
+use Rattle.rules.specs.TreeFile.{casesIn, casesInOf, caseBytes, ownCases}
 use Rattle.filing.specs.StandingLaws.{Stands, stands-left, stands-right}
 use Rattle.filing.specs.Writable.{testKind}
 use Rattle.filing.specs.RecordsLaws.{testNumber, testLength}
-use Rattle.filing.specs.LengthLaws.{length-nodesFromOf, length-caseBytes, length-ownCases, length-casesFromOf, length-bindingsBytes}
+use Rattle.filing.specs.LengthLaws.{length-caseBytes, length-ownCases}
 use Rattle.matching.specs.Depth.{casesOn}
-use Rattle.matching.specs.Lists.{all-front, all-back}
-use Rattle.arena.specs.Arena.{casesStart, casesMost, bindingsStart, arenaEnd, Held, HeldOf}
-use Rattle.arena.specs.RecordsLaws.{caseFields, caseBytes-fields, CaseIs, case-is}
-use Rattle.arena.specs.ReadingLaws.{child-stored}
+use Rattle.matching.specs.Lists.{all-back}
+use Rattle.arena.specs.Arena.{casesStart, Held, HeldOf}
+use Rattle.arena.specs.RecordsLaws.{caseFields, caseBytes-fields}
 use Rattle.arena.specs.WritingLaws.{Kept, kept-refl, kept-trans, kept-weaken, kept-case, cases-kept, heldOf-kept, stands-room, stands-join, stands-stored, no-cases-held, cases-made}
 use Rattle.arena.specs.Numbered.{joined}
 use Rattle.arena.specs.NumberedLaws.{nodesInOf-joined}
 use Rattle.meeting.specs.Passes.{caseRecords}
 use Rattle.meeting.specs.SoFarLaws.{length-caseRecords}
 use Rattle.building.specs.declared.tops.Tops.{Tops}
-use Rattle.building.specs.declared.tops.Built.{Built}
-use Rattle.building.specs.Built.{Counted, Roomy, Put, TooMany, Builds, CasesPut, Partly, TooManyOf, BuildsCases, CasesOpen}
+use Rattle.building.specs.Built.{Put, TooMany, CasesPut, Partly, TooManyOf, CasesOpen}
 use Rattle.building.specs.JoinedLaws.{casesInOf-joined, bindingsInOf-joined, hasLeafOf-joined, ownCases-joined, casesOn-append, howMany-casesOn, heldOf-joined}
 use Rattle.building.specs.BuiltLaws.{stands-apart, heldOf-apart, counted-then, counted-as}
 

@@ -8,16 +8,16 @@ use native.Mathlib.Omega.{arith}
 use native.Mathlib.Nat.{add-zero, add-assoc}
 use lib.ListN.{length, length-append}
 use Rattle.words.specs.Words.{either}
-use Rattle.rules.specs.Rows.{Path, Binding}
+use Rattle.rules.specs.Rows.{Path}
 use Rattle.rules.specs.Splitting.{Test, Met}
 use Rattle.rules.specs.Building.{Tree, Cases, cnil, ccons}
 use Rattle.rules.specs.Hoisting.{howMany, nodesIn, nodesInOf, bindingsIn, bindingsInOf, hasLeaf, hasLeafOf}
 use Rattle.rules.specs.TreeFile.{casesIn, casesInOf, caseBytes, ownCases, nodesFromOf, casesFromOf, bindingsBytes}
 use Rattle.filing.specs.StandingLaws.{stands-left}
 use Rattle.matching.specs.Depth.{casesOn}
-use Rattle.arena.specs.Arena.{HeldOf, Held}
+use Rattle.arena.specs.Arena.{HeldOf}
 use Rattle.arena.specs.HeldLaws.{first-held, rest-held}
-use Rattle.arena.specs.WritingLaws.{cases-made, no-cases-held}
+use Rattle.arena.specs.WritingLaws.{cases-made}
 use Rattle.arena.specs.Numbered.{joined}
 
 -- ---- sums

@@ -3,7 +3,6 @@ pub mod JoinedLaws
 pub mod BuiltLaws
 pub mod CasesLaws
 pub mod SwitchLaws
-pub mod StandIn
 pub mod Steps
 pub mod StepsLaws
 pub mod Raw

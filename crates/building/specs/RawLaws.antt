@@ -1,13 +1,12 @@
 -- The matrix of the clauses, built from empty tops, is the tree of the sheet.
 use mathlib.Core.Path.{_≡_, refl, sym, ap, subst, _∙_}
-use mathlib.Core.Bool.{true, false}
 use mathlib.Core.List.{List}
-use Prim.Native.Nat.{ℕ, zero, suc, _+_, _≤_, _<_, min}
+use Prim.Native.Nat.{ℕ, zero, suc, _+_, _≤_, min}
 use native.Mathlib.Omega.{arith}
 use native.Mathlib.Nat.{zero-add}
 use lib.ListN.{length, getD, length-replicate}
 use Rattle.words.specs.Words.{pick, zeros}
-use Rattle.rules.specs.Limits.{nodesMost, bindingsMost}
+use Rattle.rules.specs.Limits.{bindingsMost}
 use Rattle.rules.specs.Building.{Tree}
 use Rattle.rules.specs.Hoisting.{nodesIn, bindingsIn, hasLeaf}
 use Rattle.rules.specs.TreeFile.{casesIn}
@@ -18,12 +17,12 @@ use Rattle.matrix.specs.Ready.{Ready}
 use Rattle.matrix.specs.Numbered.{Numbered, SoundOf, firstNumbered, treeAt}
 use Rattle.matrix.specs.InNumbers.{inNumbers, StandsFor}
 use Rattle.matrix.specs.TreesLaws.{sound-first, first-tree, first-some}
-use Rattle.arena.specs.Arena.{arenaEnd, casesMost, Held}
+use Rattle.arena.specs.Arena.{arenaEnd}
 use Rattle.building.specs.declared.tops.Tops.{Tops}
 use Rattle.building.specs.declared.tops.Built.{Built}
-use Rattle.building.specs.Built.{Roomy, Put, Builds}
+use Rattle.building.specs.Built.{Builds}
 use Rattle.building.specs.Steps.{Asked}
-use Rattle.building.specs.Raw.{rawTree, Raw, BuildsRaw}
+use Rattle.building.specs.Raw.{rawTree, BuildsRaw}
 
 -- nothing is built yet
 abbrev pub noTops : Tops

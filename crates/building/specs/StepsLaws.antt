@@ -7,13 +7,12 @@ use mathlib.Core.Option.{Option, none, some}
 use native.Mathlib.Numerals.{add-one}
 use Prim.Native.Nat.{ℕ, zero, suc, _+_, _-_, _*_, _≤_, _<_}
 use native.Mathlib.Omega.{arith}
-use lib.ListN.{length, getD, set, take, length-append, length-map}
+use lib.ListN.{length, set, take, length-append, length-map}
 use lib.Seq.{length-take-le}
 use Rattle.words.specs.Words.{wordBytes, either, pick}
-use Rattle.words.specs.WordsLaws.{either-first-true, either-second-true}
 use Rattle.words.specs.Stored.{stored}
 use Rattle.words.specs.StoredLaws.{length-stored}
-use Rattle.rules.specs.Limits.{clausesMost, patternsMost, nodesMost, bindingsMost, nodeSize, caseSize, bindingSize}
+use Rattle.rules.specs.Limits.{clausesMost, patternsMost, nodesMost, bindingsMost, nodeSize, caseSize}
 use Rattle.rules.specs.SheetRefusals.{isIn}
 use Rattle.rules.specs.Patterns.{Pat}
 use Rattle.rules.specs.Rows.{Path, Binding, Row}
@@ -23,7 +22,7 @@ use Rattle.rules.specs.Splitting.{Met, isMet, casesOf, column}
 use Rattle.rules.specs.SplittingLaws.{All}
 use Rattle.rules.specs.Building.{Tree, absent, leaf, hoist, switch, listswitch}
 use Rattle.rules.specs.Hoisting.{nodesIn}
-use Rattle.rules.specs.TreeFile.{pathNumber, firstOf, nodeBytes, casesIn, defaultField, caseBytes}
+use Rattle.rules.specs.TreeFile.{pathNumber, firstOf, nodeBytes, casesIn, defaultField}
 use Rattle.facts.specs.SheetFacts.{Accepted}
 use Rattle.matching.specs.Depth.{isTail, isExact, only, nodeOn, met-here, met-there, only-met}
 use Rattle.filing.specs.Writable.{testKind}
@@ -36,10 +35,11 @@ use Rattle.table.specs.Standing.{sheetPaths, pathOf, patternOf, classOf}
 use Rattle.matrix.specs.declared.Matrix.{Matrix}
 use Rattle.matrix.specs.declared.Held.{Held}
 use Rattle.matrix.specs.declared.Choice.{Choice}
-use Rattle.matrix.specs.declared.Choice.the-variants.{Column, Leaf}
-use Rattle.matrix.specs.Lists.{numbersIn, classesIn}
+use Rattle.matrix.specs.declared.Choice.the-variants.{Leaf}
+use Rattle.matrix.specs.Lists.{classesIn}
 use Rattle.matrix.specs.Numbered.{Numbered, SoundOf, defaultNumbered, caseNumbered, chosenIn, testsIn, treeAt}
 use Rattle.matrix.specs.Bound.{boundNumbers}
+use Rattle.matrix.specs.Meant.{meant, InPool}
 use Rattle.matrix.specs.InNumbers.{inNumbers, WholeMatrix, StandsFor, Readable, Splits, chosenRead, defaultRead}
 use Rattle.matrix.specs.InNumbersLaws.{chosen-read, default-read, readable, splits}
 use Rattle.matrix.specs.Live.{liveIn}
@@ -68,11 +68,10 @@ use Rattle.meeting.specs.SoFarLaws.{length-caseRecords}
 use Rattle.meeting.specs.Made.{CasesMade, MeetsTo}
 use Rattle.building.specs.declared.tops.Tops.{Tops}
 use Rattle.building.specs.declared.tops.Built.{Built}
-use Rattle.building.specs.Built.{Roomy, Put, Builds, CasesPut, Partly, TooMany, TooManyOf, BuildsCases, CasesOpen}
+use Rattle.building.specs.Built.{Roomy, Put, Builds, Partly, TooMany, BuildsCases, CasesOpen}
 use Rattle.building.specs.BuiltLaws.{leaf-put, absent-put, kept-cases}
 use Rattle.building.specs.CasesLaws.{There, Next, next-case, next-stands, case-built, case-over, cases-begin, cases-end}
 use Rattle.building.specs.SwitchLaws.{inOrder, switchKind, SwitchPut, switch-put, switch-fewer, full-over, met-over, cases-over, default-over}
-use Rattle.building.specs.StandIn.{meant, InPool}
 use Rattle.building.specs.Steps.{MatrixThere, Asked, chosenColumn, caseList, caseTree, defaultTree, AskedColumn, AskedCases}
 
 -- ---- "first 0 at count 0"
@@ -272,9 +271,10 @@ each-met P qs h = go [] (inOrder qs) refl
   where
     go : (xs ys : List Met) → inOrder qs ≡ xs ++ ys → All (λ (m : Met). P (m .test)) ys
     go xs [] e = tt
-    go xs (m ∷ ys) e =
-        (h (m .test) (order-met qs (m .test) (rw e (met-among xs m ys))),
-        go (xs ++ m ∷ []) ys (e ∙ sym (append-assoc xs (m ∷ []) ys)))
+    go xs (m ∷ ys) e = (
+      h (m .test) (order-met qs (m .test) (rw e (met-among xs m ys))),
+      go (xs ++ m ∷ []) ys (e ∙ sym (append-assoc xs (m ∷ []) ys)),
+    )
 
 module _ {s : List ℕ} {m : Map} {t : List ℕ} {x : Matrix} {k : ℕ} (col : AskedColumn s m t x k) where
   abbrev ok : Accepted s

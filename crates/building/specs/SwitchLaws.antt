@@ -1,27 +1,27 @@
 -- A switch made of its node, its cases and its default: the tree is held, its counts come to those of its parts.
 -- Rests on the switch by the filters of rule 4; exact cases stand before tail cases, and a switch that is no list switch has no tail case.
 use mathlib.Core.Path.{_≡_, refl, sym, ap, _∙_}
-use mathlib.Core.Bool.{Bool, true, false, not, false≢true}
+use mathlib.Core.Bool.{Bool, true, false, false≢true}
 use mathlib.Core.List.{List, [], _∷_, _++_, append-assoc, append-nil}
-use mathlib.Core.Logic.{inl, inr}
-use Prim.Native.Nat.{ℕ, zero, suc, _+_, _-_, _*_, _≤_, _<_}
+use mathlib.Core.Logic.{inl}
+use Prim.Native.Nat.{ℕ, zero, suc, _+_, _*_, _≤_, _<_}
 use native.Mathlib.Omega.{arith}
 use lib.ListN.{length, getD, length-append}
 use Rattle.words.specs.Words.{either, pick}
 use Rattle.words.specs.Stored.{stored}
-use Rattle.rules.specs.Limits.{nodesMost, bindingsMost, nodeSize, caseSize, bindingSize}
+use Rattle.rules.specs.Limits.{nodesMost, bindingsMost, nodeSize, caseSize}
 use Rattle.rules.specs.Patterns.{Pat, discard, variable, assign, integer, bytestring, listed, tailed, constructor, opened, many}
-use Rattle.rules.specs.Rows.{Path, Binding}
-use Rattle.rules.specs.Splitting.{Test, Constr, Int, Bytes, ListOf, ListWithTail, joined as joinedTests, longest, taillessLength, tailedLength, textStart, Met, isMet, meet, meetAll, casesOf}
+use Rattle.rules.specs.Rows.{Path}
+use Rattle.rules.specs.Splitting.{Test, joined as joinedTests, longest, taillessLength, tailedLength, textStart, Met, isMet, meet, meetAll, casesOf}
 use Rattle.rules.specs.SplittingLaws.{All}
 use Rattle.rules.specs.Building.{Tree, Cases, switch, listswitch, isList, hasList}
 use Rattle.rules.specs.Hoisting.{howMany, nodesIn, nodesInOf, bindingsIn, bindingsInOf, hasLeaf, hasLeafOf}
-use Rattle.rules.specs.TreeFile.{pathNumber, firstOf, nodeBytes, casesIn, casesInOf, defaultField, nodesFrom, nodesFromOf, ownCases, casesFromOf, bindingsBytes}
+use Rattle.rules.specs.TreeFile.{pathNumber, firstOf, nodeBytes, casesIn, casesInOf, defaultField, ownCases}
 use Rattle.filing.specs.StandingLaws.{Stands}
 use Rattle.filing.specs.LengthLaws.{length-ownCases}
 use Rattle.matching.specs.Depth.{casesOn, isTail, isExact, only, nodeOn}
 use Rattle.matching.specs.Lists.{all-append}
-use Rattle.arena.specs.Arena.{casesStart, casesMost, bindingsStart, arenaEnd, Held, HeldOf}
+use Rattle.arena.specs.Arena.{casesStart, casesMost, Held, HeldOf}
 use Rattle.arena.specs.WritingLaws.{Kept, kept-trans, kept-weaken, kept-node, cases-kept, nodes-kept, heldOf-kept, stands-stored, switch-made, list-switch-made}
 use Rattle.arena.specs.Numbered.{joined}
 use Rattle.arena.specs.NumberedLaws.{nodesInOf-joined}

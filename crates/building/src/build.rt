@@ -1,6 +1,5 @@
 // The tree of a matrix: a leaf where no column is chosen, else a switch with the trees of its cases and of its default.
 // One more column is tested at each call, and there are no more columns than patterns: 192 less the columns tested falls.
-use crate::stand_in::case_matrix;
 use crate::tops::Built;
 use crate::tops::Tops;
 use arena::reading::case_at;
@@ -10,6 +9,7 @@ use leaves::leaf_bindings;
 use matrix::Choice;
 use matrix::Matrix;
 use matrix::rows::highest_occurrence;
+use matrix::splitting::case_matrix;
 use matrix::splitting::default_matrix;
 use matrix::wide;
 use meeting::CasesMet;
@@ -53,7 +53,16 @@ fn put_leaf(s: &[u8], m: Map, t: &[u8], x: Matrix, work: &mut [u8], tops: Tops) 
     let top = leaf_bindings(s, m, t, x, work, tops.bindings);
     let count = top - tops.bindings;
     let first = first_of(count, tops.bindings);
-    put_node(work, tops.nodes, 2, clause as u16, first as u16, count as u16, 0, 0);
+    put_node(
+        work,
+        tops.nodes,
+        2,
+        clause as u16,
+        first as u16,
+        count as u16,
+        0,
+        0,
+    );
     let mut leaves = tops.leaves;
     leaves[clause] = 1;
     Tops {
@@ -73,14 +82,41 @@ fn put_switch(work: &mut [u8], k: usize, class: usize, first: usize, met: CasesM
     let cases = met.mid - first;
     let tails = met.end - met.mid;
     if met.list {
-        put_node(work, k, 1, class as u16, first as u16, cases as u16, tails as u16, default as u16);
+        put_node(
+            work,
+            k,
+            1,
+            class as u16,
+            first as u16,
+            cases as u16,
+            tails as u16,
+            default as u16,
+        );
     } else {
-        put_node(work, k, 0, class as u16, first as u16, cases as u16, tails as u16, default as u16);
+        put_node(
+            work,
+            k,
+            0,
+            class as u16,
+            first as u16,
+            cases as u16,
+            tails as u16,
+            default as u16,
+        );
     }
 }
 
 // The cases whose records stand from number `first` on, up to the tops' own number of cases: each gets its tree.
-fn build_cases(s: &[u8], m: Map, t: &[u8], x: Matrix, class: usize, work: &mut [u8], first: usize, from: Tops) -> Built
+fn build_cases(
+    s: &[u8],
+    m: Map,
+    t: &[u8],
+    x: Matrix,
+    class: usize,
+    work: &mut [u8],
+    first: usize,
+    from: Tops,
+) -> Built
     requires { ⌜ AskedColumn (now s) m (now t) x class ⌝ }
     requires { ⌜ AskedCases (now s) class (inNumbers x) first (now work) from ⌝ }
     ensures { λ r. ⌜ BuildsCases (sheetPaths (now (s .entry))) (caseTree (now (s .entry)) class (inNumbers x)) (caseList (now (s .entry)) class (inNumbers x)) first (now (work .entry)) (now (work .exit)) from r ⌝ }
@@ -104,7 +140,15 @@ fn build_cases(s: &[u8], m: Map, t: &[u8], x: Matrix, class: usize, work: &mut [
 }
 
 // A switch on the column of this class.
-fn build_switch(s: &[u8], m: Map, t: &[u8], x: Matrix, class: usize, work: &mut [u8], tops: Tops) -> Built
+fn build_switch(
+    s: &[u8],
+    m: Map,
+    t: &[u8],
+    x: Matrix,
+    class: usize,
+    work: &mut [u8],
+    tops: Tops,
+) -> Built
     requires { ⌜ AskedColumn (now s) m (now t) x class × Roomy (now work) tops × (tops .nodes < nodesMost) ⌝ }
     ensures { λ r. ⌜ Builds (sheetPaths (now (s .entry))) (now (work .entry)) (now (work .exit)) (treeAt (now (s .entry)) (inNumbers x)) tops r ⌝ }
 {

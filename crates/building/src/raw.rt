@@ -1,4 +1,5 @@
 // The tree of a sheet, before it is hoisted: the matrix of its clauses built into an empty arena.
+// What is told of it is in the words of the rules: their tree of the sheet's patterns, or that it has too many nodes.
 use crate::build::do_build_tree;
 use crate::tops::Built;
 use crate::tops::Tops;

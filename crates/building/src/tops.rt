@@ -1,4 +1,5 @@
 // How far a tree is built: how many nodes, cases and bindings the arena has, and which clauses have a leaf.
+// An answer is these and whether the tree fits; an enum cannot hold an array, so it is a struct.
 
 // Where there are more bindings than there is room for, their number is told as one more than the room.
 // `leaves` has 1 for each clause with a leaf.

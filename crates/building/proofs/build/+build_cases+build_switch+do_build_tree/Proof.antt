@@ -27,7 +27,7 @@ use Rattle.arena.proofs.reading.case_at.Reads as case-at-reads
 use Rattle.arena.proofs.writing.put_child.Reads as put-child-reads
 use Rattle.building.proofs.build.put_leaf.Reads as put-leaf-reads
 use Rattle.building.proofs.build.put_switch.Reads as put-switch-reads
-use Rattle.building.proofs.stand_in.case_matrix.Reads as case-matrix-reads
+use Rattle.matrix.proofs.splitting.case_matrix.Reads as case-matrix-reads
 use Rattle.meeting.proofs.meet_cases.Reads as meet-cases-reads
 use Rattle.matrix.proofs.rows.highest_occurrence.Reads as highest-occurrence-reads
 use Rattle.matrix.proofs.splitting.default_matrix.Reads as default-matrix-reads

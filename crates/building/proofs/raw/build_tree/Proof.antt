@@ -1,4 +1,5 @@
 use borrow.Author.Needs.{needs}
+use Rattle.building.specs.RawLaws.{raw-asked, raw-builds}
 use Rattle.building.proofs.raw.build_tree.Statement.{statement}
 use Rattle.building.proofs.raw.build_tree.Tie as tie
 use Rattle.building.proofs.raw.build_tree.Reads as reads
@@ -12,7 +13,7 @@ first-matrix-requires c κs = search needs
 
 -- src/raw.rt:27:5
 do-build-tree-requires : tie.Need-do-build-tree-requires
-do-build-tree-requires c κs = search needs
+do-build-tree-requires c κs = raw-asked (c .before .before .before .before .before .pre .0) (c .before .first-matrix .result) (c .before .first-matrix .ensures) (c .before .before .before .before .before .args .work .now) (c .before .before .before .before .before .pre .1)
 
 -- src/raw.rt:16:1
 same-length : tie.Need-same-length
@@ -20,7 +21,7 @@ same-length c = search needs
 
 -- src/raw.rt:16:1
 returns : tie.Need-returns
-returns c = search needs
+returns c = raw-builds (c .before .before .before .before .before .before .before .before .pre .0) (c .before .before .before .before .first-matrix .result) (c .before .before .before .before .first-matrix .ensures) (c .before .before .before .before .before .before .before .before .args .work .now) (c .before .before .before .before .before .before .before .before .pre .1) (c .before .before .do-build-tree .last .1 .1 .1 .1 .0) (c .before .before .do-build-tree .result) (c .before .before .do-build-tree .ensures)
 
 pub build-tree-spec : {M : Type 1} → statement M
 build-tree-spec =
