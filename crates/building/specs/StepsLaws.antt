@@ -546,7 +546,7 @@ module _ {s : List ℕ} {m : Map} {t : List ℕ} {x : Matrix} {k : ℕ} (col : A
       module _ (w₂ : List ℕ) (r : Built) (f : r .fits ≡ true)
           (b : BuildsCases table (caseTree s k (inNumbers x)) (caseList s k (inNumbers x)) (tops .cases) w₁ w₂ from r)
           (d : Matrix) (stands : StandsFor d (defaultRead t k (inNumbers x))) where
-        pub switch-node-asked : (arenaEnd ≤ length w₂) × (tops .nodes < nodesMost) × (k < 192) × (r .tops .nodes + 1 ≤ nodesMost + 1)
+        pub switch-node-asked : (arenaEnd ≤ length w₂) × (tops .nodes < nodesMost) × (k < patternsMost) × (r .tops .nodes + 1 ≤ nodesMost + 1)
         switch-node-asked =
             (b .put f .room .long, node-room, omega (arith, chosen-class ok (inNumbers x) (col .there .sound) k (col .chosen) .known, ok .is-counted .patterns-most), omega (arith, b .put f .room .nodes-most))
 

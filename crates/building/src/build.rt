@@ -21,7 +21,7 @@ ghost use Prim.Native.Nat.{_<_, _≤_, _+_, _*_, _-_};
 ghost use lib.ListN.{length};
 ghost use Rattle.words.specs.Words.{pick};
 ghost use Rattle.words.specs.Stored.{stored};
-ghost use Rattle.rules.specs.Limits.{nodesMost, nodeSize, bindingsMost};
+ghost use Rattle.rules.specs.Limits.{patternsMost, nodesMost, nodeSize};
 ghost use Rattle.rules.specs.TreeFile.{firstOf, nodeBytes};
 ghost use Rattle.table.specs.Standing.{sheetPaths};
 ghost use Rattle.matrix.specs.declared.Choice.the-variants.{Leaf};
@@ -73,40 +73,34 @@ fn put_leaf(s: &[u8], m: Map, t: &[u8], x: Matrix, work: &mut [u8], tops: Tops) 
     }
 }
 
+fn switch_kind(list: bool) -> u8
+    ensures { λ r. ⌜ r ≡ pick list 1 0 ⌝ }
+{
+    if list { 1 } else { 0 }
+}
+
 // The node of a switch, or of a list switch, at number k.
 fn put_switch(work: &mut [u8], k: usize, class: usize, first: usize, met: CasesMet, default: usize)
-    requires { ⌜ (arenaEnd ≤ length (now work)) × (k < nodesMost) × (class < 192) × (default ≤ nodesMost + 1) ⌝ }
+    requires { ⌜ (arenaEnd ≤ length (now work)) × (k < nodesMost) × (class < patternsMost) × (default ≤ nodesMost + 1) ⌝ }
     requires { ⌜ (first ≤ met .mid) × (met .mid ≤ met .end) × (met .end < casesMost) ⌝ }
     ensures { λ _. ⌜ now (work .exit) ≡ stored (now (work .entry)) (nodeSize * k) (nodeBytes (pick (met .list) 1 0) class first (met .mid - first) (met .end - met .mid) default) ⌝ }
 {
+    let kind = switch_kind(met.list);
     let cases = met.mid - first;
     let tails = met.end - met.mid;
-    if met.list {
-        put_node(
-            work,
-            k,
-            1,
-            class as u16,
-            first as u16,
-            cases as u16,
-            tails as u16,
-            default as u16,
-        );
-    } else {
-        put_node(
-            work,
-            k,
-            0,
-            class as u16,
-            first as u16,
-            cases as u16,
-            tails as u16,
-            default as u16,
-        );
-    }
+    put_node(
+        work,
+        k,
+        kind,
+        class as u16,
+        first as u16,
+        cases as u16,
+        tails as u16,
+        default as u16,
+    );
 }
 
-// The cases whose records stand from number `first` on, up to the tops' own number of cases: each gets its tree.
+// The cases whose records stand from number `first` on, up to the number of cases there are: each gets its child's number and its tree.
 fn build_cases(
     s: &[u8],
     m: Map,
@@ -179,7 +173,7 @@ fn build_switch(
     do_build_tree(s, m, t, d, work, next)
 }
 
-// The tree of the matrix x, with at least one row, from the tops on.
+// The tree of the matrix x, which has a row, from the tops on.
 pub fn do_build_tree(s: &[u8], m: Map, t: &[u8], x: Matrix, work: &mut [u8], tops: Tops) -> Built
     requires { ⌜ Asked (now s) m (now t) x (now work) tops ⌝ }
     ensures { λ r. ⌜ Builds (sheetPaths (now (s .entry))) (now (work .entry)) (now (work .exit)) (treeAt (now (s .entry)) (inNumbers x)) tops r ⌝ }
