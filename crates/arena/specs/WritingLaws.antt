@@ -136,7 +136,7 @@ kept-binding k c b j w xs f g h =
     }
 
 module _ {k' c' b' : ℕ} {w w' : List ℕ} (f : Kept k' c' b' w w') where
-  nodes-kept : (k : ℕ) (xs : List ℕ) → nodeSize * k + length xs ≤ nodeSize * k' → Stands w (nodeSize * k) xs → Stands w' (nodeSize * k) xs
+  pub nodes-kept : (k : ℕ) (xs : List ℕ) → nodeSize * k + length xs ≤ nodeSize * k' → Stands w (nodeSize * k) xs → Stands w' (nodeSize * k) xs
   nodes-kept k xs l s =
       stands-bytes w' (nodeSize * k) xs (omega (arith, f .same-length, stands-room s)) (λ i h. f .nodes (nodeSize * k + i) (omega arith) ∙ stands-byte s i h)
 
