@@ -78,12 +78,12 @@ hoist-piece table k c b x bs a =
       paths = bindingPaths bs ++ pathsUsed a;
     }
 
-hoistsPiece-on : (f : ℕ → Bool) (bs : ℕ → List Binding) (k b i n : ℕ) → f i ≡ true
+pub hoistsPiece-on : (f : ℕ → Bool) (bs : ℕ → List Binding) (k b i n : ℕ) → f i ≡ true
     → hoistsPiece f bs k b i (suc n) ≡ join (boundPiece 3 i (k + 1) b (bs i)) (hoistsPiece f bs (k + 1) (b + length (bs i)) (i + 1) n)
 unfolding hoistsPiece
 hoistsPiece-on f bs k b i n e = rw (hoistsPiece, e)
 
-hoistsPiece-past : (f : ℕ → Bool) (bs : ℕ → List Binding) (k b i n : ℕ) → f i ≡ false → hoistsPiece f bs k b i (suc n) ≡ hoistsPiece f bs k b (i + 1) n
+pub hoistsPiece-past : (f : ℕ → Bool) (bs : ℕ → List Binding) (k b i n : ℕ) → f i ≡ false → hoistsPiece f bs k b i (suc n) ≡ hoistsPiece f bs k b (i + 1) n
 unfolding hoistsPiece
 hoistsPiece-past f bs k b i n e = rw (hoistsPiece, e)
 
