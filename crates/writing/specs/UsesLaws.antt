@@ -1,19 +1,18 @@
 -- The laws of path numbers by first use: a number does not change when the table grows, and the list of classes is the table of the
 -- paths used so far. There is always room, since as many classes are in the list as have a number.
 use mathlib.Core.Path.{_≡_, refl, sym, ap, ap₂, _∙_}
-use mathlib.Core.Logic.{_⊎_, inl, inr, ⊎-elim}
 use mathlib.Core.Bool.{Bool, true, false, true≢false, false≢true}
-use mathlib.Core.List.{List, [], _∷_, _++_, append-nil, append-assoc}
-use Prim.Native.Nat.{ℕ, zero, suc, _+_, _-_, _≤_, _<_}
+use mathlib.Core.List.{List, [], _∷_, _++_}
+use Prim.Native.Nat.{ℕ, zero, suc, _+_, _≤_, _<_}
 use native.Mathlib.Omega.{arith}
 use native.Mathlib.Nat.{add-zero, zero-add}
 use native.Mathlib.Numerals.{add-one}
-use lib.ListN.{length, getD, set, take, length-set, length-append, length-replicate, getD-replicate}
+use lib.ListN.{length, getD, set, take, length-set, length-replicate, getD-replicate}
 use lib.Seq.{getD-set-same, getD-set-other, take-suc-set, length-take-le}
 use lib.Dec.{eqb, ltb}
-use borrow.Author.Tests.{eq-eqb, ne-eqb, lt-ltb, le-ltb, eqb-true, eqb-false}
+use borrow.Author.Tests.{eq-eqb, ne-eqb, lt-ltb, eqb-true, eqb-false}
 use Rattle.words.specs.Words.{either, pick, zeros}
-use Rattle.words.specs.WordsLaws.{pick-true, pick-false, either-false, either-first-true}
+use Rattle.words.specs.WordsLaws.{pick-true, pick-false, either-false}
 use Rattle.rules.specs.Limits.{patternsMost}
 use Rattle.rules.specs.Rows.{Path, samePath, bit}
 use Rattle.rules.specs.TreeFile.{isAmong, firstUses, pathNumber}
