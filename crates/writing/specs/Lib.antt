@@ -8,3 +8,4 @@ pub mod ModelLaws
 pub mod Written
 pub mod RunLaws
 pub mod WrittenLaws
+pub mod Examples

@@ -3,7 +3,7 @@
 use mathlib.Core.Path.{_≡_, refl, sym, ap, ap₂, _∙_, subst}
 use mathlib.Core.Logic.{⊎-elim}
 use mathlib.Core.Bool.{Bool, true, false, false≢true}
-use mathlib.Core.List.{List, [], _∷_, _++_, append-nil}
+use mathlib.Core.List.{List, [], _∷_, _++_, append-nil, map}
 use Prim.Native.Nat.{ℕ, zero, suc, _+_, _*_, _≤_, _<_}
 use native.Mathlib.Omega.{arith}
 use native.Mathlib.Nat.{add-zero, zero-add}
@@ -38,7 +38,7 @@ use Rattle.writing.specs.declared.nodes.Tops.{Tops}
 use Rattle.writing.specs.Pieces.{Piece, treePiece, overPiece}
 use Rattle.writing.specs.PiecesLaws.{hoisted-piece}
 use Rattle.writing.specs.Uses.{withClasses, classNumbers, Stand}
-use Rattle.writing.specs.UsesLaws.{class-small, stand-withs, stand-count, unused, stand-unused, pathsAt, paths-of-classes}
+use Rattle.writing.specs.UsesLaws.{class-small, stand-withs, stand-count, unused, stand-unused, paths-of-classes, list-inside, list-known}
 use Rattle.writing.specs.Model.{clauseNode, outOf, nodesOut, LeafSound, SwitchSound, Within, ArenaSound, NodesAsked}
 use Rattle.writing.specs.RunLaws.{HoistLeaf, Own, after, Fitting, over-covers, nodes-after}
 use Rattle.writing.specs.Written.{WritingAsked, Written}
@@ -413,8 +413,9 @@ module _ (w : List ℕ) (nodes cases : ℕ) (x : Scopes) (clauses : ℕ) (h : Wr
         cases-are = ap (λ z. z .tops .cases) q ∙ zero-add (casesIn whole);
         bindings-are = ap (λ z. z .tops .bindings) q ∙ zero-add (length (bindingsIn whole));
         paths-count = stand-count all (h .short) (r .uses) table s;
-        classes-are = s .classes;
-        paths-are = ap (pathsAt all) (s .classes) ∙ paths-of-classes all table table-covered;
+        classes-inside = list-inside all (h .short) (r .uses) table s table-covered;
+        classes-known = list-known all (h .short) (r .uses) table s table-covered;
+        paths-are = λ path f. ap (map path) (s .classes) ∙ paths-of-classes all path f table table-covered;
       }
 
   pub sizes : (nodes + x .hoists ≤ nodesMost) × (cases ≤ casesMost)
