@@ -122,9 +122,12 @@ hoists-left-next f n c m total l h = go (f c) refl
     go true e = rw e (omega (arith, times-yes f c n l e))
     go false e = rw e (omega (arith, times-no f c n l e))
 
-pub hoists-before-few : (node : ℕ → ℕ) (n k : ℕ) → hoistsBefore node n k ≤ n
+hoists-before-few : (node : ℕ → ℕ) (n k : ℕ) → hoistsBefore node n k ≤ n
 unfolding hoistsBefore
 hoists-before-few node n k = times-most (λ c. ltb (node c) k) 0 n
+
+pub few-before : (node : ℕ → ℕ) (n k r : ℕ) → r ≡ hoistsBefore node n k → r ≤ n
+few-before node n k r e = omega (arith, hoists-before-few node n k)
 
 pub stands-small : (node : ℕ → ℕ) (n k : ℕ) → standsAt node n k ≤ k + n
 unfolding standsAt
