@@ -81,7 +81,7 @@ module _ (w : List ℕ) (first count at : ℕ) (u : Uses) (before : List ℕ) wh
         bytes-are = sym (stored-nil tree (at + bindingSize * i)) ∙ (rw d at (h .bytes-left));
       }
 
-pub counted-bound : (w : List ℕ) (first count : ℕ) (u : Uses) → BindingsAsked w first count → Counted u → Counted (boundUses w first count u)
+counted-bound : (w : List ℕ) (first count : ℕ) (u : Uses) → BindingsAsked w first count → Counted u → Counted (boundUses w first count u)
 unfolding boundUses
 counted-bound w first zero u a h = h
 counted-bound w first (suc count) u a h =
@@ -114,7 +114,7 @@ pub used-some : (u v : Uses) (class : ℕ) → v ≡ withClass u class → Count
 used-some u v class e h l = rw e (use-some u class h l)
 
 -- ---- cases
-pub hoists-left-next : (f : ℕ → Bool) (n c m total : ℕ) → c < n → m + times f c (n - c) ≡ total → m + bit (f c) + times f (c + 1) (n - (c + 1)) ≡ total
+hoists-left-next : (f : ℕ → Bool) (n c m total : ℕ) → c < n → m + times f c (n - c) ≡ total → m + bit (f c) + times f (c + 1) (n - (c + 1)) ≡ total
 unfolding bit
 hoists-left-next f n c m total l h = go (f c) refl
   where

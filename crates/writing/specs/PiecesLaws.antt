@@ -23,7 +23,7 @@ use Rattle.scopes.specs.WriterLaws.{standsAt, hoistsAt, stands-next, hoisted-no
 use Rattle.writing.specs.Pieces.{Piece, nothing, join, treePiece, casesPiece, boundPiece, hoistsPiece, shiftedCases, switchPiece, ownPiece, abovePiece, nodePiece, overPiece}
 
 -- ---- pieces one behind the other
-pub join-nothing : (x : Piece) → join nothing x ≡ x
+join-nothing : (x : Piece) → join nothing x ≡ x
 unfolding join nothing
 join-nothing x =
     λ i.
@@ -36,7 +36,7 @@ join-nothing x =
       paths = x .paths;
     }
 
-pub nothing-join : (x : Piece) → join x nothing ≡ x
+nothing-join : (x : Piece) → join x nothing ≡ x
 unfolding join nothing
 nothing-join x =
     λ i.
@@ -49,7 +49,7 @@ nothing-join x =
       paths = append-nil (x .paths) i;
     }
 
-pub join-assoc : (x y z : Piece) → join (join x y) z ≡ join x (join y z)
+join-assoc : (x y z : Piece) → join (join x y) z ≡ join x (join y z)
 unfolding join
 join-assoc x y z =
     λ i.
@@ -91,11 +91,10 @@ hoistsPiece-past f bs k b i n e = rw (hoistsPiece, e)
 pub record HoistsCount (f : ℕ → Bool) (bs : ℕ → List Binding) (k b i n : ℕ) : Type 0 where
   pub nodes-are : hoistsPiece f bs k b i n .nodes ≡ times f i n
   pub no-cases : hoistsPiece f bs k b i n .cases ≡ 0
-  pub no-case-bytes : hoistsPiece f bs k b i n .case-bytes ≡ []
 
 pub hoists-count : (f : ℕ → Bool) (bs : ℕ → List Binding) (k b i n : ℕ) → HoistsCount f bs k b i n
 unfolding hoistsPiece nothing join boundPiece times
-hoists-count f bs k b i zero = record { nodes-are = refl; no-cases = refl; no-case-bytes = refl }
+hoists-count f bs k b i zero = record { nodes-are = refl; no-cases = refl }
 hoists-count f bs k b i (suc n) = go (f i) refl (hoists-count f bs (k + 1) (b + length (bs i)) (i + 1) n) (hoists-count f bs k b (i + 1) n)
   where
     go : (t : Bool) → f i ≡ t → HoistsCount f bs (k + 1) (b + length (bs i)) (i + 1) n → HoistsCount f bs k b (i + 1) n → HoistsCount f bs k b i (suc n)
@@ -104,14 +103,12 @@ hoists-count f bs k b i (suc n) = go (f i) refl (hoists-count f bs (k + 1) (b + 
         record {
           nodes-are = ap (λ z. z .nodes) p ∙ rw (times, e) (omega (arith, on .nodes-are));
           no-cases = ap (λ z. z .cases) p ∙ omega (arith, on .no-cases);
-          no-case-bytes = ap (λ z. z .case-bytes) p ∙ on .no-case-bytes;
         }
     go false e on past =
         let p = hoistsPiece-past f bs k b i n e in
         record {
           nodes-are = ap (λ z. z .nodes) p ∙ rw (times, e) (past .nodes-are);
           no-cases = ap (λ z. z .cases) p ∙ past .no-cases;
-          no-case-bytes = ap (λ z. z .case-bytes) p ∙ past .no-case-bytes;
         }
 
 -- THEOREM: hoists over a tree stand before it
@@ -200,7 +197,7 @@ module _ (table : List Path) (k c b : ℕ) (p : Path) (cs : Cases) where
       }
 
 -- ---- what hoisting leaves as it is
-howMany-hoisted : (node : ℕ → ℕ) (bs : ℕ → List Binding) (n k : ℕ) (cs : Cases) → howMany (hoistByNumberOf node bs n k cs) ≡ howMany cs
+pub howMany-hoisted : (node : ℕ → ℕ) (bs : ℕ → List Binding) (n k : ℕ) (cs : Cases) → howMany (hoistByNumberOf node bs n k cs) ≡ howMany cs
 unfolding hoistByNumberOf howMany
 howMany-hoisted node bs n k cnil = refl
 howMany-hoisted node bs n k (ccons t at a cs) = ap suc (howMany-hoisted node bs n (k + nodesIn a) cs)

@@ -96,7 +96,7 @@ module _ (table : List Path) (node : ℕ → ℕ) (n : ℕ) where
         let me = ownPiece table node n k c (b + length (up .bindings)) s in
         sized-join up me (sized-hoists (λ x. eqb (node x) k) bs (standsAt node n k) b 0 n) (sized-own k c (b + length (up .bindings)) s)
 
-    pub sized-over : (k c b : ℕ) (ss : List Tree) → Sized (overPiece table node n bs k c b ss)
+    sized-over : (k c b : ℕ) (ss : List Tree) → Sized (overPiece table node n bs k c b ss)
     unfolding overPiece
     sized-over k c b [] = sized-nothing
     sized-over k c b (s ∷ ss) =

@@ -71,7 +71,7 @@ module _ (u : Uses) (class : ℕ) where
         go false e = rw (use-again (eqb-false (getD (u .number) class 0) 0 e)) h
 
 -- ---- numbers in a table that grows
-pub number-left : (ps qs : List Path) (p : Path) → isAmong p ps ≡ true → pathNumber (ps ++ qs) p ≡ pathNumber ps p
+number-left : (ps qs : List Path) (p : Path) → isAmong p ps ≡ true → pathNumber (ps ++ qs) p ≡ pathNumber ps p
 unfolding isAmong
 number-left [] qs p h = absurd (false≢true h)
 number-left (q ∷ ps) qs p h = go (samePath p q) refl h (number-left ps qs p)
@@ -114,7 +114,7 @@ number-with-path table q p h = go (isAmong q table) refl
     go false e = rw e (number-left table (q ∷ []) p h, isAmong-left p table (q ∷ []) h)
 
 -- THEOREM: a path keeps its number
-pub number-kept : (table ps : List Path) (p : Path) → isAmong p table ≡ true → pathNumber (firstUses table ps) p ≡ pathNumber table p
+number-kept : (table ps : List Path) (p : Path) → isAmong p table ≡ true → pathNumber (firstUses table ps) p ≡ pathNumber table p
 unfolding firstUses
 number-kept table [] p h = refl
 number-kept table (q ∷ ps) p h =

@@ -36,7 +36,7 @@ use Rattle.scopes.specs.ReadyLaws.{node-there, node-inside}
 use Rattle.scopes.specs.WriterLaws.{scoped-hoisted, scoped-leaf, stands-first}
 use Rattle.writing.specs.declared.nodes.Tops.{Tops}
 use Rattle.writing.specs.Pieces.{Piece, treePiece, overPiece}
-use Rattle.writing.specs.PiecesLaws.{hoisted-piece}
+use Rattle.writing.specs.PiecesLaws.{howMany-hoisted, hoisted-piece}
 use Rattle.writing.specs.Uses.{withClasses, classNumbers, Stand}
 use Rattle.writing.specs.UsesLaws.{class-small, stand-withs, stand-count, unused, stand-unused, paths-of-classes, list-inside, list-known}
 use Rattle.writing.specs.Model.{clauseNode, outOf, nodesOut, LeafSound, SwitchSound, Within, ArenaSound, NodesAsked}
@@ -105,11 +105,6 @@ cases-wrapped f bs i (suc n) a = go (f i) refl (cases-wrapped f bs (i + 1) n a)
     go false e ih = rw (wrapBy, e) ih
 
 module _ (node : ℕ → ℕ) (bs : ℕ → List Binding) (n : ℕ) where
-  howMany-same : (k : ℕ) (cs : Cases) → howMany (hoistByNumberOf node bs n k cs) ≡ howMany cs
-  unfolding hoistByNumberOf howMany
-  howMany-same k cnil = refl
-  howMany-same k (ccons t at a cs) = ap suc (howMany-same (k + nodesIn a) cs)
-
   mutual
     unfolding hoistByNumber casesIn
 
@@ -120,12 +115,12 @@ module _ (node : ℕ → ℕ) (bs : ℕ → List Binding) (n : ℕ) where
     casesIn-hoisted k (switch p cs d) =
         let k₂ = k + 1 + nodesInOf cs in
         cases-wrapped (λ x. eqb (node x) k) bs 0 n (switch p (hoistByNumberOf node bs n (k + 1) cs) (hoistByNumber node bs n k₂ d))
-        ∙ omega (arith, howMany-same (k + 1) cs, casesIn-hoistedOf (k + 1) cs, casesIn-hoisted k₂ d)
+        ∙ omega (arith, howMany-hoisted node bs n (k + 1) cs, casesIn-hoistedOf (k + 1) cs, casesIn-hoisted k₂ d)
     casesIn-hoisted k (listswitch p cs ts d) =
         let k₂ = k + 1 + nodesInOf cs in
         let k₃ = k₂ + nodesInOf ts in
         cases-wrapped (λ x. eqb (node x) k) bs 0 n (listswitch p (hoistByNumberOf node bs n (k + 1) cs) (hoistByNumberOf node bs n k₂ ts) (hoistByNumber node bs n k₃ d))
-        ∙ omega (arith, howMany-same (k + 1) cs, howMany-same k₂ ts, casesIn-hoistedOf (k + 1) cs, casesIn-hoistedOf k₂ ts, casesIn-hoisted k₃ d)
+        ∙ omega (arith, howMany-hoisted node bs n (k + 1) cs, howMany-hoisted node bs n k₂ ts, casesIn-hoistedOf (k + 1) cs, casesIn-hoistedOf k₂ ts, casesIn-hoisted k₃ d)
 
     casesIn-hoistedOf : (k : ℕ) (cs : Cases) → casesInOf (hoistByNumberOf node bs n k cs) ≡ casesInOf cs
     casesIn-hoistedOf k cnil = refl
@@ -203,7 +198,7 @@ own-path w all most k (switch p cs d) short e h = omega (arith, h .path-is, clas
 own-path w all most k (listswitch p cs ts d) short e h = omega (arith, h .path-is, class-small all short p (h .among))
 
 -- ---- the whole tree
-abbrev pub nothingYet : Tops
+abbrev nothingYet : Tops
 nothingYet = record { nodes = 0; cases = 0; bindings = 0; uses = unused }
 
 module _ (w : List ℕ) (nodes cases : ℕ) (x : Scopes) (clauses : ℕ) (h : WritingAsked w nodes cases x clauses) where
