@@ -1,7 +1,7 @@
 -- What a reader of a sheet says of its starts, what the records by a start are, and the ways out of the answer for a clause.
 -- Rests on what an accepted sheet has (facts) and on the check's answer (sheet).
 use mathlib.Core.Path.{_≡_, refl, ap, sym, subst, _∙_}
-use mathlib.Core.Bool.{Bool, true, false}
+use mathlib.Core.Bool.{Bool}
 use mathlib.Core.List.{List}
 use Prim.Native.Nat.{ℕ, _+_, _*_, _<_, _≤_}
 use borrow.Author.Tests.{lt-ltb, le-ltb}
