@@ -1,27 +1,26 @@
 -- A pattern's children after it gave them their fields: each has those of its standing, every other byte is as it was.
 -- Rests on FieldsLaws, on the standing of a child, and on the shape of an accepted sheet.
-use mathlib.Core.Path.{_≡_, refl, sym, ap, ap₂, _∙_}
-use mathlib.Core.Logic.{_⊎_, inl, inr, ⊎-elim}
+use mathlib.Core.Path.{_≡_, refl, sym, ap, _∙_}
+use mathlib.Core.Logic.{_⊎_, ⊎-elim}
 use mathlib.Core.Bool.{Bool, true, false, not, true≢false}
 use mathlib.Core.List.{List}
-use Prim.Native.Nat.{ℕ, zero, suc, _+_, _-_, _*_, _≤_, _<_}
+use Prim.Native.Nat.{ℕ, _+_, _-_, _*_, _≤_, _<_}
 use native.Mathlib.Omega.{arith}
 use native.Mathlib.Nat.{eq-or-lt-of-le}
 use borrow.Author.Tests.{eqb-true, eqb-false}
-use lib.Dec.{eqb}
 use lib.ListN.{length, getD}
 use Rattle.words.specs.Words.{pick}
 use Rattle.rules.specs.Limits.{patternsMost}
-use Rattle.rules.specs.SheetFile.{patterns, typeFirst, constructorFirst, entry, patternKind, patternA, patternFirst, patternCount, child, root}
+use Rattle.rules.specs.SheetFile.{patterns, typeFirst, constructorFirst, entry, patternKind, patternA, patternFirst, patternCount, child}
 use Rattle.rules.specs.Patterns.{PatternKind, Discard, Variable, Assign, Integer, ByteString, ListOfAll, ListWithRest, Constructor, Pair, Tuple, Unknown, oneConstructor, constructorOf}
 use Rattle.rules.specs.SheetRefusals.{hasChildren}
 use Rattle.facts.specs.KindsLaws.{pattern-byte}
 use Rattle.facts.specs.SheetFacts.{Accepted, Owns, Parent, owned-entry, owned-pattern, one-entry}
-use Rattle.table.specs.Standing.{testOfKind, kindOf, isTail, stepTo, typeTo, clauseOf, typeOf, ownerOf, isTest, parentOf, aboveOf, indexOf, stepOf, stepNumber}
+use Rattle.table.specs.Standing.{testOfKind, kindOf, isTail, stepTo, typeTo, typeOf, ownerOf, isTest, parentOf, stepNumber}
 use Rattle.table.specs.StandingLaws.{Place, as-root, as-child, place, root-parent, child-parent, child-above, child-index, child-step, child-clause, child-type, child-owner}
 use Rattle.table.specs.PathsLaws.{path-short}
 use Rattle.table.specs.ApartLaws.{assign-child}
-use Rattle.table.specs.Table.{classAt, ownerAt, aboveAt, typeAt, stepAt, indexAt, depthAt, clauseAt, indicesAt, cellsAt, tableSize, sameNumber, placed, placedEach, placedBelow}
+use Rattle.table.specs.Table.{classAt, depthAt, clauseAt, indicesAt, cellsAt, tableSize, sameNumber, placed, placedEach, placedBelow}
 use Rattle.table.specs.Tabled.{Placed, Filled}
 use Rattle.table.specs.PlacingLaws.{length-placed, length-placedEach}
 use Rattle.table.specs.FieldsLaws.{FieldAt, one-field, Fields, kept-fields, fields-as, fields-of, placed-other, placed-fields, Apart, each-other, each-fields}

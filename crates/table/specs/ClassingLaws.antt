@@ -4,7 +4,7 @@ use mathlib.Core.Path.{_≡_, refl, sym, ap, ap₂, _∙_}
 use mathlib.Core.Bool.{Bool, true, false, not}
 use mathlib.Core.List.{List, [], _∷_, _++_}
 use mathlib.Core.Option.{Option, none, some}
-use Prim.Native.Nat.{ℕ, zero, suc, _+_, _-_, _*_, _≤_, _<_}
+use Prim.Native.Nat.{ℕ, suc, _+_, _-_, _*_, _≤_, _<_}
 use native.Mathlib.Omega.{arith}
 use native.Mathlib.Nat.{add-zero, sub-zero, le-antisymm}
 use native.Mathlib.Numerals.{add-one}
@@ -12,10 +12,10 @@ use borrow.Author.Tests.{eq-eqb, ne-eqb, lt-ltb, le-ltb, ltb-true, ltb-false}
 use lib.Dec.{eqb, ltb}
 use lib.ListN.{length, getD, set, take, drop, length-set}
 use lib.Seq.{drop-cons}
-use Rattle.words.specs.Words.{both, pick, textAt}
-use Rattle.words.specs.WordsLaws.{both-first-false, both-second-false, pick-true, pick-false, length-textAt, textAt-add}
+use Rattle.words.specs.Words.{both, textAt}
+use Rattle.words.specs.WordsLaws.{pick-true, pick-false, length-textAt, textAt-add}
 use Rattle.words.specs.Stored.{stored}
-use Rattle.words.specs.StoredLaws.{length-stored, set-stored, stored-nil, stored-append, getD-stored-below}
+use Rattle.words.specs.StoredLaws.{set-stored, stored-nil, stored-append, getD-stored-below}
 use Rattle.rules.specs.Limits.{patternsMost, depthMost}
 use Rattle.rules.specs.SheetFile.{subject, patterns, root}
 use Rattle.rules.specs.Patterns.{oneConstructor}
@@ -31,7 +31,7 @@ use Rattle.table.specs.ClassLaws.{class-below}
 use Rattle.table.specs.SeenLaws.{test-of-text-or-list, no-test-of-plain, no-test-of-pair, test-of-constructor}
 use Rattle.table.specs.PlacingLaws.{kind-is}
 use Rattle.table.specs.Table.{classAt, typeAt, stepAt, indexAt, depthAt, clauseAt, indicesAt, cellsAt, tableSize, sameNumber, rooted, rootedEach, aboveIn, sameStepIn, classIn, classed, indexed, tested, firstBefore}
-use Rattle.table.specs.Tabled.{Checked, Placed, Classed, Ranged, RowBelow}
+use Rattle.table.specs.Tabled.{Checked, Placed, Classed, RowBelow}
 
 -- ---- the same step: each test in turn
 module _ (t : List ℕ) (a b : ℕ) where
@@ -93,15 +93,6 @@ module _ (t : List ℕ) (p : ℕ) where
     unfolding classed
     classed-step e c ec = rw (is-above, ec) (sym (pick-false (eqb (getD t (stepAt + p) 0) sameNumber) _ _ (ne-eqb _ _ e)))
 
-pub length-classed : (t : List ℕ) (p : ℕ) → length (classed t p) ≡ length t
-unfolding classed
-length-classed t p = go (eqb (getD t (stepAt + p) 0) sameNumber)
-  where
-    go : (b : Bool) → length (pick b (set (set t (classAt + p) (getD t (classAt + aboveIn t p) 0)) (depthAt + p) (getD t (depthAt + aboveIn t p) 0))
-        (set (set t (classAt + p) (classIn t p)) (depthAt + p) (getD t (depthAt + aboveIn t p) 0 + 1))) ≡ length t
-    go true = simp length-set
-    go false = simp length-set
-
 -- ---- the indices copied
 -- a text of one byte; one byte more
 textAt-one : (t : List ℕ) (k : ℕ) → k < length t → textAt t k 1 ≡ getD t k 0 ∷ []
@@ -134,11 +125,6 @@ module _ (t : List ℕ) (from to depth : ℕ) (long : length t ≡ tableSize) (b
 
   pub copied-all : (u : List ℕ) (i x : ℕ) → i ≡ depth → Copied t from to u i → set u (to + depth) x ≡ stored t to (textAt t from depth ++ x ∷ [])
   copied-all u i x l e = behind u depth x (omega arith) (e ∙ ap (λ (k : ℕ). stored t to (textAt t from k)) l)
-
-pub length-indexed : (t : List ℕ) (p : ℕ) → length (indexed t p) ≡ length t
-unfolding indexed
-length-indexed t p =
-    length-stored t (indicesAt + 12 * p) (textAt t (indicesAt + 12 * aboveIn t p) (getD t (depthAt + aboveIn t p) 0) ++ getD t (indexAt + p) 0 ∷ [])
 
 -- ---- which of two paths comes first, by their indices
 textAt-next : (t : List ℕ) (k n : ℕ) → k < length t → 0 < n → textAt t k n ≡ getD t k 0 ∷ textAt t (k + 1) (n - 1)

@@ -1,7 +1,7 @@
 -- What is read after the children of a pattern are stored: each child's fields are its parent's gifts, and every other byte is as it was.
 -- Rests on Table and the laws of `set`.
-use mathlib.Core.Path.{_≡_, refl, sym, ap, _∙_}
-use mathlib.Core.Logic.{_⊎_, inl, inr, ⊎-elim}
+use mathlib.Core.Path.{_≡_, refl, ap, _∙_}
+use mathlib.Core.Logic.{_⊎_, ⊎-elim}
 use mathlib.Core.List.{List}
 use Prim.Native.Nat.{ℕ, zero, suc, _+_, _-_, _*_, _≤_, _<_}
 use native.Mathlib.Omega.{arith}
@@ -9,7 +9,7 @@ use lib.ListN.{length, getD, set, length-set}
 use lib.Seq.{getD-set-same, getD-set-other}
 use Rattle.rules.specs.SearchingLaws.{first-or-rest}
 use Rattle.rules.specs.SheetFile.{patternFirst, child, entry}
-use Rattle.table.specs.Table.{ownerAt, aboveAt, typeAt, stepAt, indexAt, clauseAt, tableSize, sameNumber, placed, placedEach, rooted}
+use Rattle.table.specs.Table.{ownerAt, aboveAt, typeAt, stepAt, indexAt, clauseAt, tableSize, placed, placedEach}
 use Rattle.table.specs.PlacingLaws.{length-placed}
 
 -- byte k is one of those that a pattern's parent sets of q: field 1 to 5 or 7 of its 192 each

@@ -13,23 +13,22 @@ use borrow.Author.Tests.{eqb-true, eqb-false, eq-eqb, ne-eqb}
 use lib.Dec.{eqb}
 use lib.ListN.{length, getD, set, length-set, length-map, length-append}
 use lib.Seq.{getD-set-same, getD-set-other}
-use Rattle.words.specs.Words.{both, pick, textAt}
+use Rattle.words.specs.Words.{textAt}
 use Rattle.words.specs.WordsLaws.{both-true, both-make, both-first-false, pick-true, pick-false, texts-agree-at, textAt-whole, textAt-append-left}
 use Rattle.words.specs.Stored.{stored}
-use Rattle.words.specs.StoredLaws.{length-stored, getD-stored-below, getD-stored-above, textAt-stored, textAt-stored-inside}
+use Rattle.words.specs.StoredLaws.{length-stored, getD-stored-below, getD-stored-above, textAt-stored-inside}
 use Rattle.rules.specs.Limits.{patternsMost, depthMost}
 use Rattle.rules.specs.Searching.{lowest}
 use Rattle.rules.specs.SheetFile.{patterns, clauses}
 use Rattle.rules.specs.Rows.{Step, pair, tuple, constr, list, listtail, Path, into}
 use Rattle.rules.specs.Columns.{stepIndex}
-use Rattle.rules.specs.SplittingLaws.{not-true-false}
 use Rattle.facts.specs.SheetFacts.{Accepted}
-use Rattle.table.specs.Standing.{orSelf, follows, clauseOf, pathOf, typeOf, ownerOf, isTest, parentOf, aboveOf, indexOf, stepOf, stepNumber, classOf, sameStepAs, isCell, oneMore, cellOf}
-use Rattle.table.specs.StandingLaws.{only-lowest, clause-known, parent-below, above-below, first-path, path-above}
+use Rattle.table.specs.Standing.{orSelf, follows, clauseOf, pathOf, typeOf, ownerOf, isTest, aboveOf, indexOf, stepOf, stepNumber, classOf, sameStepAs, isCell, oneMore}
+use Rattle.table.specs.StandingLaws.{only-lowest, parent-below, above-below, first-path, path-above}
 use Rattle.table.specs.PathsLaws.{length-into, length-follows, path-short, above-short}
 use Rattle.table.specs.ClassLaws.{class-below, class-above, class-by-step, step-steps}
 use Rattle.table.specs.ApartLaws.{same-test}
-use Rattle.table.specs.Table.{classAt, ownerAt, aboveAt, typeAt, stepAt, indexAt, depthAt, clauseAt, indicesAt, cellsAt, tableSize, sameNumber, aboveIn, sameStepIn, classIn, classed, indexed, tested}
+use Rattle.table.specs.Table.{classAt, typeAt, stepAt, depthAt, clauseAt, indicesAt, cellsAt, sameNumber, aboveIn, sameStepIn, classIn, classed, indexed, tested}
 use Rattle.table.specs.Tabled.{Placed, Classed, Indexed, Tabled, Filled, Ranged, RowBelow}
 use Rattle.table.specs.FieldsLaws.{FieldAt, Fields, kept-fields}
 
@@ -51,15 +50,6 @@ lowest-longer f i (suc n) e =
     ap (or-later i (f i)) (lowest-longer f (i + 1) n (ap f on ∙ e))
 
 -- ---- steps by their numbers
-step-none : (step : Option Step) → stepNumber step ≡ sameNumber → step ≡ none
-unfolding stepNumber
-step-none none e = refl
-step-none (some (pair i t)) e = absurd (omega arith)
-step-none (some (tuple i t)) e = absurd (omega arith)
-step-none (some (constr i b t)) e = absurd (omega arith)
-step-none (some (list i t)) e = absurd (omega arith)
-step-none (some (listtail i t)) e = absurd (omega arith)
-
 step-some : (step : Step) → stepNumber (some step) ≡ sameNumber → ⊥
 unfolding stepNumber
 step-some (pair i t) e = omega arith
@@ -112,7 +102,7 @@ module _ {s : List ℕ} (ok : Accepted s) {p : ℕ} (h : p < patterns s) where
   unfolding aboveOf
   above-lower q l some-lower = omega (arith, parent-below (ok .is-shaped) q l)
 
-  pub small : p < patternsMost
+  small : p < patternsMost
   small = omega (arith, ok .is-counted .patterns-most)
 
   short : (q : ℕ) → q < patterns s → length (pathOf s q) < depthMost
@@ -183,7 +173,7 @@ module _ {s : List ℕ} (ok : Accepted s) {p : ℕ} (h : p < patterns s) where
         ap (λ (found : Option ℕ). orSelf found p) (lowest-agree (λ q. sameStepIn t q p) (λ q. sameStepAs s q p) 0 p (λ k low high. same-steps k (omega arith)))
         ∙ class-by-step (ok .is-shaped) (ok .is-counted) p step h e
 
-    pub classed-is : classed t p ≡ set (set t (classAt + p) (classOf s p)) (depthAt + p) (length (pathOf s p))
+    classed-is : classed t p ≡ set (set t (classAt + p) (classOf s p)) (depthAt + p) (length (pathOf s p))
     unfolding classed follows
     classed-is = go (stepOf s p) refl
       where

@@ -9,7 +9,7 @@ use Prim.Native.Nat.{ℕ, zero, suc, _+_, _≤_, _<_}
 use native.Mathlib.Omega.{arith}
 use borrow.Author.Tests.{eqb-true, eq-eqb}
 use lib.Dec.{eqb}
-use Rattle.words.specs.Words.{either, pick}
+use Rattle.words.specs.Words.{pick}
 use Rattle.words.specs.WordsLaws.{either-true, either-first-true, either-second-true, pick-true, pick-false}
 use Rattle.rules.specs.SearchingLaws.{first-or-rest}
 use Rattle.rules.specs.SheetFile.{patterns, clauses, patternFirst, patternCount, child, root}

@@ -1,7 +1,7 @@
 -- No pattern is seen twice: the numbers of tests and bindings that a pattern gives, or a test opens to, are all different.
 -- Rests on ApartLaws (children of one pattern stand at different paths) and MembersLaws.
-use mathlib.Core.Path.{_≡_, refl, sym, ap, ap₂, _∙_}
-use mathlib.Core.Logic.{_⊎_, inl, inr, ⊎-elim}
+use mathlib.Core.Path.{_≡_, refl, sym, ap, _∙_}
+use mathlib.Core.Logic.{_⊎_, ⊎-elim}
 use mathlib.Core.Bool.{Bool, true, false, true≢false}
 use mathlib.Core.List.{List, [], _∷_, _++_, append-nil, append-assoc}
 use Prim.Native.Nat.{ℕ, zero, suc, _+_, _-_, _≤_, _<_}
@@ -14,7 +14,7 @@ use Rattle.rules.specs.SheetRefusals.{hasChildren, isIn, repeats}
 use Rattle.rules.specs.Rows.{Step, Path, into}
 use Rattle.rules.specs.Columns.{stepIndex}
 use Rattle.rules.specs.SplittingLaws.{not-true-false}
-use Rattle.facts.specs.SheetFacts.{Counted, Parent, Owns, Shaped, owned-pattern}
+use Rattle.facts.specs.SheetFacts.{Counted, Owns, Shaped, owned-pattern}
 use Rattle.table.specs.Standing.{kindOf, pathOf, isTest}
 use Rattle.table.specs.StandingLaws.{by-children}
 use Rattle.table.specs.Seen.{eachOf, insideOf, seen, those, binds, testsOf, bindsOf, openedTests, openedBinds}

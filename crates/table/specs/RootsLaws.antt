@@ -2,7 +2,7 @@
 -- Rests on the standing of roots and the laws of `set`.
 use mathlib.Core.Path.{_≡_, refl, sym, ap, _∙_}
 use mathlib.Core.Logic.{⊎-elim}
-use mathlib.Core.List.{List, []}
+use mathlib.Core.List.{List}
 use Prim.Native.Nat.{ℕ, zero, suc, _+_, _*_, _≤_, _<_}
 use native.Mathlib.Omega.{arith}
 use lib.ListN.{length, getD, set, length-set, length-replicate, getD-replicate}
@@ -13,8 +13,8 @@ use Rattle.rules.specs.Searching.{lowest}
 use Rattle.rules.specs.SearchingLaws.{first-or-rest}
 use Rattle.rules.specs.SheetFile.{subject, patterns, clauses, root}
 use Rattle.facts.specs.SheetFacts.{Accepted, one-clause}
-use Rattle.table.specs.Standing.{pathOf, parentOf, stepNumber, classOf, isCell, oneMore, cellOf}
-use Rattle.table.specs.StandingLaws.{Place, as-root, as-child, place, root-clause, root-type, root-owner, root-parent, root-above, root-index, root-step, child-parent, parent-below, first-path}
+use Rattle.table.specs.Standing.{parentOf, stepNumber, classOf, isCell, oneMore, cellOf}
+use Rattle.table.specs.StandingLaws.{Place, as-root, as-child, place, root-clause, root-type, root-owner, root-above, root-index, root-step, child-parent, parent-below, first-path}
 use Rattle.table.specs.ClassLaws.{class-below}
 use Rattle.table.specs.Table.{classAt, ownerAt, aboveAt, typeAt, stepAt, indexAt, depthAt, clauseAt, cellsAt, tableSize, sameNumber, rooted, rootedEach}
 use Rattle.table.specs.Tabled.{Placed, Classed, Tabled, Filled}

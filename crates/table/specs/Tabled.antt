@@ -8,7 +8,7 @@ use lib.ListN.{length, getD}
 use Rattle.words.specs.Words.{textAt}
 use Rattle.rules.specs.Limits.{patternsMost, depthMost}
 use Rattle.rules.specs.Searching.{lowest}
-use Rattle.rules.specs.SheetFile.{entries, patterns, clauses, patternFirst, patternCount}
+use Rattle.rules.specs.SheetFile.{entries, patterns, clauses, patternCount}
 use Rattle.rules.specs.Columns.{stepIndex}
 use Rattle.facts.specs.SheetFacts.{Parent, Accepted}
 use Rattle.sheet.specs.declared.Map.{Map}

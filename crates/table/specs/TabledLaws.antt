@@ -1,18 +1,18 @@
 -- What a filled table says to those who read it: each field is inside its limits, and the order of two rows of indices is that of the paths.
 -- Rests on Tabled and on the laws of standings, classes and paths.
-use mathlib.Core.Path.{_≡_, refl, sym, ap, ap₂, _∙_}
+use mathlib.Core.Path.{_≡_, refl, ap, ap₂, _∙_}
 use mathlib.Core.Bool.{Bool, true, false}
 use mathlib.Core.List.{List, [], _∷_, map}
 use mathlib.Core.Option.{Option, none, some}
-use Prim.Native.Nat.{ℕ, zero, suc, _+_, _-_, _*_, _≤_, _<_}
+use Prim.Native.Nat.{ℕ, _+_, _-_, _*_, _≤_, _<_}
 use native.Mathlib.Omega.{arith}
 use lib.Dec.{eqb, ltb}
-use lib.ListN.{length, getD}
+use lib.ListN.{getD}
 use Rattle.words.specs.Words.{both, textAt}
 use Rattle.rules.specs.Limits.{patternsMost, depthMost}
 use Rattle.rules.specs.Searching.{lowest}
 use Rattle.rules.specs.SearchingLaws.{lowest-some}
-use Rattle.rules.specs.SheetFile.{types, patterns, clauses, root}
+use Rattle.rules.specs.SheetFile.{types, patterns, clauses}
 use Rattle.rules.specs.Rows.{Path}
 use Rattle.rules.specs.Columns.{stepIndex, before}
 use Rattle.facts.specs.SheetFacts.{Accepted}

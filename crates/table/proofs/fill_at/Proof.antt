@@ -1,8 +1,7 @@
-use Prim.Native.Nat.{ℕ, _+_, _<_}
+use Prim.Native.Nat.{ℕ, _+_}
 use mathlib.Core.List.{List}
 use mathlib.Core.Path.{_≡_}
 use native.Mathlib.Omega.{arith}
-use Rattle.table.specs.Standing.{isTest, kindOf}
 use Rattle.table.specs.Tabled.{Filled}
 use Rattle.table.specs.FilledLaws.{placed-here, ranged, row-below, class-filled, indices-filled, test-filled}
 use Rattle.table.specs.ChildrenLaws.{children-filled}

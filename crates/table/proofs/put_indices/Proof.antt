@@ -1,11 +1,10 @@
 use Rattle.words.specs.StoredLaws.{stored-nil}
 use Prim.Native.Nat.{_+_, _-_, _*_, _≤_}
-use mathlib.Core.Path.{_≡_, sym, ap, _∙_}
+use mathlib.Core.Path.{_≡_, sym, _∙_}
 use native.Mathlib.Omega.{arith}
 use lib.ListN.{length, length-set}
-use Rattle.words.specs.StoredLaws.{length-stored}
-use Rattle.table.specs.Table.{indicesAt, tableSize, indexed}
-use Rattle.table.specs.ClassingLaws.{Copied, copied-none, copied-more, copied-all, Row, row-known, indexed-is}
+use Rattle.table.specs.Table.{indicesAt, tableSize}
+use Rattle.table.specs.ClassingLaws.{Copied, copied-more, copied-all, Row, row-known, indexed-is}
 use borrow.Author.Needs.{needs}
 use Rattle.table.proofs.put_indices.Statement.{statement}
 use Rattle.table.proofs.put_indices.Tie as tie
