@@ -1,3 +1,6 @@
 pub mod Answers
 pub mod AnswersLaws
 pub mod VerdictLaws
+pub mod Counts
+pub mod CountsLaws
+pub mod CoveredLaws

@@ -12,6 +12,7 @@ ghost use Rattle.rules.specs.Calls.{buildCall, buildAnswer};
 ghost use Rattle.panel.specs.Answers.{SheetAccepts};
 ghost use Rattle.build.specs.Answers.{callOf, Gives, treeEnd};
 
+mod counts;
 mod trees;
 
 use trees::build_tree;
