@@ -351,14 +351,6 @@ module _ {s : List ℕ} (sh : Shaped s) (few : Counted s) where
       opened-of-kind p h test (λ j o. columns-meet (child s j) (owned-pattern sh p j h o)) (kindOf s p) refl
       (unfold kindOf in (pattern-of-kind s sh few p (typeOf s p) h (kindOf s p) refl))
 
--- a row of what its parts are
-abbrev rowOf : ℕ → List Binding → List Cell → Row
-rowOf c bs cs = record { clause = c; bindings = bs; tests = cs }
-
-clause-row-is : (c : ℕ) (q : Pat) → clauseRow c q ≡ rowOf c (bindingsOf [] q) (columnsOf [] q)
-unfolding clauseRow
-clause-row-is c q = refl
-
 -- ---- bindings
 gathers-bindings : Gathers Binding bindingsOf bindingsOfEach
 unfolding bindingsOf
@@ -471,8 +463,3 @@ module _ {s : List ℕ} (sh : Shaped s) (few : Counted s) where
   pub clause-bindings-meet : (c : ℕ) → c < clauses s → bindingsOf [] (clausePattern s c) ≡ map (bindingAt s) (bindsOf s (root s c))
   clause-bindings-meet c h =
       ap₂ bindingsOf (sym (root-path sh c h)) (clause-pattern c h) ∙ bindings-meet (root s c) (sh .root-pattern c h)
-
-  pub clause-row-meets : (c : ℕ) → c < clauses s
-      → clauseRow c (clausePattern s c)
-      ≡ record { clause = c; bindings = map (bindingAt s) (bindsOf s (root s c)); tests = map (cellAt s) (testsOf s (root s c)) }
-  clause-row-meets c h = clause-row-is c (clausePattern s c) ∙ ap₂ (rowOf c) (clause-bindings-meet c h) (clause-columns-meet c h)

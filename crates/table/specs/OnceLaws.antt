@@ -17,7 +17,7 @@ use Rattle.rules.specs.SplittingLaws.{not-true-false}
 use Rattle.facts.specs.SheetFacts.{Counted, Owns, Shaped, owned-pattern}
 use Rattle.table.specs.Standing.{kindOf, pathOf, isTest}
 use Rattle.table.specs.StandingLaws.{by-children}
-use Rattle.table.specs.Seen.{eachOf, insideOf, seen, those, binds, testsOf, bindsOf, openedTests, openedBinds}
+use Rattle.table.specs.Seen.{eachOf, insideOf, seen, those, testsOf, openedTests}
 use Rattle.table.specs.SeenLaws.{insideOf-parent, insideOf-childless, seen-test, seen-parts, those-has, those-lacks, those-insideOf}
 use Rattle.table.specs.MembersLaws.{isIn-nil, isIn-head, isIn-tail, isIn-cons, isIn-one, isIn-append, isIn-those, isIn-eachOf, isIn-insideOf, seen-at}
 use Rattle.table.specs.ApartLaws.{assign-child, inside-assign, inside-other}
@@ -155,11 +155,3 @@ module _ {s : List ℕ} (sh : Shaped s) (few : Counted s) where
   pub opened-tests-once : (p : ℕ) → p < patterns s → repeats (openedTests s p) ≡ false
   unfolding testsOf
   opened-tests-once p h = ap repeats (sym (those-insideOf (isTest s) (seen s) s p)) ∙ repeats-those (isTest s) (insideOf (seen s) s p) (opened-once p h)
-
-  pub binds-once : (p : ℕ) → p < patterns s → repeats (bindsOf s p) ≡ false
-  unfolding bindsOf
-  binds-once p h = repeats-those (binds s) (seen s p) (seen-once p h)
-
-  pub opened-binds-once : (p : ℕ) → p < patterns s → repeats (openedBinds s p) ≡ false
-  unfolding bindsOf
-  opened-binds-once p h = ap repeats (sym (those-insideOf (binds s) (seen s) s p)) ∙ repeats-those (binds s) (insideOf (seen s) s p) (opened-once p h)

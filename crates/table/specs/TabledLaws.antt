@@ -12,16 +12,15 @@ use Rattle.words.specs.Words.{both, textAt}
 use Rattle.rules.specs.Limits.{patternsMost, depthMost}
 use Rattle.rules.specs.Searching.{lowest}
 use Rattle.rules.specs.SearchingLaws.{lowest-some}
-use Rattle.rules.specs.SheetFile.{types, patterns, clauses}
+use Rattle.rules.specs.SheetFile.{patterns, clauses}
 use Rattle.rules.specs.Rows.{Path}
 use Rattle.rules.specs.Columns.{stepIndex, before}
 use Rattle.facts.specs.SheetFacts.{Accepted}
 use Rattle.table.specs.Standing.{pathOf, isCell, oneMore, cellOf}
-use Rattle.table.specs.StandingLaws.{clause-known, owner-below}
-use Rattle.table.specs.TypesLaws.{type-known}
+use Rattle.table.specs.StandingLaws.{owner-below}
 use Rattle.table.specs.PathsLaws.{path-short}
 use Rattle.table.specs.ClassLaws.{class-known}
-use Rattle.table.specs.Table.{classAt, ownerAt, typeAt, depthAt, clauseAt, indicesAt, cellsAt, firstBefore, indicesIn}
+use Rattle.table.specs.Table.{classAt, ownerAt, depthAt, indicesAt, cellsAt, firstBefore, indicesIn}
 use Rattle.table.specs.Tabled.{Tabled}
 
 -- a path is before another where its indices are
@@ -52,12 +51,6 @@ module _ {s t : List ℕ} (ok : Accepted s) (table : Tabled s t) where
 
     pub owner-inside : getD t (ownerAt + q) 0 ≤ patternsMost
     owner-inside = omega (arith, table .placed q h .owner, owner-below (ok .is-shaped) (ok .is-counted) q h, ok .is-counted .patterns-most)
-
-    pub type-inside : getD t (typeAt + q) 0 < types s
-    type-inside = omega (arith, table .placed q h .type, type-known ok q h)
-
-    pub clause-inside : getD t (clauseAt + q) 0 < clauses s
-    clause-inside = omega (arith, table .placed q h .clause, clause-known (ok .is-shaped) (ok .is-counted) q h)
 
     pub depth-inside : getD t (depthAt + q) 0 < depthMost
     depth-inside = omega (arith, table .classed q h .depth, path-short (ok .is-shaped) (ok .is-counted) (ok .root-depth) q h)

@@ -279,6 +279,7 @@ fn put_root(t: &mut [u8], r: usize, c: usize, tipo: usize)
     t[CLAUSE + r] = c as u8;
 }
 
+// The root of each clause.
 fn put_roots(s: &[u8], m: Map, t: &mut [u8])
     requires { ⌜ Checked (now s) m × (length (now t) ≡ tableSize) ⌝ }
     ensures { λ _. ⌜ now (t .exit) ≡ rootedEach (now (s .entry)) (now (t .entry)) 0 (clauses (now (s .entry))) ⌝ }
