@@ -7,3 +7,5 @@ pub mod Model
 pub mod ModelLaws
 pub mod Written
 pub mod RunLaws
+pub mod WrittenLaws
+pub mod Examples

@@ -1,8 +1,7 @@
 -- What the writing functions do, over the bytes of the arena: each record that they write, and the state of the file after it.
 -- And what each asks: that the numbers it reads in the arena are in range, and that the file has room.
 use mathlib.Core.Path.{_≡_}
-use mathlib.Core.Bool.{Bool, true, false}
-use mathlib.Core.List.{List, [], _∷_, _++_}
+use mathlib.Core.List.{List, [], _++_}
 use Prim.Native.Nat.{ℕ, zero, suc, _+_, _-_, _*_, _≤_, _<_}
 use lib.ListN.{length, getD}
 use lib.Dec.{eqb}

@@ -2,7 +2,7 @@
 -- And the frames: how far each function moves the tops, and that the path numbers stay counted.
 use mathlib.Core.Path.{_≡_, refl, sym, ap, _∙_, subst}
 use mathlib.Core.Bool.{Bool, true, false}
-use mathlib.Core.List.{List, [], _∷_, _++_}
+use mathlib.Core.List.{List, _++_}
 use Prim.Native.Nat.{ℕ, zero, suc, _+_, _-_, _*_, _≤_, _<_}
 use native.Mathlib.Omega.{arith}
 use native.Mathlib.Nat.{add-zero, zero-add, sub-zero}
@@ -13,12 +13,12 @@ use Rattle.words.specs.Words.{wordBytes, pick}
 use Rattle.words.specs.WordsLaws.{pick-true, pick-false}
 use Rattle.words.specs.Stored.{stored}
 use Rattle.words.specs.StoredLaws.{length-stored, stored-nil, stored-append}
-use Rattle.rules.specs.Limits.{clausesMost, patternsMost, nodesMost, bindingsMost, treeRoom, nodeSize, caseSize, bindingSize}
+use Rattle.rules.specs.Limits.{clausesMost, patternsMost, nodesMost, nodeSize, caseSize, bindingSize}
 use Rattle.rules.specs.Rows.{bit}
 use Rattle.rules.specs.Searching.{times}
 use Rattle.rules.specs.SearchingLaws.{times-yes, times-no, times-end, times-most}
 use Rattle.rules.specs.TreeFile.{firstOf, nodeBytes}
-use Rattle.arena.specs.Arena.{casesStart, casesMost, bindingsStart, arenaEnd, nodeKind, nodeWord, caseKind, caseNumber, caseLength, caseChild, bindingName, bindingPath}
+use Rattle.arena.specs.Arena.{nodeKind, nodeWord, caseKind, caseNumber, caseLength, caseChild, bindingName, bindingPath}
 use Rattle.arena.specs.RecordsLaws.{caseFields}
 use Rattle.arena.specs.ReadingLaws.{kind-stored, words-stored, fields-stored}
 use Rattle.scopes.specs.declared.Scopes.{Scopes}
@@ -27,7 +27,7 @@ use Rattle.writing.specs.declared.uses.Uses.{Uses}
 use Rattle.writing.specs.declared.nodes.Tops.{Tops}
 use Rattle.writing.specs.Uses.{Counted, withClass, numberIn}
 use Rattle.writing.specs.UsesLaws.{counted-with, use-some}
-use Rattle.writing.specs.Model.{boundBinding, boundBytes, boundUses, BindingAsked, BindingsAsked, PutBinding, PutBindings, clauseNode, movedCase, movedCases, movedDefault, CasesAsked, Out, outOf, boundOut, hoistOut, hoistsOut, LeafSound, BoundAsked, HoistAsked, Within, HoistsAsked, switchUses, switchBytes, switchOut, SwitchSound, SwitchNodeAsked, SwitchAsked, PutSwitchNode, ownOut, OwnAsked, nodeOut, nodesOut, ArenaSound, FileRoom, NodeAsked, NodesAsked}
+use Rattle.writing.specs.Model.{boundBinding, boundBytes, boundUses, BindingAsked, BindingsAsked, PutBinding, PutBindings, clauseNode, movedCase, movedCases, movedDefault, CasesAsked, Out, outOf, boundOut, hoistOut, hoistsOut, LeafSound, HoistAsked, Within, HoistsAsked, switchBytes, switchOut, PutSwitchNode, ownOut, OwnAsked, nodeOut, nodesOut, NodeAsked, NodesAsked}
 
 -- ---- bindings
 pub binding-asked : (w : List ℕ) (first count i : ℕ) → BindingsAsked w first count → i < count → BindingAsked w (first + i)

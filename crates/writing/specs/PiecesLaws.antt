@@ -13,7 +13,7 @@ use Rattle.rules.specs.Searching.{times}
 use Rattle.rules.specs.Splitting.{Test}
 use Rattle.rules.specs.Building.{Tree, Cases, absent, leaf, hoist, switch, listswitch, cnil, ccons}
 use Rattle.rules.specs.Hoisting.{howMany, nodesIn, nodesInOf, bindingsIn, bindingsInOf}
-use Rattle.rules.specs.TreeFile.{bindingPaths, pathsUsed, pathsUsedOf, pathNumber, firstOf, nodeBytes, casesIn, casesInOf, defaultField, nodesFrom, nodesFromOf, caseBytes, ownCases, casesFrom, casesFromOf}
+use Rattle.rules.specs.TreeFile.{bindingPaths, pathsUsed, pathNumber, firstOf, nodeBytes, casesIn, casesInOf, defaultField, nodesFrom, caseBytes, ownCases, casesFrom, casesFromOf}
 use Rattle.hoisting.specs.Trees.{Plain, PlainOf}
 use Rattle.hoisting.specs.Descent.{wrapBy}
 use Rattle.arena.specs.Numbered.{joined, subtrees, subtreesOf}

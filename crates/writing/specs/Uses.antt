@@ -1,9 +1,9 @@
 -- Path numbers by first use, as the code keeps them: by class one more than the path's number, and the classes in order.
 -- The table of the paths so far is the list of those classes' paths.
 use mathlib.Core.Path.{_≡_}
-use mathlib.Core.Bool.{Bool, true, false}
+use mathlib.Core.Bool.{true}
 use mathlib.Core.List.{List, [], _∷_, _++_}
-use Prim.Native.Nat.{ℕ, zero, suc, _+_, _-_, _<_}
+use Prim.Native.Nat.{ℕ, _+_, _-_}
 use lib.ListN.{length, getD, set, take}
 use lib.Dec.{eqb, ltb}
 use Rattle.words.specs.Words.{pick}

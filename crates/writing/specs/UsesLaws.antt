@@ -1,19 +1,18 @@
 -- The laws of path numbers by first use: a number does not change when the table grows, and the list of classes is the table of the
 -- paths used so far. There is always room, since as many classes are in the list as have a number.
 use mathlib.Core.Path.{_≡_, refl, sym, ap, ap₂, _∙_}
-use mathlib.Core.Logic.{_⊎_, inl, inr, ⊎-elim}
 use mathlib.Core.Bool.{Bool, true, false, true≢false, false≢true}
-use mathlib.Core.List.{List, [], _∷_, _++_, append-nil, append-assoc}
-use Prim.Native.Nat.{ℕ, zero, suc, _+_, _-_, _≤_, _<_}
+use mathlib.Core.List.{List, [], _∷_, _++_, map}
+use Prim.Native.Nat.{ℕ, zero, suc, _+_, _≤_, _<_}
 use native.Mathlib.Omega.{arith}
 use native.Mathlib.Nat.{add-zero, zero-add}
 use native.Mathlib.Numerals.{add-one}
-use lib.ListN.{length, getD, set, take, length-set, length-append, length-replicate, getD-replicate}
-use lib.Seq.{getD-set-same, getD-set-other, take-suc-set, length-take-le}
+use lib.ListN.{length, getD, set, take, length-set, length-replicate, getD-replicate}
+use lib.Seq.{getD-set-same, getD-set-other, take-suc-set, length-take-le, getD-take}
 use lib.Dec.{eqb, ltb}
-use borrow.Author.Tests.{eq-eqb, ne-eqb, lt-ltb, le-ltb, eqb-true, eqb-false}
+use borrow.Author.Tests.{eq-eqb, ne-eqb, lt-ltb, eqb-true, eqb-false}
 use Rattle.words.specs.Words.{either, pick, zeros}
-use Rattle.words.specs.WordsLaws.{pick-true, pick-false, either-false, either-first-true}
+use Rattle.words.specs.WordsLaws.{pick-true, pick-false, either-false}
 use Rattle.rules.specs.Limits.{patternsMost}
 use Rattle.rules.specs.Rows.{Path, samePath, bit}
 use Rattle.rules.specs.TreeFile.{isAmong, firstUses, pathNumber}
@@ -278,13 +277,24 @@ use-some u class h l = go (eqb (getD (u .number) class 0) 0) refl
         rw (use-again u class z) (omega arith)
 
 -- ---- the classes' paths
--- the paths of a table at these numbers
-unfoldable pub pathsAt : List Path → List ℕ → List Path
-pathsAt all [] = []
-pathsAt all (c ∷ cs) = getD all c [] ∷ pathsAt all cs
+pub paths-of-classes : (all : List Path) (path : ℕ → Path) → ((c : ℕ) → c < length all → path c ≡ getD all c []) → (ps : List Path) → Covers all ps
+    → map path (classNumbers all ps) ≡ ps
+unfolding classNumbers
+paths-of-classes all path e [] v = refl
+paths-of-classes all path e (p ∷ ps) v =
+    let n = path-numbered all p (covers-first all p ps v) in
+    ap₂ (λ x y. x ∷ y) (e (pathNumber all p) (n .inside) ∙ n .found) (paths-of-classes all path e ps (covers-rest all p ps v))
 
-pub paths-of-classes : (all ps : List Path) → Covers all ps → pathsAt all (classNumbers all ps) ≡ ps
-unfolding pathsAt classNumbers
-paths-of-classes all [] v = refl
-paths-of-classes all (p ∷ ps) v =
-    ap₂ (λ x y. x ∷ y) (path-numbered all p (covers-first all p ps v) .found) (paths-of-classes all ps (covers-rest all p ps v))
+classes-inside : (all ps : List Path) → Covers all ps → (i : ℕ) → i < length ps → getD (classNumbers all ps) i 0 < length all
+unfolding classNumbers
+classes-inside all [] v i l = absurd (omega arith)
+classes-inside all (p ∷ ps) v zero l = path-numbered all p (covers-first all p ps v) .inside
+classes-inside all (p ∷ ps) v (suc i) l = classes-inside all ps (covers-rest all p ps v) i (omega arith)
+
+module _ (all : List Path) (short : length all ≤ patternsMost) (u : Uses) (table : List Path) (s : Stand all u table) (v : Covers all table) where
+  pub list-inside : u .count ≤ length (u .list)
+  list-inside = omega (arith, count-small all short u table s, s .counted .list-long)
+
+  pub list-known : (i : ℕ) → i < u .count → getD (u .list) i 0 < length all
+  list-known i l =
+      omega (arith, getD-take (u .count) (u .list) i 0 l, ap (λ z. getD z i 0) (s .classes), classes-inside all table v i (omega (arith, stand-count all short u table s)))

@@ -6,8 +6,6 @@ use arena::BINDING_SIZE;
 use arena::reading::binding_at;
 use words::put_word;
 use words::wide;
-ghost use mathlib.Core.Path.{_≡_};
-ghost use mathlib.Core.List.{_++_};
 ghost use Prim.Native.Nat.{_+_, _*_, _<_, _≤_};
 ghost use lib.ListN.{length};
 ghost use Rattle.rules.specs.Limits.{bindingSize};

@@ -7,7 +7,6 @@ use nodes::Tops;
 use nodes::put_nodes;
 use scopes::Scopes;
 use uses::Uses;
-ghost use mathlib.Core.Path.{_≡_};
 ghost use Prim.Native.Nat.{_≤_};
 ghost use lib.ListN.{length};
 ghost use Rattle.rules.specs.Limits.{treeRoom};

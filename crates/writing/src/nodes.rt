@@ -14,8 +14,7 @@ use scopes::Scopes;
 use scopes::marks::children_of;
 use words::wide;
 ghost use mathlib.Core.Path.{_≡_};
-ghost use Prim.Native.Nat.{_+_, _<_, _≤_};
-ghost use lib.ListN.{length};
+ghost use Prim.Native.Nat.{_+_, _<_};
 ghost use Rattle.rules.specs.TreeFile.{firstOf};
 ghost use Rattle.writing.specs.Model.{BoundAsked, HoistAsked, HoistsAsked, SwitchNodeAsked, PutSwitchNode, SwitchAsked, OwnAsked, NodeAsked, NodesAsked, outOf, boundOut, hoistOut, hoistsOut, switchOut, ownOut, nodeOut, nodesOut};
 

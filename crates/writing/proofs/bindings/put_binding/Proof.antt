@@ -1,7 +1,7 @@
 -- `writing::bindings::put_binding` meets its contract: the path's number is read after its class is used.
 use borrow.Author.Needs.{needs}
 use native.Mathlib.Omega.{arith}
-use mathlib.Core.Path.{_≡_, refl, sym, ap, _∙_}
+use mathlib.Core.Path.{ap}
 use Rattle.writing.specs.ModelLaws.{binding-put, used-some}
 use Rattle.writing.proofs.bindings.put_binding.Statement.{statement}
 use Rattle.writing.proofs.bindings.put_binding.Tie as tie

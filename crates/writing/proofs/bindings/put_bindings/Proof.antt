@@ -1,7 +1,5 @@
 -- `writing::bindings::put_bindings` meets its contract. The loop's invariant: with the bindings from first + i on the whole is stored.
-use borrow.Author.Needs.{needs}
 use native.Mathlib.Omega.{arith}
-use mathlib.Core.Path.{_≡_, refl, sym, ap, _∙_}
 use Prim.Native.Nat.{_+_, _-_}
 use Rattle.writing.specs.ModelLaws.{BindingsLeft, binding-asked, bindings-start, bindings-next, bindings-end}
 use Rattle.writing.proofs.bindings.put_bindings.Statement.{statement}

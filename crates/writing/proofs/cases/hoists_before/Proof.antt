@@ -1,7 +1,7 @@
 -- `writing::cases::hoists_before` meets its contract. The loop's invariant: what is counted and what is left from clause c on are the whole.
 use borrow.Author.Needs.{needs}
 use native.Mathlib.Omega.{arith}
-use mathlib.Core.Path.{_≡_, refl, sym, ap, _∙_}
+use mathlib.Core.Path.{_≡_}
 use Prim.Native.Nat.{_+_, _-_, _≤_}
 use lib.Dec.{ltb}
 use Rattle.rules.specs.Searching.{times}

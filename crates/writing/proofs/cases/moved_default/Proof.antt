@@ -1,7 +1,7 @@
 -- `writing::cases::moved_default` meets its contract: no default stays none, and any other is moved with its node.
 use borrow.Author.Needs.{needs}
 use native.Mathlib.Omega.{arith}
-use mathlib.Core.Path.{_≡_, refl, sym, ap, _∙_}
+use mathlib.Core.Path.{sym, ap, _∙_}
 use Prim.Native.Nat.{_+_, _-_}
 use Rattle.writing.specs.Model.{clauseNode}
 use Rattle.writing.specs.ModelLaws.{moved-none, moved-some, stands-small}

@@ -1,7 +1,7 @@
 -- `writing::cases::put_case` meets its contract: the stores of the fields are the store of the record.
 use borrow.Author.Needs.{needs}
 use native.Mathlib.Omega.{arith}
-use mathlib.Core.Path.{_≡_, refl, sym, ap, _∙_}
+use mathlib.Core.Path.{_∙_}
 use lib.ListN.{length-set}
 use Rattle.writing.specs.ModelLaws.{case-put}
 use Rattle.writing.proofs.cases.put_case.Statement.{statement}

@@ -1,7 +1,6 @@
 -- `writing::cases::put_cases` meets its contract. The loop's invariant: with the cases from first + i on the whole is stored.
 use borrow.Author.Needs.{needs}
 use native.Mathlib.Omega.{arith}
-use mathlib.Core.Path.{_≡_, refl, sym, ap, _∙_}
 use Prim.Native.Nat.{_+_, _-_}
 use Rattle.writing.specs.Model.{clauseNode}
 use Rattle.writing.specs.ModelLaws.{CasesLeft, cases-start, cases-next, cases-end, stands-small}

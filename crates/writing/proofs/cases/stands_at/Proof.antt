@@ -1,7 +1,7 @@
 -- `writing::cases::stands_at` meets its contract: a node is moved by the hoists before it.
 use borrow.Author.Needs.{needs}
 use native.Mathlib.Omega.{arith}
-use mathlib.Core.Path.{_≡_, refl, sym, ap, _∙_}
+use mathlib.Core.Path.{ap}
 use Prim.Native.Nat.{_+_}
 use Rattle.scopes.specs.WriterLaws.{standsAt}
 use Rattle.writing.specs.Model.{clauseNode}

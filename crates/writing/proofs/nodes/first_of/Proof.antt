@@ -1,5 +1,4 @@
 -- `writing::nodes::first_of` meets its contract: only an empty run begins at 0.
-use borrow.Author.Needs.{needs}
 use Rattle.writing.specs.ModelLaws.{first-none, first-some}
 use Rattle.writing.proofs.nodes.first_of.Statement.{statement}
 use Rattle.writing.proofs.nodes.first_of.Tie as tie

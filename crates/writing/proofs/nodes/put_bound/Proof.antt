@@ -1,8 +1,6 @@
 -- `writing::nodes::put_bound` meets its contract: the record, then the bindings.
 use borrow.Author.Needs.{needs}
 use native.Mathlib.Omega.{arith}
-use mathlib.Core.Path.{_≡_, refl, sym, ap, _∙_}
-use Prim.Native.Nat.{_+_, _*_}
 use Rattle.writing.specs.ModelLaws.{bound-put, bindings-asked-as, first-small}
 use Rattle.writing.proofs.nodes.put_bound.Statement.{statement}
 use Rattle.writing.proofs.nodes.put_bound.Tie as tie

@@ -1,7 +1,7 @@
 -- `writing::nodes::put_hoist` meets its contract: a clause is hoisted where its scope is.
 use borrow.Author.Needs.{needs}
 use native.Mathlib.Omega.{arith}
-use mathlib.Core.Path.{_≡_, refl, sym, ap, _∙_}
+use mathlib.Core.Path.{sym, _∙_}
 use Rattle.writing.specs.Model.{outOf}
 use Rattle.writing.specs.ModelLaws.{hoist-here, hoist-elsewhere}
 use Rattle.writing.proofs.nodes.put_hoist.Statement.{statement}

@@ -1,5 +1,4 @@
 -- `writing::nodes::put_hoists` meets its contract. The loop's invariant: the clauses from c on bring the file to the state after all.
-use borrow.Author.Needs.{needs}
 use native.Mathlib.Omega.{arith}
 use Prim.Native.Nat.{_-_}
 use Rattle.writing.specs.ModelLaws.{HoistsLeft, hoists-start, hoist-asked, hoists-next, hoists-end}

@@ -1,5 +1,4 @@
 -- `writing::nodes::put_nodes` meets its contract. The loop's invariant: the nodes from k on bring the file to the state after all.
-use borrow.Author.Needs.{needs}
 use native.Mathlib.Omega.{arith}
 use Prim.Native.Nat.{_-_}
 use Rattle.writing.specs.ModelLaws.{NodesLeft, nodes-start, node-asked, nodes-next, nodes-end}

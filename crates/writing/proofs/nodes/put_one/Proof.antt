@@ -1,7 +1,6 @@
 -- `writing::nodes::put_one` meets its contract: the hoists above the node, then the node.
 use borrow.Author.Needs.{needs}
-use native.Mathlib.Omega.{arith}
-use mathlib.Core.Path.{_≡_, refl, sym, ap, _∙_}
+use mathlib.Core.Path.{ap, _∙_}
 use Rattle.writing.specs.Model.{ownOut, nodeOut}
 use Rattle.writing.specs.ModelLaws.{hoists-asked, own-asked}
 use Rattle.writing.proofs.nodes.put_one.Statement.{statement}

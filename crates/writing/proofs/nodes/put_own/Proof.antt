@@ -1,7 +1,6 @@
 -- `writing::nodes::put_own` meets its contract: a leaf, or a switch.
 use borrow.Author.Needs.{needs}
-use native.Mathlib.Omega.{arith}
-use mathlib.Core.Path.{_≡_, refl, sym, ap, _∙_}
+use mathlib.Core.Path.{sym, _∙_}
 use Rattle.writing.specs.Model.{outOf}
 use Rattle.writing.specs.ModelLaws.{own-leaf, own-switch}
 use Rattle.writing.proofs.nodes.put_own.Statement.{statement}

@@ -1,7 +1,7 @@
 -- `writing::nodes::put_switch` meets its contract: the record, then the cases.
 use borrow.Author.Needs.{needs}
 use native.Mathlib.Omega.{arith}
-use mathlib.Core.Path.{_≡_, refl, sym, ap, _∙_}
+use mathlib.Core.Path.{ap}
 use Rattle.writing.specs.ModelLaws.{switch-put, cases-asked-as}
 use Rattle.writing.proofs.nodes.put_switch.Statement.{statement}
 use Rattle.writing.proofs.nodes.put_switch.Tie as tie

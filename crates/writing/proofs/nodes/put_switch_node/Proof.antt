@@ -1,7 +1,7 @@
 -- `writing::nodes::put_switch_node` meets its contract: the path's number is read after its class is used.
 use borrow.Author.Needs.{needs}
 use native.Mathlib.Omega.{arith}
-use mathlib.Core.Path.{_≡_, refl, sym, ap, _∙_}
+use mathlib.Core.Path.{ap, _∙_}
 use Rattle.writing.specs.Model.{clauseNode, movedDefault}
 use Rattle.writing.specs.ModelLaws.{switch-node-put, used-some, moved-small}
 use Rattle.writing.proofs.nodes.put_switch_node.Statement.{statement}
