@@ -102,6 +102,15 @@ pub length-paths : (s : List ℕ) → length (sheetPaths s) ≡ patterns s
 unfolding sheetPaths
 length-paths s = length-from s 0 (patterns s)
 
+-- ---- among two lists, part by part
+first-or : (q p : Path) (ps qs : List Path) → isAmong p (q ∷ ps) ≡ true → (isAmong p ps ≡ true → isAmong p qs ≡ true) → isAmong p (q ∷ qs) ≡ true
+first-or q p ps qs h f = ⊎-elim (λ e. rw (← e) (isAmong-first p qs)) (λ g. isAmong-rest p q qs (f g)) (isAmong-cases p q ps h)
+
+both-parts : (p : Path) (ps qs ps' qs' : List Path) → isAmong p (ps ++ qs) ≡ true → (isAmong p ps ≡ true → isAmong p ps' ≡ true)
+    → (isAmong p qs ≡ true → isAmong p qs' ≡ true) → isAmong p (ps' ++ qs') ≡ true
+both-parts p ps qs ps' qs' h f g =
+    ⊎-elim (λ x. isAmong-left p ps' qs' (f x)) (λ x. isAmong-right p ps' qs' (g x)) (either-true (isAmong p ps) (isAmong p qs) (sym (isAmong-append p ps qs) ∙ h))
+
 -- ---- a tree without its hoists uses no other path
 mutual
   unfolding pathsUsed unhoisted
@@ -111,21 +120,13 @@ mutual
   unhoisted-uses (leaf c bs) p h = h
   unhoisted-uses (hoist c bs a) p h = isAmong-right p (bindingPaths bs) (pathsUsed a) (unhoisted-uses a p h)
   unhoisted-uses (switch q cs d) p h =
-      first-or q p _ _ h (λ g. both-parts p _ _ _ _ g (unhoisted-usesOf cs p) (unhoisted-uses d p))
+      first-or q p _ _ h (λ g. both-parts p _ _ _ _ g (λ f. unhoisted-usesOf cs p f) (λ f. unhoisted-uses d p f))
   unhoisted-uses (listswitch q cs ts d) p h =
-      first-or q p _ _ h (λ g. both-parts p _ _ _ _ g (unhoisted-usesOf cs p) (λ f. both-parts p _ _ _ _ f (unhoisted-usesOf ts p) (unhoisted-uses d p)))
+      first-or q p _ _ h (λ g. both-parts p _ _ _ _ g (λ f. unhoisted-usesOf cs p f) (λ f. both-parts p _ _ _ _ f (λ e. unhoisted-usesOf ts p e) (λ e. unhoisted-uses d p e)))
 
   unhoisted-usesOf : (cs : Cases) (p : Path) → isAmong p (pathsUsedOf (unhoistedOf cs)) ≡ true → isAmong p (pathsUsedOf cs) ≡ true
   unhoisted-usesOf cnil p h = h
-  unhoisted-usesOf (ccons t at a cs) p h = both-parts p _ _ _ _ h (unhoisted-uses a p) (unhoisted-usesOf cs p)
-
-  first-or : (q p : Path) (ps qs : List Path) → isAmong p (q ∷ ps) ≡ true → (isAmong p ps ≡ true → isAmong p qs ≡ true) → isAmong p (q ∷ qs) ≡ true
-  first-or q p ps qs h f = ⊎-elim (λ e. rw (← e) (isAmong-first p qs)) (λ g. isAmong-rest p q qs (f g)) (isAmong-cases p q ps h)
-
-  both-parts : (p : Path) (ps qs ps' qs' : List Path) → isAmong p (ps ++ qs) ≡ true → (isAmong p ps ≡ true → isAmong p ps' ≡ true)
-      → (isAmong p qs ≡ true → isAmong p qs' ≡ true) → isAmong p (ps' ++ qs') ≡ true
-  both-parts p ps qs ps' qs' h f g =
-      ⊎-elim (λ x. isAmong-left p ps' qs' (f x)) (λ x. isAmong-right p ps' qs' (g x)) (either-true (isAmong p ps) (isAmong p qs) (sym (isAmong-append p ps qs) ∙ h))
+  unhoisted-usesOf (ccons t at a cs) p h = both-parts p _ _ _ _ h (λ f. unhoisted-uses a p f) (λ f. unhoisted-usesOf cs p f)
 
 -- THEOREM: the paths of all patterns cover those that the tree uses
 pub raw-covered : {s : List ℕ} → Accepted s → Covers (sheetPaths s) (pathsUsed (rawTree s))

@@ -4,3 +4,5 @@ pub mod VerdictLaws
 pub mod Counts
 pub mod CountsLaws
 pub mod CoveredLaws
+pub mod Raw
+pub mod RawLaws
