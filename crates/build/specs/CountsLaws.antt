@@ -71,6 +71,10 @@ module _ (f : ℕ → Bool) where
       go true e = rw (e, times) (omega arith)
       go false e = rw (e, times) (omega arith)
 
+  pub times-most : (i n : ℕ) → times f i n ≤ n
+  times-most i zero = unfold times in (omega arith)
+  times-most i (suc n) = omega (arith, times-from i n, bit-most (f i), times-most (i + 1) n)
+
   pub times-more : (c n all so-far one : ℕ) → c < n → so-far + times f c (n - c) ≡ all → one ≡ bit (f c) → so-far + one + times f (c + 1) (n - (c + 1)) ≡ all
   times-more c n all so-far one l e o =
       let k : n - c ≡ suc (n - (c + 1)) = omega arith in
@@ -87,6 +91,11 @@ module _ (f : ℕ → Bool) where
 module _ (f : ℕ → ℕ) where
   pub sum-start : (n : ℕ) → 0 + sum f 0 (n - 0) ≡ sum f 0 n
   sum-start n = let k : n - 0 ≡ n = omega arith in omega (arith, ap (sum f 0) k)
+
+  pub sum-most : (b i n : ℕ) → ((k : ℕ) → f k ≤ b) → sum f i n ≤ b * n
+  unfolding sum
+  sum-most b i zero h = omega arith
+  sum-most b i (suc n) h = omega (arith, h i, sum-most b (i + 1) n h)
 
   pub sum-more : (c n all so-far one : ℕ) → c < n → so-far + sum f c (n - c) ≡ all → one ≡ f c → so-far + one + sum f (c + 1) (n - (c + 1)) ≡ all
   unfolding sum

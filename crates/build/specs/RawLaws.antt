@@ -28,7 +28,7 @@ use Rattle.filing.specs.PathsLaws.{Covers}
 use Rattle.hoisting.specs.Trees.{sum, Plain, WellMade, isPresent, leavesOf}
 use Rattle.hoisting.specs.BuiltLaws.{plainTree-plain, plainTree-made, plainTree-present}
 use Rattle.hoisting.specs.BindingsLaws.{firstBindings-idle}
-use Rattle.hoisting.specs.WholeTreeLaws.{wholeTree-leaves, casesIn-less}
+use Rattle.hoisting.specs.WholeTreeLaws.{wholeTree-leaves, wholeTree-made, wholeTree-present, casesIn-less}
 use Rattle.meaning.specs.Said.{Builds, OfClause}
 use Rattle.meaning.specs.SheetLeaves.{each-leaf, sheet-leaves, length-sheetPatterns}
 use Rattle.meaning.specs.SheetFileLaws.{sheet-file-small}
@@ -137,6 +137,12 @@ module _ {s : List ℕ} (ok : Accepted s) where
   raw-made : WellMade (clauses s) (rawTree s)
   raw-made = subst (λ n. WellMade n (rawTree s)) (length-sheetPatterns s) (plainTree-made (sheetPatterns s))
 
+  fewer-cases : casesIn (sheetTree s) < nodesIn (sheetTree s)
+  unfolding sheetTree
+  fewer-cases =
+      casesIn-less (length (sheetPatterns s)) (wholeTree (sheetPatterns s)) (wholeTree-made (sheetPatterns s))
+      (wholeTree-present (sheetPatterns s) (omega (arith, length-sheetPatterns s, ok .is-counted .some-clause)))
+
   raw-there : isPresent (rawTree s) ≡ true
   raw-there = plainTree-present (sheetPatterns s) (omega (arith, length-sheetPatterns s, ok .is-counted .some-clause))
 
@@ -187,9 +193,9 @@ module _ {s : List ℕ} (ok : Accepted s) where
   -- ---- from one set of facts to the next
   -- 12 is not given, and the bindings have room: it can be hoisted
   pub hoistable : (w : List ℕ) (nodes cases bindings : ℕ) (leaves : List ℕ) (x : Scopes) → Raw s w nodes cases bindings leaves
-      → nodesIn (rawTree s) + hoistsOf s ≤ nodesMost → bindings ≤ bindingsMost → ((h : ReadyWith w nodes) → Scoped (h .tree) (clauses s) x)
+      → nodesIn (rawTree s) + hoistsOf s ≤ nodesMost → bindings ≤ bindingsMost → (n : ℕ) → n ≡ clauses s → ((h : ReadyWith w nodes) → Scoped (h .tree) n x)
       → Hoistable s w nodes cases bindings x
-  hoistable w nodes cases bindings leaves x r fit few found =
+  hoistable w nodes cases bindings leaves x r fit few n is found =
       let most : length (bindingsIn (rawTree s)) ≤ bindingsMost = omega (arith, r .bindings-are) in
       record {
         long = r .long;
@@ -199,8 +205,14 @@ module _ {s : List ℕ} (ok : Accepted s) where
         bindings-are = omega (arith, r .bindings-are);
         bindings-most = most;
         held = r .held most;
-        scoped = found-scopes w (r .long) (r .nodes-most) most (r .held most) nodes (r .nodes-are) x found;
+        scoped = found-scopes w (r .long) (r .nodes-most) most (r .held most) nodes (r .nodes-are) x (subst (λ k. (h : ReadyWith w nodes) → Scoped (h .tree) k x) is found);
       }
+
+  -- the hoists that were counted
+  pub hoists-counted : (w : List ℕ) (nodes cases bindings : ℕ) (leaves : List ℕ) → Raw s w nodes cases bindings leaves → (n more : ℕ) → n ≡ clauses s
+      → more ≡ times (λ c. isMarked (getD leaves c 0)) 0 n → more ≡ hoistsOf s
+  hoists-counted w nodes cases bindings leaves r n more is e =
+      e ∙ ap (times (λ c. isMarked (getD leaves c 0)) 0) is ∙ marks-hoists s leaves few-clauses (r .leaves-are)
 
   -- what finding the scopes asks
   pub scopes-asked : (w : List ℕ) (nodes cases bindings : ℕ) (leaves : List ℕ) → Raw s w nodes cases bindings leaves → bindings ≤ bindingsMost → ReadyWith w nodes
@@ -218,9 +230,11 @@ module _ {s : List ℕ} (ok : Accepted s) where
     nodes-few = omega (arith, h .nodes-fit)
 
     -- the bindings of the whole tree
-    pub all-bindings : (more : ℕ) → more ≡ sum (λ c. leafBindings w (getD (x .leaf) c 0)) 0 (clauses s)
+    pub all-bindings : (n more : ℕ) → n ≡ clauses s → more ≡ sum (λ c. leafBindings w (getD (x .leaf) c 0)) 0 n
         → bindings + more ≡ length (bindingsIn (rawTree s)) + hoistBindings s
-    all-bindings more e = ap₂ _+_ (h .bindings-are) (e ∙ found-bindings w (h .long) nodes-few (h .bindings-most) (h .held) x (h .scoped))
+    all-bindings n more is e =
+        ap₂ _+_ (h .bindings-are)
+        (e ∙ ap (sum (λ c. leafBindings w (getD (x .leaf) c 0)) 0) is ∙ found-bindings w (h .long) nodes-few (h .bindings-most) (h .held) x (h .scoped))
 
     -- the lowest idle clause, by its number
     pub idle-found : x .idle < clausesMost → lowestIdle (clauses s) (rawTree s) ≡ some (x .idle)
@@ -241,13 +255,13 @@ module _ {s : List ℕ} (ok : Accepted s) where
             let z : x .idle ≡ c = h .scoped .idle ∙ ap idleNumber e in
             absurd (omega (arith, z, few-clauses, lowest-some (λ d. not (hasLeaf d (rawTree s))) 0 (clauses s) c e .to))
 
-    pub whole : bindings + sum (λ c. leafBindings w (getD (x .leaf) c 0)) 0 (clauses s) ≤ bindingsMost → clausesMost ≤ x .idle → Whole s w nodes cases x
+    pub whole : length (bindingsIn (rawTree s)) + hoistBindings s ≤ bindingsMost → clausesMost ≤ x .idle → Whole s w nodes cases x
     whole fit l = record {
       long = h .long;
       nodes-are = h .nodes-are;
       nodes-fit = h .nodes-fit;
       cases-are = h .cases-are;
-      bindings-fit = omega (arith, all-bindings (sum (λ c. leafBindings w (getD (x .leaf) c 0)) 0 (clauses s)) refl);
+      bindings-fit = fit;
       busy = none-idle l;
       held = h .held;
       scoped = h .scoped;
@@ -284,6 +298,15 @@ module _ {s : List ℕ} (ok : Accepted s) where
     unfolding writing-asked raw-ready
     is-written before after r f = rw hoisted-is at (f writing-asked)
 
+    -- the same of a number of clauses that is the sheet's
+    pub asked-at : (n : ℕ) → n ≡ clauses s → WritingAsked w nodes cases x n
+    asked-at n e = subst (λ k. WritingAsked w nodes cases x k) (sym e) writing-asked
+
+    pub written-at : (n : ℕ) → n ≡ clauses s → (before after : List ℕ) (r : Tops)
+        → ((a : WritingAsked w nodes cases x n) → Written (a .ready .table) (hoistAll n (a .tree)) before after r) → Written (sheetPaths s) (sheetTree s) before after r
+    written-at n e before after r f =
+        is-written before after r (subst (λ k. (a : WritingAsked w nodes cases x k) → Written (a .ready .table) (hoistAll k (a .tree)) before after r) e f)
+
     builds : verdict s ≡ accepted → Builds s
     builds v = record { sheet = v; tree = none-refused s (h .nodes-fit) (h .bindings-fit) (h .busy) }
 
@@ -312,6 +335,16 @@ module _ {s : List ℕ} (ok : Accepted s) where
       paths-start : pathsFromTops r ≡ bindingsFromTops r + bindingSize * length (bindingsIn (sheetTree s))
       paths-start = ap (λ n. bindingsFromTops r + bindingSize * n) (f .bindings-are)
 
+      -- 12 and 13 bound what is written
+      pub nodes-written : r .nodes ≤ nodesMost
+      nodes-written = omega (arith, f .nodes-are, whole-nodes s, h .nodes-fit)
+
+      pub cases-written : r .cases ≤ nodesMost
+      cases-written = omega (arith, f .cases-are, fewer-cases, whole-nodes s, h .nodes-fit)
+
+      pub bindings-written : r .bindings ≤ bindingsMost
+      bindings-written = omega (arith, f .bindings-are, whole-bindings s, h .bindings-fit)
+
       small : length (sheetTreeFile s) < treeRoom
       small = sheet-file-small s (builds v)
 
@@ -322,16 +355,29 @@ module _ {s : List ℕ} (ok : Accepted s) where
           tail-ready (sheetTree s) ch tabled (record { inside = f .classes-inside; known = λ i l. omega (arith, f .classes-known i l, length-paths s) }) table-is (casesFromTops r)
           (bindingsFromTops r) (pathsFromTops r) cases-start bindings-start paths-start small room
 
-      -- THEOREM: the file is written, and the answer tells it
-      pub file-written : (after : List ℕ) (end : ℕ) → tree ≡ zeros (length tree) → treeRoom ≤ length tree
-          → Puts middle after (pathsFromTops r) end (tailBytes (pool s) (usedPaths s (r .uses .list) 0 (r .uses .count)) (casesFromTops r) (bindingsFromTops r) (pathsFromTops r))
-          → Gives s (treeEnd s) tree after (BuiltAs end (r .nodes) (r .bindings))
-      unfolding sheetTreeFile builtOf frontBytes
-      file-written after end clear room puts =
-          let front : middle ≡ stored tree 0 (frontBytes (usedPaths s (r .uses .list) 0 (r .uses .count)) (sheetTree s)) = f .bytes-are ∙ ap (λ (p : List Path). stored tree 0 (frontBytes p (sheetTree s))) (sym table-is) in
-          let done =
+      front-is : middle ≡ stored tree 0 (frontBytes (usedPaths s (r .uses .list) 0 (r .uses .count)) (sheetTree s))
+      unfolding frontBytes
+      front-is = f .bytes-are ∙ ap (λ (p : List Path). stored tree 0 (frontBytes p (sheetTree s))) (sym table-is)
+
+      -- the tail behind the bindings
+      abbrev pub tailOf : List ℕ
+      tailOf = tailBytes (pool s) (usedPaths s (r .uses .list) 0 (r .uses .count)) (casesFromTops r) (bindingsFromTops r) (pathsFromTops r)
+
+      file-stands : (after : List ℕ) (end : ℕ) → Puts middle after (pathsFromTops r) end tailOf → Puts tree after 0 end (treeFile (pool s) (sheetTree s))
+      file-stands after end puts =
           file-put (pool s) (sheetTree s) (usedPaths s (r .uses .list) 0 (r .uses .count)) table-is (casesFromTops r) (bindingsFromTops r) (pathsFromTops r) cases-start bindings-start paths-start
-          front puts in
+          front-is puts
+
+      pub end-small : (after : List ℕ) (end : ℕ) → Puts middle after (pathsFromTops r) end tailOf → end < treeRoom
+      unfolding sheetTreeFile
+      end-small after end puts = omega (arith, file-stands after end puts .is-end, small)
+
+      -- THEOREM: the file is written, and the answer tells it
+      pub file-written : (after : List ℕ) (end : ℕ) → tree ≡ zeros (length tree) → treeRoom ≤ length tree → Puts middle after (pathsFromTops r) end tailOf
+          → Gives s (treeEnd s) tree after (BuiltAs end (r .nodes) (r .bindings))
+      unfolding sheetTreeFile builtOf
+      file-written after end clear room puts =
+          let done = file-stands after end puts in
           let answered = end-built s (h .nodes-fit) (h .bindings-fit) (h .busy) in
           let told : end ≡ length (treeFile (pool s) (sheetTree s)) = omega (arith, done .is-end) in
           record {

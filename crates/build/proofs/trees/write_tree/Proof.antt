@@ -1,62 +1,132 @@
+-- `build::trees::write_tree` meets its contract: what is written is the file of the sheet's tree.
+use mathlib.Core.Path.{_≡_, sym, ap, _∙_}
+use mathlib.Core.List.{List}
+use Prim.Native.Nat.{ℕ}
+use native.Mathlib.Omega.{arith}
+use Rattle.rules.specs.Hoisting.{hoistAll}
+use Rattle.rules.specs.Calls.{sheetTree}
+use Rattle.table.specs.Standing.{sheetPaths}
+use Rattle.writing.specs.declared.nodes.Tops.{Tops}
+use Rattle.writing.specs.Written.{WritingAsked, Written}
+use Rattle.facts.specs.SheetFacts.{Accepted, accepted-sheet}
+use Rattle.sheet.specs.SectionsLaws.{Mapped, mapped}
+use Rattle.build.specs.RawLaws.{asked-at, written-at, nodes-written, cases-written, bindings-written, tail-is-ready, end-small, file-written}
 use borrow.Author.Needs.{needs}
 use Rattle.build.proofs.trees.write_tree.Statement.{statement}
 use Rattle.build.proofs.trees.write_tree.Tie as tie
-use Rattle.build.proofs.trees.write_tree.Reads as reads
-use Rattle.build.proofs.trees.write_tree.Lts as lts
-use Rattle.paths.proofs.put_tail.Reads as put-tail-reads
-use Rattle.writing.proofs.write_nodes.Reads as write-nodes-reads
 
--- src/trees.rt:55:9
+ok : (c : tie.Start) → Accepted (c .args .s .now)
+ok c = accepted-sheet (c .args .s .now) (c .pre .0 .0 .verdict)
+
+-- the map's own numbers
+its : (c : tie.Start) → Mapped (c .args .s .now) (c .args .m)
+its c = mapped (c .args .s .now) (c .args .m) (c .pre .0 .0 .map)
+
+-- what is written so far: the three sections of the sheet's tree
+told : (c : tie.Start) (middle : List ℕ) (r : Tops)
+    → ((a : WritingAsked (c .args .w .now) (c .args .nodes) (c .args .cases) (c .args .x) (c .args .m .counts .clauses)) → Written (a .ready .table) (hoistAll (c .args .m .counts .clauses) (a .tree)) (c .args .tree .now) middle r)
+    → Written (sheetPaths (c .args .s .now)) (sheetTree (c .args .s .now)) (c .args .tree .now) middle r
+told c middle r e = written-at (ok c) _ _ _ _ (c .pre .0 .2) _ (its c .of-clauses) _ middle r e
+
 write-nodes-requires : tie.Need-write-nodes-requires
-write-nodes-requires c κs = ?
+write-nodes-requires c κs =
+    let s = c .before .before .before .before .before in
+    (asked-at (ok s) _ _ _ _ (s .pre .0 .2) _ (its s .of-clauses), s .pre .1 .0)
 
--- src/trees.rt:59:18
 mul-second : tie.Need-mul-second
-mul-second c = ?
+mul-second c =
+    let s = c .before .before .before .before .before .before .before .before .before .before .before in
+    let f = told s _ (c .before .before .before .before .before .write-nodes .result) (c .before .before .before .before .before .write-nodes .ensures) in
+    let v = s .pre .0 .0 .verdict in
+    let a = nodes-written (ok s) _ _ _ _ (s .pre .0 .2) v _ _ _ f in
+    let b = cases-written (ok s) _ _ _ _ (s .pre .0 .2) v _ _ _ f in
+    let d = bindings-written (ok s) _ _ _ _ (s .pre .0 .2) v _ _ _ f in
+    omega (arith, a)
 
--- src/trees.rt:60:26
 mul-third : tie.Need-mul-third
-mul-third c = ?
+mul-third c =
+    let s = c .before .before .before .before .before .before .before .before .before .before .before .before in
+    let f = told s _ (c .before .before .before .before .before .before .write-nodes .result) (c .before .before .before .before .before .before .write-nodes .ensures) in
+    let v = s .pre .0 .0 .verdict in
+    let a = nodes-written (ok s) _ _ _ _ (s .pre .0 .2) v _ _ _ f in
+    let b = cases-written (ok s) _ _ _ _ (s .pre .0 .2) v _ _ _ f in
+    let d = bindings-written (ok s) _ _ _ _ (s .pre .0 .2) v _ _ _ f in
+    omega (arith, b)
 
--- src/trees.rt:60:17
 add-third : tie.Need-add-third
-add-third c = ?
+add-third c =
+    let s = c .before .before .before .before .before .before .before .before .before .before .before .before in
+    let f = told s _ (c .before .before .before .before .before .before .write-nodes .result) (c .before .before .before .before .before .before .write-nodes .ensures) in
+    let v = s .pre .0 .0 .verdict in
+    let a = nodes-written (ok s) _ _ _ _ (s .pre .0 .2) v _ _ _ f in
+    let b = cases-written (ok s) _ _ _ _ (s .pre .0 .2) v _ _ _ f in
+    let d = bindings-written (ok s) _ _ _ _ (s .pre .0 .2) v _ _ _ f in
+    omega (arith, a, b)
 
--- src/trees.rt:61:26
 mul-fourth : tie.Need-mul-fourth
-mul-fourth c = ?
+mul-fourth c =
+    let s = c .before .before .before .before .before .before .before .before .before .before .before .before .before in
+    let f = told s _ (c .before .before .before .before .before .before .before .write-nodes .result) (c .before .before .before .before .before .before .before .write-nodes .ensures) in
+    let v = s .pre .0 .0 .verdict in
+    let a = nodes-written (ok s) _ _ _ _ (s .pre .0 .2) v _ _ _ f in
+    let b = cases-written (ok s) _ _ _ _ (s .pre .0 .2) v _ _ _ f in
+    let d = bindings-written (ok s) _ _ _ _ (s .pre .0 .2) v _ _ _ f in
+    omega (arith, d)
 
--- src/trees.rt:61:18
 add-fourth : tie.Need-add-fourth
-add-fourth c = ?
+add-fourth c =
+    let s = c .before .before .before .before .before .before .before .before .before .before .before .before .before in
+    let f = told s _ (c .before .before .before .before .before .before .before .write-nodes .result) (c .before .before .before .before .before .before .before .write-nodes .ensures) in
+    let v = s .pre .0 .0 .verdict in
+    let a = nodes-written (ok s) _ _ _ _ (s .pre .0 .2) v _ _ _ f in
+    let b = cases-written (ok s) _ _ _ _ (s .pre .0 .2) v _ _ _ f in
+    let d = bindings-written (ok s) _ _ _ _ (s .pre .0 .2) v _ _ _ f in
+    omega (arith, a, b, d)
 
--- src/trees.rt:62:33
 slice-aggregate-put-tail : tie.Need-slice-aggregate-put-tail
-slice-aggregate-put-tail c = ?
+slice-aggregate-put-tail c = sym (told (c .before .before .before .before .before .before .before .before .before .before .before .before .before .before) _ (c .before .before .before .before .before .before .before .before .write-nodes .result) (c .before .before .before .before .before .before .before .before .write-nodes .ensures) .list-long)
 
--- src/trees.rt:62:9
 put-tail-requires : tie.Need-put-tail-requires
-put-tail-requires c κs = ?
+put-tail-requires c κs =
+    let s = c .before .before .before .before .before .before .before .before .before .before .before .before .before .before .before in
+    let f = told s _ (c .before .before .before .before .before .before .before .before .before .write-nodes .result) (c .before .before .before .before .before .before .before .before .before .write-nodes .ensures) in
+    tail-is-ready (ok s) _ _ _ _ (s .pre .0 .2) (s .pre .0 .0 .verdict) _ _ _ f (s .args .m) (s .args .t .now) (record { is-map = s .pre .0 .0 .map; ok = ok s }) (s .pre .0 .1) (omega (arith, s .pre .1 .0, c .before .before .before .before .before .before .before .before .before .write-nodes .kept .1 .1 .1 .1 .1 .0))
 
--- src/trees.rt:64:17
 cast-t24 : tie.Need-cast-t24
-cast-t24 c = ?
+cast-t24 c =
+    let s = c .before .before .before .before .before .before .before .before .before .before .before .before .before .before .before .before .before .before in
+    let f = told s _ (c .before .before .before .before .before .before .before .before .before .before .before .before .write-nodes .result) (c .before .before .before .before .before .before .before .before .before .before .before .before .write-nodes .ensures) in
+    let e = end-small (ok s) _ _ _ _ (s .pre .0 .2) (s .pre .0 .0 .verdict) _ _ _ f _ _ (c .before .before .put-tail .ensures) in
+    omega (arith, e)
 
--- src/trees.rt:65:16
 cast-t25 : tie.Need-cast-t25
-cast-t25 c = ?
+cast-t25 c =
+    let s = c .before .before .before .before .before .before .before .before .before .before .before .before .before .before .before .before .before .before .before in
+    let f = told s _ (c .before .before .before .before .before .before .before .before .before .before .before .before .before .write-nodes .result) (c .before .before .before .before .before .before .before .before .before .before .before .before .before .write-nodes .ensures) in
+    let v = s .pre .0 .0 .verdict in
+    let a = nodes-written (ok s) _ _ _ _ (s .pre .0 .2) v _ _ _ f in
+    let b = cases-written (ok s) _ _ _ _ (s .pre .0 .2) v _ _ _ f in
+    let d = bindings-written (ok s) _ _ _ _ (s .pre .0 .2) v _ _ _ f in
+    omega (arith, a)
 
--- src/trees.rt:66:19
 cast-t26 : tie.Need-cast-t26
-cast-t26 c = ?
+cast-t26 c =
+    let s = c .before .before .before .before .before .before .before .before .before .before .before .before .before .before .before .before .before .before .before .before in
+    let f = told s _ (c .before .before .before .before .before .before .before .before .before .before .before .before .before .before .write-nodes .result) (c .before .before .before .before .before .before .before .before .before .before .before .before .before .before .write-nodes .ensures) in
+    let v = s .pre .0 .0 .verdict in
+    let a = nodes-written (ok s) _ _ _ _ (s .pre .0 .2) v _ _ _ f in
+    let b = cases-written (ok s) _ _ _ _ (s .pre .0 .2) v _ _ _ f in
+    let d = bindings-written (ok s) _ _ _ _ (s .pre .0 .2) v _ _ _ f in
+    omega (arith, d)
 
--- src/trees.rt:41:1
 same-length : tie.Need-same-length
 same-length c = search needs
 
--- src/trees.rt:41:1
 returns : tie.Need-returns
-returns c = ?
+returns c =
+    let s = c .before .before .before .before .before .before .before .before .before .before .before .before .before .before .before .before .before .before .before .before in
+    let f = told s _ (c .before .before .before .before .before .before .before .before .before .before .before .before .before .before .write-nodes .result) (c .before .before .before .before .before .before .before .before .before .before .before .before .before .before .write-nodes .ensures) in
+    file-written (ok s) _ _ _ _ (s .pre .0 .2) (s .pre .0 .0 .verdict) _ _ _ f _ _ (s .pre .1 .1) (s .pre .1 .0) (c .before .before .before .before .put-tail .ensures)
 
 pub write-tree-spec : {M : Type 1} → statement M
 write-tree-spec =
