@@ -1,7 +1,9 @@
 // A matrix of rules 2 to 4 by value: its rows by clause, its columns by class, the columns tested so far and when each test was opened.
 // Counting and choosing a column are in rows, putting columns in order in columns, the matrices themselves in splitting.
 pub mod columns;
+pub mod covering;
 pub mod rows;
+pub mod splitting;
 
 ghost use mathlib.Core.Path.{_≡_};
 
@@ -15,15 +17,6 @@ pub enum Held {
 pub enum Choice {
     Column(usize),
     Leaf,
-}
-
-// A case's test; a text by where it is in the pool.
-pub enum CaseTest {
-    Constr(u16),
-    Int { start: u16, len: u16 },
-    Bytes { start: u16, len: u16 },
-    List(u16),
-    Tailed(u16),
 }
 
 // Numbers, at most one for each row.

@@ -11,16 +11,16 @@ use Rattle.matrix.proofs.columns.insert.Reads as reads
 use Rattle.matrix.proofs.columns.insert.Lts as lts
 
 abbrev Inv-loop : tie.InvT-loop
-Inv-loop o at class list₀ i₀ list i = (at ≤ i) × (i ≤ o .count) × (length list ≡ 192) × (list ≡ shifted (o .list) (o .count) i)
+Inv-loop o place class list₀ i₀ list i = (place ≤ i) × (i ≤ o .count) × (length list ≡ 192) × (list ≡ shifted (o .list) (o .count) i)
 
 abbrev μ-loop : tie.MeasureT-loop
-μ-loop o at class list₀ i₀ list i = i
+μ-loop o place class list₀ i₀ list i = i
 
 -- src/columns.rt:18:5
 loop-holds : tie.Need-loop-holds Inv-loop μ-loop
 loop-holds c =
     let a = c .before .args in
-    (search needs, search needs, search needs, shifted-none (a .o .list) (a .o .count) (omega (arith, c .before .pre)))
+    (search needs, search needs, c .before .pre .0 .long, shifted-none (a .o .list) (a .o .count) (omega (arith, c .before .pre)))
 
 -- src/columns.rt:19:24
 sub-list : tie.Need-sub-list Inv-loop μ-loop
@@ -69,11 +69,12 @@ add-t17 c = search needs
 returns : tie.Need-returns Inv-loop μ-loop
 returns c =
     let a = c .before .before .before .before .args in
+    let s = c .before .before .before .before .pre in
     let l = c .before .before .loop in
     record {
       long = simp length-set (l .inv .2);
-      count = refl;
-      classes = shift-end (l .list) (a .o .list) (a .o .count) (l .i) (a .at) (a .class) (l .inv .3) (omega (arith, c .before .before .before .before .pre)) (omega arith) (omega (arith, c .before .before .before .before .pre));
+      most = omega (arith, s);
+      are = shift-end (l .list) (a .o .list) (a .o .count) (l .i) (a .place) (a .class) (l .inv .3) (omega (arith, s)) (omega arith) (omega (arith, s));
     }
 
 pub insert-spec : {M : Type 1} → statement M

@@ -22,7 +22,7 @@ abbrev μ-loop : tie.MeasureT-loop
 
 -- src/columns.rt:35:5
 loop-holds : tie.Need-loop-holds Inv-loop μ-loop
-loop-holds c = (search needs, search needs, search needs, search needs, refl)
+loop-holds c = (search needs, search needs, search needs, c .before .pre .0 .0 .long, refl)
 
 -- src/columns.rt:36:23
 element-copy-out-list : tie.Need-element-copy-out-list Inv-loop μ-loop
@@ -66,8 +66,8 @@ returns c =
     let l = c .before .loop in
     record {
       long = l .inv .3;
-      count = omega (arith, l .inv, s .pre, length-slice (a .from) (a .to) (a .t2 .list) (omega (arith, s .pre)));
-      classes =
+      most = omega (arith, l .inv, s .pre);
+      are =
           part-all (l .list) (a .t2 .list) (take (a .o .count) (a .o .list) ++ slice (a .from) (a .to) (a .t2 .list)) (l .count) (l .i) (a .to)
           (omega (arith, l .inv)) (l .inv .4);
     }
