@@ -45,6 +45,8 @@ use Rattle.scopes.specs.NumbersLaws.{descent-in}
 use Rattle.scopes.specs.Scoped.{Scoped}
 use Rattle.scopes.specs.FirstLeafLaws.{counts-each}
 use Rattle.scopes.specs.WriterLaws.{ready-held, scoped-leaf}
+use Rattle.building.specs.declared.tops.Tops.{Tops as BuildingTops}
+use Rattle.building.specs.Raw.{Raw as BuildingRaw}
 use Rattle.writing.specs.declared.nodes.Tops.{Tops}
 use Rattle.writing.specs.Uses.{classesIn}
 use Rattle.writing.specs.Written.{WritingAsked, Written}
@@ -207,6 +209,18 @@ module _ {s : List ℕ} (ok : Accepted s) where
         held = r .held most;
         scoped = found-scopes w (r .long) (r .nodes-most) most (r .held most) nodes (r .nodes-are) x (subst (λ k. (h : ReadyWith w nodes) → Scoped (h .tree) k x) is found);
       }
+
+  -- what building answers, where the tree fits
+  pub raw-built : (w : List ℕ) (tops : BuildingTops) → arenaEnd ≤ length w → BuildingRaw s w tops → Raw s w (tops .nodes) (tops .cases) (tops .bindings) (tops .leaves)
+  raw-built w tops long r = record {
+    long = long;
+    nodes-are = r .nodes;
+    nodes-most = r .nodes-most;
+    cases-are = r .cases;
+    bindings-are = r .bindings;
+    leaves-are = r .leaves;
+    held = r .held;
+  }
 
   -- the hoists that were counted
   pub hoists-counted : (w : List ℕ) (nodes cases bindings : ℕ) (leaves : List ℕ) → Raw s w nodes cases bindings leaves → (n more : ℕ) → n ≡ clauses s

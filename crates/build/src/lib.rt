@@ -1,7 +1,6 @@
 // The build call: the tree of a sheet, written as its file, or the refusal; refusals 1, 2 to 11, 12 to 14 of document 01.
 // Its contract says its one answer and every byte of both buffers, for every byte string and every pair of buffers.
 use sheet::Checked;
-use sheet::Map;
 use words::zero_all;
 ghost use mathlib.Core.Path.{_≡_};
 ghost use Prim.Native.Nat.{_≤_};
@@ -9,12 +8,12 @@ ghost use lib.ListN.{length};
 ghost use Rattle.words.specs.Words.{zeros};
 ghost use Rattle.rules.specs.Limits.{treeRoom, workRoom};
 ghost use Rattle.rules.specs.Calls.{buildCall, buildAnswer};
-ghost use Rattle.panel.specs.Answers.{SheetAccepts};
-ghost use Rattle.build.specs.Answers.{callOf, Gives, treeEnd};
+ghost use Rattle.build.specs.Answers.{callOf, Gives};
 
 mod counts;
 mod trees;
 
+use trees::build_tree;
 
 // The least tree and work buffers, in bytes.
 pub const ROOM: usize = 65536;
@@ -29,14 +28,6 @@ pub enum Built {
         number: u16,
         place: u16,
     },
-}
-
-// stand-in until building is merged
-fn build_tree(s: &[u8], m: Map, tree: &mut [u8], work: &mut [u8]) -> Built
-    requires { ⌜ SheetAccepts (now s) m × (treeRoom ≤ length (now tree)) × (workRoom ≤ length (now work)) × (now tree ≡ zeros (length (now tree))) ⌝ }
-    ensures { λ r. ⌜ Gives (now (s .entry)) (treeEnd (now (s .entry))) (now (tree .entry)) (now (tree .exit)) r ⌝ }
-{
-    Built::Refused { number: 12, place: 0 }
 }
 
 // On buffers that are large enough, the tree's all zero.

@@ -3,16 +3,18 @@
 use crate::Built;
 use crate::counts::hoist_bindings;
 use crate::counts::hoists;
+use building::raw;
 use paths::put_tail;
 use scopes::Scopes;
 use scopes::get_hoist_paths;
 use sheet::Map;
+use table::fill;
 use writing::write_nodes;
 ghost use mathlib.Core.Path.{_≡_};
 ghost use Prim.Native.Nat.{_≤_};
 ghost use lib.ListN.{length};
 ghost use Rattle.words.specs.Words.{zeros};
-ghost use Rattle.rules.specs.Limits.{treeRoom};
+ghost use Rattle.rules.specs.Limits.{treeRoom, workRoom};
 ghost use Rattle.panel.specs.Answers.{SheetAccepts};
 ghost use Rattle.table.specs.Tabled.{Tabled};
 ghost use Rattle.build.specs.Answers.{Gives, treeEnd};
@@ -123,4 +125,30 @@ pub fn finish(
     }
     let x = get_hoist_paths(w, nodes, clauses);
     write_hoisted(s, m, t, w, nodes, cases, bindings, x, tree)
+}
+
+// The tree of an accepted sheet, on buffers that are large enough, the tree's all zero.
+pub fn build_tree(s: &[u8], m: Map, tree: &mut [u8], work: &mut [u8]) -> Built
+    requires { ⌜ SheetAccepts (now s) m × (treeRoom ≤ length (now tree)) × (workRoom ≤ length (now work)) × (now tree ≡ zeros (length (now tree))) ⌝ }
+    ensures { λ r. ⌜ Gives (now (s .entry)) (treeEnd (now (s .entry))) (now (tree .entry)) (now (tree .exit)) r ⌝ }
+{
+    let mut t = [0u8; 9984];
+    fill(s, m, &mut t);
+    let built = raw::build_tree(s, m, &t, work);
+    if !built.fits {
+        return refused(12);
+    }
+    let tops = built.tops;
+    let leaves = tops.leaves;
+    finish(
+        s,
+        m,
+        &t,
+        work,
+        tops.nodes,
+        tops.cases,
+        tops.bindings,
+        leaves,
+        tree,
+    )
 }
