@@ -43,6 +43,7 @@ pub record Written (table : List Path) (hoisted : Tree) (before after : List ℕ
   pub cases-are : r .cases ≡ casesIn hoisted
   pub bindings-are : r .bindings ≡ length (bindingsIn hoisted)
   pub paths-count : r .uses .count ≡ length (pathTable hoisted)
+  pub list-long : length (r .uses .list) ≡ patternsMost
   pub classes-inside : r .uses .count ≤ length (r .uses .list)
   pub classes-known : (i : ℕ) → i < r .uses .count → getD (r .uses .list) i 0 < length table
   pub paths-are : (path : ℕ → Path) → ((c : ℕ) → c < length table → path c ≡ getD table c []) → map path (classesIn (r .uses)) ≡ pathTable hoisted

@@ -408,6 +408,7 @@ module _ (w : List ℕ) (nodes cases : ℕ) (x : Scopes) (clauses : ℕ) (h : Wr
         cases-are = ap (λ z. z .tops .cases) q ∙ zero-add (casesIn whole);
         bindings-are = ap (λ z. z .tops .bindings) q ∙ zero-add (length (bindingsIn whole));
         paths-count = stand-count all (h .short) (r .uses) table s;
+        list-long = s .counted .list-long;
         classes-inside = list-inside all (h .short) (r .uses) table s table-covered;
         classes-known = list-known all (h .short) (r .uses) table s table-covered;
         paths-are = λ path f. ap (map path) (s .classes) ∙ paths-of-classes all path f table table-covered;
