@@ -163,7 +163,7 @@ module _ {s : List ℕ} (sh : Shaped s) (few : Counted s) where
       (λ c h. rw (root-step sh c h))
       (λ p j h o ih. rw (child-step sh p j h o, child-index sh p j h o, child-above sh p j h o) (stepTo-made s p (typeOf s p) (j - patternFirst s p) (kindOf s p)))
 
-  step-steps : (p : ℕ) → p < patterns s → (step : Step) → stepOf s p ≡ some step → Steps (indexOf s p) (typeOf s (aboveOf s p)) step
+  pub step-steps : (p : ℕ) → p < patterns s → (step : Step) → stepOf s p ≡ some step → Steps (indexOf s p) (typeOf s (aboveOf s p)) step
   step-steps =
       by-standing sh (λ p. (step : Step) → stepOf s p ≡ some step → Steps (indexOf s p) (typeOf s (aboveOf s p)) step)
       (λ c h step e. absurd (none-some step (sym (root-step sh c h) ∙ e)))

@@ -19,7 +19,7 @@ use Rattle.facts.specs.SheetFacts.{Counted, Owns, Shaped, owns-listed, listed-o
 use Rattle.table.specs.Standing.{Standing, kindOf, stepTo, typeTo, follows, rootStanding, childStanding, entryOf, holderOf, standingTo, standing, clauseOf, pathOf, typeOf, ownerOf, isTest, parentOf, aboveOf, indexOf, stepOf}
 
 -- the answer of a search that only one number can be
-only-lowest : (f : ℕ → Bool) (n k : ℕ) → k < n → f k ≡ true → ((j : ℕ) → j < n → f j ≡ true → j ≡ k) → lowest f 0 n ≡ some k
+pub only-lowest : (f : ℕ → Bool) (n k : ℕ) → k < n → f k ≡ true → ((j : ℕ) → j < n → f j ≡ true → j ≡ k) → lowest f 0 n ≡ some k
 only-lowest f n k h e one = go (lowest f 0 n) refl
   where
     go : (found : Option ℕ) → lowest f 0 n ≡ found → lowest f 0 n ≡ some k
