@@ -10,7 +10,7 @@ use mathlib.Core.Logic.{_↔_}
 use mathlib.Core.List.{List, [], _++_}
 use Prim.Native.Nat.{ℕ, _-_, _<_, _≤_}
 use lib.ListN.{length}
-use Rattle.words.specs.Words.{zeros}
+use Rattle.words.specs.Words.{textAt, zeros}
 use Rattle.rules.specs.Limits.{nodesMost, bindingsMost}
 use Rattle.rules.specs.SearchingLaws.{Lowest}
 use Rattle.rules.specs.SheetFile.{types, patterns, clauses}
@@ -19,14 +19,14 @@ use Rattle.rules.specs.PanelFile.{panelVerdict, panelLengthFits, panelLayoutFit
 use Rattle.rules.specs.Building.{Tree}
 use Rattle.rules.specs.Hoisting.{hasLeaf, nodesIn, bindingsIn}
 use Rattle.rules.specs.Calls.{Answer, answers, refuses, treeVerdict, BuildCall, buildAnswer, buildCall, fitCall, WalkCall, walkAnswer, walkCall, textCall, textPart, partOfSpan}
-use Rattle.meaning.specs.Said.{Passes2, Passes3, Passes4, Passes5, Passes6, Passes7, Passes8, Passes9, Passes10, Passes12, Passes13, Passes21, Passes22, Passes23}
+use Rattle.meaning.specs.Said.{Passes2, Passes3, Passes4, Passes5, Passes6, Passes7, Passes8, Passes9, Passes10, Passes11, Passes12, Passes13, Passes14, Passes21, Passes22, Passes23, Passes24}
 use Rattle.meaning.specs.CallsLaws.{build-refused-writes, walk-refused-writes}
-use Rattle.meaning.specs.Theorems.{refused-2-exactly, refused-3-exactly, refused-4-exactly, refused-5-exactly, refused-6-exactly, refused-7-exactly, refused-8-exactly, refused-9-exactly, refused-10-exactly, refused-11-exactly, refused-12-exactly, refused-13-exactly, refused-21-exactly, refused-22-exactly, refused-23-exactly, refused-24-exactly}
+use Rattle.meaning.specs.Theorems.{accepted-exactly, tree-accepted-exactly, panel-accepted-exactly, refused-2-exactly, refused-3-exactly, refused-4-exactly, refused-5-exactly, refused-6-exactly, refused-7-exactly, refused-8-exactly, refused-9-exactly, refused-10-exactly, refused-11-exactly, refused-12-exactly, refused-13-exactly, refused-21-exactly, refused-22-exactly, refused-23-exactly, refused-24-exactly}
 use Rattle.meaning.specs.Refusals.{refusal-14}
 use Rattle.panel.specs.declared.Fitted.{Fitted}
 use Rattle.panel.specs.declared.Fitted.the-variants.{Refused as NotFitted}
 use Rattle.panel.specs.declared.Located.{Located}
-use Rattle.panel.specs.declared.Located.the-variants.{Refused as NotLocated}
+use Rattle.panel.specs.declared.Located.the-variants.{At as LocatedAt, Refused as NotLocated}
 use Rattle.walk.specs.declared.Walked.{Walked}
 use Rattle.walk.specs.declared.Walked.the-variants.{Refused as NotWalked}
 use Rattle.walk.specs.Answers.{answerOf as walkAnswerOf}
@@ -34,7 +34,7 @@ use Rattle.build.specs.declared.Built.{Built}
 use Rattle.build.specs.declared.Built.the-variants.{Refused as NotBuilt}
 use Rattle.build.specs.Answers.{answerOf as buildAnswerOf}
 use Rattle.dewmycel.specs.Answers.{verdictOf, spanOf}
-use Rattle.demands.specs.Contracts.{BuildFits, FitFits, WalkFits, TextFits}
+use Rattle.dewmycel.specs.Contracts.{BuildFits, FitFits, WalkFits, TextFits, PartFits}
 use Rattle.demands.specs.OneAnswer.{build-known, fit-known, walk-known, text-known}
 use Rattle.demands.specs.Reasons.{BuildRefuses, FitRefuses, WalkRefuses, TextRefuses}
 use Rattle.demands.specs.ReasonsLaws.{build-reason, reason-build, fit-reason, reason-fit, walk-reason, reason-walk, text-reason, reason-text}
@@ -87,10 +87,15 @@ module _ (v : List ℕ) (at dropped : ℕ) (r : Located) (fits : TextFits v at d
     λ o. text-known r (NotLocated number place) (fits ∙ reason-text v at dropped number place o),
   )
 
-  -- the part that the twin returns is then empty
-  pub text-refused-is-empty : (number place : ℕ) → r ≡ NotLocated number place → textPart v at dropped ≡ []
-  unfolding textPart partOfSpan
-  text-refused-is-empty number place e = rw (sym fits ∙ ap spanOf e)
+  -- the part that the twin returns is then empty, and else the text that the call tells
+  module _ (part : List ℕ) (twin : PartFits v at dropped part) where
+    pub text-refused-is-empty : (number place : ℕ) → r ≡ NotLocated number place → part ≡ []
+    unfolding textPart partOfSpan
+    text-refused-is-empty number place e = twin ∙ rw (sym fits ∙ ap spanOf e)
+
+    pub text-told-is-the-part : (start count : ℕ) → r ≡ LocatedAt start count → part ≡ textAt v start count
+    unfolding textPart partOfSpan
+    text-told-is-the-part start count e = twin ∙ rw (sym fits ∙ ap spanOf e)
 
 -- ======== the numbers of a sheet: each exactly if the tests before it hold and its own does not; its place is 0 or the lowest
 pub record SheetNumbers (s : List ℕ) : Type 0 where
@@ -104,6 +109,7 @@ pub record SheetNumbers (s : List ℕ) : Type 0 where
   pub text-9 : (k : ℕ) → (verdict s ≡ refused 9 k) ↔ (Passes8 s × Lowest (badText s) 0 (patterns s) k)
   pub misfit-10 : (k : ℕ) → (verdict s ≡ refused 10 k) ↔ (Passes9 s × Lowest (misfit s) 0 (clauses s) k)
   pub name-twice-11 : (k : ℕ) → (verdict s ≡ refused 11 k) ↔ (Passes10 s × Lowest (nameTwice s) 0 (clauses s) k)
+  pub no-other : (verdict s ≡ accepted) ↔ Passes11 s
 
 pub sheet-numbers-are-exact : (s : List ℕ) → SheetNumbers s
 sheet-numbers-are-exact s = record {
@@ -117,6 +123,7 @@ sheet-numbers-are-exact s = record {
   text-9 = refused-9-exactly s;
   misfit-10 = refused-10-exactly s;
   name-twice-11 = refused-11-exactly s;
+  no-other = accepted-exactly s;
 }
 
 -- of a sheet's tree a, of n clauses
@@ -124,12 +131,14 @@ pub record TreeNumbers (n : ℕ) (a : Tree) : Type 0 where
   pub nodes-12 : (k : ℕ) → (treeVerdict n a ≡ refused 12 k) ↔ ((nodesMost < nodesIn a) × (k ≡ 0))
   pub bindings-13 : (k : ℕ) → (treeVerdict n a ≡ refused 13 k) ↔ (Passes12 a × ((bindingsMost < length (bindingsIn a)) × (k ≡ 0)))
   pub idle-14 : (k : ℕ) → (treeVerdict n a ≡ refused 14 k) ↔ (Passes13 a × Lowest (λ c. not (hasLeaf c a)) 0 n k)
+  pub no-other : (treeVerdict n a ≡ accepted) ↔ Passes14 n a
 
 pub tree-numbers-are-exact : (n : ℕ) (a : Tree) → TreeNumbers n a
 tree-numbers-are-exact n a = record {
   nodes-12 = refused-12-exactly n a;
   bindings-13 = refused-13-exactly n a;
   idle-14 = refusal-14 n a;
+  no-other = tree-accepted-exactly n a;
 }
 
 -- of a panel
@@ -138,6 +147,7 @@ pub record PanelNumbers (v : List ℕ) : Type 0 where
   pub layout-22 : (k : ℕ) → (panelVerdict v ≡ refused 22 k) ↔ (Passes21 v × ((panelLayoutFits v ≡ false) × (k ≡ 0)))
   pub shape-23 : (k : ℕ) → (panelVerdict v ≡ refused 23 k) ↔ (Passes22 v × ((panelShapeFits v ≡ false) × (k ≡ 0)))
   pub text-24 : (k : ℕ) → (panelVerdict v ≡ refused 24 k) ↔ (Passes23 v × ((panelTextsFit v ≡ false) × (k ≡ 0)))
+  pub no-other : (panelVerdict v ≡ accepted) ↔ Passes24 v
 
 pub panel-numbers-are-exact : (v : List ℕ) → PanelNumbers v
 panel-numbers-are-exact v = record {
@@ -145,4 +155,5 @@ panel-numbers-are-exact v = record {
   layout-22 = refused-22-exactly v;
   shape-23 = refused-23-exactly v;
   text-24 = refused-24-exactly v;
+  no-other = panel-accepted-exactly v;
 }

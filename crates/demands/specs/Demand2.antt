@@ -20,7 +20,7 @@ use Rattle.meaning.specs.Theorems.{the-file-fits, the-file-says-the-tree, the-f
 use Rattle.build.specs.declared.Built.{Built}
 use Rattle.build.specs.declared.Built.the-variants.{Tree}
 use Rattle.build.specs.Answers.{answerOf}
-use Rattle.demands.specs.Contracts.{BuildFits}
+use Rattle.dewmycel.specs.Contracts.{BuildFits}
 
 -- what holds of the answer Tree bytes nodes bindings, with these buffers
 pub record IsTheTree (s : List ℕ) (n m : ℕ) (bytes nodeCount bindingCount : ℕ) (tree work : List ℕ) : Type 0 where

@@ -10,6 +10,7 @@ use mathlib.Core.Bool.{Bool, true}
 use mathlib.Core.Logic.{_⊎_, inl, inr}
 use mathlib.Core.List.{List, _++_}
 use Prim.Native.Nat.{ℕ, _-_, _*_, _<_, _≤_}
+use native.Mathlib.Omega.{arith}
 use lib.ListN.{length}
 use Rattle.words.specs.Words.{textAt, zeros}
 use Rattle.rules.specs.Limits.{boundRoom}
@@ -18,21 +19,22 @@ use Rattle.rules.specs.SheetFile.{clauses}
 use Rattle.rules.specs.SheetRefusals.{isIn}
 use Rattle.rules.specs.Patterns.{clausePattern, names}
 use Rattle.rules.specs.Positions.{panelRoot}
+use Rattle.rules.specs.TreeReader.{treeOf}
 use Rattle.rules.specs.Walking.{Bound}
 use Rattle.rules.specs.Meaning.{gives}
-use Rattle.rules.specs.Calls.{Answer, answers, refuses, Built as BuiltTree, BuildCall, buildAnswer, buildCall, WalkCall, walkAnswer, walkCall, boundWords, leafOf, withoutLeaf, sheetTree, sheetTreeFile}
+use Rattle.rules.specs.Calls.{Answer, answers, refuses, Built as BuiltTree, BuildCall, buildAnswer, buildCall, WalkCall, walkAnswer, walkCall, boundWords, walkedWords, leafOf, withoutLeaf, sheetTreeFile}
 use Rattle.hoisting.specs.Trees.{hoistsOf, Above}
 use Rattle.matching.specs.Bindings.{SameUpToOrder}
 use Rattle.meaning.specs.Said.{Builds, Fits, FirstMatch, NoMatch, timesBound}
 use Rattle.meaning.specs.CallsLaws.{build-answers-only, fit-accepts-only, build-file}
-use Rattle.meaning.specs.Theorems.{the-walk-ends-at-the-first-match, the-walk-ends-without-leaf, the-call-answers-the-first-match, the-call-answers-without-leaf, the-call-writes-the-first-match, a-clause-matches-or-none, each-clause-is-hoisted-once, each-clause-is-hoisted-above-its-leaves}
+use Rattle.meaning.specs.Theorems.{the-walk-ends-at-the-first-match, the-walk-ends-without-leaf, the-call-answers-the-first-match, the-call-answers-without-leaf, the-call-writes-the-first-match, a-clause-matches-or-none, the-file-says-the-tree, each-clause-is-hoisted-once, each-clause-is-hoisted-above-its-leaves}
 use Rattle.panel.specs.declared.Fitted.the-variants.{Fits as PanelFits}
 use Rattle.walk.specs.declared.Walked.{Walked}
 use Rattle.walk.specs.declared.Walked.the-variants.{Leaf, NoLeaf}
 use Rattle.walk.specs.Answers.{answerOf}
 use Rattle.build.specs.declared.Built.the-variants.{Tree}
 use Rattle.build.specs.Answers.{answerOf as buildAnswerOf}
-use Rattle.demands.specs.Contracts.{BuildFits, FitFits, WalkFits}
+use Rattle.dewmycel.specs.Contracts.{BuildFits, FitFits, WalkFits}
 use Rattle.demands.specs.OneAnswer.{walk-known}
 
 -- the walk took clause c: so many names, and for each of them (name, record, dropped) in the buffer, each name once, each at the position
@@ -81,22 +83,34 @@ module _ (s v : List ℕ) (n m bytes nodeCount bindingCount : ℕ) (tree work : 
         each-name-once = e .each-name-once;
       }
 
-  -- if none matches, the walk ends without a leaf
-  pub without-a-match-there-is-no-leaf : NoMatch s v → r ≡ NoLeaf
-  without-a-match-there-is-no-leaf none = walk-known r NoLeaf (walk-answer ∙ the-call-answers-without-leaf s v builds fits k room none)
+  no-words : zeros (k - 0) ≡ zeros k
+  no-words = let e : k - 0 ≡ k = omega arith in ap zeros e
+
+  -- if none matches, the walk ends without a leaf, and nothing is bound
+  pub without-a-match-there-is-no-leaf : NoMatch s v → (r ≡ NoLeaf) × (bound ≡ zeros k)
+  unfolding walkCall walkedWords
+  without-a-match-there-is-no-leaf none =
+      let a = the-call-answers-without-leaf s v builds fits k room none in (
+        walk-known r NoLeaf (walk-answer ∙ a),
+        ap (λ (x : WalkCall). x .bound) of-file ∙ rw (a, the-walk-ends-without-leaf s v builds fits none) no-words,
+      )
 
   -- one of the two is the case
-  pub one-of-the-two : ((c : ℕ) × TakesClause s v c k r bound) ⊎ (r ≡ NoLeaf)
+  pub one-of-the-two : ((c : ℕ) × FirstMatch s v c × TakesClause s v c k r bound) ⊎ (NoMatch s v × (r ≡ NoLeaf) × (bound ≡ zeros k))
   one-of-the-two = go (a-clause-matches-or-none s v)
     where
-      go : ((c : ℕ) × FirstMatch s v c) ⊎ NoMatch s v → ((c : ℕ) × TakesClause s v c k r bound) ⊎ (r ≡ NoLeaf)
-      go (inl (c, l)) = inl (c, the-first-match-is-taken c l)
-      go (inr none) = inr (without-a-match-there-is-no-leaf none)
+      go : ((c : ℕ) × FirstMatch s v c) ⊎ NoMatch s v → ((c : ℕ) × FirstMatch s v c × TakesClause s v c k r bound) ⊎ (NoMatch s v × (r ≡ NoLeaf) × (bound ≡ zeros k))
+      go (inl (c, l)) = inl (c, l, the-first-match-is-taken c l)
+      go (inr none) = let w = without-a-match-there-is-no-leaf none in inr (none, w .0, w .1)
 
--- each clause of a sheet whose tree was built is hoisted exactly once, and going down from the root no leaf of it is met before its hoist
+-- in the tree that was written each clause of the sheet is hoisted exactly once, and going down from the root no leaf of it is met before
+-- its hoist
 pub each-clause-is-hoisted : (s : List ℕ) (n m bytes nodeCount bindingCount : ℕ) (tree work : List ℕ) → BuildFits s n m (Tree bytes nodeCount bindingCount) tree work
-    → (c : ℕ) → c < clauses s → (hoistsOf c (sheetTree s) ≡ 1) × Above c (sheetTree s)
+    → (c : ℕ) → c < clauses s → (hoistsOf c (treeOf (textAt tree 0 bytes)) ≡ 1) × Above c (treeOf (textAt tree 0 bytes))
 unfolding buildCall
 each-clause-is-hoisted s n m bytes nodeCount bindingCount tree work built c l =
-    let b = build-answers-only s n m (record { bytes = bytes; nodes = nodeCount; bindings = bindingCount }) (sym (ap (λ (x : BuildCall). x .answer) built)) .builds in
-    (each-clause-is-hoisted-once s b c l, each-clause-is-hoisted-above-its-leaves s b c l)
+    let x : BuiltTree = record { bytes = bytes; nodes = nodeCount; bindings = bindingCount } in
+    let e : buildAnswer s n m ≡ answers x = sym (ap (λ (y : BuildCall). y .answer) built) in
+    let b = build-answers-only s n m x e .builds in
+    let file : textAt tree 0 bytes ≡ sheetTreeFile s = ap (λ (y : BuildCall). textAt (y .tree) 0 bytes) built ∙ build-file s n m x e in
+    rw (file, the-file-says-the-tree s (b .sheet)) (each-clause-is-hoisted-once s b c l, each-clause-is-hoisted-above-its-leaves s b c l)

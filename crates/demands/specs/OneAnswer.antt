@@ -16,7 +16,7 @@ use Rattle.build.specs.declared.Built.{Built}
 use Rattle.build.specs.declared.Built.the-variants.{Tree, Refused as NotBuilt}
 use Rattle.build.specs.Answers.{answerOf as buildAnswerOf}
 use Rattle.dewmycel.specs.Answers.{verdictOf, spanOf}
-use Rattle.demands.specs.Contracts.{BuildFits, FitFits, WalkFits, TextFits}
+use Rattle.dewmycel.specs.Contracts.{BuildFits, FitFits, WalkFits, TextFits, PartFits}
 
 -- ---- an answer of the code's enum is known by the rules' answer
 pub build-known : (r q : Built) → buildAnswerOf r ≡ buildAnswerOf q → r ≡ q
@@ -68,3 +68,6 @@ one-walk t v n r q bound bound' a b =
 
 pub one-text : (v : List ℕ) (place dropped : ℕ) (r q : Located) → TextFits v place dropped r → TextFits v place dropped q → r ≡ q
 one-text v place dropped r q a b = text-known r q (a ∙ sym b)
+
+pub one-part : (v : List ℕ) (place dropped : ℕ) (part part' : List ℕ) → PartFits v place dropped part → PartFits v place dropped part' → part ≡ part'
+one-part v place dropped part part' a b = a ∙ sym b

@@ -14,7 +14,7 @@ use Rattle.rules.specs.Limits.{panelMost, textMost}
 use Rattle.rules.specs.PanelFile.{records, recordKind, recordFirst, recordCount, panelPoolAt, panelPoolSize}
 use Rattle.rules.specs.SheetRefusals.{Verdict, accepted, refused, require}
 use Rattle.rules.specs.PanelFile.{panelVerdict}
-use Rattle.rules.specs.Calls.{Answer, answers, refuses, unless, WalkEnd, leafOf, withoutLeaf, WalkCall, Span, fitCall, textCall, hasText}
+use Rattle.rules.specs.Calls.{Answer, answers, refuses, unless, BuildCall, WalkEnd, leafOf, withoutLeaf, WalkCall, Span, fitCall, textCall, hasText}
 use Rattle.facts.specs.PanelFacts.{PanelAccepted, accepted-panel, panel-text-inside}
 use Rattle.panel.specs.declared.Fitted.{Fitted}
 use Rattle.panel.specs.declared.Fitted.the-variants.{Fits, Refused as NotFitted}
@@ -24,9 +24,12 @@ use Rattle.panel.specs.Answers.{fitted, fittedBy, located, locatedBy}
 use Rattle.walk.specs.declared.Walked.{Walked}
 use Rattle.walk.specs.declared.Walked.the-variants.{Leaf, NoLeaf, Refused as NotWalked}
 use Rattle.walk.specs.Answers.{answerOf, callOf}
+use Rattle.build.specs.declared.Built.{Built}
+use Rattle.build.specs.declared.Built.the-variants.{Tree as BuiltTree, Refused as NotBuilt}
+use Rattle.build.specs.Answers.{answerOf as buildAnswerOf, callOf as buildOf}
 use Rattle.dewmycel.specs.Answers.{verdictOf, spanOf}
-use Rattle.dewmycel.specs.Packed.{packed, packedFit, packedWalk, packedText}
-use Rattle.dewmycel.specs.Face.{WalkFace}
+use Rattle.dewmycel.specs.Packed.{packed, packedBuild, packedFit, packedWalk, packedText}
+use Rattle.dewmycel.specs.Face.{BuildFace, WalkFace}
 
 -- ---- the calls' answers are those of the crates below
 pub fitted-verdict : (s v : List ℕ) (r : Fitted) → r ≡ fitted s v → verdictOf r ≡ fitCall s v
@@ -63,6 +66,22 @@ module _ (r : Located) (a : Answer Span) (is : spanOf r ≡ a) where
   pub no-text-packed : (number place y : ℕ) → r ≡ NotLocated number place → y ≡ packed number place 0 0 → y ≡ packedText a
   unfolding packedText
   no-text-packed number place y e p = p ∙ ap packedText (sym (ap spanOf e) ∙ is)
+
+module _ (r : Built) (tree work : List ℕ) (call : BuildCall) (is : buildOf r tree work ≡ call) where
+  build-face : (y : ℕ) → y ≡ packedBuild (buildAnswerOf r) → BuildFace y tree work call
+  build-face y e = record {
+    answer = e ∙ ap (λ (x : BuildCall). packedBuild (x .answer)) is;
+    tree-bytes = ap (λ (x : BuildCall). x .tree) is;
+    work-bytes = ap (λ (x : BuildCall). x .work) is;
+  }
+
+  pub tree-packed : (bytes nodes bindings y : ℕ) → r ≡ BuiltTree bytes nodes bindings → y ≡ packed 0 bytes nodes bindings → BuildFace y tree work call
+  unfolding packedBuild
+  tree-packed bytes nodes bindings y e p = build-face y (p ∙ ap (λ x. packedBuild (buildAnswerOf x)) (sym e))
+
+  pub unbuilt-packed : (number place y : ℕ) → r ≡ NotBuilt number place → y ≡ packed number place 0 0 → BuildFace y tree work call
+  unfolding packedBuild
+  unbuilt-packed number place y e p = build-face y (p ∙ ap (λ x. packedBuild (buildAnswerOf x)) (sym e))
 
 module _ (r : Walked) (l : List ℕ) (call : WalkCall) (is : callOf r l ≡ call) where
   face : (y : ℕ) → y ≡ packedWalk (answerOf r) → WalkFace y l call

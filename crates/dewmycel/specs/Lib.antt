@@ -1,3 +1,4 @@
+pub mod Contracts
 pub mod Answers
 pub mod Packed
 pub mod Face

@@ -1,21 +1,35 @@
 // The calls for C: each answer in one u64. Bits 0 to 15 are the refusal number, 0 for none; of a refusal bits 16 to 31 are its place.
 // A slice is a pointer and a length; what a caller in C owes is in include/dewmycel.h.
+use build::Built;
 use panel::Fitted;
 use panel::Located;
 use walk::Walked;
 ghost use mathlib.Core.Path.{_≡_};
 ghost use lib.ListN.{length};
-ghost use Prim.Native.Nat.{_<_};
-ghost use Rattle.rules.specs.Calls.{WalkCall, fitCall, walkCall, textCall};
-ghost use Rattle.dewmycel.specs.Packed.{packed, packedFit, packedWalk, packedText};
-ghost use Rattle.dewmycel.specs.Answers.{verdictOf, spanOf};
-ghost use Rattle.dewmycel.specs.Face.{WalkFace};
+ghost use Rattle.rules.specs.Calls.{buildCall, fitCall, walkCall, textCall};
+ghost use Rattle.dewmycel.specs.Packed.{packed, packedFit, packedText};
+ghost use Rattle.dewmycel.specs.Face.{BuildFace, WalkFace};
 
 // Four words in one, the first lowest.
 fn pack(a: u16, b: u16, c: u16, d: u16) -> u64
     ensures { λ r. ⌜ r ≡ packed a b c d ⌝ }
 {
     a as u64 + 65536 * (b as u64) + 4294967296 * (c as u64) + 281474976710656 * (d as u64)
+}
+
+// Built: bits 16 to 31 are the length of the tree file, 32 to 47 its nodes, 48 to 63 its bindings.
+#[no_mangle]
+pub extern "C" fn dewmycel_build(s: &[u8], tree: &mut [u8], work: &mut [u8]) -> u64
+    ensures { λ r. ⌜ BuildFace r (now (tree .exit)) (now (work .exit)) (buildCall (now (s .entry)) (length (now (tree .entry))) (length (now (work .entry)))) ⌝ }
+{
+    match crate::build(s, tree, work) {
+        Built::Tree {
+            length,
+            nodes,
+            bindings,
+        } => pack(0, length, nodes, bindings),
+        Built::Refused { number, place } => pack(number, place, 0, 0),
+    }
 }
 
 // Fits: all 0.
