@@ -4,6 +4,9 @@ pub mod BuiltLaws
 pub mod CasesLaws
 pub mod SwitchLaws
 pub mod Steps
-pub mod StepsLaws
+pub mod ColumnLaws
+pub mod LeafLaws
+pub mod LoopLaws
+pub mod ChosenLaws
 pub mod Raw
 pub mod RawLaws

@@ -10,7 +10,7 @@ use lib.ListN.{length, getD, length-append}
 use Rattle.words.specs.Words.{either, pick}
 use Rattle.words.specs.Stored.{stored}
 use Rattle.rules.specs.Limits.{nodesMost, bindingsMost, nodeSize, caseSize}
-use Rattle.rules.specs.Patterns.{Pat, discard, variable, assign, integer, bytestring, listed, tailed, constructor, opened, many}
+use Rattle.rules.specs.Patterns.{Pat, discard, variable, assign, integer, bytestring, listed, tailed, constructor, opened}
 use Rattle.rules.specs.Rows.{Path}
 use Rattle.rules.specs.Splitting.{Test, joined as joinedTests, longest, taillessLength, tailedLength, textStart, Met, isMet, meet, meetAll, casesOf}
 use Rattle.rules.specs.SplittingLaws.{All}

@@ -1,4 +1,4 @@
-use Rattle.building.specs.StepsLaws.{first-none, first-some}
+use Rattle.building.specs.LeafLaws.{first-none, first-some}
 use Rattle.building.proofs.build.first_of.Statement.{statement}
 use Rattle.building.proofs.build.first_of.Tie as tie
 use Rattle.building.proofs.build.first_of.Reads as reads

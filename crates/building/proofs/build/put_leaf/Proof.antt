@@ -3,7 +3,7 @@ use native.Mathlib.Omega.{arith}
 use mathlib.Core.Path.{refl}
 use Prim.Native.Nat.{_+_, _-_}
 use lib.ListN.{set}
-use Rattle.building.specs.StepsLaws.{with-row, first-small, clause-small, leaf-top, leaf-step}
+use Rattle.building.specs.LeafLaws.{with-row, first-small, clause-small, leaf-top, leaf-step}
 use Rattle.building.proofs.build.put_leaf.Statement.{statement}
 use Rattle.building.proofs.build.put_leaf.Tie as tie
 use Rattle.building.proofs.build.put_leaf.Reads as reads

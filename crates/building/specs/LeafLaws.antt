@@ -1,0 +1,132 @@
+-- The leaf of a matrix in which no column is chosen, as the code puts it; and a matrix for whose tree there is no node more.
+-- Rests on the bindings put by the crate leaves.
+use mathlib.Core.Path.{_≡_, refl, sym, ap, subst, _∙_}
+use mathlib.Core.Bool.{true, false, false≢true}
+use mathlib.Core.List.{List}
+use Prim.Native.Nat.{ℕ, zero, suc, _+_, _-_, _*_, _≤_, _<_}
+use native.Mathlib.Omega.{arith}
+use lib.ListN.{length, set}
+use Rattle.words.specs.Stored.{stored}
+use Rattle.rules.specs.Limits.{clausesMost, nodesMost, bindingsMost, nodeSize}
+use Rattle.rules.specs.Rows.{Binding}
+use Rattle.rules.specs.Building.{Tree, leaf}
+use Rattle.rules.specs.Hoisting.{nodesIn}
+use Rattle.rules.specs.TreeFile.{firstOf, nodeBytes, casesIn}
+use Rattle.facts.specs.SheetFacts.{Accepted}
+use Rattle.sheet.specs.declared.Map.{Map}
+use Rattle.table.specs.Standing.{sheetPaths}
+use Rattle.matrix.specs.declared.Matrix.{Matrix}
+use Rattle.matrix.specs.declared.Choice.{Choice}
+use Rattle.matrix.specs.declared.Choice.the-variants.{Leaf}
+use Rattle.matrix.specs.Numbered.{chosenIn, treeAt}
+use Rattle.matrix.specs.Bound.{boundNumbers}
+use Rattle.matrix.specs.InNumbers.{inNumbers, Readable, chosenRead}
+use Rattle.matrix.specs.InNumbersLaws.{chosen-read, readable}
+use Rattle.matrix.specs.TreesLaws.{some-tree, tree-leaf}
+use Rattle.arena.specs.Arena.{arenaEnd}
+use Rattle.leaves.specs.Bindings.{bound, boundAll, firstClause, leafBindings, WithRow}
+use Rattle.leaves.specs.PuttingLaws.{row-clause}
+use Rattle.leaves.specs.StandsLaws.{leaf-is, leaf-bound}
+use Rattle.building.specs.declared.tops.Tops.{Tops}
+use Rattle.building.specs.declared.tops.Built.{Built}
+use Rattle.building.specs.Built.{Roomy, Put, Builds}
+use Rattle.building.specs.BuiltLaws.{leaf-put}
+use Rattle.building.specs.SwitchLaws.{full-over}
+use Rattle.building.specs.ColumnLaws.{rows-count}
+use Rattle.building.specs.Steps.{MatrixThere, Asked}
+
+-- ---- "first 0 at count 0"
+pub first-none : (count first : ℕ) → count ≡ 0 → 0 ≡ firstOf count first
+unfolding firstOf
+first-none zero first e = refl
+first-none (suc count) first e = absurd (omega arith)
+
+pub first-some : (count first : ℕ) → (count ≡ 0 → ⊥) → first ≡ firstOf count first
+unfolding firstOf
+first-some zero first e = absurd (e refl)
+first-some (suc count) first e = refl
+
+leaf-fewer : (c : ℕ) (bs : List Binding) → casesIn (leaf c bs) < nodesIn (leaf c bs)
+unfolding casesIn nodesIn
+leaf-fewer c bs = omega arith
+
+-- ---- a leaf
+module _ {s : List ℕ} (ok : Accepted s) {x : Matrix} (there : MatrixThere s x) where
+  pub with-row : WithRow s x
+  with-row =
+      record {
+        rows = there .whole .whole-rows;
+        tested = there .whole .whole-tested;
+        sound = there .sound;
+        some-row = omega (arith, there .some-row, rows-count (there .whole));
+      }
+
+  pub leaf-clause : firstClause x < clausesMost
+  leaf-clause = omega (arith, row-clause s x with-row (firstClause x) refl, ok .is-counted .clauses-most)
+
+  leaf-tree : chosenIn s (inNumbers x) ≡ Leaf → treeAt s (inNumbers x) ≡ leaf (firstClause x) (leafBindings s x)
+  leaf-tree e = tree-leaf ok (inNumbers x) (there .sound) e ∙ leaf-is s ok x with-row
+
+  -- as the code has them
+  pub first-small : (count first from : ℕ) → first ≡ firstOf count from → first ≤ from
+  unfolding firstOf
+  first-small zero first from e = omega arith
+  first-small (suc count) first from e = omega arith
+
+  pub clause-small : (clause : ℕ) → clause ≡ firstClause x → clause < clausesMost
+  clause-small clause e = rw e leaf-clause
+
+  pub leaf-top : (w w₁ : List ℕ) (from top : ℕ) → arenaEnd ≤ length w → from ≤ bindingsMost + 1
+      → bound w₁ top ≡ boundAll s (bound w from) (boundNumbers s (inNumbers x) (firstClause x)) → (from ≤ top) × (top ≤ bindingsMost + 1) × (length w₁ ≡ length w)
+  leaf-top w w₁ from top l h bs =
+      let b = leaf-bound s ok x with-row w from w₁ top (record { long = l; most = h }) bs in
+      (omega (arith, b .count), omega (arith, b .count), b .kept .same-length)
+
+  -- the leaf's record behind its bindings
+  pub leaf-step : (w w₁ w' : List ℕ) (tops to : Tops) (clause top count first : ℕ) → chosenIn s (inNumbers x) ≡ Leaf → Roomy w tops → tops .nodes < nodesMost
+      → bound w₁ top ≡ boundAll s (bound w (tops .bindings)) (boundNumbers s (inNumbers x) (firstClause x))
+      → clause ≡ firstClause x → count ≡ top - tops .bindings → first ≡ firstOf count (tops .bindings)
+      → w' ≡ stored w₁ (nodeSize * tops .nodes) (nodeBytes 2 clause first count 0 0)
+      → to ≡ record { nodes = tops .nodes + 1; cases = tops .cases; bindings = top; leaves = set (tops .leaves) clause 1 }
+      → Put (sheetPaths s) w w' (treeAt s (inNumbers x)) tops to
+  leaf-step w w₁ w' tops to clause top count first e room l bs clause-is count-is first-is put to-is =
+      let b = leaf-bound s ok x with-row w (tops .bindings) w₁ top (record { long = room .long; most = room .bindings-most }) bs in
+      rw (leaf-tree e)
+      (leaf-put (sheetPaths s) w w₁ w' (firstClause x) (leafBindings s x) tops to first count room l leaf-clause (b .kept) (b .there)
+      (put ∙ ap (λ z. stored w₁ (nodeSize * tops .nodes) (nodeBytes 2 z first count 0 0)) clause-is)
+      (count-is ∙ ap (λ z. z - tops .bindings) (sym (ap (λ (z : Tops). z .bindings) to-is))) first-is
+      (ap (λ (z : Tops). z .nodes) to-is) (ap (λ (z : Tops). z .cases) to-is) (ap (λ (z : Tops). z .bindings) to-is ∙ b .count)
+      (ap (λ (z : Tops). z .leaves) to-is ∙ ap (λ z. set (tops .leaves) z 1) clause-is))
+
+  -- it is built
+  pub leaf-builds : (w w' : List ℕ) (tops to : Tops) (r : Built) → chosenIn s (inNumbers x) ≡ Leaf → r ≡ record { fits = true; tops = to }
+      → Put (sheetPaths s) w w' (treeAt s (inNumbers x)) tops to → Builds (sheetPaths s) w w' (treeAt s (inNumbers x)) tops r
+  leaf-builds w w' tops to r e r-is p =
+      rw r-is
+      (record {
+        put = λ _. p;
+        fewer-cases = λ _. subst (λ (a : Tree). casesIn a < nodesIn a) (sym (leaf-tree e)) (leaf-fewer (firstClause x) (leafBindings s x));
+        over = λ f. absurd (false≢true (sym f));
+      })
+
+  -- ---- no node more
+  pub full-builds : (w w' : List ℕ) (tops : Tops) (r : Built) → tops .nodes ≡ nodesMost → r ≡ record { fits = false; tops = tops }
+      → Builds (sheetPaths s) w w' (treeAt s (inNumbers x)) tops r
+  full-builds w w' tops r e r-is =
+      rw r-is
+      (record {
+        put = λ f. absurd (false≢true f);
+        fewer-cases = λ f. absurd (false≢true f);
+        over = λ _. full-over (treeAt s (inNumbers x)) tops e (some-tree s (inNumbers x) (there .some-row));
+      })
+
+-- the column that the table tells
+module _ {s : List ℕ} {m : Map} {t : List ℕ} {x : Matrix} {w : List ℕ} {tops : Tops} (asked : Asked s m t x w tops) where
+  pub asked-readable : Readable t x
+  asked-readable = readable (asked .ready) x (asked .there .whole) (asked .there .sound)
+
+  pub asked-chosen : (r : Choice) → r ≡ chosenRead t (inNumbers x) → {o : Choice} → r ≡ o → chosenIn s (inNumbers x) ≡ o
+  asked-chosen r e f = sym (chosen-read (asked .ready) (inNumbers x) (asked .there .sound)) ∙ sym e ∙ f
+
+pub node-left : {n : ℕ} → n ≤ nodesMost → (n ≡ nodesMost → ⊥) → n < nodesMost
+node-left l h = omega arith

@@ -1,0 +1,166 @@
+-- The loop over the cases of a switch, as the code takes it: a case's test read, its matrix, its child's number written and its tree built.
+-- Rests on the laws of cases over plain values.
+use mathlib.Core.Path.{_≡_, refl, sym, ap, subst, _∙_}
+use mathlib.Core.Bool.{true, false, false≢true}
+use mathlib.Core.List.{List, _∷_}
+use Prim.Native.Nat.{ℕ, _+_, _-_, _*_, _≤_, _<_}
+use native.Mathlib.Omega.{arith}
+use lib.ListN.{length}
+use Rattle.words.specs.Words.{wordBytes}
+use Rattle.words.specs.Stored.{stored}
+use Rattle.words.specs.StoredLaws.{length-stored}
+use Rattle.rules.specs.Limits.{nodesMost, caseSize}
+use Rattle.rules.specs.Splitting as splitting
+use Rattle.rules.specs.Splitting.{Met, isMet, casesOf}
+use Rattle.rules.specs.SplittingLaws.{All}
+use Rattle.rules.specs.Building.{Tree}
+use Rattle.rules.specs.Hoisting.{nodesIn}
+use Rattle.rules.specs.TreeFile.{casesIn}
+use Rattle.filing.specs.Writable.{testKind}
+use Rattle.filing.specs.RecordsLaws.{testNumber, testLength}
+use Rattle.matching.specs.Lists.{all-back}
+use Rattle.sheet.specs.declared.Map.{Map}
+use Rattle.table.specs.Standing.{sheetPaths}
+use Rattle.matrix.specs.declared.Matrix.{Matrix}
+use Rattle.matrix.specs.Numbered.{caseNumbered, treeAt}
+use Rattle.matrix.specs.Meant.{meant, InPool}
+use Rattle.matrix.specs.InNumbers.{inNumbers, StandsFor}
+use Rattle.arena.specs.declared.reading.Test.{Test}
+use Rattle.arena.specs.declared.reading.Case.{Case}
+use Rattle.arena.specs.Arena.{casesStart, casesMost, arenaEnd}
+use Rattle.arena.specs.RecordsLaws.{case-is}
+use Rattle.arena.specs.Reading.{caseOf, testFor}
+use Rattle.arena.specs.ReadingLaws.{case-read}
+use Rattle.meeting.specs.Fields.{testIn}
+use Rattle.meeting.specs.SoFar.{InSheet}
+use Rattle.building.specs.declared.tops.Tops.{Tops}
+use Rattle.building.specs.declared.tops.Built.{Built}
+use Rattle.building.specs.Built.{Put, Builds, Partly, TooMany, BuildsCases, CasesOpen}
+use Rattle.building.specs.CasesLaws.{Next, next-case, next-stands, case-built, case-over, cases-begin, cases-end}
+use Rattle.building.specs.ColumnLaws.{met-among, order-met, cases-there, case-there, case-deeper}
+use Rattle.building.specs.Steps.{MatrixThere, Asked, chosenColumn, caseList, caseTree, AskedColumn, AskedCases}
+
+-- ---- a case's test, as it is read
+-- a case met means its test, and its text lies in the sheet's pool
+module _ (s : List ℕ) where
+  abbrev Meant : Met → Type 0
+  Meant m = (meant s (testFor (m .start) (m .test)) ≡ m .test) × InPool s (testFor (m .start) (m .test))
+
+  sheet-meant : (m : Met) → InSheet s m → Meant m
+  unfolding meant testFor testIn testKind testNumber testLength
+  sheet-meant m h = go (m .test) refl
+    where
+      go : (u : splitting.Test) → m .test ≡ u → Meant m
+      go (splitting.Constr a) e = rw e (refl, tt)
+      go (splitting.Int v) e = rw e (rw e at (h .meant), (rw e at (h .fit)) .inside refl)
+      go (splitting.Bytes v) e = rw e (rw e at (h .meant), (rw e at (h .fit)) .inside refl)
+      go (splitting.ListOf n) e = rw e (refl, tt)
+      go (splitting.ListWithTail n) e = rw e (refl, tt)
+
+-- ---- a turn
+-- i cases are built, and there is one more
+pub record Turn (s : List ℕ) (m : Map) (t : List ℕ) (x : Matrix) (k first : ℕ) (w₀ : List ℕ) (from : Tops) (i : ℕ) (w : List ℕ) (tops : Tops) : Type 0 where
+  pub col : AskedColumn s m t x k
+  pub asked : AskedCases s k (inNumbers x) first w₀ from
+  pub part : Partly (sheetPaths s) (caseTree s k (inNumbers x)) (caseList s k (inNumbers x)) first i w₀ w from tops
+  pub inside : i < from .cases - first
+
+module _ {s : List ℕ} {m : Map} {t : List ℕ} {x : Matrix} {k first : ℕ} {w₀ : List ℕ} {from : Tops} {i : ℕ} {w : List ℕ} {tops : Tops}
+    (turn : Turn s m t x k first w₀ from i w tops) where
+  abbrev begun : CasesOpen (caseList s k (inNumbers x)) first w₀ from
+  begun = turn .asked .begun
+
+  next : Next (sheetPaths s) (caseTree s k (inNumbers x)) (caseList s k (inNumbers x)) first w₀ from i w tops
+  next = next-case (sheetPaths s) (caseTree s k (inNumbers x)) (caseList s k (inNumbers x)) first w₀ from i w tops (omega (arith, begun .to-come, turn .inside)) (turn .part)
+
+  abbrev u : splitting.Test
+  u = next .case .test
+
+  u-met : isMet u (casesOf (chosenColumn s k (inNumbers x))) ≡ true
+  u-met = order-met (chosenColumn s k (inNumbers x)) u (rw (next .whole) (met-among (next .done) (next .case) (next .rest)))
+
+  -- the test that is read is its own
+  test-is : (test : Test) → test ≡ (caseOf w (first + i)) .test → test ≡ testFor (next .case .start) u
+  test-is test e =
+      let stands = next-stands (sheetPaths s) (caseTree s k (inNumbers x)) (caseList s k (inNumbers x)) first w₀ from begun i w tops next in
+      let read = case-read w (first + i) u (next .case .start) 0 (case-is w (first + i) u (next .case .start) 0 stands) in
+      e ∙ ap (λ (z : Case). z .test) read
+
+  u-meant : Meant s (next .case)
+  u-meant = sheet-meant s (next .case) ((all-back (InSheet s) (next .done) (next .case ∷ next .rest) (subst (All (InSheet s)) (next .whole) (turn .asked .each))) .0)
+
+  pub turn-in-pool : (test : Test) → test ≡ (caseOf w (first + i)) .test → InPool s test
+  turn-in-pool test e = subst (InPool s) (sym (test-is test e)) (u-meant .1)
+
+  pub turn-room : (first + i < casesMost) × (tops .nodes ≤ nodesMost) × (arenaEnd ≤ length w)
+  turn-room =
+      let r = next .put .room in
+      (omega (arith, begun .room .cases-most, begun .to-come, turn .inside), r .nodes-most, r .long)
+
+  -- the case's matrix y
+  module _ (test : Test) (e : test ≡ (caseOf w (first + i)) .test) (y : Matrix)
+      (stands : StandsFor y (caseNumbered s k (meant s test) (inNumbers x))) where
+    y-is : inNumbers y ≡ caseNumbered s k u (inNumbers x)
+    y-is = stands .are ∙ ap (λ z. caseNumbered s k z (inNumbers x)) (ap (meant s) (test-is test e) ∙ u-meant .0)
+
+    pub turn-there : MatrixThere s y
+    turn-there = case-there (turn .col) y u (stands .whole) y-is u-met
+
+    pub turn-deeper : y .tested .count ≡ x .tested .count + 1
+    turn-deeper = case-deeper (turn .col) y u (stands .whole) y-is
+
+    -- its child is written
+    module _ (w₁ : List ℕ) (child : w₁ ≡ stored w (casesStart + caseSize * (first + i) + 6) (wordBytes (tops .nodes))) where
+      pub turn-asked : Asked s m t y w₁ tops
+      turn-asked =
+          let r = next .put .room in
+          record {
+            ready = turn .col .ready;
+            there = turn-there;
+            room = record {
+              long = omega (arith, r .long, ap length child, length-stored w (casesStart + caseSize * (first + i) + 6) (wordBytes (tops .nodes)));
+              nodes-most = r .nodes-most;
+              cases-most = r .cases-most;
+              bindings-most = r .bindings-most;
+              leaves-long = r .leaves-long;
+            };
+          }
+
+      -- its tree is built, or has too many nodes
+      module _ (w₂ : List ℕ) (r : Built) (b : Builds (sheetPaths s) w₁ w₂ (treeAt s (inNumbers y)) tops r) where
+        as-case : treeAt s (inNumbers y) ≡ caseTree s k (inNumbers x) u
+        as-case = ap (treeAt s) y-is
+
+        pub turn-done : r .fits ≡ true
+            → Partly (sheetPaths s) (caseTree s k (inNumbers x)) (caseList s k (inNumbers x)) first (i + 1) w₀ w₂ from (r .tops)
+        turn-done f =
+            case-built (sheetPaths s) (caseTree s k (inNumbers x)) (caseList s k (inNumbers x)) first w₀ from begun i w tops next w₁ w₂ (r .tops) child
+            (subst (λ (a : Tree). Put (sheetPaths s) w₁ w₂ a tops (r .tops)) as-case (b .put f)) (subst (λ (a : Tree). casesIn a < nodesIn a) as-case (b .fewer-cases f))
+
+        pub turn-over : r .fits ≡ false → BuildsCases (sheetPaths s) (caseTree s k (inNumbers x)) (caseList s k (inNumbers x)) first w₀ w₂ from r
+        turn-over f =
+            record {
+              put = λ g. absurd (false≢true (sym f ∙ g));
+              over = λ _.
+                  case-over (sheetPaths s) (caseTree s k (inNumbers x)) (caseList s k (inNumbers x)) first w₀ from begun i w tops next (cases-there (turn .col))
+                  (subst (λ (a : Tree). TooMany a tops) as-case (b .over f));
+            }
+
+-- ---- the loop
+module _ {s : List ℕ} {m : Map} {t : List ℕ} {x : Matrix} {k : ℕ} (col : AskedColumn s m t x k) {first : ℕ} {w₀ : List ℕ} {from : Tops}
+    (asked : AskedCases s k (inNumbers x) first w₀ from) where
+  abbrev Done : ℕ → List ℕ → Tops → Type 0
+  Done i w tops = Partly (sheetPaths s) (caseTree s k (inNumbers x)) (caseList s k (inNumbers x)) first i w₀ w from tops
+
+  pub loop-begin : Done 0 w₀ from
+  loop-begin = cases-begin (sheetPaths s) (caseTree s k (inNumbers x)) (caseList s k (inNumbers x)) first w₀ from (asked .begun)
+
+  pub loop-end : (i : ℕ) (w : List ℕ) (tops : Tops) (r : Built) → Done i w tops → from .cases - first ≤ i → r ≡ record { fits = true; tops = tops }
+      → BuildsCases (sheetPaths s) (caseTree s k (inNumbers x)) (caseList s k (inNumbers x)) first w₀ w from r
+  loop-end i w tops r part l e =
+      rw e
+      (record {
+        put = λ _.
+            cases-end (sheetPaths s) (caseTree s k (inNumbers x)) (caseList s k (inNumbers x)) first w₀ from i w tops (omega (arith, asked .begun .to-come)) part;
+        over = λ f. absurd (false≢true (sym f));
+      })
