@@ -6,6 +6,8 @@ mod compare;
 mod files;
 mod generate;
 mod hand;
+#[cfg(feature = "library")]
+mod library;
 mod oracle;
 mod random;
 mod reached;
