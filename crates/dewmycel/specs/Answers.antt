@@ -1,0 +1,17 @@
+-- The answers of the calls as the rules have them, from the code's enums.
+-- Rests on the calls of the crate rules; the walk's own answer is in the crate walk.
+use Prim.Native.Nat.{ℕ}
+use Rattle.rules.specs.SheetRefusals.{Verdict, accepted, refused}
+use Rattle.rules.specs.Calls.{Answer, answers, refuses, Span}
+use Rattle.panel.specs.declared.Fitted.{Fitted}
+use Rattle.panel.specs.declared.Fitted.the-variants.{Fits, Refused as NotFitted}
+use Rattle.panel.specs.declared.Located.{Located}
+use Rattle.panel.specs.declared.Located.the-variants.{At, Refused as NotLocated}
+
+abbrev pub verdictOf : Fitted → Verdict
+verdictOf Fits = accepted
+verdictOf (NotFitted number place) = refused number place
+
+abbrev pub spanOf : Located → Answer Span
+spanOf (At start count) = answers (record { start = start; count = count })
+spanOf (NotLocated number place) = refuses number place

@@ -1,0 +1,4 @@
+pub mod Answers
+pub mod Packed
+pub mod Face
+pub mod AnswersLaws

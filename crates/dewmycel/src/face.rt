@@ -1,0 +1,53 @@
+// The calls for C: each answer in one u64. Bits 0 to 15 are the refusal number, 0 for none; of a refusal bits 16 to 31 are its place.
+// A slice is a pointer and a length; what a caller in C owes is in include/dewmycel.h.
+use panel::Fitted;
+use panel::Located;
+use walk::Walked;
+ghost use mathlib.Core.Path.{_≡_};
+ghost use lib.ListN.{length};
+ghost use Prim.Native.Nat.{_<_};
+ghost use Rattle.rules.specs.Calls.{WalkCall, fitCall, walkCall, textCall};
+ghost use Rattle.dewmycel.specs.Packed.{packed, packedFit, packedWalk, packedText};
+ghost use Rattle.dewmycel.specs.Answers.{verdictOf, spanOf};
+ghost use Rattle.dewmycel.specs.Face.{WalkFace};
+
+// Four words in one, the first lowest.
+fn pack(a: u16, b: u16, c: u16, d: u16) -> u64
+    ensures { λ r. ⌜ r ≡ packed a b c d ⌝ }
+{
+    a as u64 + 65536 * (b as u64) + 4294967296 * (c as u64) + 281474976710656 * (d as u64)
+}
+
+// Fits: all 0.
+#[no_mangle]
+pub extern "C" fn dewmycel_fit(s: &[u8], v: &[u8]) -> u64
+    ensures { λ r. ⌜ r ≡ packedFit (fitCall (now (s .entry)) (now (v .entry))) ⌝ }
+{
+    match crate::fit(s, v) {
+        Fitted::Fits => 0,
+        Fitted::Refused { number, place } => pack(number, place, 0, 0),
+    }
+}
+
+// At a leaf bit 48 is 1, bits 16 to 31 are the clause, 32 to 47 the number of bindings; No leaf: all 0.
+#[no_mangle]
+pub extern "C" fn dewmycel_walk(t: &[u8], v: &[u8], bound: &mut [u16]) -> u64
+    ensures { λ r. ⌜ WalkFace r (now (bound .exit)) (walkCall (now (t .entry)) (now (v .entry)) (length (now (bound .entry)))) ⌝ }
+{
+    match crate::walk(t, v, bound) {
+        Walked::Leaf { clause, count } => pack(0, clause, count, 1),
+        Walked::NoLeaf => 0,
+        Walked::Refused { number, place } => pack(number, place, 0, 0),
+    }
+}
+
+// Bits 16 to 31 are where the text starts in the panel, 32 to 47 its length.
+#[no_mangle]
+pub extern "C" fn dewmycel_text(v: &[u8], r: u16, dropped: u16) -> u64
+    ensures { λ res. ⌜ res ≡ packedText (textCall (now (v .entry)) r dropped) ⌝ }
+{
+    match crate::text(v, r, dropped) {
+        Located::At { start, count } => pack(0, start as u16, count as u16, 0),
+        Located::Refused { number, place } => pack(number, place, 0, 0),
+    }
+}
