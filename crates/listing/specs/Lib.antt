@@ -4,3 +4,5 @@ pub mod WritingLaws
 pub mod TextsLaws
 pub mod Records
 pub mod RecordsLaws
+pub mod Answers
+pub mod AnswersLaws

@@ -5,13 +5,13 @@ use mathlib.Core.Bool.{Bool, true, false}
 use mathlib.Core.List.{List, [], _∷_, _++_, append-assoc}
 use Prim.Native.Nat.{ℕ, zero, suc, _+_, _-_, _≤_, _<_}
 use native.Mathlib.Omega.{arith}
-use native.Mathlib.Nat.{add-zero, sub-zero}
+use native.Mathlib.Nat.{add-zero, zero-add, sub-zero}
 use borrow.Author.Tests.{eq-eqb, ne-eqb}
 use lib.Dec.{eqb}
 use lib.ListN.{length}
 use Rattle.words.specs.Words.{textAt}
 use Rattle.rules.specs.TreeReader.{nodes, cases, nodeKind, nodeTailCases, nodeCases, NodeKind, Switch, List-switch, Leaf, Hoist-node, Unknown-node, nodeKindOf, nodePath, nodeFirstCase, nodeDefault, nodeFirstBinding, nodeBindings, caseKind, CaseKind, Constr-case, Int-case, Bytes-case, List-case, List-with-tail-case, Unknown-case, caseKindOf, testOfKind, caseText, caseTest, caseChild, stepOfFields, stepAt, stepsFrom, pathAt, pathFirst, pathCount, bindingName, bindingPath}
-use Rattle.rules.specs.Listing.{trueFlag, falseFlag, switchWord, elseWord, pairStep, tupleStep, constrStep, listStep, listtailStep, decimal, flagText, stepText, moreSteps, pathText, testText, casesText, bindingsText, defaultText, switchText, nodeText, nodeLines}
+use Rattle.rules.specs.Listing.{treeWord, refusedWord, trueFlag, falseFlag, switchWord, elseWord, pairStep, tupleStep, constrStep, listStep, listtailStep, decimal, flagText, stepText, moreSteps, pathText, testText, casesText, bindingsText, defaultText, switchText, nodeText, nodeLines, firstLine, listing, refusedLine}
 use Rattle.facts.specs.KindsLaws.{node-byte, unknown-node, case-byte, unknown-case}
 use Rattle.tree.specs.declared.layout.Map.{Map}
 use Rattle.tree.specs.declared.reading.Test.{Test}
@@ -59,14 +59,6 @@ module _ (t : List ℕ) (i n j : ℕ) where
   unfolding bindingsText
   bindings-none = run-none (bindingsText t) (bindingLine t) i n j (λ k. refl)
 
-  pub lines-next : j < n → nodeLines t (i + j) (n - j) ≡ nodeLine t (i + j) ++ nodeLines t (i + (j + 1)) (n - (j + 1))
-  unfolding nodeLines nodeLine
-  lines-next = run-next (nodeLines t) (nodeLine t) i n j (λ k m. simp append-assoc)
-
-  pub lines-none : n ≤ j → nodeLines t (i + j) (n - j) ≡ []
-  unfolding nodeLines
-  lines-none = run-none (nodeLines t) (nodeLine t) i n j (λ k. refl)
-
   pub steps-next : j < n → moreSteps (stepsFrom t (i + j) (n - j))
       ≡ (46 ∷ stepText (stepAt t (i + j))) ++ moreSteps (stepsFrom t (i + (j + 1)) (n - (j + 1)))
   unfolding moreSteps stepsFrom
@@ -75,6 +67,29 @@ module _ (t : List ℕ) (i n j : ℕ) where
   pub steps-none : n ≤ j → moreSteps (stepsFrom t (i + j) (n - j)) ≡ []
   unfolding moreSteps stepsFrom
   steps-none = run-none (λ k m. moreSteps (stepsFrom t k m)) (λ k. 46 ∷ stepText (stepAt t k)) i n j (λ k. refl)
+
+-- the lines of the nodes from k on, of n in all
+module _ (t : List ℕ) (n k : ℕ) where
+  pub lines-next : k < n → nodeLines t k (n - k) ≡ nodeLine t k ++ nodeLines t (k + 1) (n - (k + 1))
+  unfolding nodeLines nodeLine
+  lines-next h = simp zero-add at (run-next (nodeLines t) (nodeLine t) 0 n k (λ k m. simp append-assoc) h)
+
+  pub lines-none : n ≤ k → nodeLines t k (n - k) ≡ []
+  unfolding nodeLines
+  lines-none h = simp zero-add at (run-none (nodeLines t) (nodeLine t) 0 n k (λ k. refl) h)
+
+pub lines-start : (t : List ℕ) (n : ℕ) → nodeLines t 0 (n - 0) ≡ nodeLines t 0 n
+lines-start t n = rw sub-zero
+
+-- ---- the first line, and the line of a refused sheet
+pub listing-is : {t : List ℕ} {m : Map} → Mapped t m
+    → (treeWord ++ (32 ∷ (decimal (m .nodes .count) ++ (32 ∷ (decimal (m .bindings .count) ++ 10 ∷ []))))) ++ nodeLines t 0 (m .nodes .count) ≡ listing t
+unfolding listing firstLine
+listing-is {t} {m} mapped = ap₂ (λ (n : ℕ) (b : ℕ). (treeWord ++ (32 ∷ (decimal n ++ (32 ∷ (decimal b ++ 10 ∷ []))))) ++ nodeLines t 0 n) (sym (nodes-count mapped)) (sym (bindings-count mapped))
+
+pub refused-line-is : (number place : ℕ) → refusedWord ++ (32 ∷ (decimal number ++ (32 ∷ (decimal place ++ 10 ∷ [])))) ≡ refusedLine number place
+unfolding refusedLine
+refused-line-is number place = refl
 
 -- ---- a step that was read
 module _ (t : List ℕ) (i : ℕ) (s : Step) (is : s ≡ stepOf t i) where

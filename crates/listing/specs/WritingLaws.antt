@@ -82,3 +82,7 @@ module _ {before now : List ℕ} {from at : ℕ} {whole rest : List ℕ} (b : Be
 
   pub begun-all : rest ≡ [] → Writes before now from at whole
   begun-all e = b .ends now at (rw e (writes-nothing now at))
+
+  -- a loop may stop where there is no room left: nothing more would be stored
+  pub begun-full : length now < at → Writes before now from at whole
+  begun-full h = b .ends now at (record { bytes = sym (stored-out now at rest (omega arith)); inside = λ r. absurd (omega arith); past = λ r. h })

@@ -1,0 +1,38 @@
+use Rattle.listing.specs.WritingLaws.{writes-then}
+use borrow.Author.Needs.{needs}
+use Rattle.listing.proofs.lines.put_leaf.Statement.{statement}
+use Rattle.listing.proofs.lines.put_leaf.Tie as tie
+use Rattle.listing.proofs.lines.put_leaf.Reads as reads
+use Rattle.listing.proofs.lines.put_leaf.Lts as lts
+use Rattle.listing.proofs.parts.put_bindings.Reads as put-bindings-reads
+use Rattle.listing.proofs.texts.put_numbered.Reads as put-numbered-reads
+
+-- src/lines.rt:54:37
+slice-aggregate-put-numbered : tie.Need-slice-aggregate-put-numbered
+slice-aggregate-put-numbered c = search needs
+
+-- src/lines.rt:54:9
+put-numbered-requires : tie.Need-put-numbered-requires
+put-numbered-requires c κs = search needs
+
+-- src/lines.rt:55:5
+put-bindings-requires : tie.Need-put-bindings-requires
+put-bindings-requires c κs = search needs
+
+-- src/lines.rt:42:1
+same-length : tie.Need-same-length
+same-length c = search needs
+
+-- src/lines.rt:42:1
+returns : tie.Need-returns
+returns c = writes-then (c .before .before .before .before .before .before .put-numbered .ensures) (c .before .before .put-bindings .ensures)
+
+pub put-leaf-spec : {M : Type 1} → statement M
+put-leaf-spec =
+    tie.close
+    (tie.spec
+    slice-aggregate-put-numbered
+    put-numbered-requires
+    put-bindings-requires
+    same-length
+    returns)

@@ -1,0 +1,56 @@
+use Rattle.listing.specs.AnswersLaws.{text-in, count-in, none-in, no-count-in, line-call}
+use borrow.Author.Needs.{needs}
+use Rattle.listing.proofs.refused_line.Statement.{statement}
+use Rattle.listing.proofs.refused_line.Tie as tie
+use Rattle.listing.proofs.refused_line.Reads as reads
+use Rattle.listing.proofs.refused_line.Lts as lts
+use Rattle.listing.proofs.lines.put_refused.Reads as put-refused-reads
+use Rattle.words.proofs.zero_all.Reads as zero-all-reads
+
+-- src/lib.rt:42:5
+zero-all-requires : tie.Need-zero-all-requires
+zero-all-requires c κs = search needs
+
+-- src/lib.rt:43:9
+put-refused-requires : tie.Need-put-refused-requires
+put-refused-requires c κs = search needs
+
+-- src/lib.rt:45:9
+zero-all-requires-2 : tie.Need-zero-all-requires-2
+zero-all-requires-2 c κs = search needs
+
+-- src/lib.rt:46:9
+same-length : tie.Need-same-length
+same-length c = search needs
+
+-- src/lib.rt:46:9
+returns : tie.Need-returns
+returns c =
+    let first = c .before .before .before .before .before .before .before .before .before .before .before .before .before .before .args .out .now in
+    let w = c .before .before .before .before .before .before .before .put-refused .ensures in
+    let empty = c .before .before .before .before .before .before .before .before .before .before .before .zero-all .ensures in
+    line-call _ _ _ _ _ (no-count-in first empty w (c .before .before .before .before .if1 .taken)) (none-in first empty w (c .before .before .before .before .if1 .taken) _ (c .before .before .zero-all2 .ensures))
+
+-- src/lib.rt:39:1
+same-length-2 : tie.Need-same-length-2
+same-length-2 c = search needs
+
+-- src/lib.rt:39:1
+returns-2 : tie.Need-returns-2
+returns-2 c =
+    let first = c .before .before .before .before .before .before .before .before .before .before .args .out .now in
+    let w = c .before .before .before .put-refused .ensures in
+    let empty = c .before .before .before .before .before .before .before .zero-all .ensures in
+    line-call _ _ _ _ _ (count-in first empty w (c .if1 .left)) (text-in first empty w (c .if1 .left))
+
+pub refused-line-spec : {M : Type 1} → statement M
+refused-line-spec =
+    tie.close
+    (tie.spec
+    zero-all-requires
+    put-refused-requires
+    zero-all-requires-2
+    same-length
+    returns
+    same-length-2
+    returns-2)
