@@ -4,10 +4,10 @@
 use std::collections::BTreeMap;
 
 use crate::files::Panel;
-#[cfg(feature = "library")]
-use crate::library;
 use crate::generate::panels::Panels;
 use crate::generate::{damage, sheets};
+#[cfg(feature = "library")]
+use crate::library;
 use crate::oracle;
 use crate::random::Random;
 use crate::reached;
@@ -98,12 +98,7 @@ pub fn run(cases: usize, seed: u64) -> Counts {
 }
 
 /// One sheet: what differs, if something does.
-fn one(
-    random: &mut Random,
-    case: usize,
-    bytes: &[u8],
-    counts: &mut Counts,
-) -> Result<(), String> {
+fn one(random: &mut Random, case: usize, bytes: &[u8], counts: &mut Counts) -> Result<(), String> {
     library::same_build(bytes, around(case, 65536), around(case / 64, 65536))?;
     counts.library_builds += 1;
     let checked = sheet::check(bytes);
