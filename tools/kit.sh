@@ -1,16 +1,19 @@
 # Sourced by ./dewmycel and tools/bad-input.sh, at the repository's root: builds a proved program where it is missing, and runs it
 # as the kit itself does. Programs are for x86-64; on Arm the kit's own emulator runs them.
 
+have_rt() {
+    command -v rt >/dev/null && return 0
+    echo "${0##*/}: there is no rt: the Rattle kit's bin/ has to stand in PATH" >&2
+    return 1
+}
+
 # Builds program $1 where it is missing or older than the sources.
 have_program() {
     local bin=target/bin/$1 log=target/$1.log
     if [ -x "$bin" ] && [ -z "$(find crates -name '*.rt' -newer "$bin" -print -quit)" ]; then
         return 0
     fi
-    if ! command -v rt >/dev/null; then
-        echo "${0##*/}: there is no rt: the Rattle kit's bin/ has to stand in PATH" >&2
-        return 1
-    fi
+    have_rt || return 1
     echo "${0##*/}: proving and building $1, which takes some minutes the first time" >&2
     mkdir -p target
     if ! rt check "$1" >"$log" 2>&1; then
@@ -24,6 +27,7 @@ have_program() {
 run_program() {
     local program=target/bin/$1 guide tools emulator name
     shift
+    have_rt || return 1
     guide=$(rt doc) || return 1
     tools=$(dirname "$(dirname "$guide")")/on/$(uname -m)/toolchain
     emulator=$tools/bin/qemu-x86_64

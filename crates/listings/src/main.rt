@@ -2,7 +2,7 @@
 // of more than 20,000 bytes it writes the first line, how many bytes there are, and their checksum, Adler-32.
 //
 // The files of data/ are hand-made sheets: document 01's P6 to P12, and its limits on clauses, nodes, bindings, patterns and
-// depth, from both sides. What stdout has was not made by this program: tools/answers.sh takes each listing from the Rust
+// depth, from both sides. What stdout has was not made by this program: tools/answers.py takes each listing from the Rust
 // module itself, and each refusal from the reference of tools/beside, which was written from the document.
 use libc::STDERR_FILENO;
 use libc::STDOUT_FILENO;
