@@ -4,5 +4,6 @@ pub mod RecordsLaws
 pub mod Reading
 pub mod ReadingLaws
 pub mod HeldLaws
+pub mod WritingLaws
 pub mod Numbered
 pub mod NumberedLaws

@@ -1,24 +1,22 @@
 -- A tree held in the arena is there node by node: each node's record is its subtree's, and a child's number is where the child is.
 -- Rests on the laws of a tree held, opened one level.
-use mathlib.Core.Path.{_≡_, refl, sym, ap, ap₂, _∙_, subst}
-use mathlib.Core.Bool.{Bool, true, false, true≢false, false≢true}
+use mathlib.Core.Path.{_≡_, refl, sym, ap, _∙_, subst}
+use mathlib.Core.Bool.{true, false≢true}
 use mathlib.Core.List.{List, [], _∷_, _++_, append-assoc}
 use Prim.Native.Nat.{ℕ, zero, suc, _+_, _-_, _*_, _≤_, _<_}
 use native.Mathlib.Omega.{arith}
 use native.Mathlib.Nat.{add-zero, zero-add}
-use native.Mathlib.Numerals.{add-one}
-use lib.ListN.{length, getD, take, drop, length-append, length-take, take-append-drop, List·getD-append}
-use lib.Seq.{getD-append-add, length-take-le}
+use lib.ListN.{length, getD, length-append, List·getD-append}
+use lib.Seq.{getD-append-add}
 use Rattle.rules.specs.Limits.{nodesMost, bindingsMost, caseSize, bindingSize}
 use Rattle.rules.specs.Rows.{Path, Binding}
 use Rattle.rules.specs.Building.{Tree, Cases, absent, leaf, hoist, switch, listswitch, cnil, ccons}
 use Rattle.rules.specs.Hoisting.{howMany, nodesIn, nodesInOf, bindingsIn, bindingsInOf}
 use Rattle.rules.specs.TreeFile.{firstOf, casesIn, casesInOf, defaultField, caseBytes, ownCases, bindingsBytes}
 use Rattle.filing.specs.StandingLaws.{Stands}
-use Rattle.filing.specs.RunLaws.{firstOf-some}
-use Rattle.arena.specs.Arena.{casesStart, casesMost, bindingsStart, arenaEnd, nodeKind, nodeWord, caseChild, Held, HeldOf}
-use Rattle.arena.specs.RecordsLaws.{NodeIs}
-use Rattle.arena.specs.HeldLaws.{LeafAt, SwitchAt, ListSwitchAt, own-first, own-rest, leaf-held, hoist-held, switch-held, list-switch-held, first-held, rest-held}
+use Rattle.arena.specs.Arena.{casesStart, casesMost, bindingsStart, arenaEnd, nodeWord, caseChild, Held, HeldOf}
+use Rattle.arena.specs.HeldLaws.{own-first, own-rest, leaf-held, hoist-held, switch-held, list-switch-held, first-held, rest-held}
+use Rattle.arena.specs.WritingLaws.{stands-nothing}
 use Rattle.arena.specs.Numbered.{subtrees, subtreesOf, subtreeAt, Within, Each, joined, isSwitch, casesUnder, defaultUnder, caseAt, nodesBefore, AllThere, HeldAt, LeafNode, SwitchNode, ChildNode, Nodes}
 
 -- ---- as many subtrees as nodes
@@ -252,9 +250,6 @@ allThere-joined cnil ts h g = g
 allThere-joined (ccons t at a cs) ts h g = (h .0, allThere-joined cs ts (h .1) g)
 
 -- ---- "first 0 at count 0": an empty run stands anywhere
-stands-nothing : (w : List ℕ) (i : ℕ) → i ≤ length w → Stands w i []
-stands-nothing w i h = record { before = take i w; after = drop i w; whole = sym (take-append-drop i w); start = length-take-le i w h }
-
 run-start : (w xs : List ℕ) (start size n first f : ℕ) → f ≡ firstOf n first → (n ≡ 0 → xs ≡ []) → start ≤ length w → Stands w (start + size * first) xs
     → Stands w (start + size * f) xs
 unfolding firstOf

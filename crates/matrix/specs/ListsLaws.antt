@@ -1,15 +1,18 @@
 -- Laws of lists held in arrays, as the loops over them use: moving up by one, appending one more, and looking up from the front.
 use mathlib.Core.Path.{_≡_, refl, sym, ap, ap₂, _∙_}
-use mathlib.Core.Bool.{Bool, true, false}
+use mathlib.Core.Bool.{true}
 use mathlib.Core.List.{List, [], _∷_, _++_, append-nil, append-assoc}
 use Prim.Native.Nat.{ℕ, zero, suc, _+_, _-_, _≤_, _<_}
 use native.Mathlib.Omega.{arith}
 use native.Mathlib.Numerals.{add-one}
 use borrow.Author.Tests.{eq-eqb, ne-eqb}
-use lib.Dec.{eqb}
-use lib.ListN.{length, getD, take, drop, set, length-append, length-take, length-set, List·getD-append}
-use lib.Seq.{slice, slice-cons, slice-empty, length-slice, split-at, take-suc, take-at, set-at, getD-take, append-snoc, length-take-le, take-suc-set}
-use Rattle.matrix.specs.Lists.{firstPlace}
+use lib.ListN.{length, getD, take, drop, set, length-append, length-set, List·getD-append}
+use lib.Seq.{slice, slice-cons, slice-empty, length-slice, split-at, take-suc, take-at, take-take, set-at, getD-take, append-snoc, length-take-le, take-suc-set}
+use Rattle.rules.specs.SheetRefusals.{isIn}
+use Rattle.matrix.specs.declared.PerRow.{PerRow}
+use Rattle.matrix.specs.declared.Classes.{Classes}
+use Rattle.matrix.specs.Lists.{classesIn, Holds, HoldsRows, Whole, WholeRows, firstPlace}
+use Rattle.matrix.specs.Ordered.{withoutClass, without-parts, place-inside}
 
 -- ---- moving up
 -- l with those from i up to n moved up by one; the place i keeps what it has
@@ -87,3 +90,48 @@ module _ (k : ℕ) where
   place-end l n i e f =
       let z : firstPlace k (slice i n l) ≡ 0 = ap (λ (x : ℕ). firstPlace k (slice x n l)) e ∙ ap (firstPlace k) (slice-empty n l) in
       omega arith
+
+-- ---- what it is to hold a list
+pub holds-count : {o : Classes} {l : List ℕ} → Holds o l → o .count ≡ length l
+holds-count {o} h = sym (length-take-le (o .count) (o .list) (omega (arith, h .long, h .most))) ∙ ap length (h .are)
+
+pub holds-rows-count : {r : PerRow} {l : List ℕ} → HoldsRows r l → r .count ≡ length l
+holds-rows-count {r} h = sym (length-take-le (r .count) (r .list) (omega (arith, h .long, h .most))) ∙ ap length (h .are)
+
+pub holds-same : {o : Classes} {k l : List ℕ} → Holds o k → k ≡ l → Holds o l
+holds-same h e = record { long = h .long; most = h .most; are = h .are ∙ e }
+
+pub holds-rows-same : {r : PerRow} {k l : List ℕ} → HoldsRows r k → k ≡ l → HoldsRows r l
+holds-rows-same h e = record { long = h .long; most = h .most; are = h .are ∙ e }
+
+pub whole : {o : Classes} {l : List ℕ} → Holds o l → Whole o
+whole h = record { long = h .long; most = h .most; are = refl }
+
+pub whole-rows : {r : PerRow} {l : List ℕ} → HoldsRows r l → WholeRows r
+whole-rows h = record { long = h .long; most = h .most; are = refl }
+
+pub holds-push : (l : List ℕ) (n x : ℕ) → length l ≡ 192 → n < 192 → Holds (record { list = set l n x; count = n + 1 }) (take n l ++ x ∷ [])
+holds-push l n x e h = record { long = length-set l n x ∙ e; most = omega arith; are = push-one l n x (omega arith) }
+
+pub holds-push-row : (l : List ℕ) (n x : ℕ) → length l ≡ 32 → n < 32 → HoldsRows (record { list = set l n x; count = n + 1 }) (take n l ++ x ∷ [])
+holds-push-row l n x e h = record { long = length-set l n x ∙ e; most = omega arith; are = push-one l n x (omega arith) }
+
+-- ---- the others put behind: all before the place of k, and all behind it
+module _ (o cs front out : Classes) (k place : ℕ) (a : Whole o) (b : Whole cs) (there : isIn k (classesIn cs) ≡ true) (is : place ≡ firstPlace k (classesIn cs)) where
+  pub rest-place : place < cs .count
+  rest-place = omega (arith, place-inside k (classesIn cs) there, holds-count b)
+
+  pub rest-count : Holds front (classesIn o ++ slice 0 place (cs .list)) → front .count ≡ o .count + place
+  rest-count h = omega (arith, holds-count h, length-append (classesIn o) (take place (cs .list)), holds-count a, length-take-le place (cs .list) (omega (arith, rest-place, b .long, b .most)))
+
+  pub rest-are : Holds front (classesIn o ++ slice 0 place (cs .list)) → Holds out (classesIn front ++ slice (place + 1) (cs .count) (cs .list))
+      → Holds out (classesIn o ++ withoutClass k (classesIn cs))
+  rest-are h r =
+      let front-part : take (firstPlace k (classesIn cs)) (classesIn cs) ≡ take place (cs .list) = rw (← is) (take-take place (cs .count) (cs .list) (omega (arith, rest-place))) in
+      let parts : withoutClass k (classesIn cs) ≡ take place (cs .list) ++ slice (place + 1) (cs .count) (cs .list) =
+      without-parts k (classesIn cs) ∙ ap₂ (λ (x y : List ℕ). x ++ y) front-part (ap (λ (n : ℕ). drop n (classesIn cs)) (ap suc (sym is) ∙ sym (add-one place)))
+      in
+      holds-same r
+      (ap (λ (x : List ℕ). x ++ slice (place + 1) (cs .count) (cs .list)) (h .are)
+      ∙ append-assoc (classesIn o) (take place (cs .list)) (slice (place + 1) (cs .count) (cs .list))
+      ∙ ap (λ (x : List ℕ). classesIn o ++ x) (sym parts))

@@ -1,8 +1,7 @@
 -- What a row has in a column is what the numbers say, and the state of a row is kept: by the column that is tested, whether the row
--- has a wildcard there or a test that is opened, and by what is opened in other rows.
+-- has a wildcard there or a test that is opened, and by what is opened in other rows. Rests on MeetingLaws and on the rows of RowStates.
 use mathlib.Core.Path.{_≡_, refl, sym, ap, ap₂, _∙_}
-use mathlib.Core.Logic.{_⊎_, inl, inr, ⊎-elim}
-use mathlib.Core.Bool.{Bool, true, false, not, true≢false, false≢true}
+use mathlib.Core.Bool.{Bool, true, false, true≢false, false≢true}
 use mathlib.Core.List.{List, [], _∷_, _++_, map, map-append, append-assoc, append-nil}
 use mathlib.Core.Option.{Option, none, some}
 use Prim.Native.Nat.{ℕ, zero, suc, _+_, _-_, _≤_, _<_}
@@ -11,22 +10,21 @@ use borrow.Author.Tests.{ltb-true, lt-ltb, eqb-true, eqb-false, eq-eqb, ne-eqb}
 use lib.Dec.{eqb, ltb}
 use lib.ListN.{length, getD, set, length-append}
 use lib.Seq.{getD-set-same, getD-set-other}
-use Rattle.words.specs.Words.{both, either, pick}
-use Rattle.words.specs.WordsLaws.{both-true, both-make, both-second-false, either-true, either-first-true, either-second-true}
+use Rattle.words.specs.Words.{both, pick}
+use Rattle.words.specs.WordsLaws.{both-true, both-make, both-second-false}
 use Rattle.rules.specs.SheetFile.{patterns, clauses, root}
 use Rattle.rules.specs.Patterns.{Pat, clausePattern}
-use Rattle.rules.specs.Rows.{Path, Cell, Binding, Row, bit, samePath, columnsOf, bindingsOf, openedColumns, openedBindings, clauseRow}
+use Rattle.rules.specs.Rows.{Path, Cell, Binding, bit, bindingsOf, openedColumns, openedBindings, clauseRow}
 use Rattle.rules.specs.Columns.{testAt}
 use Rattle.rules.specs.Splitting.{withoutTest, openRow}
 use Rattle.rules.specs.SplittingLaws.{All, either-none}
 use Rattle.rules.specs.Searching.{lowest}
-use Rattle.rules.specs.SearchingLaws.{Lowest, lowest-some, lowest-none}
+use Rattle.rules.specs.SearchingLaws.{lowest-some, lowest-none}
 use Rattle.facts.specs.SheetFacts.{Accepted}
 use Rattle.table.specs.Standing.{clauseOf, pathOf, ownerOf, patternOf, isTest, classOf, isCell, cellOf}
-use Rattle.table.specs.StandingLaws.{Owner, inside-none, inside-test, owner, owner-below, clause-known}
+use Rattle.table.specs.StandingLaws.{Owner, inside-none, inside-test, owner, owner-below}
 use Rattle.table.specs.ClassLaws.{samePath-class, same-class-path}
 use Rattle.table.specs.Seen.{testsOf, openedTests, cellAt}
-use Rattle.matrix.specs.declared.Held.{Held}
 use Rattle.matrix.specs.declared.Held.the-variants.{Test, Wildcard}
 use Rattle.matrix.specs.RowStates.{rowAfter, rowOf, rowOf-wild, rowOf-test}
 use Rattle.matrix.specs.Numbers.{copies, firstWith, lessFirst, copies-append, firstWith-some, firstWith-none, copies-lessFirst, all-copies}
@@ -61,10 +59,6 @@ bit-some false n e l = absurd (omega arith)
 bit-true : (b : Bool) → b ≡ true → bit b ≡ 1
 unfolding bit
 bit-true b e = rw e
-
-bit-false : (b : Bool) → b ≡ false → bit b ≡ 0
-unfolding bit
-bit-false b e = rw e
 
 -- ---- cells by number
 abbrev sameClass : List ℕ → ℕ → ℕ → Bool
@@ -258,6 +252,18 @@ openedTest-not s opened c time class h = go (cellOf s c class) refl
     go : (n : ℕ) → cellOf s c class ≡ n → openedCell opened time (cellOf s c class) ≡ Wildcard
     go zero e = rw e
     go (suc p) e = rw (e, ne-eqb (getD opened p 0) (time + 1) (h p (cell-some s c class p e)))
+
+pub opened-test : (s opened : List ℕ) (c time class p : ℕ) → openedTest s opened c time class ≡ Test p → IsCell s c class p
+unfolding openedTest
+opened-test s opened c time class p e = go (cellOf s c class) refl
+  where
+    found : (q : ℕ) → cellOf s c class ≡ suc q → (b : Bool) → pick b (Test q) Wildcard ≡ Test p → IsCell s c class p
+    found q x true z = let d : q ≡ p = cc in cell-some s c class p (x ∙ ap suc d)
+    found q x false z = let w : _≡_ {A = ℕ} 0 1 = cc in absurd (omega arith)
+
+    go : (n : ℕ) → cellOf s c class ≡ n → IsCell s c class p
+    go zero x = let w : Wildcard ≡ Test p = rw x at e in let z : _≡_ {A = ℕ} 0 1 = cc in absurd (omega arith)
+    go (suc q) x = found q x (eqb (getD opened q 0) (time + 1)) (rw x at e)
 
 openedTest-same : (s a b : List ℕ) (c time class : ℕ) → ((p : ℕ) → IsCell s c class p → eqb (getD a p 0) (time + 1) ≡ eqb (getD b p 0) (time + 1))
     → openedTest s a c time class ≡ openedTest s b c time class

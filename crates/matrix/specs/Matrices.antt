@@ -1,6 +1,6 @@
--- A matrix by numbers: the clauses of its rows, the classes of its columns, the classes tested in order, and when each test was opened;
--- what it is to be sound, and the matrices of the clauses, of a default and of a case. MatricesLaws has that rules 2 to 4 give these.
-use mathlib.Core.Bool.{Bool}
+-- What the numbers of a matrix stand for, and what it is for a matrix by numbers to be sound: its clauses rise, its columns are classes,
+-- its rows are in the state that the columns tested have left, and it has no more columns than tests. Rests on Live.
+use mathlib.Core.Bool.{Bool, true}
 use mathlib.Core.List.{List, [], _∷_, _++_, map}
 use mathlib.Core.Path.{_≡_}
 use Prim.Native.Nat.{ℕ, _+_, _≤_, _<_}
@@ -11,8 +11,8 @@ use Rattle.rules.specs.Searching.{times}
 use Rattle.rules.specs.SheetFile.{patterns, clauses, root}
 use Rattle.rules.specs.Rows.{Path, Row}
 use Rattle.rules.specs.SplittingLaws.{All}
-use Rattle.table.specs.Standing.{pathOf, isTest}
-use Rattle.table.specs.Seen.{testsOf, openedTests}
+use Rattle.table.specs.Standing.{pathOf, isTest, classOf}
+use Rattle.table.specs.Seen.{testsOf}
 use Rattle.matrix.specs.RowStates.{rowsOf}
 use Rattle.matrix.specs.Live.{available, IsClass, State}
 
@@ -22,6 +22,12 @@ rowsAt s tested rows = rowsOf s (map (pathOf s) tested) rows
 
 abbrev pub columnsAt : List ℕ → List ℕ → List Path
 columnsAt s columns = map (pathOf s) columns
+
+-- p is a test that stands in the column of class k
+pub record TestIn (s : List ℕ) (k p : ℕ) : Type 0 where
+  pub known : p < patterns s
+  pub test : isTest s p ≡ true
+  pub class : classOf s p ≡ k
 
 -- clauses that rise from a first on
 abbrev pub Rising : ℕ → ℕ → List ℕ → Type 0

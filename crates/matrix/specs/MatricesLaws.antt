@@ -1,41 +1,41 @@
--- Sound matrices: the clauses' own, the default's and a case's are sound, and rules 2 to 4 give them.
+-- The clauses' matrix is sound, and with a sound one its default's and each case's; and rules 2 to 4 give the rows and columns of these.
+-- Rests on the states of rows in LiveLaws, on the filters of HeldRows and on the order of Ordered.
 use mathlib.Core.Path.{_≡_, refl, sym, ap, ap₂, _∙_}
-use mathlib.Core.Bool.{Bool, true, false, not, true≢false}
+use mathlib.Core.Bool.{Bool, true, false, true≢false}
 use mathlib.Core.List.{List, [], _∷_, _++_, map, map-append}
-use mathlib.Core.Option.{Option, none, some}
 use Prim.Native.Nat.{ℕ, zero, suc, _+_, _-_, _≤_, _<_}
 use native.Mathlib.Omega.{arith}
-use borrow.Author.Tests.{ltb-true, lt-ltb, leb-true, leb-false, le-leb, lt-leb, eqb-true, eqb-false, eq-eqb, ne-eqb}
-use lib.Dec.{eqb, leb, ltb}
+use borrow.Author.Tests.{lt-ltb, leb-true, leb-false, le-leb, lt-leb, eqb-true, eqb-false}
+use lib.Dec.{eqb, leb}
 use lib.ListN.{length, getD, set, length-append, length-set}
 use lib.Seq.{getD-set-same, getD-set-other}
-use Rattle.words.specs.Words.{both, either, pick}
-use Rattle.words.specs.WordsLaws.{both-true, both-make}
+use Rattle.words.specs.Words.{both, pick}
 use Rattle.rules.specs.Limits.{patternsMost}
 use Rattle.rules.specs.Searching.{times}
 use Rattle.rules.specs.SheetFile.{patterns, clauses, root}
 use Rattle.rules.specs.SheetRefusals.{isIn}
-use Rattle.rules.specs.Patterns.{Pat, clausePattern, clausePatterns}
-use Rattle.rules.specs.Rows.{Path, Cell, Row, bit, clauseRow, clauseRows, openedColumns}
+use Rattle.rules.specs.Patterns.{clausePatterns}
+use Rattle.rules.specs.Rows.{Path, bit, clauseRow, clauseRows, openedColumns}
 use Rattle.rules.specs.Columns.{union, allTests, columns, without, choice}
 use Rattle.rules.specs.Splitting.{Test, column, defaultRows, caseRows, caseOpens}
 use Rattle.rules.specs.SplittingLaws.{All, either-none}
 use Rattle.facts.specs.SheetFacts.{Accepted}
+use Rattle.matching.specs.Lists.{all-append, all-map}
 use Rattle.table.specs.Standing.{clauseOf, pathOf, ownerOf, patternOf, isTest, classOf}
 use Rattle.table.specs.ClassLaws.{same-class-path}
-use Rattle.table.specs.Seen.{testsOf, openedTests, cellAt}
+use Rattle.table.specs.Seen.{openedTests, cellAt}
 use Rattle.table.specs.MembersLaws.{test-at, test-inside}
 use Rattle.matrix.specs.declared.Held.{Held}
 use Rattle.matrix.specs.declared.Held.the-variants.{Test as HeldTest, Wildcard}
-use Rattle.matrix.specs.declared.Choice.the-variants.{Column, Leaf}
+use Rattle.matrix.specs.declared.Choice.the-variants.{Leaf}
 use Rattle.matrix.specs.RowStates.{rowAfter, rowOf, rowsOf, upFrom, clause-rows}
-use Rattle.matrix.specs.Numbers.{copies, length-times, times-same, times-add, all-copies}
-use Rattle.matrix.specs.Live.{available, liveTest, liveIn, isTestOf, isInside, IsClass, State}
-use Rattle.matrix.specs.MeetingLaws.{Meeting, meeting, copies-in}
-use Rattle.matrix.specs.LiveLaws.{TestOf, IsCell, Live, live-test, inside-shut, inside-free, elsewhere, not-inside, state-agree, state-first, held, state-wild, state-open, paths-next, length-next}
+use Rattle.matrix.specs.Numbers.{length-times, times-same, times-add, all-copies}
+use Rattle.matrix.specs.Live.{available, liveIn, isTestOf, isInside, IsClass, State}
+use Rattle.matrix.specs.MeetingLaws.{meeting, copies-in}
+use Rattle.matrix.specs.LiveLaws.{TestOf, IsCell, Live, live-test, inside-shut, inside-free, elsewhere, state-agree, state-first, held, state-wild, state-open, paths-next, length-next}
 use Rattle.matrix.specs.HeldRows.{countOf, bestOf, pathChosen, heldTests, wildOf, joinOf, opensOf, joinsCase, openedAt, Told, count-states, column-states, default-states, case-states, opens-states, best-is}
-use Rattle.matrix.specs.Ordered.{putEach, pathBefore, withoutClass, is-class, each-classes, each-union, each-most, without-classes, without-paths, without-one}
-use Rattle.matrix.specs.Matrices.{rowsAt, columnsAt, Rising, reached, Sound, gather, rootTests, marked}
+use Rattle.matrix.specs.Ordered.{pathBefore, classesFor, withoutClass, each-classes, each-union, each-most, without-classes, without-paths, without-one}
+use Rattle.matrix.specs.Matrices.{TestIn, rowsAt, columnsAt, Rising, reached, Sound, gather, rootTests, marked}
 
 -- ---- rising clauses
 pub rising-later : (n from later : ℕ) (cs : List ℕ) → from ≤ later → Rising n later cs → Rising n from cs
@@ -74,17 +74,9 @@ rising-join joins held n from (c ∷ cs) r = go (held c) refl (rising-join joins
     go Wildcard e ih = rw (e, joinOf) (r .0, r .1, ih)
 
 -- ---- what each has
-all-same : (P Q : ℕ → Type 0) → ((x : ℕ) → P x → Q x) → (xs : List ℕ) → All P xs → All Q xs
-all-same P Q f [] h = tt
-all-same P Q f (x ∷ xs) h = (f x (h .0), all-same P Q f xs (h .1))
-
 all-next : (P : ℕ → Type 0) (xs : List ℕ) (x : ℕ) → All P xs → P x → All P (xs ++ x ∷ [])
 all-next P [] x h p = (p, tt)
 all-next P (y ∷ xs) x h p = (h .0, all-next P xs x (h .1) p)
-
-all-append : (P : ℕ → Type 0) (xs ys : List ℕ) → All P xs → All P ys → All P (xs ++ ys)
-all-append P [] ys a b = b
-all-append P (x ∷ xs) ys a b = (a .0, all-append P xs ys (a .1) b)
 
 pub all-in : (P : ℕ → Type 0) (k : ℕ) (xs : List ℕ) → All P xs → isIn k xs ≡ true → P k
 unfolding isIn
@@ -119,6 +111,33 @@ one-less true b w c = go b (eqb w c) refl (leb c w) refl
         below : (w ≡ c → ⊥) → c ≤ w → c + 1 ≤ w
         below d l = omega arith
     go true false x false y = let l = leb-false c w y in rw (x, y, lt-leb (c + 1) w (omega arith))
+
+-- ---- the tests of the column of a class
+live-in : (s opened : List ℕ) (k c p : ℕ) → liveIn s opened k c ≡ HeldTest p → TestIn s k p
+live-in s opened k c p e = let l = live-test s opened c k p e .0 in record { known = l .test-of .known; test = l .test-of .test; class = l .class-of }
+
+pub tests-in : (s opened : List ℕ) (k : ℕ) (cs : List ℕ) → All (TestIn s k) (heldTests (liveIn s opened k) cs)
+unfolding heldTests
+tests-in s opened k [] = tt
+tests-in s opened k (c ∷ cs) = go (liveIn s opened k c) refl (tests-in s opened k cs)
+  where
+    go : (o : Held) → liveIn s opened k c ≡ o → All (TestIn s k) (heldTests (liveIn s opened k) cs) → All (TestIn s k) (heldTests (liveIn s opened k) (c ∷ cs))
+    go (HeldTest p) e ih = rw (e, heldTests) (live-in s opened k c p e, ih)
+    go Wildcard e ih = rw (e, heldTests) ih
+
+pub opens-in : (s : List ℕ) (joins : ℕ → Bool) (opened : List ℕ) (k : ℕ) (cs : List ℕ) → All (TestIn s k) (opensOf joins (liveIn s opened k) cs)
+unfolding opensOf
+opens-in s joins opened k [] = tt
+opens-in s joins opened k (c ∷ cs) = go (liveIn s opened k c) refl (opens-in s joins opened k cs)
+  where
+    test : (p : ℕ) → liveIn s opened k c ≡ HeldTest p → (b : Bool) → All (TestIn s k) (opensOf joins (liveIn s opened k) cs)
+        → All (TestIn s k) (pick b (p ∷ opensOf joins (liveIn s opened k) cs) (opensOf joins (liveIn s opened k) cs))
+    test p e true ih = (live-in s opened k c p e, ih)
+    test p e false ih = ih
+
+    go : (o : Held) → liveIn s opened k c ≡ o → All (TestIn s k) (opensOf joins (liveIn s opened k) cs) → All (TestIn s k) (opensOf joins (liveIn s opened k) (c ∷ cs))
+    go (HeldTest p) e ih = rw (e, opensOf) (test p e (joins p) ih)
+    go Wildcard e ih = rw (e, opensOf) ih
 
 -- ---- how many tests are reached
 module _ {s : List ℕ} (ok : Accepted s) where
@@ -161,7 +180,7 @@ module _ {s : List ℕ} (ok : Accepted s) where
   module _ {rows columns tested opened : List ℕ} (x : Sound s rows columns tested opened) where
     pub told : (k : ℕ) → IsClass s k → All (Told s (map (pathOf s) tested) (pathOf s k) (liveIn s opened k)) rows
     told k class =
-        all-same (State s tested opened) (Told s (map (pathOf s) tested) (pathOf s k) (liveIn s opened k))
+        all-map (State s tested opened) (Told s (map (pathOf s) tested) (pathOf s k) (liveIn s opened k))
         (λ c st. held ok (meeting ok) tested opened c k class st) rows (x .states)
 
     -- rule 3
@@ -170,7 +189,7 @@ module _ {s : List ℕ} (ok : Accepted s) where
     unfolding choice
     choice-is =
         best-is s (rowsAt s tested rows) (λ k. countOf (liveIn s opened k) rows) Leaf 0 columns
-        (all-same (IsClass s) _ (λ k class. count-states s (map (pathOf s) tested) (pathOf s k) (liveIn s opened k) rows (told k class)) columns (x .are-classes))
+        (all-map (IsClass s) _ (λ k class. count-states s (map (pathOf s) tested) (pathOf s k) (liveIn s opened k) rows (told k class)) columns (x .are-classes))
 
     pub column-is : (k : ℕ) → IsClass s k → column (pathOf s k) (rowsAt s tested rows) ≡ map (patternOf s) (heldTests (liveIn s opened k) rows)
     column-is k class = column-states s (map (pathOf s) tested) (pathOf s k) (liveIn s opened k) rows (told k class)
@@ -208,20 +227,27 @@ module _ {s : List ℕ} (ok : Accepted s) where
       default-columns = without-paths s k columns column-class (x .are-classes)
 
   -- ---- a case
-  -- the tests ps, of clauses from a first on, are opened at a time: what they reach, what they leave as it was, and the rows js
-  record Marks (tested : List ℕ) (k time from : ℕ) (acc ps js : List ℕ) : Type 0 where
-    reaches : times (reached s (marked time acc ps)) 0 (patterns s) ≡ times (reached s acc) 0 (patterns s) + length (gather (openedTests s) ps)
-    keeps : (q : ℕ) → q < patterns s → clauseOf s q < from → getD (marked time acc ps) q 0 ≡ getD acc q 0
-    long : length (marked time acc ps) ≡ length acc
-    states : All (State s (tested ++ k ∷ []) (marked time acc ps)) js
-
   module _ (joins : ℕ → Bool) (tested opened : List ℕ) (k : ℕ) (class : IsClass s k) (room : patterns s ≤ length opened) where
     abbrev time : ℕ
     time = length tested + 1
 
+    -- the tests that clauses cs open, and the rows that join
+    abbrev opensBy : List ℕ → List ℕ
+    opensBy cs = opensOf joins (liveIn s opened k) cs
+
+    abbrev joinBy : List ℕ → List ℕ
+    joinBy cs = joinOf joins (liveIn s opened k) cs
+
+    -- the tests ps, of clauses from a first on, are opened: what they reach, what they leave as it was, and the rows js
+    record Marks (from : ℕ) (acc ps js : List ℕ) : Type 0 where
+      reaches : times (reached s (marked time acc ps)) 0 (patterns s) ≡ times (reached s acc) 0 (patterns s) + length (gather (openedTests s) ps)
+      keeps : (q : ℕ) → q < patterns s → clauseOf s q < from → getD (marked time acc ps) q 0 ≡ getD acc q 0
+      long : length (marked time acc ps) ≡ length acc
+      states : All (State s (tested ++ k ∷ []) (marked time acc ps)) js
+
     marks : (cs : List ℕ) (from : ℕ) (acc : List ℕ) → Rising (clauses s) from cs → All (State s tested opened) cs → length acc ≡ length opened
         → ((q : ℕ) → q < patterns s → from ≤ clauseOf s q → getD acc q 0 ≡ getD opened q 0)
-        → Marks tested k time from acc (opensOf joins (liveIn s opened k) cs) (joinOf joins (liveIn s opened k) cs)
+        → Marks from acc (opensBy cs) (joinBy cs)
     unfolding opensOf joinOf marked gather
     marks [] from acc r h l same = record { reaches = omega arith; keeps = λ q a b. refl; long = refl; states = tt }
     marks (c ∷ cs) from acc r h l same =
@@ -229,14 +255,14 @@ module _ {s : List ℕ} (ok : Accepted s) where
         (λ acc′ l′ same′. marks cs (c + 1) acc′ (r .2) (h .1) l′ same′)
       where
         -- a row with a wildcard
-        wild : liveIn s opened k c ≡ Wildcard → Marks tested k time (c + 1) acc (opensOf joins (liveIn s opened k) cs) (joinOf joins (liveIn s opened k) cs)
-            → Marks tested k time from acc (opensOf joins (liveIn s opened k) cs) (c ∷ joinOf joins (liveIn s opened k) cs)
+        wild : liveIn s opened k c ≡ Wildcard → Marks (c + 1) acc (opensBy cs) (joinBy cs)
+            → Marks from acc (opensBy cs) (c ∷ joinBy cs)
         wild e ih = record {
           reaches = ih .reaches;
           keeps = λ q a b. ih .keeps q a (omega (arith, r .0));
           long = ih .long;
           states = (
-            state-agree ok opened (marked time acc (opensOf joins (liveIn s opened k) cs)) c
+            state-agree ok opened (marked time acc (opensBy cs)) c
                 (λ q a f. sym (ih .keeps q a (omega arith) ∙ same q a (omega (arith, r .0)))) (tested ++ k ∷ [])
                 (state-wild ok (meeting ok) tested opened c k class (h .0) e),
             ih .states,
@@ -244,19 +270,19 @@ module _ {s : List ℕ} (ok : Accepted s) where
         }
 
         -- a row with a test that is not of the case
-        passed : Marks tested k time (c + 1) acc (opensOf joins (liveIn s opened k) cs) (joinOf joins (liveIn s opened k) cs)
-            → Marks tested k time from acc (opensOf joins (liveIn s opened k) cs) (joinOf joins (liveIn s opened k) cs)
+        passed : Marks (c + 1) acc (opensBy cs) (joinBy cs)
+            → Marks from acc (opensBy cs) (joinBy cs)
         passed ih = record { reaches = ih .reaches; keeps = λ q a b. ih .keeps q a (omega (arith, r .0)); long = ih .long; states = ih .states }
 
         -- a row with a test that is opened
-        opens : (p : ℕ) → liveIn s opened k c ≡ HeldTest p → Marks tested k time (c + 1) (set acc p time) (opensOf joins (liveIn s opened k) cs) (joinOf joins (liveIn s opened k) cs)
-            → Marks tested k time from acc (p ∷ opensOf joins (liveIn s opened k) cs) (c ∷ joinOf joins (liveIn s opened k) cs)
+        opens : (p : ℕ) → liveIn s opened k c ≡ HeldTest p → Marks (c + 1) (set acc p time) (opensBy cs) (joinBy cs)
+            → Marks from acc (p ∷ opensBy cs) (c ∷ joinBy cs)
         opens p e ih = record {
-          reaches = omega (arith, ih .reaches, reached-more acc p time inside some-time shut (t .known) (t .test), length-gather (openedTests s) p (opensOf joins (liveIn s opened k) cs));
+          reaches = omega (arith, ih .reaches, reached-more acc p time inside some-time shut (t .known) (t .test), length-gather (openedTests s) p (opensBy cs));
           keeps = λ q a b. ih .keeps q a (omega (arith, r .0)) ∙ getD-set-other acc p q time 0 (λ d. apart q b d);
           long = ih .long ∙ length-set acc p time;
           states = (
-            state-agree ok (set opened p time) (marked time (set acc p time) (opensOf joins (liveIn s opened k) cs)) c
+            state-agree ok (set opened p time) (marked time (set acc p time) (opensBy cs)) c
                 (λ q a f. sym (ih .keeps q a (omega arith) ∙ same-set q a f (eqb q p) refl)) (tested ++ k ∷ [])
                 (state-open ok (meeting ok) tested opened c k class (h .0) room p e),
             ih .states,
@@ -289,46 +315,28 @@ module _ {s : List ℕ} (ok : Accepted s) where
                 let n = eqb-false q p x in
                 getD-set-other acc p q time 0 n ∙ same q a (omega (arith, r .0)) ∙ sym (getD-set-other opened p q time 0 n)
 
-        go : (o : Held) → liveIn s opened k c ≡ o → Marks tested k time (c + 1) acc (opensOf joins (liveIn s opened k) cs) (joinOf joins (liveIn s opened k) cs)
+        go : (o : Held) → liveIn s opened k c ≡ o → Marks (c + 1) acc (opensBy cs) (joinBy cs)
             → ((a : List ℕ) → length a ≡ length opened → ((q : ℕ) → q < patterns s → c + 1 ≤ clauseOf s q → getD a q 0 ≡ getD opened q 0)
-            → Marks tested k time (c + 1) a (opensOf joins (liveIn s opened k) cs) (joinOf joins (liveIn s opened k) cs))
-            → Marks tested k time from acc (opensOf joins (liveIn s opened k) (c ∷ cs)) (joinOf joins (liveIn s opened k) (c ∷ cs))
+            → Marks (c + 1) a (opensBy cs) (joinBy cs))
+            → Marks from acc (opensBy (c ∷ cs)) (joinBy (c ∷ cs))
         go Wildcard e ih next = rw (e, opensOf, joinOf) (wild e ih)
         go (HeldTest p) e ih next = rw (e, opensOf, joinOf) (test (joins p))
           where
-            further : Marks tested k time (c + 1) (set acc p time) (opensOf joins (liveIn s opened k) cs) (joinOf joins (liveIn s opened k) cs)
-            further = next (set acc p time) (length-set acc p time ∙ l) (λ q a b. getD-set-other acc p q time 0 (λ d. omega (arith, live-test s opened c k p e .0 .test-of .clause, ap (clauseOf s) d)) ∙ same q a (omega (arith, r .0)))
+            further : Marks (c + 1) (set acc p time) (opensBy cs) (joinBy cs)
+            further =
+                next (set acc p time) (length-set acc p time ∙ l)
+                (λ q a b. getD-set-other acc p q time 0 (λ d. omega (arith, live-test s opened c k p e .0 .test-of .clause, ap (clauseOf s) d)) ∙ same q a (omega (arith, r .0)))
 
-            test : (b : Bool) → Marks tested k time from acc (pick b (p ∷ opensOf joins (liveIn s opened k) cs) (opensOf joins (liveIn s opened k) cs)) (pick b (c ∷ joinOf joins (liveIn s opened k) cs) (joinOf joins (liveIn s opened k) cs))
+            test : (b : Bool) → Marks from acc (pick b (p ∷ opensBy cs) (opensBy cs)) (pick b (c ∷ joinBy cs) (joinBy cs))
             test true = opens p e further
             test false = passed ih
 
-  -- tests of the column of a class
-  record TestIn (k p : ℕ) : Type 0 where
-    known : p < patterns s
-    test : isTest s p ≡ true
-    class : classOf s p ≡ k
-
-  opens-are : (joins : ℕ → Bool) (opened : List ℕ) (k : ℕ) (cs : List ℕ) → All (TestIn k) (opensOf joins (liveIn s opened k) cs)
-  unfolding opensOf
-  opens-are joins opened k [] = tt
-  opens-are joins opened k (c ∷ cs) = go (liveIn s opened k c) refl (opens-are joins opened k cs)
-    where
-      test : (p : ℕ) → liveIn s opened k c ≡ HeldTest p → (b : Bool) → All (TestIn k) (opensOf joins (liveIn s opened k) cs)
-          → All (TestIn k) (pick b (p ∷ opensOf joins (liveIn s opened k) cs) (opensOf joins (liveIn s opened k) cs))
-      test p e true ih = let l = live-test s opened c k p e .0 in (record { known = l .test-of .known; test = l .test-of .test; class = l .class-of }, ih)
-      test p e false ih = ih
-
-      go : (o : Held) → liveIn s opened k c ≡ o → All (TestIn k) (opensOf joins (liveIn s opened k) cs) → All (TestIn k) (opensOf joins (liveIn s opened k) (c ∷ cs))
-      go (HeldTest p) e ih = rw (e, opensOf) (test p e (joins p) ih)
-      go Wildcard e ih = rw (e, opensOf) ih
-
-  gather-known : (k : ℕ) (ps : List ℕ) → All (TestIn k) ps → All Known (gather (openedTests s) ps)
+  gather-known : (k : ℕ) (ps : List ℕ) → All (TestIn s k) ps → All Known (gather (openedTests s) ps)
   unfolding gather
   gather-known k [] h = tt
   gather-known k (p ∷ ps) h = all-append Known (openedTests s p) (gather (openedTests s) ps) (opened-known p (h .0 .known) (h .0 .test)) (gather-known k ps (h .1))
 
-  opened-cells : (k : ℕ) → IsClass s k → (ps : List ℕ) → All (TestIn k) ps → openedAt s (pathOf s k) ps ≡ map (cellAt s) (gather (openedTests s) ps)
+  opened-cells : (k : ℕ) → IsClass s k → (ps : List ℕ) → All (TestIn s k) ps → openedAt s (pathOf s k) ps ≡ map (cellAt s) (gather (openedTests s) ps)
   unfolding openedAt gather
   opened-cells k class [] h = refl
   opened-cells k class (p ∷ ps) h =
@@ -338,8 +346,8 @@ module _ {s : List ℕ} (ok : Accepted s) where
       ∙ sym (map-append (cellAt s) (openedTests s p) (gather (openedTests s) ps))
 
   -- the columns that tests open, in order
-  abbrev pub openedClasses : List ℕ → List ℕ
-  openedClasses ps = putEach (pathBefore s) (classOf s) (gather (openedTests s) ps) []
+  abbrev openedClasses : List ℕ → List ℕ
+  openedClasses ps = classesFor s (gather (openedTests s) ps)
 
   module _ {rows columns tested opened : List ℕ} (x : Sound s rows columns tested opened) (k : ℕ) (there : isIn k columns ≡ true) where
     enough : patterns s ≤ length opened
@@ -352,7 +360,7 @@ module _ {s : List ℕ} (ok : Accepted s) where
         let class = column-class x k there in
         let ps = opensOf joins (liveIn s opened k) rows in
         let m = marks joins tested opened k class enough rows 0 opened (x .rising) (x .states) refl (λ q a b. refl) in
-        let known = gather-known k ps (opens-are joins opened k rows) in
+        let known = gather-known k ps (opens-in s joins opened k rows) in
         record {
           rising = rising-join joins (liveIn s opened k) (clauses s) 0 rows (x .rising);
           are-classes =
@@ -383,7 +391,7 @@ module _ {s : List ℕ} (ok : Accepted s) where
       case-columns =
           let class = column-class x k there in
           let ps = opensOf (joinsCase s t) (liveIn s opened k) rows in
-          let are = opens-are (joinsCase s t) opened k rows in
+          let are = opens-in s (joinsCase s t) opened k rows in
           map-append (pathOf s) (openedClasses ps) (withoutClass k columns)
           ∙ ap₂ _++_
           (each-union s (gather (openedTests s) ps) (gather-known k ps are)
@@ -439,7 +447,7 @@ module _ {s : List ℕ} (ok : Accepted s) where
     first-states c (suc n) h = (state-first ok (meeting ok) opened none-opened c (omega arith), first-states (c + 1) n (omega arith))
 
     pub first-sound : length opened ≡ patternsMost
-        → Sound s (upFrom 0 (clauses s)) (putEach (pathBefore s) (classOf s) (gather (rootTests s) (upFrom 0 (clauses s))) []) [] opened
+        → Sound s (upFrom 0 (clauses s)) (classesFor s (gather (rootTests s) (upFrom 0 (clauses s)))) [] opened
     first-sound long = record {
       rising = rising-up (clauses s) 0 (clauses s) (omega arith);
       are-classes = each-classes s (gather (rootTests s) (upFrom 0 (clauses s))) [] (roots-known 0 (clauses s) (omega arith)) tt;
@@ -462,7 +470,7 @@ module _ {s : List ℕ} (ok : Accepted s) where
   all-tests c (suc n) h =
       ap₂ _++_ (root-tests c (omega arith)) (all-tests (c + 1) n (omega arith)) ∙ sym (map-append (cellAt s) (rootTests s c) (gather (rootTests s) (upFrom (c + 1) n)))
 
-  pub first-columns : columnsAt s (putEach (pathBefore s) (classOf s) (gather (rootTests s) (upFrom 0 (clauses s))) [])
+  pub first-columns : columnsAt s (classesFor s (gather (rootTests s) (upFrom 0 (clauses s))))
       ≡ columns (clauseRows 0 (clausePatterns s 0 (clauses s)))
   unfolding columns
   first-columns =

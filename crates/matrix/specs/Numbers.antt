@@ -1,7 +1,7 @@
 -- Lists of numbers: how often a number stands in one, the first of which a test holds, the list without that one; and counts over
 -- the numbers below a bound. Rests on the library's lists and on arithmetic.
 use mathlib.Core.Path.{_≡_, refl, sym, ap, ap₂, _∙_}
-use mathlib.Core.Bool.{Bool, true, false, true≢false}
+use mathlib.Core.Bool.{Bool, true, false}
 use mathlib.Core.List.{List, [], _∷_, _++_}
 use mathlib.Core.Option.{Option, none, some}
 use Prim.Native.Nat.{ℕ, zero, suc, _+_, _≤_, _<_}

@@ -1,5 +1,5 @@
 -- Rule 2 by classes: a class put into its place among others, those of tests put one after the other, and a list without its first copy
--- of a class; the paths of these are what rules puts, unites and leaves out.
+-- of a class; the paths of these are what rules puts, unites and leaves out. Rests on what crate table shows of classes.
 use mathlib.Core.Path.{_≡_, refl, sym, ap, ap₂, _∙_}
 use mathlib.Core.Bool.{Bool, true, false}
 use mathlib.Core.List.{List, [], _∷_, _++_, map}
@@ -11,7 +11,7 @@ use lib.ListN.{length, take, drop}
 use Rattle.words.specs.Words.{pick}
 use Rattle.rules.specs.SheetFile.{patterns}
 use Rattle.rules.specs.SheetRefusals.{isIn}
-use Rattle.rules.specs.Rows.{Path, Cell, samePath}
+use Rattle.rules.specs.Rows.{Path, samePath}
 use Rattle.rules.specs.Columns.{before, put, union, without}
 use Rattle.rules.specs.SplittingLaws.{All}
 use Rattle.table.specs.Standing.{pathOf, classOf}
@@ -34,6 +34,10 @@ putEach first class (q ∷ qs) ks = putClass first (class q) (putEach first clas
 -- the order of the paths of classes
 abbrev pub pathBefore : List ℕ → ℕ → ℕ → Bool
 pathBefore s a b = before (pathOf s a) (pathOf s b)
+
+-- the columns of tests, in order
+abbrev pub classesFor : List ℕ → List ℕ → List ℕ
+classesFor s tests = putEach (pathBefore s) (classOf s) tests []
 
 -- without the first copy of k
 unfoldable pub withoutClass : ℕ → List ℕ → List ℕ

@@ -31,6 +31,19 @@ unfolding rowAfter
 rowAfter-next [] p r = refl
 rowAfter-next (q ∷ ps) p r = rowAfter-next ps p (openAt q r)
 
+-- a row keeps its clause
+openAt-clause : (p : Path) (r : Row) → (openAt p r) .clause ≡ r .clause
+openAt-clause p r = go (testAt p (r .tests)) refl
+  where
+    go : (o : Option Pat) → testAt p (r .tests) ≡ o → (openAt p r) .clause ≡ r .clause
+    go none e = rw (openAt-wild p r e)
+    go (some q) e = rw (openAt-test p r q e) (unfold openRow in refl)
+
+rowAfter-clause : (ps : List Path) (r : Row) → (rowAfter ps r) .clause ≡ r .clause
+unfolding rowAfter
+rowAfter-clause [] r = refl
+rowAfter-clause (p ∷ ps) r = rowAfter-clause ps (openAt p r) ∙ openAt-clause p r
+
 -- clause c's row, and the rows of clauses cs, after the columns at ps
 unfoldable pub rowOf : List ℕ → List Path → ℕ → Row
 rowOf s ps c = rowAfter ps (clauseRow c (clausePattern s c))
@@ -41,6 +54,10 @@ rowsOf s ps cs = map (rowOf s ps) cs
 -- what clause c's row has in the column at p
 abbrev pub heldBy : List ℕ → List Path → Path → ℕ → Option Pat
 heldBy s ps p c = testAt p ((rowOf s ps c) .tests)
+
+pub rowOf-clause : (s : List ℕ) (ps : List Path) (c : ℕ) → (rowOf s ps c) .clause ≡ c
+unfolding rowOf clauseRow
+rowOf-clause s ps c = rowAfter-clause ps (clauseRow c (clausePattern s c))
 
 pub rowOf-next : (s : List ℕ) (ps : List Path) (p : Path) (c : ℕ) → rowOf s (ps ++ p ∷ []) c ≡ openAt p (rowOf s ps c)
 unfolding rowOf

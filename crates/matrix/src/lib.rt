@@ -1,7 +1,16 @@
 // A matrix of rules 2 to 4 by value: its rows by clause, its columns by class, the columns tested so far and when each test was opened.
-// Counting and choosing a column are in rows, putting columns in order in columns, the matrices themselves in splitting.
+// Counting and choosing a column are in rows, putting columns in order in columns, which tests belong to a case in covering, and the
+// matrices of the clauses, of a default and of a case in splitting.
+//
+// Cost: a matrix is some 630 bytes, made once for each child of a switch; nothing is allocated. What a row has in a column is at most
+// four reads. Choosing asks each row in each column once; a default or a case asks each row in its own column once, and a text is
+// compared with a case's text once, byte by byte. A column put among others is compared with those before its place, each pair of
+// paths by at most 11 indices. Mapping a pattern goes at most one call deep for each pattern and each child, where 192 less the pattern
+// number falls.
 pub mod columns;
+pub mod covering;
 pub mod rows;
+pub mod splitting;
 
 ghost use mathlib.Core.Path.{_≡_};
 
@@ -15,15 +24,6 @@ pub enum Held {
 pub enum Choice {
     Column(usize),
     Leaf,
-}
-
-// A case's test; a text by where it is in the pool.
-pub enum CaseTest {
-    Constr(u16),
-    Int { start: u16, len: u16 },
-    Bytes { start: u16, len: u16 },
-    List(u16),
-    Tailed(u16),
 }
 
 // Numbers, at most one for each row.

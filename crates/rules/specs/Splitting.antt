@@ -36,7 +36,7 @@ rising f k zero = []
 rising f k (suc n) = f k ∷ rising f (k + 1) n
 
 -- "ListWithTail(k) first joins List(k) up to the longest tailless length in the column, if any, then ListWithTail(k) up to the
--- longest tailed length, each rising": tailless and tailed are one more than these lengths, 0 if there is none
+-- longest tailed length, each rising": tailless and tails are one more than these lengths, 0 if there is none
 unfoldable pub joined : ℕ → ℕ → Pat → List Test
 unfolding many rising
 joined tailless tails (discard m) = []

@@ -1,5 +1,5 @@
--- 01, "Panels and the walk": positions, following a path, and the walk of a tree on a panel.
--- The panel is bytes, the tree is the one that its file stands for.
+-- 01, "Panels and the walk": following a path, and the walk of a tree on a panel.
+-- The panel is bytes, the tree is the one that its file stands for; positions and answers are those of Positions.
 use Prim.Native.Nat.{ℕ, zero, suc, _+_, _-_}
 use mathlib.Core.Bool.{Bool, true, false}
 use mathlib.Core.List.{List, [], _∷_}

@@ -9,3 +9,5 @@ pub mod ReadyLaws
 pub mod WayLaws
 pub mod Scoped
 pub mod ScopedLaws
+pub mod WriterLaws
+pub mod Examples

@@ -1,26 +1,24 @@
 -- Two tests of one clause with the same path are the same pattern: patterns of one clause share a path only along assigns.
 -- Rests on StandingLaws and on the steps of paths.
-use mathlib.Core.Path.{_≡_, refl, sym, ap, ap₂, _∙_}
-use mathlib.Core.Logic.{_⊎_, inl, inr, ⊎-elim}
+use mathlib.Core.Path.{_≡_, refl, sym, ap, _∙_}
 use mathlib.Core.Bool.{Bool, true, false, true≢false}
-use mathlib.Core.List.{List, [], _∷_}
-use mathlib.Core.Option.{Option, none, some}
+use mathlib.Core.List.{List}
+use mathlib.Core.Option.{some}
 use Prim.Native.Nat.{ℕ, zero, suc, _+_, _-_, _≤_, _<_}
 use native.Mathlib.Omega.{arith}
 use borrow.Author.Tests.{eqb-true, eqb-false, eq-eqb, ne-eqb}
 use lib.Dec.{eqb}
-use Rattle.words.specs.Words.{both, pick}
 use Rattle.rules.specs.Limits.{patternsMost}
-use Rattle.rules.specs.SheetFile.{patterns, clauses, patternKind, patternFirst, patternCount, child, root}
-use Rattle.rules.specs.Patterns.{PatternKind, Discard, Variable, Assign, Integer, ByteString, ListOfAll, ListWithRest, Constructor, Pair, Tuple, Unknown, patternKindOf}
+use Rattle.rules.specs.SheetFile.{patterns, clauses, patternKind, patternFirst, child, root}
+use Rattle.rules.specs.Patterns.{PatternKind, Discard, Variable, Assign, Integer, ByteString, ListOfAll, ListWithRest, Constructor, Pair, Tuple, Unknown}
 use Rattle.rules.specs.SheetRefusals.{hasChildren}
-use Rattle.rules.specs.Rows.{Step, Path, into}
+use Rattle.rules.specs.Rows.{Step, into}
 use Rattle.rules.specs.Columns.{stepIndex}
 use Rattle.facts.specs.KindsLaws.{byte-pattern, pattern-byte}
 use Rattle.facts.specs.SheetFacts.{Counted, Owns, Shaped, assign-parent, owned-pattern}
 use Rattle.table.specs.Standing.{kindOf, stepTo, follows, clauseOf, pathOf, typeOf, isTest, classOf}
 use Rattle.table.specs.StandingLaws.{by-standing, root-clause, root-path, child-clause, child-path}
-use Rattle.table.specs.PathsLaws.{Steps, stepTo-steps}
+use Rattle.table.specs.PathsLaws.{stepTo-steps}
 use Rattle.table.specs.ClassLaws.{into-same, into-some, same-class-path}
 use Rattle.table.specs.SeenLaws.{test-kind}
 

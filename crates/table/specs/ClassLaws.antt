@@ -2,30 +2,30 @@
 -- the class, the step, its index and the type that it steps from are together the path.
 -- Rests on StandingLaws and on the equality of paths in filing.
 use mathlib.Core.Path.{_≡_, refl, sym, ap, ap₂, _∙_}
-use mathlib.Core.Logic.{_⊎_, inl, inr, ⊎-elim}
+use mathlib.Core.Logic.{_⊎_, ⊎-elim}
 use mathlib.Core.Bool.{Bool, true, false, true≢false}
 use mathlib.Core.List.{List, [], _∷_, _++_}
 use mathlib.Core.Option.{Option, none, some}
 use Prim.Native.Nat.{ℕ, zero, suc, _+_, _-_, _≤_, _<_}
 use native.Mathlib.Omega.{arith}
 use native.Mathlib.Nat.{zero-add, eq-or-lt-of-le}
-use borrow.Author.Tests.{eqb-true, eqb-false, eq-eqb, ne-eqb}
+use borrow.Author.Tests.{eqb-true, eqb-false, eq-eqb}
 use lib.Dec.{eqb}
 use lib.ListN.{length, length-append}
 use Rattle.words.specs.Words.{both, pick}
 use Rattle.words.specs.WordsLaws.{both-true, both-make}
 use Rattle.rules.specs.Searching.{lowest}
-use Rattle.rules.specs.SearchingLaws.{Lowest, lowest-some, lowest-none}
-use Rattle.rules.specs.SheetFile.{patterns, patternFirst, child, root}
+use Rattle.rules.specs.SearchingLaws.{lowest-some, lowest-none}
+use Rattle.rules.specs.SheetFile.{patterns, patternFirst}
 use Rattle.rules.specs.Patterns.{PatternKind, Discard, Variable, Assign, Integer, ByteString, ListOfAll, ListWithRest, Constructor, Pair, Tuple, Unknown, oneConstructor, decorated}
 use Rattle.rules.specs.Rows.{Step, pair, tuple, constr, list, listtail, Path, into, samePath}
 use Rattle.rules.specs.Columns.{stepIndex}
 use Rattle.rules.specs.SplittingLaws.{not-true-false}
 use Rattle.rules.specs.TreeFile.{pathNumber}
-use Rattle.facts.specs.SheetFacts.{Counted, Owns, Shaped}
+use Rattle.facts.specs.SheetFacts.{Counted, Shaped}
 use Rattle.filing.specs.PathsLaws.{samePath-refl, samePath-sound, samePath-make, pathNumber-first, pathNumber-rest}
-use Rattle.table.specs.Standing.{orSelf, kindOf, isTail, stepTo, follows, standing, clauseOf, pathOf, typeOf, parentOf, aboveOf, indexOf, stepOf, stepNumber, stepType, pathsFrom, sheetPaths, classOf, sameStepAs}
-use Rattle.table.specs.StandingLaws.{Place, as-root, as-child, place, by-standing, root-path, root-above, root-index, root-step, child-path, child-above, child-index, child-step, parent-below, above-below, path-above}
+use Rattle.table.specs.Standing.{orSelf, kindOf, isTail, stepTo, follows, pathOf, typeOf, aboveOf, indexOf, stepOf, stepNumber, stepType, pathsFrom, sheetPaths, classOf, sameStepAs}
+use Rattle.table.specs.StandingLaws.{Place, as-root, as-child, place, by-standing, root-path, root-step, child-above, child-index, child-step, above-below, path-above}
 use Rattle.table.specs.PathsLaws.{Steps, none-some, stepTo-steps}
 
 -- ---- the lowest pattern with a path
@@ -33,12 +33,6 @@ pub record Class (s : List ℕ) (p c : ℕ) : Type 0 where
   pub up-to : c ≤ p
   pub path : pathOf s c ≡ pathOf s p
   pub lowest-one : (q : ℕ) → q < c → pathOf s q ≡ pathOf s p → ⊥
-
-pub one-class : (s : List ℕ) (p c d : ℕ) → Class s p c → Class s p d → c ≡ d
-one-class s p c d x y =
-    let a : c < d → ⊥ = λ l. y .lowest-one c l (x .path) in
-    let b : d < c → ⊥ = λ l. x .lowest-one d l (y .path) in
-    omega arith
 
 -- of the n patterns from k on, if q is among them
 record ClassFrom (s : List ℕ) (path : Path) (k q c : ℕ) : Type 0 where
@@ -163,7 +157,7 @@ module _ {s : List ℕ} (sh : Shaped s) (few : Counted s) where
       (λ c h. rw (root-step sh c h))
       (λ p j h o ih. rw (child-step sh p j h o, child-index sh p j h o, child-above sh p j h o) (stepTo-made s p (typeOf s p) (j - patternFirst s p) (kindOf s p)))
 
-  step-steps : (p : ℕ) → p < patterns s → (step : Step) → stepOf s p ≡ some step → Steps (indexOf s p) (typeOf s (aboveOf s p)) step
+  pub step-steps : (p : ℕ) → p < patterns s → (step : Step) → stepOf s p ≡ some step → Steps (indexOf s p) (typeOf s (aboveOf s p)) step
   step-steps =
       by-standing sh (λ p. (step : Step) → stepOf s p ≡ some step → Steps (indexOf s p) (typeOf s (aboveOf s p)) step)
       (λ c h step e. absurd (none-some step (sym (root-step sh c h) ∙ e)))

@@ -1,10 +1,9 @@
 -- Closed examples over P1's sheet: the definitions compute.
-use Prim.Native.Nat.{ℕ}
 use mathlib.Core.Path.{_≡_, refl}
-use mathlib.Core.List.{List, [], _∷_}
+use mathlib.Core.List.{[], _∷_}
 use Rattle.rules.specs.Rows.{list, listtail}
 use Rattle.rules.specs.Samples.{sheet1}
-use Rattle.table.specs.Standing.{Standing, standing, classOf, cellOf}
+use Rattle.table.specs.Standing.{standing, classOf, cellOf}
 
 tail-stands : standing sheet1 2 ≡ record { clause = 0; path = listtail 1 0 ∷ []; type = 0; owner = 1 }
 unfolding standing

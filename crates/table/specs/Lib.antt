@@ -12,4 +12,10 @@ pub mod OnceLaws
 pub mod Table
 pub mod Tabled
 pub mod PlacingLaws
+pub mod ClassingLaws
+pub mod FieldsLaws
+pub mod FilledLaws
+pub mod ChildrenLaws
+pub mod RootsLaws
+pub mod TabledLaws
 pub mod Examples

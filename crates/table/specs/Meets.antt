@@ -2,28 +2,27 @@
 -- the tests and names seen there, in the same order; and so of what a test opens to, and of a clause's row.
 -- Rests on SeenLaws, StandingLaws, and a pattern opened one level.
 use mathlib.Core.Path.{_≡_, refl, sym, ap, ap₂, _∙_}
-use mathlib.Core.Logic.{inl, inr}
-use mathlib.Core.Bool.{Bool, true, false, not, true≢false}
-use mathlib.Core.List.{List, [], _∷_, _++_, map, map-append, append-nil, append-assoc}
-use mathlib.Core.Option.{Option, none, some}
+use mathlib.Core.Logic.{inr}
+use mathlib.Core.Bool.{Bool, true, false, true≢false}
+use mathlib.Core.List.{List, [], _∷_, _++_, map, map-append}
 use Prim.Native.Nat.{ℕ, zero, suc, _+_, _-_, _*_, _≤_, _<_}
 use native.Mathlib.Omega.{arith}
 use native.Mathlib.Nat.{add-zero, zero-add, mul-zero, one-mul}
 use borrow.Author.Tests.{not-true, ne-eqb, eq-eqb}
 use lib.Dec.{eqb}
-use Rattle.words.specs.Words.{both, pick}
-use Rattle.words.specs.WordsLaws.{pick-true, pick-false}
-use Rattle.rules.specs.SheetFile.{subject, patterns, clauses, typeFirst, constructorFirst, entry, patternKind, patternA, patternFirst, patternCount, child, root}
-use Rattle.rules.specs.Patterns.{PatternKind, Discard, Variable, Assign, Integer, ByteString, ListOfAll, ListWithRest, Constructor, Pair, Tuple, Unknown, patternKindOf, Mark, Opens, pairs, tuples, fields, Pat, Pats, discard, variable, assign, integer, bytestring, listed, tailed, constructor, opened, pnil, pcons, many, oneConstructor, decorated, constructorOf, along, ofConstructor, ofKind, pattern, clausePattern}
+use Rattle.words.specs.Words.{both}
+use Rattle.words.specs.WordsLaws.{pick-false}
+use Rattle.rules.specs.SheetFile.{patterns, clauses, typeFirst, constructorFirst, entry, patternKind, patternA, patternFirst, patternCount, child, root}
+use Rattle.rules.specs.Patterns.{PatternKind, Discard, Variable, Assign, Integer, ByteString, ListOfAll, ListWithRest, Constructor, Pair, Tuple, Unknown, pairs, tuples, Pat, Pats, assign, opened, pnil, pcons, many, oneConstructor, decorated, constructorOf, along, ofConstructor, ofKind, pattern, clausePattern}
 use Rattle.rules.specs.SheetRefusals.{hasChildren}
-use Rattle.rules.specs.Rows.{Step, pair, tuple, constr, list, listtail, Path, into, opening, Binding, Cell, Row, columnsOf, columnsOfEach, bindingsOf, bindingsOfEach, clauseRow, openedColumns, openedBindings}
+use Rattle.rules.specs.Rows.{Step, constr, list, listtail, Path, into, opening, Binding, Cell, Row, columnsOf, columnsOfEach, bindingsOf, bindingsOfEach, clauseRow, openedColumns, openedBindings}
 use Rattle.facts.specs.KindsLaws.{patternNumber, pattern-byte, unknown-pattern}
 use Rattle.facts.specs.SheetFacts.{Counted, Parent, Owns, Shaped, owned-pattern}
-use Rattle.facts.specs.PatternsLaws.{along-none, along-more, many-along, pattern-of-kind}
-use Rattle.table.specs.Standing.{testOfKind, kindOf, isTail, stepTo, typeTo, follows, standing, pathOf, typeOf, patternOf, isTest}
+use Rattle.facts.specs.PatternsLaws.{many-along, pattern-of-kind}
+use Rattle.table.specs.Standing.{kindOf, isTail, stepTo, typeTo, follows, pathOf, typeOf, patternOf, isTest}
 use Rattle.table.specs.StandingLaws.{by-children, root-path, root-type, child-path, child-type}
-use Rattle.table.specs.Seen.{eachOf, testsOf, testsOfEach, bindsOf, bindsOfEach, openedTests, openedBinds, cellAt, bindingAt}
-use Rattle.table.specs.SeenLaws.{eachOf-last, test-of-constructor, test-kind, test-kind-most, tests-of-test, tests-of-parts, opened-tests-each, opened-binds-each, opened-tests-none, opened-binds-none, tests-plain, tests-assign, tests-text-or-list, tests-several, tests-only, tests-pair, binds-discard, binds-variable, binds-assign, binds-text-or-list, binds-several, binds-only, binds-pair}
+use Rattle.table.specs.Seen.{eachOf, testsOf, bindsOf, openedTests, openedBinds, cellAt, bindingAt}
+use Rattle.table.specs.SeenLaws.{eachOf-last, test-of-constructor, test-kind, test-kind-most, opened-tests-each, opened-binds-each, opened-tests-none, opened-binds-none, tests-plain, tests-assign, tests-text-or-list, tests-several, tests-only, tests-pair, binds-discard, binds-variable, binds-assign, binds-text-or-list, binds-several, binds-only, binds-pair}
 
 -- ---- along the children
 -- pattern q stands at the path, and has the type at entry e
@@ -352,14 +351,6 @@ module _ {s : List ℕ} (sh : Shaped s) (few : Counted s) where
       opened-of-kind p h test (λ j o. columns-meet (child s j) (owned-pattern sh p j h o)) (kindOf s p) refl
       (unfold kindOf in (pattern-of-kind s sh few p (typeOf s p) h (kindOf s p) refl))
 
--- a row of what its parts are
-abbrev rowOf : ℕ → List Binding → List Cell → Row
-rowOf c bs cs = record { clause = c; bindings = bs; tests = cs }
-
-clause-row-is : (c : ℕ) (q : Pat) → clauseRow c q ≡ rowOf c (bindingsOf [] q) (columnsOf [] q)
-unfolding clauseRow
-clause-row-is c q = refl
-
 -- ---- bindings
 gathers-bindings : Gathers Binding bindingsOf bindingsOfEach
 unfolding bindingsOf
@@ -472,8 +463,3 @@ module _ {s : List ℕ} (sh : Shaped s) (few : Counted s) where
   pub clause-bindings-meet : (c : ℕ) → c < clauses s → bindingsOf [] (clausePattern s c) ≡ map (bindingAt s) (bindsOf s (root s c))
   clause-bindings-meet c h =
       ap₂ bindingsOf (sym (root-path sh c h)) (clause-pattern c h) ∙ bindings-meet (root s c) (sh .root-pattern c h)
-
-  pub clause-row-meets : (c : ℕ) → c < clauses s
-      → clauseRow c (clausePattern s c)
-      ≡ record { clause = c; bindings = map (bindingAt s) (bindsOf s (root s c)); tests = map (cellAt s) (testsOf s (root s c)) }
-  clause-row-meets c h = clause-row-is c (clausePattern s c) ∙ ap₂ (rowOf c) (clause-bindings-meet c h) (clause-columns-meet c h)

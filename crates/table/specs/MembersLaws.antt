@@ -9,7 +9,7 @@ use Prim.Native.Nat.{ℕ, zero, suc, _+_, _≤_, _<_}
 use native.Mathlib.Omega.{arith}
 use borrow.Author.Tests.{eqb-true, eq-eqb}
 use lib.Dec.{eqb}
-use Rattle.words.specs.Words.{either, pick}
+use Rattle.words.specs.Words.{pick}
 use Rattle.words.specs.WordsLaws.{either-true, either-first-true, either-second-true, pick-true, pick-false}
 use Rattle.rules.specs.SearchingLaws.{first-or-rest}
 use Rattle.rules.specs.SheetFile.{patterns, clauses, patternFirst, patternCount, child, root}
@@ -298,9 +298,3 @@ module _ {s : List ℕ} (sh : Shaped s) (few : Counted s) where
 
   pub bind-inside : (p q : ℕ) → p < patterns s → isTest s p ≡ true → isIn q (openedBinds s p) ≡ true → (binds s q ≡ true) × SeenInside s p q
   bind-inside = those-inside (binds s) (bindsOf s) bindsOf-are
-
-  pub at-root-bind : (q : ℕ) → q < patterns s → binds s q ≡ true → ownerOf s q ≡ 0 → isIn q (bindsOf s (root s (clauseOf s q))) ≡ true
-  at-root-bind = at-root-those (binds s) (bindsOf s) bindsOf-are
-
-  pub in-test-bind : (q o : ℕ) → q < patterns s → binds s q ≡ true → ownerOf s q ≡ o + 1 → isIn q (openedBinds s o) ≡ true
-  in-test-bind = in-test-those (binds s) (bindsOf s) bindsOf-are

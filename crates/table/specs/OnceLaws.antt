@@ -1,7 +1,7 @@
 -- No pattern is seen twice: the numbers of tests and bindings that a pattern gives, or a test opens to, are all different.
 -- Rests on ApartLaws (children of one pattern stand at different paths) and MembersLaws.
-use mathlib.Core.Path.{_≡_, refl, sym, ap, ap₂, _∙_}
-use mathlib.Core.Logic.{_⊎_, inl, inr, ⊎-elim}
+use mathlib.Core.Path.{_≡_, refl, sym, ap, _∙_}
+use mathlib.Core.Logic.{_⊎_, ⊎-elim}
 use mathlib.Core.Bool.{Bool, true, false, true≢false}
 use mathlib.Core.List.{List, [], _∷_, _++_, append-nil, append-assoc}
 use Prim.Native.Nat.{ℕ, zero, suc, _+_, _-_, _≤_, _<_}
@@ -14,10 +14,10 @@ use Rattle.rules.specs.SheetRefusals.{hasChildren, isIn, repeats}
 use Rattle.rules.specs.Rows.{Step, Path, into}
 use Rattle.rules.specs.Columns.{stepIndex}
 use Rattle.rules.specs.SplittingLaws.{not-true-false}
-use Rattle.facts.specs.SheetFacts.{Counted, Parent, Owns, Shaped, owned-pattern}
+use Rattle.facts.specs.SheetFacts.{Counted, Owns, Shaped, owned-pattern}
 use Rattle.table.specs.Standing.{kindOf, pathOf, isTest}
 use Rattle.table.specs.StandingLaws.{by-children}
-use Rattle.table.specs.Seen.{eachOf, insideOf, seen, those, binds, testsOf, bindsOf, openedTests, openedBinds}
+use Rattle.table.specs.Seen.{eachOf, insideOf, seen, those, testsOf, openedTests}
 use Rattle.table.specs.SeenLaws.{insideOf-parent, insideOf-childless, seen-test, seen-parts, those-has, those-lacks, those-insideOf}
 use Rattle.table.specs.MembersLaws.{isIn-nil, isIn-head, isIn-tail, isIn-cons, isIn-one, isIn-append, isIn-those, isIn-eachOf, isIn-insideOf, seen-at}
 use Rattle.table.specs.ApartLaws.{assign-child, inside-assign, inside-other}
@@ -155,11 +155,3 @@ module _ {s : List ℕ} (sh : Shaped s) (few : Counted s) where
   pub opened-tests-once : (p : ℕ) → p < patterns s → repeats (openedTests s p) ≡ false
   unfolding testsOf
   opened-tests-once p h = ap repeats (sym (those-insideOf (isTest s) (seen s) s p)) ∙ repeats-those (isTest s) (insideOf (seen s) s p) (opened-once p h)
-
-  pub binds-once : (p : ℕ) → p < patterns s → repeats (bindsOf s p) ≡ false
-  unfolding bindsOf
-  binds-once p h = repeats-those (binds s) (seen s p) (seen-once p h)
-
-  pub opened-binds-once : (p : ℕ) → p < patterns s → repeats (openedBinds s p) ≡ false
-  unfolding bindsOf
-  opened-binds-once p h = ap repeats (sym (those-insideOf (binds s) (seen s) s p)) ∙ repeats-those (binds s) (insideOf (seen s) s p) (opened-once p h)

@@ -2,7 +2,7 @@
 -- Rests on StandingLaws, the depth of roots, and the counts.
 use mathlib.Core.Path.{_≡_, refl, sym, ap, _∙_}
 use mathlib.Core.Bool.{Bool, true, false, true≢false}
-use mathlib.Core.List.{List, [], _∷_, _++_}
+use mathlib.Core.List.{List, [], _∷_}
 use mathlib.Core.Option.{Option, none, some}
 use Prim.Native.Nat.{ℕ, zero, suc, _+_, _-_, _≤_, _<_}
 use native.Mathlib.Omega.{arith}
@@ -16,15 +16,15 @@ use Rattle.rules.specs.Rows.{Step, pair, tuple, constr, list, listtail, Path, i
 use Rattle.rules.specs.Columns.{stepIndex}
 use Rattle.rules.specs.SplittingLaws.{All}
 use Rattle.facts.specs.SheetFacts.{Counted, Owns, Shaped, Accepted, within-child}
-use Rattle.table.specs.Standing.{kindOf, isTail, stepTo, follows, pathOf, typeOf, indexOf, stepType}
-use Rattle.table.specs.StandingLaws.{by-standing, root-path, root-index, child-path, child-index}
+use Rattle.table.specs.Standing.{kindOf, isTail, stepTo, follows, pathOf, typeOf, aboveOf, stepType}
+use Rattle.table.specs.StandingLaws.{Place, as-root, as-child, place, by-standing, root-path, root-above, child-path, child-above, first-path}
 use Rattle.table.specs.TypesLaws.{type-known}
 
 pub length-into : (p : Path) (step : Step) → length (into p step) ≡ length p + 1
 unfolding into
 length-into p step = length-append p (step ∷ [])
 
-length-follows : (p : Path) (step : Option Step) → length (follows p step) ≤ length p + 1
+pub length-follows : (p : Path) (step : Option Step) → length (follows p step) ≤ length p + 1
 unfolding follows
 length-follows p none = omega arith
 length-follows p (some step) = omega (arith, length-into p step)
@@ -62,6 +62,20 @@ module _ {s : List ℕ} (sh : Shaped s) (few : Counted s) (deep : (c : ℕ) → 
 
   pub path-short : (p : ℕ) → p < patterns s → length (pathOf s p) < depthMost
   path-short p h = omega (arith, deep-enough p h .long)
+
+  -- the pattern above has a path with room for a step more
+  pub above-short : (p : ℕ) → p < patterns s → length (pathOf s (aboveOf s p)) + 1 < depthMost
+  above-short p h = go (place sh p h)
+    where
+      go : Place s p → length (pathOf s (aboveOf s p)) + 1 < depthMost
+      go (as-root c l e) =
+          let none-above : pathOf s (aboveOf s p) ≡ [] = ap (λ (k : ℕ). pathOf s (aboveOf s k)) (sym e) ∙ ap (pathOf s) (root-above sh c l) ∙ first-path sh (omega arith) in
+          rw none-above (omega arith)
+      go (as-child q j l b o e) =
+          let d = deep-enough q l in
+          let w = within-some (d .left) s (child s j) (within-child s (d .left) q j (d .reaches) o) in
+          let up : aboveOf s p ≡ q = ap (aboveOf s) (sym e) ∙ child-above sh q j l o in
+          rw up (omega (arith, d .long, w .1))
 
 -- ---- of which steps
 -- the index and the type of a step
@@ -103,12 +117,6 @@ all-into : (P : Step → Type 0) (p : Path) (step : Step) → All P p → P step
 unfolding into
 all-into P [] step h last = (last, tt)
 all-into P (x ∷ p) step h last = (h .0, unfold into in (all-into P p step (h .1) last))
-
-pub index-known : {s : List ℕ} → Shaped s → Counted s → (p : ℕ) → p < patterns s → indexOf s p < childrenMost
-index-known {s} sh few =
-    by-standing sh (λ p. indexOf s p < childrenMost)
-    (λ c h. omega (arith, root-index sh c h))
-    (λ p j h o ih. omega (arith, child-index sh p j h o, o .from, o .to, sh .children-run p h (o .parent) .inside, few .children-most))
 
 module _ {s : List ℕ} (ok : Accepted s) where
   pub path-small : (p : ℕ) → p < patterns s → All SmallStep (pathOf s p)

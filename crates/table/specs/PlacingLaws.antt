@@ -8,23 +8,23 @@ use Prim.Native.Nat.{ℕ, zero, suc, _+_, _-_, _*_, _≤_, _<_}
 use native.Mathlib.Omega.{arith}
 use borrow.Author.Tests.{eq-eqb, ne-eqb}
 use lib.Dec.{eqb}
-use lib.ListN.{length, getD, set, length-set}
+use lib.ListN.{length, length-set}
 use Rattle.words.specs.Words.{both, pick}
 use Rattle.rules.specs.Limits.{patternsMost}
-use Rattle.rules.specs.SheetFile.{types, constructors, entries, patterns, children, typeKind, typeFirst, typeCount, constructorFirst, constructorCount, entry, patternKind, patternA, patternFirst, patternCount, child}
-use Rattle.rules.specs.Patterns.{PatternKind, Discard, Variable, Assign, Integer, ByteString, ListOfAll, ListWithRest, Constructor, Pair, Tuple, Unknown, patternKindOf, oneConstructor, constructorOf, pattern, fits}
+use Rattle.rules.specs.SheetFile.{constructors, entries, children, typeFirst, constructorFirst, entry, patternKind, patternA, patternFirst, patternCount, child}
+use Rattle.rules.specs.Patterns.{PatternKind, Discard, Variable, Assign, Integer, ByteString, ListOfAll, ListWithRest, Constructor, Pair, Tuple, Unknown, oneConstructor, constructorOf, pattern, fits}
 use Rattle.rules.specs.SheetRefusals.{hasChildren}
 use Rattle.facts.specs.KindsLaws.{patternNumber, byte-pattern, pattern-byte}
-use Rattle.facts.specs.SheetFacts.{Accepted, Owns, Parent, owned-entry, owned-pattern}
+use Rattle.facts.specs.SheetFacts.{Owns, Parent, owned-entry, owned-pattern}
 use Rattle.sheet.specs.declared.Map.{Map}
 use Rattle.sheet.specs.declared.records.PatternRecord.{PatternRecord}
 use Rattle.sheet.specs.declared.records.TypeRecord.{TypeRecord}
 use Rattle.sheet.specs.declared.records.Run.{Run}
-use Rattle.sheet.specs.Records.{patternOf, typeOf as typeOfRecord, constructorOf as runOf}
+use Rattle.sheet.specs.Records.{patternOf, constructorOf as runOf}
 use Rattle.table.specs.Standing.{kindOf, typeOf, ownerOf}
 use Rattle.table.specs.TypesLaws.{pattern-fits, type-known, list-entry, tailed-entry, pair-entry, tuple-entry, constructor-inside, constructor-entry}
-use Rattle.table.specs.Table.{tableSize, sameNumber, placed, placedEach, placedBelow}
-use Rattle.table.specs.Tabled.{Checked, Placed, Parts, Reading}
+use Rattle.table.specs.Table.{placed, placedEach, placedBelow}
+use Rattle.table.specs.Tabled.{Checked, Parts, Reading}
 
 -- ---- a record's fields, as numbers of the sheet
 module _ (s : List ℕ) (p : ℕ) (r : PatternRecord) (e : r ≡ patternOf s p) where

@@ -8,7 +8,7 @@ use Rattle.rules.specs.SheetFile.{patternA, patternFirst, patternCount, child}
 use Rattle.rules.specs.Patterns.{PatternKind, Discard, Variable, Assign, Integer, ByteString, ListOfAll, ListWithRest, Constructor, Pair, Tuple, Unknown}
 use Rattle.rules.specs.SheetRefusals.{hasChildren}
 use Rattle.rules.specs.Rows.{Binding, Cell}
-use Rattle.table.specs.Standing.{kindOf, standing, pathOf, patternOf, isTest}
+use Rattle.table.specs.Standing.{kindOf, pathOf, patternOf, isTest}
 
 -- what f gives of the n children from entry j on
 unfoldable pub eachOf : (ℕ → List ℕ) → List ℕ → ℕ → ℕ → List ℕ

@@ -9,18 +9,15 @@ use Prim.Native.Nat.{ℕ, zero, suc, _+_, _-_, _≤_, _<_, min}
 use native.Mathlib.Omega.{arith}
 use native.Mathlib.Nat.{add-zero}
 use native.Mathlib.Numerals.{add-one}
-use borrow.Author.Tests.{eqb-true, eq-eqb, leb-true, leb-false}
-use lib.Dec.{eqb, leb}
-use Rattle.words.specs.Words.{both, either, pick}
-use Rattle.words.specs.WordsLaws.{either-true, either-first-true, either-second-true}
+use borrow.Author.Tests.{leb-true, leb-false}
+use lib.Dec.{leb}
 use Rattle.rules.specs.Limits.{patternsMost}
-use Rattle.rules.specs.SheetFile.{patterns, clauses, patternKind, patternFirst, patternCount, child, root}
-use Rattle.rules.specs.Patterns.{PatternKind, Discard, Variable, Assign, Integer, ByteString, ListOfAll, ListWithRest, Constructor, Pair, Tuple, Unknown, patternKindOf, oneConstructor}
-use Rattle.rules.specs.SheetRefusals.{hasChildren, isIn}
-use Rattle.facts.specs.KindsLaws.{patternNumber, pattern-number, byte-pattern, pattern-byte}
+use Rattle.rules.specs.SheetFile.{patterns, patternKind, patternFirst, patternCount, child, root}
+use Rattle.rules.specs.Patterns.{PatternKind, Discard, Variable, Assign, Integer, ByteString, ListOfAll, ListWithRest, Constructor, Pair, Tuple, Unknown, oneConstructor}
+use Rattle.rules.specs.SheetRefusals.{hasChildren}
+use Rattle.facts.specs.KindsLaws.{patternNumber, pattern-number, byte-pattern}
 use Rattle.facts.specs.SheetFacts.{Counted, Parent, Owns, Shaped, assign-parent, many-parent, parent-kind, owned-pattern}
-use Rattle.table.specs.Standing.{testOfKind, kindOf, clauseOf, typeOf, ownerOf, isTest}
-use Rattle.table.specs.StandingLaws.{by-standing}
+use Rattle.table.specs.Standing.{testOfKind, kindOf, typeOf, isTest}
 use Rattle.table.specs.Seen.{eachOf, insideOf, seenTo, seen, those, bindsKind, binds, testsOf, testsOfEach, bindsOf, bindsOfEach, openedTests, openedBinds}
 
 -- ---- children along the child list

@@ -1,9 +1,9 @@
 -- Where a pattern stands, opened one level: a root by its clause, a child by its parent, and by these each fact of all patterns.
 -- Rests on the shape of the sheet: each pattern is one clause's root or one entry, and a child's number is larger than its parent's.
-use mathlib.Core.Path.{_≡_, refl, sym, ap, ap₂, _∙_}
-use mathlib.Core.Logic.{_⊎_, inl, inr, ⊎-elim}
+use mathlib.Core.Path.{_≡_, refl, sym, ap, _∙_}
+use mathlib.Core.Logic.{_⊎_, ⊎-elim}
 use mathlib.Core.Bool.{Bool, true, false, true≢false}
-use mathlib.Core.List.{List, [], _∷_, _++_}
+use mathlib.Core.List.{List, []}
 use mathlib.Core.Option.{Option, none, some}
 use Prim.Native.Nat.{ℕ, zero, suc, _+_, _-_, _≤_, _<_}
 use native.Mathlib.Omega.{arith}
@@ -12,14 +12,14 @@ use Rattle.words.specs.Words.{pick}
 use Rattle.words.specs.WordsLaws.{pick-true, pick-false}
 use Rattle.rules.specs.Limits.{patternsMost}
 use Rattle.rules.specs.Searching.{lowest}
-use Rattle.rules.specs.SearchingLaws.{Lowest, lowest-some, lowest-none, lowest-make-none}
-use Rattle.rules.specs.SheetFile.{subject, patterns, children, clauses, patternFirst, patternCount, child, root}
+use Rattle.rules.specs.SearchingLaws.{lowest-some, lowest-none, lowest-make-none}
+use Rattle.rules.specs.SheetFile.{subject, patterns, children, clauses, patternFirst, child, root}
 use Rattle.rules.specs.SheetRefusals.{isRoot, isEntry, lists}
 use Rattle.facts.specs.SheetFacts.{Counted, Owns, Shaped, owns-listed, listed-owns, owned-entry, owned-pattern, one-clause, one-entry, entry-no-root, root-or-entry}
 use Rattle.table.specs.Standing.{Standing, kindOf, stepTo, typeTo, follows, rootStanding, childStanding, entryOf, holderOf, standingTo, standing, clauseOf, pathOf, typeOf, ownerOf, isTest, parentOf, aboveOf, indexOf, stepOf}
 
 -- the answer of a search that only one number can be
-only-lowest : (f : ℕ → Bool) (n k : ℕ) → k < n → f k ≡ true → ((j : ℕ) → j < n → f j ≡ true → j ≡ k) → lowest f 0 n ≡ some k
+pub only-lowest : (f : ℕ → Bool) (n k : ℕ) → k < n → f k ≡ true → ((j : ℕ) → j < n → f j ≡ true → j ≡ k) → lowest f 0 n ≡ some k
 only-lowest f n k h e one = go (lowest f 0 n) refl
   where
     go : (found : Option ℕ) → lowest f 0 n ≡ found → lowest f 0 n ≡ some k

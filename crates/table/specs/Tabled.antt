@@ -8,7 +8,7 @@ use lib.ListN.{length, getD}
 use Rattle.words.specs.Words.{textAt}
 use Rattle.rules.specs.Limits.{patternsMost, depthMost}
 use Rattle.rules.specs.Searching.{lowest}
-use Rattle.rules.specs.SheetFile.{entries, patterns, clauses, patternFirst, patternCount}
+use Rattle.rules.specs.SheetFile.{entries, patterns, clauses, patternCount}
 use Rattle.rules.specs.Columns.{stepIndex}
 use Rattle.facts.specs.SheetFacts.{Parent, Accepted}
 use Rattle.sheet.specs.declared.Map.{Map}
@@ -49,9 +49,11 @@ pub record Tabled (s t : List ℕ) : Type 0 where
   pub indexed : (q : ℕ) → q < patterns s → Indexed s t q
   pub cell : (c class : ℕ) → c < clauses s → class < patternsMost → getD t (cellsAt + 192 * c + class) 0 ≡ cellOf s c class
 
--- the patterns below a have placed their children; those below b are classed, below i indexed, below d in their cells
+-- the patterns below a have placed their children; those below b are classed, below i indexed, below d in their cells;
+-- pattern 0, from which each root goes on, is classed from the start
 pub record Filled (s t : List ℕ) (a b i d : ℕ) : Type 0 where
   pub long : length t ≡ tableSize
+  pub first : Classed s t 0
   pub placed : (q : ℕ) → q < patterns s → parentOf s q ≤ a → Placed s t q
   pub classed : (q : ℕ) → q < patterns s → q < b → Classed s t q
   pub indexed : (q : ℕ) → q < patterns s → q < i → Indexed s t q

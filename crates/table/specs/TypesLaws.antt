@@ -5,17 +5,17 @@ use mathlib.Core.Bool.{Bool, true, false, true≢false}
 use mathlib.Core.List.{List}
 use Prim.Native.Nat.{ℕ, zero, suc, _+_, _-_, _*_, _≤_, _<_}
 use native.Mathlib.Omega.{arith}
-use native.Mathlib.Nat.{add-zero, zero-mul, mul-zero}
-use borrow.Author.Tests.{eqb-true, leb-true, eqb-false, ne-eqb}
+use native.Mathlib.Nat.{add-zero, mul-zero}
+use borrow.Author.Tests.{eqb-true, leb-true, eqb-false}
 use lib.Dec.{eqb, leb}
 use Rattle.words.specs.Words.{both, pick}
-use Rattle.words.specs.WordsLaws.{both-true, pick-true, pick-false}
-use Rattle.rules.specs.SheetFile.{subject, types, constructors, entries, patterns, clauses, typeKind, typeFirst, typeCount, constructorFirst, constructorCount, entry, patternKind, patternA, patternFirst, patternCount, child, root}
-use Rattle.rules.specs.Patterns.{PatternKind, Discard, Variable, Assign, Integer, ByteString, ListOfAll, ListWithRest, Constructor, Pair, Tuple, Unknown, patternKindOf, Pat, Pats, many, oneConstructor, decorated, constructorOf, along, ofConstructor, ofKind, pattern, clausePattern, takesArguments, opensInto, fits, fitAll}
+use Rattle.words.specs.WordsLaws.{both-true}
+use Rattle.rules.specs.SheetFile.{types, constructors, entries, patterns, clauses, typeKind, typeFirst, typeCount, constructorFirst, constructorCount, entry, patternKind, patternA, patternFirst, patternCount, child, root}
+use Rattle.rules.specs.Patterns.{PatternKind, Discard, Variable, Assign, Integer, ByteString, ListOfAll, ListWithRest, Constructor, Pair, Tuple, Unknown, Pat, Pats, many, oneConstructor, decorated, constructorOf, along, ofConstructor, ofKind, pattern, clausePattern, takesArguments, opensInto, fits, fitAll}
 use Rattle.rules.specs.SheetRefusals.{hasChildren}
 use Rattle.facts.specs.KindsLaws.{pattern-byte}
-use Rattle.facts.specs.SheetFacts.{Counted, Typed, Parent, Owns, Shaped, Accepted, part-type, field-type, its-constructor}
-use Rattle.facts.specs.PatternsLaws.{along-more, many-along, pattern-of-kind}
+use Rattle.facts.specs.SheetFacts.{Counted, Typed, Owns, Shaped, Accepted, its-constructor}
+use Rattle.facts.specs.PatternsLaws.{many-along, pattern-of-kind}
 use Rattle.table.specs.Standing.{kindOf, isTail, typeTo, typeOf, patternOf}
 use Rattle.table.specs.StandingLaws.{by-standing, root-type, child-type}
 

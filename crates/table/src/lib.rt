@@ -7,18 +7,20 @@ use sheet::records::child_at;
 use sheet::records::constructor_at;
 use sheet::records::entry_at;
 use sheet::records::pattern_at;
+use sheet::records::root_at;
 use sheet::records::type_at;
+use words::zero_all;
 ghost use mathlib.Core.Path.{_≡_};
-ghost use Prim.Native.Nat.{_+_, _<_, _≤_};
+ghost use Prim.Native.Nat.{ℕ, _+_, _<_, _≤_};
 ghost use lib.Dec.{eqb};
 ghost use lib.ListN.{length, getD};
 ghost use Rattle.words.specs.Words.{both};
-ghost use Rattle.rules.specs.Limits.{patternsMost};
-ghost use Rattle.rules.specs.SheetFile.{patterns};
+ghost use Rattle.rules.specs.Limits.{patternsMost, depthMost};
+ghost use Rattle.rules.specs.SheetFile.{patterns, clauses};
 ghost use Rattle.rules.specs.Patterns.{ListWithRest, Constructor};
-ghost use Rattle.table.specs.Standing.{kindOf, typeOf, ownerOf};
-ghost use Rattle.table.specs.Table.{tableSize, placed, placedEach, placedBelow};
-ghost use Rattle.table.specs.Tabled.{Checked, Placed, Parts, Reading};
+ghost use Rattle.table.specs.Standing.{kindOf, typeOf, ownerOf, isTest};
+ghost use Rattle.table.specs.Table.{typeAt, depthAt, tableSize, placed, placedEach, placedBelow, rooted, rootedEach, aboveIn, sameStepIn, classIn, classed, indexed, tested, firstBefore, indicesIn};
+ghost use Rattle.table.specs.Tabled.{Checked, Placed, Classed, Tabled, Filled, Parts, Reading, Ranged, RowBelow};
 
 // By pattern number: the lowest pattern with the same path, one more than the test that it is inside of (or 0), the pattern that
 // its path goes on from, its type, the step (SAME: none), the step's index, how many steps its path has, its clause, their indices.
@@ -170,4 +172,172 @@ fn place_children(s: &[u8], m: Map, t: &mut [u8], p: usize)
         9 => put_children(s, m, t, p, r.count, 1, ty.first, 1, owner),
         _ => {}
     }
+}
+
+// Whether the same step leads to a and to b, from patterns of the same class and type.
+fn same_step(t: &[u8], a: usize, b: usize) -> bool
+    requires { ⌜ (length (now t) ≡ tableSize) × (a < patternsMost) × (b < patternsMost) × (aboveIn (now t) a < patternsMost) × (aboveIn (now t) b < patternsMost) ⌝ }
+    ensures { λ r. ⌜ r ≡ sameStepIn (now (t .entry)) a b ⌝ }
+{
+    if t[STEP + a] != t[STEP + b] {
+        return false;
+    }
+    if t[INDEX + a] != t[INDEX + b] {
+        return false;
+    }
+    let x = at(t, ABOVE + a);
+    let y = at(t, ABOVE + b);
+    if t[CLASS + x] != t[CLASS + y] {
+        return false;
+    }
+    t[TYPE + x] == t[TYPE + y]
+}
+
+// The lowest pattern that the same step leads to.
+fn class_of(t: &[u8], p: usize) -> usize
+    requires { ⌜ (length (now t) ≡ tableSize) × (p < patternsMost) × ((q : ℕ) → q ≤ p → aboveIn (now t) q < patternsMost) ⌝ }
+    ensures { λ r. ⌜ r ≡ classIn (now (t .entry)) p ⌝ }
+{
+    let mut q: usize = 0;
+    while q < p {
+        if same_step(t, q, p) {
+            return q;
+        }
+        q += 1;
+    }
+    p
+}
+
+// The class of p, and how many steps its path has.
+fn put_class(t: &mut [u8], p: usize)
+    requires { ⌜ Ranged (now t) p ⌝ }
+    ensures { λ _. ⌜ now (t .exit) ≡ classed (now (t .entry)) p ⌝ }
+{
+    let above = at(t, ABOVE + p);
+    let class = t[CLASS + above];
+    let depth = t[DEPTH + above];
+    if t[STEP + p] == SAME {
+        t[CLASS + p] = class;
+        t[DEPTH + p] = depth;
+        return;
+    }
+    let first = class_of(t, p);
+    t[CLASS + p] = first as u8;
+    t[DEPTH + p] = depth + 1;
+}
+
+// The indices of the steps to p: those of the pattern above, and its own.
+fn put_indices(t: &mut [u8], p: usize)
+    requires { ⌜ RowBelow (now t) p ⌝ }
+    ensures { λ _. ⌜ now (t .exit) ≡ indexed (now (t .entry)) p ⌝ }
+{
+    let above = at(t, ABOVE + p);
+    let depth = at(t, DEPTH + above);
+    let own = t[INDEX + p];
+    let mut i: usize = 0;
+    while i < depth {
+        t[INDICES + 12 * p + i] = t[INDICES + 12 * above + i];
+        i += 1;
+    }
+    t[INDICES + 12 * p + depth] = own;
+}
+
+// Whether pattern p stands in a column: an integer, byte string, list, or constructor of a several-constructor type.
+pub fn is_test(s: &[u8], m: Map, t: &[u8], p: usize) -> bool
+    requires { ⌜ Checked (now s) m × (length (now t) ≡ tableSize) × (p < patterns (now s)) × (getD (now t) (typeAt + p) 0 ≡ typeOf (now s) p) ⌝ }
+    ensures { λ r. ⌜ r ≡ isTest (now (s .entry)) p ⌝ }
+{
+    let r = pattern_at(s, m, p);
+    let ty = type_at(s, m, at(t, TYPE + p));
+    let kind = r.kind;
+    match kind {
+        3 | 4 | 5 | 6 => true,
+        7 => !one_constructor(ty),
+        _ => false,
+    }
+}
+
+// Pattern p in its clause's column, if it is a test.
+fn put_test(s: &[u8], m: Map, t: &mut [u8], p: usize)
+    requires { ⌜ Checked (now s) m × (length (now t) ≡ tableSize) × (p < patterns (now s)) × Placed (now s) (now t) p × Classed (now s) (now t) p ⌝ }
+    ensures { λ _. ⌜ now (t .exit) ≡ tested (now (t .entry)) (isTest (now (s .entry)) p) p ⌝ }
+{
+    if is_test(s, m, t, p) {
+        let clause = at(t, CLAUSE + p);
+        let class = at(t, CLASS + p);
+        t[CELL + 192 * clause + class] = (p + 1) as u8;
+    }
+}
+
+// The root of clause c.
+fn put_root(t: &mut [u8], r: usize, c: usize, tipo: usize)
+    requires { ⌜ (length (now t) ≡ tableSize) × (r < patternsMost) × (c < 256) × (tipo < 256) ⌝ }
+    ensures { λ _. ⌜ now (t .exit) ≡ rooted (now (t .entry)) r c tipo ⌝ }
+{
+    t[STEP + r] = SAME;
+    t[TYPE + r] = tipo as u8;
+    t[CLAUSE + r] = c as u8;
+}
+
+// The root of each clause.
+fn put_roots(s: &[u8], m: Map, t: &mut [u8])
+    requires { ⌜ Checked (now s) m × (length (now t) ≡ tableSize) ⌝ }
+    ensures { λ _. ⌜ now (t .exit) ≡ rootedEach (now (s .entry)) (now (t .entry)) 0 (clauses (now (s .entry))) ⌝ }
+{
+    let mut c: usize = 0;
+    while c < m.counts.clauses {
+        put_root(t, root_at(s, m, c), c, m.subject);
+        c += 1;
+    }
+}
+
+// Pattern p, whose own fields are set: its class, its indices, its cell, and what it gives to its children.
+fn fill_at(s: &[u8], m: Map, t: &mut [u8], p: usize)
+    requires { ⌜ Checked (now s) m × (p < patterns (now s)) × Filled (now s) (now t) p p p p ⌝ }
+    ensures { λ _. ⌜ Filled (now (s .entry)) (now (t .exit)) (p + 1) (p + 1) (p + 1) (p + 1) ⌝ }
+{
+    put_class(t, p);
+    put_indices(t, p);
+    put_test(s, m, t, p);
+    place_children(s, m, t, p);
+}
+
+// The table of a checked sheet, whatever stood there before.
+pub fn fill(s: &[u8], m: Map, t: &mut [u8])
+    requires { ⌜ Checked (now s) m × (length (now t) ≡ tableSize) ⌝ }
+    ensures { λ _. ⌜ Tabled (now (s .entry)) (now (t .exit)) ⌝ }
+{
+    zero_all(t);
+    put_roots(s, m, t);
+    let mut p: usize = 0;
+    while p < m.counts.patterns {
+        fill_at(s, m, t, p);
+        p += 1;
+    }
+}
+
+// Whether the path of a comes before that of b, by their indices.
+pub fn before(t: &[u8], a: usize, b: usize) -> bool
+    requires { ⌜ (length (now t) ≡ tableSize) × (a < patternsMost) × (b < patternsMost) ⌝ }
+    requires { ⌜ (getD (now t) (depthAt + a) 0 < depthMost) × (getD (now t) (depthAt + b) 0 < depthMost) ⌝ }
+    ensures { λ r. ⌜ r ≡ firstBefore (indicesIn (now (t .entry)) a) (indicesIn (now (t .entry)) b) ⌝ }
+{
+    let x = at(t, DEPTH + a);
+    let y = at(t, DEPTH + b);
+    let mut i: usize = 0;
+    while i < x {
+        if i == y {
+            return false;
+        }
+        let p = t[INDICES + 12 * a + i];
+        let q = t[INDICES + 12 * b + i];
+        if p < q {
+            return true;
+        }
+        if q < p {
+            return false;
+        }
+        i += 1;
+    }
+    x < y
 }

@@ -1,10 +1,10 @@
-use Prim.Native.Nat.{_+_, _-_, _*_, _≤_}
-use mathlib.Core.Path.{_≡_, refl, sym, ap, _∙_}
+use Prim.Native.Nat.{_-_, _≤_}
+use mathlib.Core.Path.{_≡_, sym, ap, _∙_}
 use native.Mathlib.Omega.{arith}
 use native.Mathlib.Nat.{sub-zero}
 use lib.ListN.{length}
 use Rattle.table.specs.Table.{tableSize, placedEach}
-use Rattle.table.specs.PlacingLaws.{first-is, length-placed, placedEach-on, placedEach-end, parts-entry, parts-type, parts-few, parts-put}
+use Rattle.table.specs.PlacingLaws.{first-is, length-placed, placedEach-on, placedEach-end, parts-entry, parts-type, parts-put}
 use borrow.Author.Needs.{needs}
 use Rattle.table.proofs.put_children.Statement.{statement}
 use Rattle.table.proofs.put_children.Tie as tie

@@ -1,9 +1,9 @@
 -- `columns::insert`: those from the place on are moved up by one, the last first, and the class is stored there.
 use borrow.Author.Needs.{needs}
-use mathlib.Core.Path.{_≡_, refl, sym, ap, _∙_}
-use Prim.Native.Nat.{_+_, _<_, _≤_}
+use mathlib.Core.Path.{_≡_}
+use Prim.Native.Nat.{_≤_}
 use native.Mathlib.Omega.{arith}
-use lib.ListN.{length, take, set, length-set}
+use lib.ListN.{length, length-set}
 use Rattle.matrix.specs.ListsLaws.{shifted, shifted-none, shift-on, shift-end}
 use Rattle.matrix.proofs.columns.insert.Statement.{statement}
 use Rattle.matrix.proofs.columns.insert.Tie as tie
@@ -11,38 +11,31 @@ use Rattle.matrix.proofs.columns.insert.Reads as reads
 use Rattle.matrix.proofs.columns.insert.Lts as lts
 
 abbrev Inv-loop : tie.InvT-loop
-Inv-loop o at class list₀ i₀ list i = (at ≤ i) × (i ≤ o .count) × (length list ≡ 192) × (list ≡ shifted (o .list) (o .count) i)
+Inv-loop o place class list₀ i₀ list i = (place ≤ i) × (i ≤ o .count) × (length list ≡ 192) × (list ≡ shifted (o .list) (o .count) i)
 
 abbrev μ-loop : tie.MeasureT-loop
-μ-loop o at class list₀ i₀ list i = i
+μ-loop o place class list₀ i₀ list i = i
 
--- src/columns.rt:18:5
 loop-holds : tie.Need-loop-holds Inv-loop μ-loop
 loop-holds c =
     let a = c .before .args in
-    (search needs, search needs, search needs, shifted-none (a .o .list) (a .o .count) (omega (arith, c .before .pre)))
+    (search needs, search needs, c .before .pre .0 .long, shifted-none (a .o .list) (a .o .count) (omega (arith, c .before .pre)))
 
--- src/columns.rt:19:24
 sub-list : tie.Need-sub-list Inv-loop μ-loop
 sub-list c = search needs
 
--- src/columns.rt:19:19
 array-read-list : tie.Need-array-read-list Inv-loop μ-loop
 array-read-list c = search needs
 
--- src/columns.rt:19:9
 array-write-list : tie.Need-array-write-list Inv-loop μ-loop
 array-write-list c = search needs
 
--- src/columns.rt:20:9
 sub-i : tie.Need-sub-i Inv-loop μ-loop
 sub-i c = search needs
 
--- src/columns.rt:18:5
 loop-less : tie.Need-loop-less Inv-loop μ-loop
 loop-less c = search needs
 
--- src/columns.rt:18:5
 loop-again : tie.Need-loop-again Inv-loop μ-loop
 loop-again c =
     let a = c .before .before .before .args in
@@ -53,27 +46,24 @@ loop-again c =
       shift-on (l .list) (a .o .list) (a .o .count) (l .i) (l .inv .3) (omega (arith, c .before .before .before .pre)) (omega arith) (omega arith),
     )
 
--- src/columns.rt:22:16
 cast-list : tie.Need-cast-list Inv-loop μ-loop
 cast-list c = search needs
 
--- src/columns.rt:22:5
 array-write-list-2 : tie.Need-array-write-list-2 Inv-loop μ-loop
 array-write-list-2 c = search needs
 
--- src/columns.rt:23:28
 add-t17 : tie.Need-add-t17 Inv-loop μ-loop
 add-t17 c = search needs
 
--- src/columns.rt:12:1
 returns : tie.Need-returns Inv-loop μ-loop
 returns c =
     let a = c .before .before .before .before .args in
+    let s = c .before .before .before .before .pre in
     let l = c .before .before .loop in
     record {
       long = simp length-set (l .inv .2);
-      count = refl;
-      classes = shift-end (l .list) (a .o .list) (a .o .count) (l .i) (a .at) (a .class) (l .inv .3) (omega (arith, c .before .before .before .before .pre)) (omega arith) (omega (arith, c .before .before .before .before .pre));
+      most = omega (arith, s);
+      are = shift-end (l .list) (a .o .list) (a .o .count) (l .i) (a .place) (a .class) (l .inv .3) (omega (arith, s)) (omega arith) (omega (arith, s));
     }
 
 pub insert-spec : {M : Type 1} → statement M

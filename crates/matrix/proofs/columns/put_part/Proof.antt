@@ -1,11 +1,11 @@
 -- `columns::put_part`: what was appended and what is left are all.
 use borrow.Author.Needs.{needs}
-use mathlib.Core.Path.{_≡_, refl, sym, ap, _∙_}
+use mathlib.Core.Path.{_≡_, refl}
 use mathlib.Core.List.{_++_}
-use Prim.Native.Nat.{_+_, _-_, _<_, _≤_}
+use Prim.Native.Nat.{_+_, _-_, _≤_}
 use native.Mathlib.Omega.{arith}
-use lib.ListN.{length, take, set, length-set}
-use lib.Seq.{slice, length-slice}
+use lib.ListN.{length, take, length-set}
+use lib.Seq.{slice}
 use Rattle.matrix.specs.ListsLaws.{part-more, part-all}
 use Rattle.matrix.proofs.columns.put_part.Statement.{statement}
 use Rattle.matrix.proofs.columns.put_part.Tie as tie
@@ -20,31 +20,24 @@ Inv-loop from to cs list₀ count₀ i₀ list count i =
 abbrev μ-loop : tie.MeasureT-loop
 μ-loop from to cs list₀ count₀ i₀ list count i = to - i
 
--- src/columns.rt:35:5
 loop-holds : tie.Need-loop-holds Inv-loop μ-loop
-loop-holds c = (search needs, search needs, search needs, search needs, refl)
+loop-holds c = (search needs, search needs, search needs, c .before .pre .0 .0 .long, refl)
 
--- src/columns.rt:36:23
 element-copy-out-list : tie.Need-element-copy-out-list Inv-loop μ-loop
 element-copy-out-list c = search needs
 
--- src/columns.rt:36:9
 array-write-list : tie.Need-array-write-list Inv-loop μ-loop
 array-write-list c = search needs
 
--- src/columns.rt:37:9
 add-count : tie.Need-add-count Inv-loop μ-loop
 add-count c = search needs
 
--- src/columns.rt:38:9
 add-i : tie.Need-add-i Inv-loop μ-loop
 add-i c = search needs
 
--- src/columns.rt:35:5
 loop-less : tie.Need-loop-less Inv-loop μ-loop
 loop-less c = search needs
 
--- src/columns.rt:35:5
 loop-again : tie.Need-loop-again Inv-loop μ-loop
 loop-again c =
     let s = c .before .before .before .before in
@@ -58,7 +51,6 @@ loop-again c =
           (omega (arith, s .pre, l .inv)) (omega arith) (omega (arith, s .pre)) (l .inv .4),
     )
 
--- src/columns.rt:27:1
 returns : tie.Need-returns Inv-loop μ-loop
 returns c =
     let s = c .before .before .before in
@@ -66,8 +58,8 @@ returns c =
     let l = c .before .loop in
     record {
       long = l .inv .3;
-      count = omega (arith, l .inv, s .pre, length-slice (a .from) (a .to) (a .t2 .list) (omega (arith, s .pre)));
-      classes =
+      most = omega (arith, l .inv, s .pre);
+      are =
           part-all (l .list) (a .t2 .list) (take (a .o .count) (a .o .list) ++ slice (a .from) (a .to) (a .t2 .list)) (l .count) (l .i) (a .to)
           (omega (arith, l .inv)) (l .inv .4);
     }

@@ -1,0 +1,9 @@
+pub mod Built
+pub mod JoinedLaws
+pub mod BuiltLaws
+pub mod CasesLaws
+pub mod SwitchLaws
+pub mod Steps
+pub mod StepsLaws
+pub mod Raw
+pub mod RawLaws

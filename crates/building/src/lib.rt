@@ -1,0 +1,15 @@
+// The tree of a sheet before it is hoisted, built into the arena: rules 3 to 5 of the scope document.
+// Rests on the crates matrix (the rows and columns at hand), meeting (the cases of a column), leaves (a leaf's bindings) and arena.
+//
+// Cost. A tree can be exponential in its sheet, so building stops at 1,024 nodes. A call on a full arena ends the whole building, and
+// so does one whose cases have no room; any other call takes a node number of its own, the leaf's or the switch's. So there are at most
+// 1,025 calls. A call costs what its matrix costs: it counts at most 192 columns of 32 rows, meets the cases of one column, each held
+// against those of the same switch, and makes one matrix for each child. A matrix of some 700 bytes is made once and handed on by
+// value. Calls are at most 193 deep, since each tests one column more.
+//
+// Why it may stop. Each case has a node of its own. So where there is no room for the records of a switch's cases, the tree has more
+// than 1,024 nodes, though not all of them are written. The contract says this of any number of nodes that are still to come
+// elsewhere; for the whole tree it is that its nodes are more than 1,024, as refusal 12 asks.
+pub mod build;
+pub mod raw;
+pub mod tops;

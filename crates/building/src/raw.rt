@@ -1,0 +1,39 @@
+// The tree of a sheet, before it is hoisted: the matrix of its clauses built into an empty arena.
+// What is told of it is in the words of the rules: their tree of the sheet's patterns, or that it has too many nodes.
+use crate::build::do_build_tree;
+use crate::tops::Built;
+use crate::tops::Tops;
+use matrix::splitting::first_matrix;
+use sheet::Map;
+use table::fill;
+ghost use Prim.Native.Nat.{_≤_};
+ghost use lib.ListN.{length};
+ghost use Rattle.table.specs.Tabled.{Checked};
+ghost use Rattle.matrix.specs.Ready.{Ready};
+ghost use Rattle.arena.specs.Arena.{arenaEnd};
+ghost use Rattle.building.specs.Raw.{BuildsRaw};
+
+// By the sheet's table.
+pub fn build_tree(s: &[u8], m: Map, t: &[u8], work: &mut [u8]) -> Built
+    requires { ⌜ Ready (now s) m (now t) × (arenaEnd ≤ length (now work)) ⌝ }
+    ensures { λ r. ⌜ BuildsRaw (now (s .entry)) (now (work .exit)) r ⌝ }
+{
+    let x = first_matrix(s, m, t);
+    let none = Tops {
+        nodes: 0,
+        cases: 0,
+        bindings: 0,
+        leaves: [0; 32],
+    };
+    do_build_tree(s, m, t, x, work, none)
+}
+
+// With a table of its own.
+pub fn build_raw(s: &[u8], m: Map, work: &mut [u8]) -> Built
+    requires { ⌜ Checked (now s) m × (arenaEnd ≤ length (now work)) ⌝ }
+    ensures { λ r. ⌜ BuildsRaw (now (s .entry)) (now (work .exit)) r ⌝ }
+{
+    let mut t = [0u8; 9984];
+    fill(s, m, &mut t);
+    build_tree(s, m, &t, work)
+}

@@ -1,0 +1,102 @@
+-- DEMAND 3. For every accepted sheet and every panel of its subject type, the walk ends at a leaf of the first clause whose pattern
+-- matches, each name bound to the part that the pattern gives it; if none matches, without a leaf. Each clause's body is hoisted exactly
+-- once, above all its leaves.
+--
+-- The three calls as a controller makes them: the build answered Tree bytes .., the fit check answered Fits, and the walk is given the
+-- first `bytes` bytes of the tree buffer. Matching, and what a pattern gives each of its names, are definitions of the patterns alone
+-- (crate rules, Meaning): they know of no tree.
+use mathlib.Core.Path.{_≡_, refl, sym, ap, _∙_}
+use mathlib.Core.Bool.{Bool, true}
+use mathlib.Core.Logic.{_⊎_, inl, inr}
+use mathlib.Core.List.{List, _++_}
+use Prim.Native.Nat.{ℕ, _-_, _*_, _<_, _≤_}
+use lib.ListN.{length}
+use Rattle.words.specs.Words.{textAt, zeros}
+use Rattle.rules.specs.Limits.{boundRoom}
+use Rattle.rules.specs.Rows.{bit}
+use Rattle.rules.specs.SheetFile.{clauses}
+use Rattle.rules.specs.SheetRefusals.{isIn}
+use Rattle.rules.specs.Patterns.{clausePattern, names}
+use Rattle.rules.specs.Positions.{panelRoot}
+use Rattle.rules.specs.Walking.{Bound}
+use Rattle.rules.specs.Meaning.{gives}
+use Rattle.rules.specs.Calls.{Answer, answers, refuses, Built as BuiltTree, BuildCall, buildAnswer, buildCall, WalkCall, walkAnswer, walkCall, boundWords, leafOf, withoutLeaf, sheetTree, sheetTreeFile}
+use Rattle.hoisting.specs.Trees.{hoistsOf, Above}
+use Rattle.matching.specs.Bindings.{SameUpToOrder}
+use Rattle.meaning.specs.Said.{Builds, Fits, FirstMatch, NoMatch, timesBound}
+use Rattle.meaning.specs.CallsLaws.{build-answers-only, fit-accepts-only, build-file}
+use Rattle.meaning.specs.Theorems.{the-walk-ends-at-the-first-match, the-walk-ends-without-leaf, the-call-answers-the-first-match, the-call-answers-without-leaf, the-call-writes-the-first-match, a-clause-matches-or-none, each-clause-is-hoisted-once, each-clause-is-hoisted-above-its-leaves}
+use Rattle.panel.specs.declared.Fitted.the-variants.{Fits as PanelFits}
+use Rattle.walk.specs.declared.Walked.{Walked}
+use Rattle.walk.specs.declared.Walked.the-variants.{Leaf, NoLeaf}
+use Rattle.walk.specs.Answers.{answerOf}
+use Rattle.build.specs.declared.Built.the-variants.{Tree}
+use Rattle.build.specs.Answers.{answerOf as buildAnswerOf}
+use Rattle.demands.specs.Contracts.{BuildFits, FitFits, WalkFits}
+use Rattle.demands.specs.OneAnswer.{walk-known}
+
+-- the walk took clause c: so many names, and for each of them (name, record, dropped) in the buffer, each name once, each at the position
+-- that the clause's pattern gives it; zeros after them
+pub record TakesClause (s v : List ℕ) (c k : ℕ) (r : Walked) (bound : List ℕ) : Type 0 where
+  pub bounds : List Bound
+  pub answer : r ≡ Leaf c (length (names (clausePattern s c)))
+  pub words : bound ≡ boundWords bounds ++ zeros (k - 3 * length (names (clausePattern s c)))
+  pub as-given : SameUpToOrder bounds (gives (clausePattern s c) v panelRoot)
+  pub each-name-once : (x : ℕ) → timesBound x bounds ≡ bit (isIn x (names (clausePattern s c)))
+
+module _ (s v : List ℕ) (n m bytes nodeCount bindingCount : ℕ) (tree work : List ℕ) (built : BuildFits s n m (Tree bytes nodeCount bindingCount) tree work)
+    (fit : FitFits s v PanelFits) (k : ℕ) (room : boundRoom ≤ k) (r : Walked) (bound : List ℕ) (walked : WalkFits (textAt tree 0 bytes) v k r bound) where
+  abbrev answered : BuiltTree
+  answered = record { bytes = bytes; nodes = nodeCount; bindings = bindingCount }
+
+  build-answer : buildAnswer s n m ≡ answers answered
+  unfolding buildCall
+  build-answer = sym (ap (λ (x : BuildCall). x .answer) built)
+
+  builds : Builds s
+  builds = build-answers-only s n m answered build-answer .builds
+
+  fits : Fits s v
+  fits = fit-accepts-only s v (sym fit) .1
+
+  the-file : textAt tree 0 bytes ≡ sheetTreeFile s
+  the-file = ap (λ (x : BuildCall). textAt (x .tree) 0 bytes) built ∙ build-file s n m answered build-answer
+
+  of-file : WalkFits (sheetTreeFile s) v k r bound
+  of-file = walked ∙ ap (λ t. walkCall t v k) the-file
+
+  walk-answer : answerOf r ≡ walkAnswer (sheetTreeFile s) v k
+  unfolding walkCall
+  walk-answer = ap (λ (x : WalkCall). x .answer) of-file
+
+  -- the first clause that matches is taken, with what its pattern gives
+  pub the-first-match-is-taken : (c : ℕ) → FirstMatch s v c → TakesClause s v c k r bound
+  the-first-match-is-taken c l =
+      let e = the-walk-ends-at-the-first-match s v builds fits c l in
+      record {
+        bounds = e .bounds;
+        answer = walk-known r (Leaf c (length (names (clausePattern s c)))) (walk-answer ∙ the-call-answers-the-first-match s v builds fits k room c l);
+        words = ap (λ (x : WalkCall). x .bound) of-file ∙ the-call-writes-the-first-match s v builds fits k room c l;
+        as-given = e .as-given;
+        each-name-once = e .each-name-once;
+      }
+
+  -- if none matches, the walk ends without a leaf
+  pub without-a-match-there-is-no-leaf : NoMatch s v → r ≡ NoLeaf
+  without-a-match-there-is-no-leaf none = walk-known r NoLeaf (walk-answer ∙ the-call-answers-without-leaf s v builds fits k room none)
+
+  -- one of the two is the case
+  pub one-of-the-two : ((c : ℕ) × TakesClause s v c k r bound) ⊎ (r ≡ NoLeaf)
+  one-of-the-two = go (a-clause-matches-or-none s v)
+    where
+      go : ((c : ℕ) × FirstMatch s v c) ⊎ NoMatch s v → ((c : ℕ) × TakesClause s v c k r bound) ⊎ (r ≡ NoLeaf)
+      go (inl (c, l)) = inl (c, the-first-match-is-taken c l)
+      go (inr none) = inr (without-a-match-there-is-no-leaf none)
+
+-- each clause of a sheet whose tree was built is hoisted exactly once, and going down from the root no leaf of it is met before its hoist
+pub each-clause-is-hoisted : (s : List ℕ) (n m bytes nodeCount bindingCount : ℕ) (tree work : List ℕ) → BuildFits s n m (Tree bytes nodeCount bindingCount) tree work
+    → (c : ℕ) → c < clauses s → (hoistsOf c (sheetTree s) ≡ 1) × Above c (sheetTree s)
+unfolding buildCall
+each-clause-is-hoisted s n m bytes nodeCount bindingCount tree work built c l =
+    let b = build-answers-only s n m (record { bytes = bytes; nodes = nodeCount; bindings = bindingCount }) (sym (ap (λ (x : BuildCall). x .answer) built)) .builds in
+    (each-clause-is-hoisted-once s b c l, each-clause-is-hoisted-above-its-leaves s b c l)

@@ -1,0 +1,4 @@
+pub mod Bindings
+pub mod BindingsLaws
+pub mod PuttingLaws
+pub mod StandsLaws

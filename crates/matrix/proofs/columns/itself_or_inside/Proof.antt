@@ -1,0 +1,14 @@
+-- `columns::itself_or_inside`: one choice.
+use Rattle.matrix.proofs.columns.itself_or_inside.Statement.{statement}
+use Rattle.matrix.proofs.columns.itself_or_inside.Tie as tie
+use Rattle.matrix.proofs.columns.itself_or_inside.Reads as reads
+use Rattle.matrix.proofs.columns.itself_or_inside.Lts as lts
+
+returns : tie.Need-returns
+returns c = rw (c .if1 .taken)
+
+returns-2 : tie.Need-returns-2
+returns-2 c = rw (c .if1 .left)
+
+pub itself-or-inside-spec : {M : Type 1} → statement M
+itself-or-inside-spec = tie.close (tie.spec returns returns-2)

@@ -1,0 +1,96 @@
+-- The bindings of a row are those of the numbers that it binds, in the same order, and a leaf has those of its first row.
+-- Rests on the states of rows, and on what crate table shows of the bindings of a pattern.
+use mathlib.Core.Path.{_≡_, refl, sym, ap, ap₂, _∙_}
+use mathlib.Core.List.{List, [], _∷_, _++_, map, map-append}
+use Prim.Native.Nat.{ℕ, _+_, _<_}
+use Rattle.rules.specs.SheetFile.{patterns, clauses, root}
+use Rattle.rules.specs.Patterns.{clausePattern}
+use Rattle.rules.specs.Rows.{bindingsOf}
+use Rattle.rules.specs.SplittingLaws.{All}
+use Rattle.rules.specs.Building.{leaf, leafOf}
+use Rattle.facts.specs.SheetFacts.{Accepted}
+use Rattle.matching.specs.Lists.{all-append}
+use Rattle.table.specs.Standing.{pathOf}
+use Rattle.table.specs.Seen.{bindsOf, openedBinds, bindingAt}
+use Rattle.table.specs.Meets.{clause-bindings-meet, opened-bindings-meet}
+use Rattle.table.specs.MembersLaws.{bind-at, bind-inside}
+use Rattle.matrix.specs.declared.Held.{Held}
+use Rattle.matrix.specs.declared.Held.the-variants.{Test, Wildcard}
+use Rattle.matrix.specs.RowStates.{rowOf, rowOf-clause}
+use Rattle.matrix.specs.Numbers.{all-copies}
+use Rattle.matrix.specs.MeetingLaws.{copies-in}
+use Rattle.matrix.specs.Live.{openedTest, bindingsHeld, boundBy, State}
+use Rattle.matrix.specs.LiveLaws.{opened-test}
+use Rattle.matrix.specs.Matrices.{rowsAt, Rising}
+use Rattle.matrix.specs.Numbered.{Numbered, SoundOf}
+use Rattle.matrix.specs.Bound.{numbersHeld, openedNumbers, boundNumbers}
+
+module _ {s : List ℕ} (ok : Accepted s) where
+  abbrev Known : ℕ → Type 0
+  Known q = q < patterns s
+
+  module _ (opened : List ℕ) (c : ℕ) where
+    held-bindings : (time class : ℕ) (h : Held) → openedTest s opened c time class ≡ h → bindingsHeld s h ≡ map (bindingAt s) (numbersHeld s h)
+    held-bindings time class (Test p) e =
+        let t = opened-test s opened c time class p e .test-of in
+        opened-bindings-meet (ok .is-shaped) (ok .is-counted) p (t .known) (t .test)
+    held-bindings time class Wildcard e = refl
+
+    held-known : (time class : ℕ) (h : Held) → openedTest s opened c time class ≡ h → All Known (numbersHeld s h)
+    held-known time class (Test p) e =
+        let t = opened-test s opened c time class p e .test-of in
+        all-copies Known (openedBinds s p)
+        (λ q l. bind-inside (ok .is-shaped) (ok .is-counted) p q (t .known) (t .test) (copies-in q (openedBinds s p) l) .1 .known)
+    held-known time class Wildcard e = tt
+
+    opened-bindings : (time : ℕ) (classes : List ℕ) → boundBy s opened c time classes ≡ map (bindingAt s) (openedNumbers s opened c time classes)
+    unfolding boundBy openedNumbers
+    opened-bindings time [] = refl
+    opened-bindings time (k ∷ classes) =
+        let h = openedTest s opened c time k in
+        ap₂ _++_ (held-bindings time k h refl) (opened-bindings (time + 1) classes)
+        ∙ sym (map-append (bindingAt s) (numbersHeld s h) (openedNumbers s opened c (time + 1) classes))
+
+    opened-known : (time : ℕ) (classes : List ℕ) → All Known (openedNumbers s opened c time classes)
+    unfolding openedNumbers
+    opened-known time [] = tt
+    opened-known time (k ∷ classes) =
+        let h = openedTest s opened c time k in
+        all-append Known (numbersHeld s h) (openedNumbers s opened c (time + 1) classes) (held-known time k h refl) (opened-known (time + 1) classes)
+
+  -- each is a pattern
+  pub bound-known : (M : Numbered) (c : ℕ) → c < clauses s → All Known (boundNumbers s M c)
+  unfolding boundNumbers
+  bound-known M c h =
+      all-append Known (bindsOf s (root s c)) (openedNumbers s (M .opened) c 0 (M .tested))
+      (all-copies Known (bindsOf s (root s c))
+      (λ q l. bind-at (ok .is-shaped) (ok .is-counted) (root s c) q (ok .is-shaped .root-pattern c h) (copies-in q (bindsOf s (root s c)) l) .1 .known))
+      (opened-known (M .opened) c 0 (M .tested))
+
+  -- clause c's row after the columns tested binds these
+  pub bound-row : (M : Numbered) (c : ℕ) → c < clauses s → State s (M .tested) (M .opened) c
+      → (rowOf s (map (pathOf s) (M .tested)) c) .bindings ≡ map (bindingAt s) (boundNumbers s M c)
+  unfolding boundNumbers
+  bound-row M c h st =
+      st .bindings
+      ∙ ap₂ _++_ (clause-bindings-meet (ok .is-shaped) (ok .is-counted) c h) (opened-bindings (M .opened) c 0 (M .tested))
+      ∙ sym (map-append (bindingAt s) (bindsOf s (root s c)) (openedNumbers s (M .opened) c 0 (M .tested)))
+
+  -- "a leaf of the first row, with its bindings in the order they were collected"
+  leaf-first : (tested rows : List ℕ) (c : ℕ) (cs : List ℕ) → rows ≡ c ∷ cs
+      → leafOf (rowsAt s tested rows) ≡ leaf c ((rowOf s (map (pathOf s) tested) c) .bindings)
+  unfolding leafOf
+  leaf-first tested rows c cs e = rw e (ap (λ (n : ℕ). leaf n ((rowOf s (map (pathOf s) tested) c) .bindings)) (rowOf-clause s (map (pathOf s) tested) c))
+
+  module _ (M : Numbered) (sound : SoundOf s M) (c : ℕ) (cs : List ℕ) (e : M .rows ≡ c ∷ cs) where
+    first-state : State s (M .tested) (M .opened) c
+    first-state = let states : All (State s (M .tested) (M .opened)) (c ∷ cs) = rw e at (sound .states) in states .0
+
+    pub first-clause : c < clauses s
+    first-clause = let rising : Rising (clauses s) 0 (c ∷ cs) = rw e at (sound .rising) in rising .1
+
+    pub leaf-bindings : leafOf (rowsAt s (M .tested) (M .rows)) ≡ leaf c (bindingsOf [] (clausePattern s c) ++ boundBy s (M .opened) c 0 (M .tested))
+    leaf-bindings = leaf-first (M .tested) (M .rows) c cs e ∙ ap (leaf c) (first-state .bindings)
+
+    pub leaf-numbers : leafOf (rowsAt s (M .tested) (M .rows)) ≡ leaf c (map (bindingAt s) (boundNumbers s M c))
+    leaf-numbers = leaf-first (M .tested) (M .rows) c cs e ∙ ap (leaf c) (bound-row M c first-clause first-state)

@@ -1,0 +1,32 @@
+-- `meeting::meet_cases` meets its contract: the tests read from the table are those of the column.
+use borrow.Author.Needs.{needs}
+use Rattle.meeting.specs.MadeLaws.{column-cells, column-known, column-meets}
+use Rattle.matrix.specs.ListsLaws.{whole-rows}
+use Rattle.meeting.proofs.meet_cases.Statement.{statement}
+use Rattle.meeting.proofs.meet_cases.Tie as tie
+
+column-tests-requires : tie.Need-column-tests-requires
+column-tests-requires c κs =
+    let s = c .before .before .before .before .before in
+    let a = s .args in
+    (s .pre .0 .1 .whole-rows, column-cells (s .pre .0 .0) (a .x) (s .pre .0 .2) (a .class) (s .pre .0 .3))
+
+meet-both-requires : tie.Need-meet-both-requires
+meet-both-requires c κs =
+    let s = c .before .before .before .before .before .before .before in
+    let a = s .args in
+    let t = c .before .column-tests in
+    ((s .pre .0 .0 .checked, whole-rows (t .ensures), column-known (s .pre .0 .0) (a .x) (s .pre .0 .2) (a .class) (s .pre .0 .3) (t .result) (t .ensures)), s .pre .1)
+
+same-length : tie.Need-same-length
+same-length c = search needs
+
+returns : tie.Need-returns
+returns c =
+    let s = c .before .before .before .before .before .before .before .before .before .before in
+    let a = s .args in
+    let t = c .before .before .before .before .column-tests in
+    column-meets (s .pre .0 .0) (a .x) (s .pre .0 .2) (a .class) (s .pre .0 .3) (t .result) (t .ensures) (a .first) (a .work .now) _ (c .before .before .meet-both .result) (c .before .before .meet-both .ensures)
+
+pub meet-cases-spec : {M : Type 1} → statement M
+meet-cases-spec = tie.close (tie.spec column-tests-requires meet-both-requires same-length returns)

@@ -1,0 +1,143 @@
+-- The laws of both passes together: the records of the second stand behind those of the first, and they are all there unless the
+-- number of cases reaches what there is room for. Rests on the laws of the passes and of stores.
+use mathlib.Core.Path.{_≡_, refl, sym, ap, ap₂, _∙_}
+use mathlib.Core.Bool.{Bool, true, false}
+use mathlib.Core.List.{List, [], _∷_}
+use Prim.Native.Nat.{ℕ, _+_, _-_, _*_, _≤_, _<_, min}
+use native.Mathlib.Omega.{arith}
+use lib.Dec.{ltb}
+use lib.ListN.{length, length-take}
+use lib.Seq.{take-all}
+use Rattle.words.specs.Stored.{stored}
+use Rattle.words.specs.StoredLaws.{length-stored, stored-nil, stored-append, getD-stored-below, getD-stored-above}
+use Rattle.rules.specs.Limits.{patternsMost, nodesMost, bindingsMost, caseSize}
+use Rattle.rules.specs.Splitting.{Met, casesOf}
+use Rattle.rules.specs.SplittingLaws.{All}
+use Rattle.matching.specs.Depth.{only}
+use Rattle.arena.specs.Arena.{casesStart, casesMost, bindingsStart, arenaEnd}
+use Rattle.arena.specs.WritingLaws.{Kept, kept-trans, kept-weaken}
+use Rattle.sheet.specs.declared.Map.{Map}
+use Rattle.matrix.specs.declared.Matrix.{Matrix}
+use Rattle.matrix.specs.declared.PerRow.{PerRow}
+use Rattle.matrix.specs.declared.Held.{Held}
+use Rattle.matrix.specs.declared.Held.the-variants.{Test as HeldTest, Wildcard}
+use Rattle.matrix.specs.Live.{liveIn}
+use Rattle.matrix.specs.HeldRows.{heldTests}
+use Rattle.matrix.specs.Lists.{numbersIn, HoldsRows}
+use Rattle.matrix.specs.Matrices.{TestIn}
+use Rattle.matrix.specs.MatricesLaws.{tests-in}
+use Rattle.matrix.specs.Numbered.{SoundOf, testsIn}
+use Rattle.matrix.specs.Reading.{heldIn, InTable}
+use Rattle.matrix.specs.Ready.{Ready, TestKnown}
+use Rattle.matrix.specs.PuttingLaws.{all-map}
+use Rattle.matrix.specs.InNumbers.{inNumbers}
+use Rattle.matrix.specs.InNumbersLaws.{Alike, alike-rows, cells-in}
+use Rattle.meeting.specs.declared.tests.Longest.{Longest}
+use Rattle.meeting.specs.declared.Meeting.{Meeting}
+use Rattle.meeting.specs.Passes.{upTo, caseRecords}
+use Rattle.meeting.specs.PassesLaws.{pass-cases, sorts-length, hasList-longest}
+use Rattle.meeting.specs.SoFar.{SoFar, Begun, Meets}
+use Rattle.meeting.specs.SoFarLaws.{length-caseRecords, caseRecords-append, all-append}
+use Rattle.meeting.specs.Rows.{sortOf, meetTests, longestOf}
+use Rattle.meeting.specs.Made.{columnOf, exactCases, tailCases, CasesMade, CasesPast, MeetsTo}
+
+-- a pass begins with no case
+so-far-none : (s w : List ℕ) (first : ℕ) → arenaEnd ≤ length w → first ≤ casesMost → SoFar s w first [] first w
+unfolding caseRecords
+so-far-none s w first room most = record { number = omega arith; most = most; room = room; each = tt; written = sym (stored-nil w (casesStart + caseSize * first)) }
+
+pub pass-begins : (s w : List ℕ) (first : ℕ) → arenaEnd ≤ length w → first ≤ casesMost → Begun s w first first
+pass-begins s w first room most = record { mets = []; so-far = so-far-none s w first room most }
+
+-- what a pass leaves as it was
+so-far-kept : {s w₀ : List ℕ} {from : ℕ} {ms : List Met} {to : ℕ} {w : List ℕ} → SoFar s w₀ from ms to w → Kept nodesMost from bindingsMost w₀ w
+so-far-kept {w₀} {from} {ms} x =
+    rw (x .written)
+    (record {
+      same-length = length-stored w₀ (casesStart + caseSize * from) (caseRecords ms);
+      nodes = λ i l. getD-stored-below w₀ (casesStart + caseSize * from) (caseRecords ms) i 0 (omega arith);
+      cases = λ i l. getD-stored-below w₀ (casesStart + caseSize * from) (caseRecords ms) (casesStart + i) 0 (omega arith);
+      bindings = λ i l. getD-stored-above w₀ (casesStart + caseSize * from) (caseRecords ms) (bindingsStart + i) 0 (omega (arith, length-caseRecords ms, x .number, x .most));
+    })
+
+-- what a pass meets in all
+pass-meets : (s : List ℕ) (from : ℕ) (tail : Bool) (l : Longest) (ps : List ℕ) → l ≡ longestOf s ps → meetTests s from tail l ps [] ≡ upTo from (only (sortOf tail) (casesOf (columnOf s ps)))
+pass-meets s from tail l ps e =
+    ap (λ (k : Longest). meetTests s from tail k ps []) e ∙ ap (upTo from) (pass-cases (sortOf tail) (columnOf s ps))
+
+module _ {s w w₁ : List ℕ} {first mid : ℕ} (ps : List ℕ) (l : Longest) (is : l ≡ longestOf s ps) (room : arenaEnd ≤ length w) (most : first ≤ casesMost)
+    (a : Meets s w first first (meetTests s first false l ps) mid w₁) where
+  first-pass : SoFar s w first (upTo first (exactCases (columnOf s ps))) mid w₁
+  first-pass = rw (pass-meets s first false l ps is) at (a .after w [] (so-far-none s w first room most))
+
+  pub second-begins : Begun s w₁ mid mid
+  second-begins = pass-begins s w₁ mid (omega (arith, so-far-kept first-pass .same-length, room)) (first-pass .most)
+
+  module _ {end : ℕ} {w' : List ℕ} (b : Meets s w₁ mid mid (meetTests s mid true l ps) end w') where
+    second-pass : SoFar s w₁ mid (upTo mid (tailCases (columnOf s ps))) end w'
+    second-pass =
+        rw (pass-meets s mid true l ps is) at
+        (b .after w₁ [] (so-far-none s w₁ mid (omega (arith, so-far-kept first-pass .same-length, room)) (first-pass .most)))
+
+    mid-number : mid ≡ first + min (casesMost - first) (length (exactCases (columnOf s ps)))
+    mid-number = first-pass .number ∙ ap (λ (n : ℕ). first + n) (length-take (casesMost - first) (exactCases (columnOf s ps)))
+
+    end-number : end ≡ mid + min (casesMost - mid) (length (tailCases (columnOf s ps)))
+    end-number = second-pass .number ∙ ap (λ (n : ℕ). mid + n) (length-take (casesMost - mid) (tailCases (columnOf s ps)))
+
+    pub passes-past : end ≡ casesMost → CasesPast (columnOf s ps) first w w'
+    passes-past e =
+        record {
+          more = omega (arith, mid-number, end-number, sorts-length (casesOf (columnOf s ps)), most);
+          kept = kept-trans (so-far-kept first-pass) (kept-weaken (omega arith) (omega (arith, first-pass .number)) (omega arith) (so-far-kept second-pass));
+        }
+
+    pub passes-made : (end ≡ casesMost → ⊥) → (list : Bool) → list ≡ ltb 0 (l .tailless + l .tails) → CasesMade s (columnOf s ps) first w w' (record { mid = mid; end = end; list = list })
+    passes-made n list f =
+        let m = mid-number in
+        let k = end-number in
+        let small : end < casesMost = omega (arith, second-pass .most) in
+        let es : upTo first (exactCases (columnOf s ps)) ≡ exactCases (columnOf s ps) = take-all (casesMost - first) (exactCases (columnOf s ps)) (omega arith) in
+        let ts : upTo mid (tailCases (columnOf s ps)) ≡ tailCases (columnOf s ps) = take-all (casesMost - mid) (tailCases (columnOf s ps)) (omega arith) in
+        let x : SoFar s w first (exactCases (columnOf s ps)) mid w₁ = rw es at first-pass in
+        let y : SoFar s w₁ mid (tailCases (columnOf s ps)) end w' = rw ts at second-pass in
+        record {
+          mid-is = x .number;
+          end-is = y .number;
+          list-is = f ∙ ap (λ (k : Longest). ltb 0 (k .tailless + k .tails)) is ∙ sym (hasList-longest (columnOf s ps));
+          small = small;
+          each = all-append s (exactCases (columnOf s ps)) (tailCases (columnOf s ps)) (x .each) (y .each);
+          written =
+              y .written
+              ∙ ap (λ (v : List ℕ). stored v (casesStart + caseSize * mid) (caseRecords (tailCases (columnOf s ps)))) (x .written)
+              ∙ stored-append w (casesStart + caseSize * first) (casesStart + caseSize * mid) (caseRecords (exactCases (columnOf s ps))) (caseRecords (tailCases (columnOf s ps)))
+              (omega (arith, length-caseRecords (exactCases (columnOf s ps)), x .number))
+              ∙ ap (stored w (casesStart + caseSize * first)) (sym (caseRecords-append (exactCases (columnOf s ps)) (tailCases (columnOf s ps))));
+        }
+
+-- ---- the column of a class in a sound matrix
+tests-alike : (f g : ℕ → Held) (cs : List ℕ) → All (Alike f g) cs → heldTests f cs ≡ heldTests g cs
+unfolding heldTests
+tests-alike f g [] h = refl
+tests-alike f g (c ∷ cs) h = ap₂ (λ (x : Held) (l : List ℕ). elim x [ HeldTest p ↦ p ∷ l | Wildcard ↦ l ]) (h .0) (tests-alike f g cs (h .1))
+
+module _ {s : List ℕ} {m : Map} {t : List ℕ} (ready : Ready s m t) (x : Matrix) (sound : SoundOf s (inNumbers x)) (class : ℕ) (known : class < patternsMost) where
+  pub column-cells : All (InTable t class) (numbersIn (x .rows))
+  column-cells = cells-in ready (inNumbers x) sound class known
+
+  module _ (tests : PerRow) (are : HoldsRows tests (heldTests (heldIn t (x .opened) class) (numbersIn (x .rows)))) where
+    pub column-tests : numbersIn tests ≡ testsIn s class (inNumbers x)
+    unfolding testsIn
+    column-tests =
+        are .are
+        ∙ tests-alike (heldIn t (x .opened) class) (liveIn s (x .opened) class) (numbersIn (x .rows)) (alike-rows ready (inNumbers x) sound class known)
+
+    pub column-known : All (TestKnown s) (numbersIn tests)
+    unfolding testsIn
+    column-known =
+        rw column-tests
+        (all-map (TestIn s class) (TestKnown s) (λ p h. record { known = h .known; test = h .test }) (heldTests (liveIn s (x .opened) class) (numbersIn (x .rows)))
+        (tests-in s (x .opened) class (numbersIn (x .rows))))
+
+    pub column-meets : (first : ℕ) (w w' : List ℕ) (r : Meeting) → MeetsTo s (columnOf s (numbersIn tests)) first w w' r → MeetsTo s (columnOf s (testsIn s class (inNumbers x))) first w w' r
+    column-meets first w w' r a = rw (← column-tests) a

@@ -1,0 +1,81 @@
+// Rule 4, the cases of a column in order of first meeting, each written as its record into the arena: first those without a tail, then
+// those with one. A test is met by a search among the cases that its pass has met so far; a new one is written behind them.
+//
+// Cost: the column's tests are read once from the table, and their records once for the longest lengths and once in each pass. A row
+// with a tail joins a case for each length from its own up to the longest (at most 192 in a pass), any other row one case; each is
+// looked for among those met so far, texts byte by byte where their lengths are equal (at most 64 bytes). No more is written once
+// 1,024 cases are there: each case has a node of its own, so that the tree then has too many nodes (refusal 12).
+mod column;
+mod meet;
+mod rows;
+mod search;
+mod tests;
+
+use column::column_tests;
+use column::longest_of;
+use matrix::Matrix;
+use matrix::PerRow;
+use meet::CASES_MOST;
+use rows::meet_rows;
+use sheet::Map;
+ghost use Prim.Native.Nat.{_<_, _≤_};
+ghost use lib.ListN.{length};
+ghost use Rattle.rules.specs.Limits.{patternsMost};
+ghost use Rattle.rules.specs.SplittingLaws.{All};
+ghost use Rattle.table.specs.Tabled.{Checked};
+ghost use Rattle.matrix.specs.Lists.{numbersIn, WholeRows};
+ghost use Rattle.matrix.specs.Numbered.{SoundOf, testsIn};
+ghost use Rattle.matrix.specs.Ready.{Ready, TestKnown};
+ghost use Rattle.matrix.specs.InNumbers.{inNumbers, WholeMatrix};
+ghost use Rattle.arena.specs.Arena.{casesMost, arenaEnd};
+ghost use Rattle.meeting.specs.Made.{columnOf, MeetsTo};
+
+// The cases without a tail end at `mid`, those with one at `end`; `list` says whether the column is one of lists.
+pub struct CasesMet {
+    pub mid: usize,
+    pub end: usize,
+    pub list: bool,
+}
+
+pub enum Meeting {
+    Met(CasesMet),
+    TooMany,
+}
+
+// The cases of these tests, from case `first` on: those without a tail, then those with one.
+fn meet_both(s: &[u8], m: Map, tests: PerRow, work: &mut [u8], first: usize) -> Meeting
+    requires { ⌜ Checked (now s) m × WholeRows tests × All (TestKnown (now s)) (numbersIn tests) ⌝ }
+    requires { ⌜ (arenaEnd ≤ length (now work)) × (first ≤ casesMost) ⌝ }
+    ensures { λ r. ⌜ MeetsTo (now (s .entry)) (columnOf (now (s .entry)) (numbersIn tests)) first (now (work .entry)) (now (work .exit)) r ⌝ }
+{
+    let l = longest_of(s, m, tests);
+    let mid = meet_rows(s, m, tests, l, false, work, first);
+    let end = meet_rows(s, m, tests, l, true, work, mid);
+    if end == CASES_MOST {
+        return Meeting::TooMany;
+    }
+    Meeting::Met(CasesMet {
+        mid,
+        end,
+        list: 0 < l.tailless + l.tails,
+    })
+}
+
+// The cases of the column of a class, from case `first` on.
+pub fn meet_cases(
+    s: &[u8],
+    m: Map,
+    t: &[u8],
+    x: Matrix,
+    class: usize,
+    work: &mut [u8],
+    first: usize,
+) -> Meeting
+    requires { ⌜ Ready (now s) m (now t) × WholeMatrix x × SoundOf (now s) (inNumbers x) × (class < patternsMost) ⌝ }
+    requires { ⌜ (arenaEnd ≤ length (now work)) × (first ≤ casesMost) ⌝ }
+    ensures { λ r. ⌜ MeetsTo (now (s .entry)) (columnOf (now (s .entry)) (testsIn (now (s .entry)) class (inNumbers x))) first (now (work .entry)) (now (work .exit)) r ⌝ }
+{
+    let opened = x.opened;
+    let tests = column_tests(t, x.rows, &opened, class);
+    meet_both(s, m, tests, work, first)
+}

@@ -1,0 +1,60 @@
+use Prim.Native.Nat.{_-_, _≤_}
+use native.Mathlib.Omega.{arith}
+use Rattle.table.specs.ClassingLaws.{LowestFrom, class-begins, class-found, class-goes-on, class-is-own}
+use borrow.Author.Needs.{needs}
+use Rattle.table.proofs.class_of.Statement.{statement}
+use Rattle.table.proofs.class_of.Tie as tie
+use Rattle.table.proofs.class_of.Reads as reads
+use Rattle.table.proofs.class_of.Lts as lts
+use Rattle.table.proofs.same_step.Reads as same-step-reads
+
+abbrev Inv-loop : tie.InvT-loop
+Inv-loop t p q₀ q = (q ≤ p) × LowestFrom t p q
+
+abbrev μ-loop : tie.MeasureT-loop
+μ-loop t p q₀ q = p - q
+
+-- src/lib.rt:201:5
+loop-holds : tie.Need-loop-holds Inv-loop μ-loop
+loop-holds c = (omega arith, class-begins (c .before .args .t .now) (c .before .args .p))
+
+-- src/lib.rt:202:12
+same-step-requires : tie.Need-same-step-requires Inv-loop μ-loop
+same-step-requires c κs =
+    let start = c .before .before .before in
+    let q = c .before .loop .q in
+    (start .pre .0, omega arith, start .pre .1, start .pre .2 q (omega arith), start .pre .2 (start .args .p) (omega arith))
+
+-- src/lib.rt:203:13
+returns : tie.Need-returns Inv-loop μ-loop
+returns c = let a = c .before .before .before .before .before .args in class-found (a .t .now) (a .p) (c .before .before .before .loop .q) (c .before .before .before .loop .inv .1) (c .before .same-step .result) (c .before .before .loop-test .taken) (c .before .same-step .ensures) (c .if1 .taken)
+
+-- src/lib.rt:205:9
+add-q : tie.Need-add-q Inv-loop μ-loop
+add-q c = search needs
+
+-- src/lib.rt:201:5
+loop-less : tie.Need-loop-less Inv-loop μ-loop
+loop-less c = search needs
+
+-- src/lib.rt:201:5
+loop-again : tie.Need-loop-again Inv-loop μ-loop
+loop-again c = let a = c .before .before .before .before .before .args in (omega arith, class-goes-on (a .t .now) (a .p) (c .before .before .before .loop .q) (c .before .before .before .loop .inv .1) (c .before .same-step .result) (c .before .before .loop-test .taken) (c .before .same-step .ensures) (c .if1 .left))
+
+-- src/lib.rt:196:1
+returns-2 : tie.Need-returns-2 Inv-loop μ-loop
+returns-2 c = let a = c .before .before .before .args in class-is-own (a .t .now) (a .p) (c .before .loop .q) (c .before .loop .inv .1) (omega arith)
+
+pub class-of-spec : {M : Type 1} → statement M
+class-of-spec =
+    tie.close
+    (tie.spec
+    Inv-loop
+    μ-loop
+    loop-holds
+    same-step-requires
+    returns
+    add-q
+    loop-less
+    loop-again
+    returns-2)

@@ -1,0 +1,232 @@
+-- What the writing functions do, over the bytes of the arena: each record that they write, and the state of the file after it.
+-- And what each asks: that the numbers it reads in the arena are in range, and that the file has room.
+use mathlib.Core.Path.{_≡_}
+use mathlib.Core.List.{List, [], _++_}
+use Prim.Native.Nat.{ℕ, zero, suc, _+_, _-_, _*_, _≤_, _<_}
+use lib.ListN.{length, getD}
+use lib.Dec.{eqb}
+use Rattle.words.specs.Words.{wordBytes, pick}
+use Rattle.words.specs.Stored.{stored}
+use Rattle.rules.specs.Limits.{clausesMost, patternsMost, nodesMost, bindingsMost, treeRoom, nodeSize, caseSize, bindingSize}
+use Rattle.rules.specs.TreeFile.{firstOf, nodeBytes}
+use Rattle.arena.specs.Arena.{casesStart, casesMost, bindingsStart, arenaEnd, nodeKind, nodeWord, caseKind, caseNumber, caseLength, caseChild, bindingName, bindingPath}
+use Rattle.arena.specs.RecordsLaws.{caseFields}
+use Rattle.scopes.specs.declared.Scopes.{Scopes}
+use Rattle.scopes.specs.WriterLaws.{standsAt}
+use Rattle.writing.specs.declared.uses.Uses.{Uses}
+use Rattle.writing.specs.declared.nodes.Tops.{Tops}
+use Rattle.writing.specs.Uses.{Counted, withClass, numberIn}
+
+-- ---- bindings
+-- binding b of the arena as the file has it
+abbrev pub boundBinding : List ℕ → ℕ → Uses → List ℕ
+boundBinding w b u = wordBytes (bindingName w b) ++ wordBytes (numberIn u (bindingPath w b))
+
+-- the n bindings from b on; the path numbers after them
+unfoldable pub boundBytes : List ℕ → ℕ → ℕ → Uses → List ℕ
+unfolding withClass
+boundBytes w b zero u = []
+boundBytes w b (suc n) u = boundBinding w b (withClass u (bindingPath w b)) ++ boundBytes w (b + 1) n (withClass u (bindingPath w b))
+
+unfoldable pub boundUses : List ℕ → ℕ → ℕ → Uses → Uses
+unfolding withClass
+boundUses w b zero u = u
+boundUses w b (suc n) u = boundUses w (b + 1) n (withClass u (bindingPath w b))
+
+pub record BindingAsked (w : List ℕ) (b : ℕ) : Type 0 where
+  pub room : arenaEnd ≤ length w
+  pub inside : b < bindingsMost
+  pub class : bindingPath w b < patternsMost
+
+pub record BindingsAsked (w : List ℕ) (first count : ℕ) : Type 0 where
+  pub room : arenaEnd ≤ length w
+  pub inside : first + count ≤ bindingsMost
+  pub classes : (i : ℕ) → i < count → bindingPath w (first + i) < patternsMost
+
+pub record PutBinding (w : List ℕ) (b at : ℕ) (u : Uses) (before after : List ℕ) (r : Uses) : Type 0 where
+  pub uses-are : r ≡ withClass u (bindingPath w b)
+  pub bytes-are : after ≡ stored before at (boundBinding w b (withClass u (bindingPath w b)))
+
+pub record PutBindings (w : List ℕ) (first count at : ℕ) (u : Uses) (before after : List ℕ) (r : Uses) : Type 0 where
+  pub uses-are : r ≡ boundUses w first count u
+  pub bytes-are : after ≡ stored before at (boundBytes w first count u)
+
+-- ---- cases
+-- the node above which a clause is hoisted
+abbrev pub clauseNode : Scopes → ℕ → ℕ
+clauseNode x c = getD (x .node) c 0
+
+-- case i of the arena with this child
+abbrev pub movedCase : List ℕ → ℕ → ℕ → List ℕ
+movedCase w i child = caseFields (caseKind w i) (caseNumber w i) (caseLength w i) child
+
+unfoldable pub movedCases : List ℕ → (ℕ → ℕ) → ℕ → ℕ → ℕ → List ℕ
+unfolding standsAt
+movedCases w node n i zero = []
+movedCases w node n i (suc m) = movedCase w i (standsAt node n (caseChild w i)) ++ movedCases w node n (i + 1) m
+
+unfoldable pub movedDefault : (ℕ → ℕ) → ℕ → ℕ → ℕ
+unfolding standsAt
+movedDefault node n default = pick (eqb default 0) 0 (standsAt node n (default - 1) + 1)
+
+pub record CasesAsked (w : List ℕ) (first count : ℕ) : Type 0 where
+  pub room : arenaEnd ≤ length w
+  pub inside : first + count ≤ casesMost
+  pub children : (i : ℕ) → i < count → caseChild w (first + i) < nodesMost
+
+-- ---- the state of the file
+-- its bytes, how much is written of each section, and the path numbers
+pub record Out : Type 0 where
+  pub tree : List ℕ
+  pub tops : Tops
+
+abbrev pub outOf : List ℕ → Tops → Out
+outOf t f = record { tree = t; tops = f }
+
+-- ---- a leaf or a hoist
+unfoldable pub boundOut : List ℕ → ℕ → ℕ → ℕ → ℕ → Out → Out
+unfolding nodeBytes firstOf boundBytes boundUses
+boundOut w at leaf kind child o =
+    let f = o .tops in
+    let n = nodeWord w leaf 2 in
+    let record-bytes = nodeBytes kind (nodeWord w leaf 0) (firstOf n (f .bindings)) n child 0 in
+    record {
+      tree = stored (stored (o .tree) (nodeSize * f .nodes) record-bytes) (at + bindingSize * f .bindings) (boundBytes w (nodeWord w leaf 1) n (f .uses));
+      tops = record { nodes = f .nodes + 1; cases = f .cases; bindings = f .bindings + n; uses = boundUses w (nodeWord w leaf 1) n (f .uses) };
+    }
+
+-- the hoist of clause c, if node k is its scope
+unfoldable pub hoistOut : List ℕ → ℕ → Scopes → ℕ → ℕ → Out → Out
+unfolding boundOut
+hoistOut w at x k c o = pick (eqb (clauseNode x c) k) (boundOut w at (getD (x .leaf) c 0) 3 (o .tops .nodes + 1) o) o
+
+-- of the n clauses from c on
+unfoldable pub hoistsOut : List ℕ → ℕ → Scopes → ℕ → ℕ → ℕ → Out → Out
+unfolding hoistOut
+hoistsOut w at x k c zero o = o
+hoistsOut w at x k c (suc n) o = hoistsOut w at x k (c + 1) n (hoistOut w at x k c o)
+
+-- a leaf of the arena whose numbers are in range
+pub record LeafSound (w : List ℕ) (leaf : ℕ) : Type 0 where
+  pub room : arenaEnd ≤ length w
+  pub node : leaf < nodesMost
+  pub bindings : BindingsAsked w (nodeWord w leaf 1) (nodeWord w leaf 2)
+
+pub record BoundAsked (w : List ℕ) (leaf at : ℕ) (tree : List ℕ) (f : Tops) : Type 0 where
+  pub sound : LeafSound w leaf
+  pub tree-room : treeRoom ≤ length tree
+  pub start : at ≤ bindingsStart
+  pub counted : Counted (f .uses)
+  pub nodes-fit : f .nodes < nodesMost
+  pub bindings-fit : f .bindings + nodeWord w leaf 2 ≤ bindingsMost
+
+pub record HoistAsked (w : List ℕ) (k : ℕ) (x : Scopes) (c at : ℕ) (tree : List ℕ) (f : Tops) : Type 0 where
+  pub clause : c < clausesMost
+  pub bound : clauseNode x c ≡ k → BoundAsked w (getD (x .leaf) c 0) at tree f
+
+-- within what refusals 12 and 13 leave
+pub record Within (f : Tops) : Type 0 where
+  pub nodes-most : f .nodes ≤ nodesMost
+  pub cases-most : f .cases ≤ casesMost
+  pub bindings-most : f .bindings ≤ bindingsMost
+
+pub record HoistsAsked (w : List ℕ) (k : ℕ) (x : Scopes) (clauses at : ℕ) (tree : List ℕ) (f : Tops) : Type 0 where
+  pub few : clauses ≤ clausesMost
+  pub leaf : (c : ℕ) → c < clauses → clauseNode x c ≡ k → LeafSound w (getD (x .leaf) c 0)
+  pub tree-room : treeRoom ≤ length tree
+  pub start : at ≤ bindingsStart
+  pub counted : Counted (f .uses)
+  pub within : Within (hoistsOut w at x k 0 clauses (outOf tree f) .tops)
+
+-- ---- a switch
+abbrev pub switchUses : List ℕ → ℕ → Tops → Uses
+switchUses w k f = withClass (f .uses) (nodeWord w k 0)
+
+unfoldable pub switchBytes : List ℕ → Scopes → ℕ → ℕ → Tops → List ℕ
+unfolding nodeBytes movedDefault withClass
+switchBytes w x n k f =
+    nodeBytes (nodeKind w k) (numberIn (switchUses w k f) (nodeWord w k 0)) (f .cases) (nodeWord w k 2) (nodeWord w k 3) (movedDefault (clauseNode x) n (nodeWord w k 4))
+
+unfoldable pub switchOut : List ℕ → ℕ → Scopes → ℕ → ℕ → Out → Out
+unfolding switchBytes movedCases withClass
+switchOut w at x n k o =
+    let f = o .tops in
+    let m = nodeWord w k 2 + nodeWord w k 3 in
+    record {
+      tree = stored (stored (o .tree) (nodeSize * f .nodes) (switchBytes w x n k f)) (at + caseSize * f .cases) (movedCases w (clauseNode x) n (nodeWord w k 1) m);
+      tops = record { nodes = f .nodes + 1; cases = f .cases + m; bindings = f .bindings; uses = switchUses w k f };
+    }
+
+pub record SwitchSound (w : List ℕ) (k : ℕ) : Type 0 where
+  pub room : arenaEnd ≤ length w
+  pub node : k < nodesMost
+  pub path : nodeWord w k 0 < patternsMost
+  pub cases : CasesAsked w (nodeWord w k 1) (nodeWord w k 2 + nodeWord w k 3)
+  pub default : nodeWord w k 4 ≤ nodesMost
+
+pub record SwitchNodeAsked (w : List ℕ) (k clauses : ℕ) (tree : List ℕ) (f : Tops) : Type 0 where
+  pub sound : SwitchSound w k
+  pub few : clauses ≤ clausesMost
+  pub tree-room : treeRoom ≤ length tree
+  pub counted : Counted (f .uses)
+  pub nodes-fit : f .nodes < nodesMost
+  pub cases-fit : f .cases + (nodeWord w k 2 + nodeWord w k 3) ≤ casesMost
+
+pub record SwitchAsked (w : List ℕ) (k clauses at : ℕ) (tree : List ℕ) (f : Tops) : Type 0 where
+  pub asked : SwitchNodeAsked w k clauses tree f
+  pub start : at ≤ casesStart
+
+pub record PutSwitchNode (w : List ℕ) (x : Scopes) (clauses k : ℕ) (f : Tops) (before after : List ℕ) (r : Uses) : Type 0 where
+  pub uses-are : r ≡ switchUses w k f
+  pub bytes-are : after ≡ stored before (nodeSize * f .nodes) (switchBytes w x clauses k f)
+
+-- ---- nodes
+unfoldable pub ownOut : List ℕ → ℕ → ℕ → Scopes → ℕ → ℕ → Out → Out
+unfolding boundOut switchOut
+ownOut w cases-at bindings-at x n k o = pick (eqb (nodeKind w k) 2) (boundOut w bindings-at k 2 0 o) (switchOut w cases-at x n k o)
+
+pub record OwnAsked (w : List ℕ) (k clauses cases-at bindings-at : ℕ) (tree : List ℕ) (f : Tops) : Type 0 where
+  pub room : arenaEnd ≤ length w
+  pub node : k < nodesMost
+  pub leaf : nodeKind w k ≡ 2 → BoundAsked w k bindings-at tree f
+  pub switch : (nodeKind w k ≡ 2 → ⊥) → SwitchAsked w k clauses cases-at tree f
+
+-- node k with the hoists above it
+unfoldable pub nodeOut : List ℕ → ℕ → ℕ → Scopes → ℕ → ℕ → Out → Out
+unfolding hoistsOut ownOut
+nodeOut w cases-at bindings-at x n k o = ownOut w cases-at bindings-at x n k (hoistsOut w bindings-at x k 0 n o)
+
+-- the m nodes from k on
+unfoldable pub nodesOut : List ℕ → ℕ → ℕ → Scopes → ℕ → ℕ → ℕ → Out → Out
+unfolding nodeOut
+nodesOut w cases-at bindings-at x n k zero o = o
+nodesOut w cases-at bindings-at x n k (suc m) o = nodesOut w cases-at bindings-at x n (k + 1) m (nodeOut w cases-at bindings-at x n k o)
+
+-- an arena of so many nodes, and scopes of so many clauses, whose numbers are in range
+pub record ArenaSound (w : List ℕ) (nodes : ℕ) (x : Scopes) (clauses : ℕ) : Type 0 where
+  pub room : arenaEnd ≤ length w
+  pub most : nodes ≤ nodesMost
+  pub few : clauses ≤ clausesMost
+  pub leaf : (k : ℕ) → k < nodes → nodeKind w k ≡ 2 → LeafSound w k
+  pub switch : (k : ℕ) → k < nodes → (nodeKind w k ≡ 2 → ⊥) → SwitchSound w k
+  pub hoist : (c : ℕ) → c < clauses → clauseNode x c < nodes → LeafSound w (getD (x .leaf) c 0)
+
+-- a file with room for all that a tree may have
+pub record FileRoom (cases-at bindings-at : ℕ) (tree : List ℕ) : Type 0 where
+  pub tree-room : treeRoom ≤ length tree
+  pub cases-start : cases-at ≤ casesStart
+  pub bindings-start : bindings-at ≤ bindingsStart
+
+pub record NodeAsked (w : List ℕ) (k : ℕ) (x : Scopes) (clauses cases-at bindings-at : ℕ) (tree : List ℕ) (f : Tops) : Type 0 where
+  pub nodes : ℕ
+  pub sound : ArenaSound w nodes x clauses
+  pub inside : k < nodes
+  pub file : FileRoom cases-at bindings-at tree
+  pub counted : Counted (f .uses)
+  pub within : Within (nodeOut w cases-at bindings-at x clauses k (outOf tree f) .tops)
+
+pub record NodesAsked (w : List ℕ) (nodes : ℕ) (x : Scopes) (clauses cases-at bindings-at : ℕ) (tree : List ℕ) (f : Tops) : Type 0 where
+  pub sound : ArenaSound w nodes x clauses
+  pub file : FileRoom cases-at bindings-at tree
+  pub counted : Counted (f .uses)
+  pub within : Within (nodesOut w cases-at bindings-at x clauses 0 nodes (outOf tree f) .tops)

@@ -1,0 +1,556 @@
+-- Laws for the loops of the writing functions: what is left of a run, at each turn, is the rest of the whole run.
+-- And the frames: how far each function moves the tops, and that the path numbers stay counted.
+use mathlib.Core.Path.{_≡_, refl, sym, ap, _∙_, subst}
+use mathlib.Core.Bool.{Bool, true, false}
+use mathlib.Core.List.{List, _++_}
+use Prim.Native.Nat.{ℕ, zero, suc, _+_, _-_, _*_, _≤_, _<_}
+use native.Mathlib.Omega.{arith}
+use native.Mathlib.Nat.{add-zero, zero-add, sub-zero}
+use lib.ListN.{length, getD, set}
+use lib.Dec.{eqb, ltb}
+use borrow.Author.Tests.{eq-eqb, ne-eqb, eqb-true, eqb-false}
+use Rattle.words.specs.Words.{wordBytes, pick}
+use Rattle.words.specs.WordsLaws.{pick-true, pick-false}
+use Rattle.words.specs.Stored.{stored}
+use Rattle.words.specs.StoredLaws.{length-stored, stored-nil, stored-append}
+use Rattle.rules.specs.Limits.{clausesMost, patternsMost, nodesMost, nodeSize, caseSize, bindingSize}
+use Rattle.rules.specs.Rows.{bit}
+use Rattle.rules.specs.Searching.{times}
+use Rattle.rules.specs.SearchingLaws.{times-yes, times-no, times-end, times-most}
+use Rattle.rules.specs.TreeFile.{firstOf, nodeBytes}
+use Rattle.arena.specs.Arena.{nodeKind, nodeWord, caseKind, caseNumber, caseLength, caseChild, bindingName, bindingPath}
+use Rattle.arena.specs.RecordsLaws.{caseFields}
+use Rattle.arena.specs.ReadingLaws.{kind-stored, words-stored, fields-stored}
+use Rattle.scopes.specs.declared.Scopes.{Scopes}
+use Rattle.scopes.specs.WriterLaws.{hoistsBefore, standsAt}
+use Rattle.writing.specs.declared.uses.Uses.{Uses}
+use Rattle.writing.specs.declared.nodes.Tops.{Tops}
+use Rattle.writing.specs.Uses.{Counted, withClass, numberIn}
+use Rattle.writing.specs.UsesLaws.{counted-with, use-some}
+use Rattle.writing.specs.Model.{boundBinding, boundBytes, boundUses, BindingAsked, BindingsAsked, PutBinding, PutBindings, clauseNode, movedCase, movedCases, movedDefault, CasesAsked, Out, outOf, boundOut, hoistOut, hoistsOut, LeafSound, HoistAsked, Within, HoistsAsked, switchBytes, switchOut, PutSwitchNode, ownOut, OwnAsked, nodeOut, nodesOut, NodeAsked, NodesAsked}
+
+-- ---- bindings
+pub binding-asked : (w : List ℕ) (first count i : ℕ) → BindingsAsked w first count → i < count → BindingAsked w (first + i)
+binding-asked w first count i h l = record { room = h .room; inside = omega (arith, h .inside); class = h .classes i l }
+
+pub record BindingsLeft (w : List ℕ) (first count at : ℕ) (u : Uses) (before tree : List ℕ) (v : Uses) (i : ℕ) : Type 0 where
+  pub inside : i ≤ count
+  pub counted : Counted v
+  pub long : length tree ≡ length before
+  pub uses-left : boundUses w (first + i) (count - i) v ≡ boundUses w first count u
+  pub bytes-left : stored tree (at + bindingSize * i) (boundBytes w (first + i) (count - i) v) ≡ stored before at (boundBytes w first count u)
+
+module _ (w : List ℕ) (first count at : ℕ) (u : Uses) (before : List ℕ) where
+  pub bindings-start : Counted u → BindingsLeft w first count at u before before u 0
+  bindings-start h =
+      let z : at + bindingSize * 0 ≡ at = omega arith in
+      record {
+        inside = omega arith;
+        counted = h;
+        long = refl;
+        uses-left = rw (add-zero first, sub-zero count);
+        bytes-left = rw (z, add-zero first, sub-zero count);
+      }
+
+  pub bindings-next : (tree : List ℕ) (v : Uses) (i : ℕ) → BindingsLeft w first count at u before tree v i → i < count → BindingsAsked w first count
+      → (tree₂ : List ℕ) (v₂ : Uses) → PutBinding w (first + i) (at + bindingSize * i) v tree tree₂ v₂ → BindingsLeft w first count at u before tree₂ v₂ (i + 1)
+  unfolding boundUses boundBytes
+  bindings-next tree v i h l a tree₂ v₂ p =
+      let class = bindingPath w (first + i) in
+      let v₁ = withClass v class in
+      let d : count - i ≡ suc (count - (i + 1)) = omega arith in
+      let f : first + i + 1 ≡ first + (i + 1) = omega arith in
+      let e : at + bindingSize * i + 4 ≡ at + bindingSize * (i + 1) = omega arith in
+      record {
+        inside = omega arith;
+        counted = rw (p .uses-are) (counted-with v class (h .counted) (a .classes i l));
+        long = ap length (p .bytes-are) ∙ length-stored tree (at + bindingSize * i) (boundBinding w (first + i) v₁) ∙ h .long;
+        uses-left = rw (p .uses-are, ← f) (rw d at (h .uses-left));
+        bytes-left =
+            rw (p .bytes-are, p .uses-are, ← f)
+            (stored-append tree (at + bindingSize * i) (at + bindingSize * (i + 1)) (boundBinding w (first + i) v₁) (boundBytes w (first + i + 1) (count - (i + 1)) v₁) e
+            ∙ (rw d at (h .bytes-left)));
+      }
+
+  pub bindings-end : (tree : List ℕ) (v : Uses) (i : ℕ) → BindingsLeft w first count at u before tree v i → count ≤ i → PutBindings w first count at u before tree v
+  unfolding boundUses boundBytes
+  bindings-end tree v i h l =
+      let d : count - i ≡ 0 = omega arith in
+      record {
+        uses-are = rw d at (h .uses-left);
+        bytes-are = sym (stored-nil tree (at + bindingSize * i)) ∙ (rw d at (h .bytes-left));
+      }
+
+counted-bound : (w : List ℕ) (first count : ℕ) (u : Uses) → BindingsAsked w first count → Counted u → Counted (boundUses w first count u)
+unfolding boundUses
+counted-bound w first zero u a h = h
+counted-bound w first (suc count) u a h =
+    counted-bound w (first + 1) count (withClass u (bindingPath w first))
+    (record {
+      room = a .room;
+      inside = omega (arith, a .inside);
+      classes = λ i l. let e : first + 1 + i ≡ first + (i + 1) = omega arith in rw e (a .classes (i + 1) (omega arith));
+    })
+    (counted-with u (bindingPath w first) h (let e = add-zero first in rw e at (a .classes 0 (omega arith))))
+
+-- the two words of a binding
+pub binding-put : (w : List ℕ) (b at : ℕ) (u v : Uses) (before : List ℕ) {t₁ t₂ : List ℕ} (name path number : ℕ) → name ≡ bindingName w b → path ≡ bindingPath w b
+    → v ≡ withClass u path → number ≡ getD (v .number) path 0 → t₁ ≡ stored before at (wordBytes name) → t₂ ≡ stored t₁ (at + 2) (wordBytes (number - 1))
+    → PutBinding w b at u before t₂ v
+binding-put w b at u v before name path number n p e q f g =
+    record {
+      uses-are = e ∙ ap (withClass u) p;
+      bytes-are =
+          words-stored before at name (number - 1) f g
+          ∙ (λ i. stored before at (wordBytes (n i) ++ wordBytes ((q ∙ ap (λ z. getD (z .number) path 0) e) i - 1)))
+          ∙ ap (λ z. stored before at (wordBytes (bindingName w b) ++ wordBytes (numberIn (withClass u z) z))) p;
+    }
+
+pub bindings-asked-as : (w : List ℕ) (first count a b : ℕ) → first ≡ a → count ≡ b → BindingsAsked w a b → BindingsAsked w first count
+bindings-asked-as w first count a b e f h = rw (e, f) h
+
+-- a class that was used has a number
+pub used-some : (u v : Uses) (class : ℕ) → v ≡ withClass u class → Counted u → class < patternsMost → 0 < getD (v .number) class 0
+used-some u v class e h l = rw e (use-some u class h l)
+
+-- ---- cases
+hoists-left-next : (f : ℕ → Bool) (n c m total : ℕ) → c < n → m + times f c (n - c) ≡ total → m + bit (f c) + times f (c + 1) (n - (c + 1)) ≡ total
+unfolding bit
+hoists-left-next f n c m total l h = go (f c) refl
+  where
+    go : (b : Bool) → f c ≡ b → m + bit (f c) + times f (c + 1) (n - (c + 1)) ≡ total
+    go true e = rw e (omega (arith, times-yes f c n l e))
+    go false e = rw e (omega (arith, times-no f c n l e))
+
+hoists-before-few : (node : ℕ → ℕ) (n k : ℕ) → hoistsBefore node n k ≤ n
+unfolding hoistsBefore
+hoists-before-few node n k = times-most (λ c. ltb (node c) k) 0 n
+
+pub few-before : (node : ℕ → ℕ) (n k r : ℕ) → r ≡ hoistsBefore node n k → r ≤ n
+few-before node n k r e = omega (arith, hoists-before-few node n k)
+
+pub stands-small : (node : ℕ → ℕ) (n k : ℕ) → standsAt node n k ≤ k + n
+unfolding standsAt
+stands-small node n k = omega (arith, hoists-before-few node n k)
+
+pub moved-small : (node : ℕ → ℕ) (n default : ℕ) → default ≤ nodesMost → n ≤ clausesMost → movedDefault node n default ≤ nodesMost + clausesMost
+unfolding movedDefault
+moved-small node n default l m = go (eqb default 0) refl
+  where
+    go : (b : Bool) → eqb default 0 ≡ b → pick (eqb default 0) 0 (standsAt node n (default - 1) + 1) ≤ nodesMost + clausesMost
+    go true e = rw e (omega arith)
+    go false e = let z = eqb-false default 0 e in rw e (omega (arith, stands-small node n (default - 1)))
+
+pub record CasesLeft (w : List ℕ) (node : ℕ → ℕ) (n first count at : ℕ) (before tree : List ℕ) (i : ℕ) : Type 0 where
+  pub inside : i ≤ count
+  pub long : length tree ≡ length before
+  pub bytes-left : stored tree (at + caseSize * i) (movedCases w node n (first + i) (count - i)) ≡ stored before at (movedCases w node n first count)
+
+module _ (w : List ℕ) (node : ℕ → ℕ) (n first count at : ℕ) (before : List ℕ) where
+  pub cases-start : CasesLeft w node n first count at before before 0
+  cases-start =
+      let z : at + caseSize * 0 ≡ at = omega arith in
+      record { inside = omega arith; long = refl; bytes-left = rw (z, add-zero first, sub-zero count) }
+
+  pub cases-next : (tree : List ℕ) (i child moved : ℕ) (tree₂ : List ℕ) → CasesLeft w node n first count at before tree i → i < count → child ≡ caseChild w (first + i)
+      → moved ≡ standsAt node n child → tree₂ ≡ stored tree (at + caseSize * i) (movedCase w (first + i) moved) → CasesLeft w node n first count at before tree₂ (i + 1)
+  unfolding movedCases caseFields
+  cases-next tree i child moved tree₂ h l e f g =
+      let d : count - i ≡ suc (count - (i + 1)) = omega arith in
+      let q : first + i + 1 ≡ first + (i + 1) = omega arith in
+      let x : at + caseSize * i + 8 ≡ at + caseSize * (i + 1) = omega arith in
+      let here = movedCase w (first + i) (standsAt node n (caseChild w (first + i))) in
+      let g₂ : tree₂ ≡ stored tree (at + caseSize * i) here = g ∙ ap (λ z. stored tree (at + caseSize * i) (movedCase w (first + i) z)) (f ∙ ap (standsAt node n) e) in
+      record {
+        inside = omega arith;
+        long = ap length g₂ ∙ length-stored tree (at + caseSize * i) here ∙ h .long;
+        bytes-left =
+            rw (g₂, ← q)
+            (stored-append tree (at + caseSize * i) (at + caseSize * (i + 1)) here (movedCases w node n (first + i + 1) (count - (i + 1))) x ∙ (rw d at (h .bytes-left)));
+      }
+
+  pub cases-end : (tree : List ℕ) (i : ℕ) → CasesLeft w node n first count at before tree i → count ≤ i → tree ≡ stored before at (movedCases w node n first count)
+  unfolding movedCases
+  cases-end tree i h l =
+      let d : count - i ≡ 0 = omega arith in
+      sym (stored-nil tree (at + caseSize * i)) ∙ (rw d at (h .bytes-left))
+
+-- a case's record, store by store
+pub case-put : (w : List ℕ) (i : ℕ) (l : List ℕ) (at kind number count child : ℕ) {t₁ t₂ t₃ : List ℕ} → kind ≡ caseKind w i → number ≡ caseNumber w i → count ≡ caseLength w i
+    → t₁ ≡ stored (set (set l at kind) (at + 1) 0) (at + 2) (wordBytes number) → t₂ ≡ stored t₁ (at + 4) (wordBytes count) → t₃ ≡ stored t₂ (at + 6) (wordBytes child)
+    → t₃ ≡ stored l at (movedCase w i child)
+case-put w i l at kind number count child {t₁} {t₂} {t₃} p q r e f g =
+    let first = set (set l at kind) (at + 1) 0 in
+    let x : at + 4 ≡ at + 2 + 2 = omega arith in
+    let f₂ : t₂ ≡ stored t₁ (at + 2 + 2) (wordBytes count) = f ∙ ap (λ z. stored t₁ z (wordBytes count)) x in
+    fields-stored l at kind number count child (kind-stored l at kind) (words-stored first (at + 2) number count e f₂) g
+    ∙ (λ j. stored l at (caseFields (p j) (q j) (r j) child))
+
+-- ---- the loop over the clauses before a node
+module _ (node : ℕ → ℕ) (n k : ℕ) where
+  pub before-start : 0 + times (λ d. ltb (node d) k) 0 (n - 0) ≡ hoistsBefore node n k
+  unfolding hoistsBefore
+  before-start = rw (zero-add, sub-zero)
+
+  pub before-next : (c m r : ℕ) → c < n → r ≡ bit (ltb (node c) k) → m + times (λ d. ltb (node d) k) c (n - c) ≡ hoistsBefore node n k
+      → m + r + times (λ d. ltb (node d) k) (c + 1) (n - (c + 1)) ≡ hoistsBefore node n k
+  before-next c m r l e h = rw e (hoists-left-next (λ d. ltb (node d) k) n c m (hoistsBefore node n k) l h)
+
+  pub before-end : (c m : ℕ) → n ≤ c → m + times (λ d. ltb (node d) k) c (n - c) ≡ hoistsBefore node n k → m ≡ hoistsBefore node n k
+  before-end c m l h = omega (arith, times-end (λ d. ltb (node d) k) c n l)
+
+pub bit-small : (b : Bool) → bit b ≤ 1
+unfolding bit
+bit-small true = omega arith
+bit-small false = omega arith
+
+pub moved-none : (node : ℕ → ℕ) (n default : ℕ) → default ≡ 0 → movedDefault node n default ≡ 0
+unfolding movedDefault
+moved-none node n default e = pick-true (eqb default 0) 0 (standsAt node n (default - 1) + 1) (eq-eqb default 0 e)
+
+pub moved-some : (node : ℕ → ℕ) (n default : ℕ) → (default ≡ 0 → ⊥) → movedDefault node n default ≡ standsAt node n (default - 1) + 1
+unfolding movedDefault
+moved-some node n default e = pick-false (eqb default 0) 0 (standsAt node n (default - 1) + 1) (ne-eqb default 0 e)
+
+-- ---- records with their runs
+pub first-none : (count first : ℕ) → count ≡ 0 → 0 ≡ firstOf count first
+unfolding firstOf
+first-none zero first e = refl
+first-none (suc count) first e = absurd (omega arith)
+
+pub first-some : (count first : ℕ) → (count ≡ 0 → ⊥) → first ≡ firstOf count first
+unfolding firstOf
+first-some zero first e = absurd (e refl)
+first-some (suc count) first e = refl
+
+pub first-small : (count first : ℕ) → firstOf count first ≤ first
+unfolding firstOf
+first-small zero first = omega arith
+first-small (suc count) first = omega arith
+
+pub bound-put : (w : List ℕ) (at leaf kind child : ℕ) (t : List ℕ) (f : Tops) (clause from count first : ℕ) (uses : Uses) {t₁ t₂ : List ℕ}
+    → clause ≡ nodeWord w leaf 0 → from ≡ nodeWord w leaf 1 → count ≡ nodeWord w leaf 2 → first ≡ firstOf count (f .bindings)
+    → t₁ ≡ stored t (nodeSize * f .nodes) (nodeBytes kind clause first count child 0) → PutBindings w from count (at + bindingSize * f .bindings) (f .uses) t₁ t₂ uses
+    → outOf t₂ (record { nodes = f .nodes + 1; cases = f .cases; bindings = f .bindings + count; uses = uses }) ≡ boundOut w at leaf kind child (outOf t f)
+unfolding boundOut
+bound-put w at leaf kind child t f clause from count first uses e₀ e₁ e₂ e₃ e₄ p = rw (p .bytes-are, p .uses-are, e₄, e₃, e₂, e₁, e₀)
+
+pub switch-node-put : (w : List ℕ) (x : Scopes) (n k : ℕ) (t : List ℕ) (f : Tops) (path cases tails default : ℕ) (uses : Uses) (number kind : ℕ) {t₁ : List ℕ}
+    → path ≡ nodeWord w k 0 → cases ≡ nodeWord w k 2 → tails ≡ nodeWord w k 3 → default ≡ movedDefault (clauseNode x) n (nodeWord w k 4)
+    → uses ≡ withClass (f .uses) path → number ≡ getD (uses .number) path 0 → kind ≡ nodeKind w k
+    → t₁ ≡ stored t (nodeSize * f .nodes) (nodeBytes kind (number - 1) (f .cases) cases tails default) → PutSwitchNode w x n k f t t₁ uses
+unfolding switchBytes
+switch-node-put w x n k t f path cases tails default uses number kind e₀ e₂ e₃ e₄ u m q g =
+    record { uses-are = u ∙ ap (withClass (f .uses)) e₀; bytes-are = rw (g, q, m, u, e₄, e₃, e₂, e₀) }
+
+pub switch-put : (w : List ℕ) (at : ℕ) (x : Scopes) (n k : ℕ) (t : List ℕ) (f : Tops) (first count : ℕ) (uses : Uses) {t₁ t₂ : List ℕ} → first ≡ nodeWord w k 1
+    → count ≡ nodeWord w k 2 + nodeWord w k 3 → PutSwitchNode w x n k f t t₁ uses → t₂ ≡ stored t₁ (at + caseSize * f .cases) (movedCases w (clauseNode x) n first count)
+    → outOf t₂ (record { nodes = f .nodes + 1; cases = f .cases + count; bindings = f .bindings; uses = uses }) ≡ switchOut w at x n k (outOf t f)
+unfolding switchOut
+switch-put w at x n k t f first count uses e₁ e₂ p g = rw (g, p .bytes-are, p .uses-are, e₂, e₁)
+
+pub cases-asked-as : (w : List ℕ) (first count a b : ℕ) → first ≡ a → count ≡ b → CasesAsked w a b → CasesAsked w first count
+cases-asked-as w first count a b e f h = rw (e, f) h
+
+-- ---- hoists
+module _ (w : List ℕ) (at : ℕ) (x : Scopes) (k c : ℕ) (o : Out) where
+  pub hoist-here : clauseNode x c ≡ k → hoistOut w at x k c o ≡ boundOut w at (getD (x .leaf) c 0) 3 (o .tops .nodes + 1) o
+  unfolding hoistOut
+  hoist-here e = pick-true (eqb (clauseNode x c) k) (boundOut w at (getD (x .leaf) c 0) 3 (o .tops .nodes + 1) o) o (eq-eqb (clauseNode x c) k e)
+
+  pub hoist-elsewhere : (clauseNode x c ≡ k → ⊥) → hoistOut w at x k c o ≡ o
+  unfolding hoistOut
+  hoist-elsewhere e = pick-false (eqb (clauseNode x c) k) (boundOut w at (getD (x .leaf) c 0) 3 (o .tops .nodes + 1) o) o (ne-eqb (clauseNode x c) k e)
+
+  -- whichever it is
+  by-hoist : (P : Out → Type 0) → (clauseNode x c ≡ k → P (boundOut w at (getD (x .leaf) c 0) 3 (o .tops .nodes + 1) o)) → P o → P (hoistOut w at x k c o)
+  by-hoist P f g = go (eqb (clauseNode x c) k) refl
+    where
+      go : (b : Bool) → eqb (clauseNode x c) k ≡ b → P (hoistOut w at x k c o)
+      go true e = let z = eqb-true (clauseNode x c) k e in rw (hoist-here z) (f z)
+      go false e = rw (hoist-elsewhere (eqb-false (clauseNode x c) k e)) g
+
+-- nothing written is taken back
+pub record Grown (f g : Tops) : Type 0 where
+  pub nodes-grow : f .nodes ≤ g .nodes
+  pub cases-grow : f .cases ≤ g .cases
+  pub bindings-grow : f .bindings ≤ g .bindings
+
+grown-refl : (f : Tops) → Grown f f
+grown-refl f = record { nodes-grow = omega arith; cases-grow = omega arith; bindings-grow = omega arith }
+
+grown-trans : (f g h : Tops) → Grown f g → Grown g h → Grown f h
+grown-trans f g h a b =
+    record {
+      nodes-grow = omega (arith, a .nodes-grow, b .nodes-grow);
+      cases-grow = omega (arith, a .cases-grow, b .cases-grow);
+      bindings-grow = omega (arith, a .bindings-grow, b .bindings-grow);
+    }
+
+within-before : (f g : Tops) → Grown f g → Within g → Within f
+within-before f g a h =
+    record {
+      nodes-most = omega (arith, a .nodes-grow, h .nodes-most);
+      cases-most = omega (arith, a .cases-grow, h .cases-most);
+      bindings-most = omega (arith, a .bindings-grow, h .bindings-most);
+    }
+
+bound-grows : (w : List ℕ) (at leaf kind child : ℕ) (o : Out) → Grown (o .tops) (boundOut w at leaf kind child o .tops)
+unfolding boundOut
+bound-grows w at leaf kind child o = record { nodes-grow = omega arith; cases-grow = omega arith; bindings-grow = omega arith }
+
+switch-grows : (w : List ℕ) (at : ℕ) (x : Scopes) (n k : ℕ) (o : Out) → Grown (o .tops) (switchOut w at x n k o .tops)
+unfolding switchOut
+switch-grows w at x n k o = record { nodes-grow = omega arith; cases-grow = omega arith; bindings-grow = omega arith }
+
+hoist-grows : (w : List ℕ) (at : ℕ) (x : Scopes) (k c : ℕ) (o : Out) → Grown (o .tops) (hoistOut w at x k c o .tops)
+hoist-grows w at x k c o =
+    by-hoist w at x k c o (λ z. Grown (o .tops) (z .tops)) (λ e. bound-grows w at (getD (x .leaf) c 0) 3 (o .tops .nodes + 1) o) (grown-refl (o .tops))
+
+hoists-grow : (w : List ℕ) (at : ℕ) (x : Scopes) (k c n : ℕ) (o : Out) → Grown (o .tops) (hoistsOut w at x k c n o .tops)
+unfolding hoistsOut
+hoists-grow w at x k c zero o = grown-refl (o .tops)
+hoists-grow w at x k c (suc n) o =
+    grown-trans (o .tops) (hoistOut w at x k c o .tops) (hoistsOut w at x k (c + 1) n (hoistOut w at x k c o) .tops) (hoist-grows w at x k c o)
+    (hoists-grow w at x k (c + 1) n (hoistOut w at x k c o))
+
+-- ---- the loop over the clauses
+pub record HoistsLeft (w : List ℕ) (at : ℕ) (x : Scopes) (k clauses : ℕ) (before : List ℕ) (f : Tops) (tree : List ℕ) (g : Tops) (c : ℕ) : Type 0 where
+  pub inside : c ≤ clauses
+  pub counted : Counted (g .uses)
+  pub long : length tree ≡ length before
+  pub left : hoistsOut w at x k c (clauses - c) (outOf tree g) ≡ hoistsOut w at x k 0 clauses (outOf before f)
+
+module _ (w : List ℕ) (at : ℕ) (x : Scopes) (k clauses : ℕ) (before : List ℕ) (f : Tops) where
+  pub hoists-start : Counted (f .uses) → HoistsLeft w at x k clauses before f before f 0
+  hoists-start h = record { inside = omega arith; counted = h; long = refl; left = rw (sub-zero clauses) }
+
+  hoists-on : (c : ℕ) (o : Out) → c < clauses → hoistsOut w at x k c (clauses - c) o ≡ hoistsOut w at x k (c + 1) (clauses - (c + 1)) (hoistOut w at x k c o)
+  unfolding hoistsOut
+  hoists-on c o l = let d : clauses - c ≡ suc (clauses - (c + 1)) = omega arith in rw d
+
+  module _ (a : HoistsAsked w k x clauses at before f) (tree : List ℕ) (g : Tops) (c : ℕ) (h : HoistsLeft w at x k clauses before f tree g c) (l : c < clauses) where
+    abbrev next : Out
+    next = hoistOut w at x k c (outOf tree g)
+
+    next-within : Within (next .tops)
+    next-within =
+        within-before (next .tops) (hoistsOut w at x k (c + 1) (clauses - (c + 1)) next .tops) (hoists-grow w at x k (c + 1) (clauses - (c + 1)) next)
+        (subst (λ z. Within (z .tops)) (sym (h .left) ∙ hoists-on c (outOf tree g) l) (a .within))
+
+    pub hoist-asked : HoistAsked w k x c at tree g
+    unfolding boundOut
+    hoist-asked =
+        record {
+          clause = omega (arith, a .few);
+          bound = λ e.
+              let n = subst (λ z. Within (z .tops)) (hoist-here w at x k c (outOf tree g) e) next-within in
+              record {
+                sound = a .leaf c l e;
+                tree-room = omega (arith, a .tree-room, h .long);
+                start = a .start;
+                counted = h .counted;
+                nodes-fit = omega (arith, n .nodes-most);
+                bindings-fit = n .bindings-most;
+              };
+        }
+
+    next-counted : Counted (next .tops .uses)
+    unfolding boundOut
+    next-counted =
+        by-hoist w at x k c (outOf tree g) (λ z. Counted (z .tops .uses))
+        (λ e. counted-bound w (nodeWord w (getD (x .leaf) c 0) 1) (nodeWord w (getD (x .leaf) c 0) 2) (g .uses) (a .leaf c l e .bindings) (h .counted)) (h .counted)
+
+    pub hoists-next : (tree₂ : List ℕ) (g₂ : Tops) → length tree₂ ≡ length tree → outOf tree₂ g₂ ≡ hoistOut w at x k c (outOf tree g)
+        → HoistsLeft w at x k clauses before f tree₂ g₂ (c + 1)
+    hoists-next tree₂ g₂ m e =
+        record {
+          inside = omega arith;
+          counted = subst (λ z. Counted (z .tops .uses)) (sym e) next-counted;
+          long = m ∙ h .long;
+          left = ap (hoistsOut w at x k (c + 1) (clauses - (c + 1))) e ∙ sym (hoists-on c (outOf tree g) l) ∙ h .left;
+        }
+
+  pub hoists-end : (tree : List ℕ) (g : Tops) (c : ℕ) → HoistsLeft w at x k clauses before f tree g c → clauses ≤ c
+      → outOf tree g ≡ hoistsOut w at x k 0 clauses (outOf before f)
+  unfolding hoistsOut
+  hoists-end tree g c h l = let d : clauses - c ≡ 0 = omega arith in rw d at (h .left)
+
+bound-counted : (w : List ℕ) (at leaf kind child : ℕ) (o : Out) → BindingsAsked w (nodeWord w leaf 1) (nodeWord w leaf 2) → Counted (o .tops .uses)
+    → Counted (boundOut w at leaf kind child o .tops .uses)
+unfolding boundOut
+bound-counted w at leaf kind child o a h = counted-bound w (nodeWord w leaf 1) (nodeWord w leaf 2) (o .tops .uses) a h
+
+switch-counted : (w : List ℕ) (at : ℕ) (x : Scopes) (n k : ℕ) (o : Out) → Counted (o .tops .uses) → nodeWord w k 0 < patternsMost
+    → Counted (switchOut w at x n k o .tops .uses)
+unfolding switchOut
+switch-counted w at x n k o h l = counted-with (o .tops .uses) (nodeWord w k 0) h l
+
+hoists-counted : (w : List ℕ) (at : ℕ) (x : Scopes) (k c n m : ℕ) (o : Out) → c + n ≤ m → ((d : ℕ) → d < m → clauseNode x d ≡ k → LeafSound w (getD (x .leaf) d 0))
+    → Counted (o .tops .uses) → Counted (hoistsOut w at x k c n o .tops .uses)
+unfolding hoistsOut boundOut
+hoists-counted w at x k c zero m o l s h = h
+hoists-counted w at x k c (suc n) m o l s h =
+    hoists-counted w at x k (c + 1) n m (hoistOut w at x k c o) (omega arith) s
+    (by-hoist w at x k c o (λ z. Counted (z .tops .uses))
+    (λ e. counted-bound w (nodeWord w (getD (x .leaf) c 0) 1) (nodeWord w (getD (x .leaf) c 0) 2) (o .tops .uses) (s c (omega arith) e .bindings) h) h)
+
+-- ---- a node
+module _ (w : List ℕ) (cases-at bindings-at : ℕ) (x : Scopes) (n k : ℕ) (o : Out) where
+  pub own-leaf : nodeKind w k ≡ 2 → ownOut w cases-at bindings-at x n k o ≡ boundOut w bindings-at k 2 0 o
+  unfolding ownOut
+  own-leaf e = pick-true (eqb (nodeKind w k) 2) (boundOut w bindings-at k 2 0 o) (switchOut w cases-at x n k o) (eq-eqb (nodeKind w k) 2 e)
+
+  pub own-switch : (nodeKind w k ≡ 2 → ⊥) → ownOut w cases-at bindings-at x n k o ≡ switchOut w cases-at x n k o
+  unfolding ownOut
+  own-switch e = pick-false (eqb (nodeKind w k) 2) (boundOut w bindings-at k 2 0 o) (switchOut w cases-at x n k o) (ne-eqb (nodeKind w k) 2 e)
+
+  by-own : (P : Out → Type 0) → (nodeKind w k ≡ 2 → P (boundOut w bindings-at k 2 0 o)) → ((nodeKind w k ≡ 2 → ⊥) → P (switchOut w cases-at x n k o))
+      → P (ownOut w cases-at bindings-at x n k o)
+  by-own P f g = go (eqb (nodeKind w k) 2) refl
+    where
+      go : (b : Bool) → eqb (nodeKind w k) 2 ≡ b → P (ownOut w cases-at bindings-at x n k o)
+      go true e = let z = eqb-true (nodeKind w k) 2 e in rw (own-leaf z) (f z)
+      go false e = let z = eqb-false (nodeKind w k) 2 e in rw (own-switch z) (g z)
+
+  own-grows : Grown (o .tops) (ownOut w cases-at bindings-at x n k o .tops)
+  own-grows = by-own (λ z. Grown (o .tops) (z .tops)) (λ e. bound-grows w bindings-at k 2 0 o) (λ e. switch-grows w cases-at x n k o)
+
+node-grows : (w : List ℕ) (cases-at bindings-at : ℕ) (x : Scopes) (n k : ℕ) (o : Out) → Grown (o .tops) (nodeOut w cases-at bindings-at x n k o .tops)
+unfolding nodeOut
+node-grows w cases-at bindings-at x n k o =
+    let up = hoistsOut w bindings-at x k 0 n o in
+    grown-trans (o .tops) (up .tops) (ownOut w cases-at bindings-at x n k up .tops) (hoists-grow w bindings-at x k 0 n o)
+    (own-grows w cases-at bindings-at x n k up)
+
+nodes-grow : (w : List ℕ) (cases-at bindings-at : ℕ) (x : Scopes) (n k m : ℕ) (o : Out) → Grown (o .tops) (nodesOut w cases-at bindings-at x n k m o .tops)
+unfolding nodesOut
+nodes-grow w cases-at bindings-at x n k zero o = grown-refl (o .tops)
+nodes-grow w cases-at bindings-at x n k (suc m) o =
+    let next = nodeOut w cases-at bindings-at x n k o in
+    grown-trans (o .tops) (next .tops) (nodesOut w cases-at bindings-at x n (k + 1) m next .tops) (node-grows w cases-at bindings-at x n k o)
+    (nodes-grow w cases-at bindings-at x n (k + 1) m next)
+
+module _ (w : List ℕ) (k : ℕ) (x : Scopes) (clauses cases-at bindings-at : ℕ) (tree : List ℕ) (f : Tops) (a : NodeAsked w k x clauses cases-at bindings-at tree f) where
+  abbrev lifted : Out
+  lifted = hoistsOut w bindings-at x k 0 clauses (outOf tree f)
+
+  own-within : Within (ownOut w cases-at bindings-at x clauses k lifted .tops)
+  unfolding nodeOut
+  own-within = a .within
+
+  leaves-sound : (c : ℕ) → c < clauses → clauseNode x c ≡ k → LeafSound w (getD (x .leaf) c 0)
+  leaves-sound c l e = a .sound .hoist c l (omega (arith, a .inside))
+
+  pub hoists-asked : HoistsAsked w k x clauses bindings-at tree f
+  hoists-asked =
+      record {
+        few = a .sound .few;
+        leaf = leaves-sound;
+        tree-room = a .file .tree-room;
+        start = a .file .bindings-start;
+        counted = a .counted;
+        within = within-before (lifted .tops) (ownOut w cases-at bindings-at x clauses k lifted .tops) (own-grows w cases-at bindings-at x clauses k lifted) own-within;
+      }
+
+  module _ (tree₂ : List ℕ) (g : Tops) (m : length tree₂ ≡ length tree) (e : outOf tree₂ g ≡ lifted) where
+    g-counted : Counted (g .uses)
+    g-counted =
+        subst (λ z. Counted (z .tops .uses)) (sym e) (hoists-counted w bindings-at x k 0 clauses clauses (outOf tree f) (omega arith) leaves-sound (a .counted))
+
+    g-within : Within (ownOut w cases-at bindings-at x clauses k (outOf tree₂ g) .tops)
+    g-within = subst (λ z. Within (ownOut w cases-at bindings-at x clauses k z .tops)) (sym e) own-within
+
+    pub own-asked : OwnAsked w k clauses cases-at bindings-at tree₂ g
+    unfolding boundOut switchOut
+    own-asked =
+        record {
+          room = a .sound .room;
+          node = omega (arith, a .inside, a .sound .most);
+          leaf = λ q.
+              let n = subst (λ z. Within (z .tops)) (own-leaf w cases-at bindings-at x clauses k (outOf tree₂ g) q) g-within in
+              record {
+                sound = a .sound .leaf k (a .inside) q;
+                tree-room = omega (arith, a .file .tree-room);
+                start = a .file .bindings-start;
+                counted = g-counted;
+                nodes-fit = omega (arith, n .nodes-most);
+                bindings-fit = n .bindings-most;
+              };
+          switch = λ q.
+              let n = subst (λ z. Within (z .tops)) (own-switch w cases-at bindings-at x clauses k (outOf tree₂ g) q) g-within in
+              record {
+                asked = record {
+                  sound = a .sound .switch k (a .inside) q;
+                  few = a .sound .few;
+                  tree-room = omega (arith, a .file .tree-room);
+                  counted = g-counted;
+                  nodes-fit = omega (arith, n .nodes-most);
+                  cases-fit = n .cases-most;
+                };
+                start = a .file .cases-start;
+              };
+        }
+
+  node-counted : Counted (nodeOut w cases-at bindings-at x clauses k (outOf tree f) .tops .uses)
+  unfolding nodeOut
+  node-counted =
+      by-own w cases-at bindings-at x clauses k lifted (λ z. Counted (z .tops .uses))
+      (λ q. bound-counted w bindings-at k 2 0 lifted (a .sound .leaf k (a .inside) q .bindings) up) (λ q. switch-counted w cases-at x clauses k lifted up (a .sound .switch k (a .inside) q .path))
+    where
+      up : Counted (lifted .tops .uses)
+      up = hoists-counted w bindings-at x k 0 clauses clauses (outOf tree f) (omega arith) leaves-sound (a .counted)
+
+-- ---- the loop over the nodes
+pub record NodesLeft (w : List ℕ) (nodes : ℕ) (x : Scopes) (clauses cases-at bindings-at : ℕ) (before : List ℕ) (f : Tops) (tree : List ℕ) (g : Tops) (k : ℕ) : Type 0 where
+  pub inside : k ≤ nodes
+  pub counted : Counted (g .uses)
+  pub long : length tree ≡ length before
+  pub left : nodesOut w cases-at bindings-at x clauses k (nodes - k) (outOf tree g) ≡ nodesOut w cases-at bindings-at x clauses 0 nodes (outOf before f)
+
+module _ (w : List ℕ) (nodes : ℕ) (x : Scopes) (clauses cases-at bindings-at : ℕ) (before : List ℕ) (f : Tops) where
+  pub nodes-start : Counted (f .uses) → NodesLeft w nodes x clauses cases-at bindings-at before f before f 0
+  nodes-start h = record { inside = omega arith; counted = h; long = refl; left = rw (sub-zero nodes) }
+
+  nodes-on : (k : ℕ) (o : Out) → k < nodes
+      → nodesOut w cases-at bindings-at x clauses k (nodes - k) o ≡ nodesOut w cases-at bindings-at x clauses (k + 1) (nodes - (k + 1)) (nodeOut w cases-at bindings-at x clauses k o)
+  unfolding nodesOut
+  nodes-on k o l = let d : nodes - k ≡ suc (nodes - (k + 1)) = omega arith in rw d
+
+  module _ (a : NodesAsked w nodes x clauses cases-at bindings-at before f) (tree : List ℕ) (g : Tops) (k : ℕ)
+      (h : NodesLeft w nodes x clauses cases-at bindings-at before f tree g k) (l : k < nodes) where
+    abbrev turn : Out
+    turn = nodeOut w cases-at bindings-at x clauses k (outOf tree g)
+
+    pub node-asked : NodeAsked w k x clauses cases-at bindings-at tree g
+    node-asked =
+        record {
+          nodes = nodes;
+          sound = a .sound;
+          inside = l;
+          file = record {
+            tree-room = omega (arith, a .file .tree-room, h .long);
+            cases-start = a .file .cases-start;
+            bindings-start = a .file .bindings-start;
+          };
+          counted = h .counted;
+          within =
+              within-before (turn .tops) (nodesOut w cases-at bindings-at x clauses (k + 1) (nodes - (k + 1)) turn .tops)
+              (nodes-grow w cases-at bindings-at x clauses (k + 1) (nodes - (k + 1)) turn)
+              (subst (λ z. Within (z .tops)) (sym (h .left) ∙ nodes-on k (outOf tree g) l) (a .within));
+        }
+
+    pub nodes-next : (tree₂ : List ℕ) (g₂ : Tops) → length tree₂ ≡ length tree → outOf tree₂ g₂ ≡ nodeOut w cases-at bindings-at x clauses k (outOf tree g)
+        → NodesLeft w nodes x clauses cases-at bindings-at before f tree₂ g₂ (k + 1)
+    nodes-next tree₂ g₂ m e =
+        record {
+          inside = omega arith;
+          counted = subst (λ z. Counted (z .tops .uses)) (sym e) (node-counted w k x clauses cases-at bindings-at tree g node-asked);
+          long = m ∙ h .long;
+          left = ap (nodesOut w cases-at bindings-at x clauses (k + 1) (nodes - (k + 1))) e ∙ sym (nodes-on k (outOf tree g) l) ∙ h .left;
+        }
+
+  pub nodes-end : (tree : List ℕ) (g : Tops) (k : ℕ) → NodesLeft w nodes x clauses cases-at bindings-at before f tree g k → nodes ≤ k
+      → outOf tree g ≡ nodesOut w cases-at bindings-at x clauses 0 nodes (outOf before f)
+  unfolding nodesOut
+  nodes-end tree g k h l = let d : nodes - k ≡ 0 = omega arith in rw d at (h .left)

@@ -1,0 +1,48 @@
+// The nodes, cases and bindings of the tree file, from the tree in the arena and the scopes of its clauses.
+// One pass over the arena's nodes: above each node the hoists that its scopes put there, then the node, with its references moved to
+// where nodes come to stand.
+use arena::CASE_SIZE;
+use arena::NODE_SIZE;
+use nodes::Tops;
+use nodes::put_nodes;
+use scopes::Scopes;
+use uses::Uses;
+ghost use Prim.Native.Nat.{_≤_};
+ghost use lib.ListN.{length};
+ghost use Rattle.rules.specs.Limits.{treeRoom};
+ghost use Rattle.rules.specs.Hoisting.{hoistAll};
+ghost use Rattle.writing.specs.Written.{WritingAsked, Written};
+
+pub mod bindings;
+pub mod cases;
+pub mod nodes;
+pub mod uses;
+
+// The three sections from 0 on, of the tree with so many nodes and cases before it is hoisted. The answer is how many nodes, cases
+// and bindings are written, and the classes of the paths used, in the order of their numbers.
+pub fn write_nodes(
+    w: &[u8],
+    nodes: usize,
+    cases: usize,
+    x: Scopes,
+    clauses: usize,
+    tree: &mut [u8],
+) -> Tops
+    requires { ⌜ WritingAsked (now w) nodes cases x clauses × (treeRoom ≤ length (now tree)) ⌝ }
+    ensures { λ r. ⌜ ((h : WritingAsked (now (w .entry)) nodes cases x clauses) → Written (h .ready .table) (hoistAll clauses (h .tree)) (now (tree .entry)) (now (tree .exit)) r) ⌝ }
+{
+    let second = NODE_SIZE * (nodes + x.hoists);
+    let third = second + CASE_SIZE * cases;
+    let uses = Uses {
+        number: [0; 192],
+        list: [0; 192],
+        count: 0,
+    };
+    let f = Tops {
+        nodes: 0,
+        cases: 0,
+        bindings: 0,
+        uses,
+    };
+    put_nodes(w, nodes, x, clauses, tree, second, third, f)
+}
