@@ -4,6 +4,12 @@
 # What is missing of the two real crates is installed from Debian 12's packages first.
 set -eu
 
+where=""
+if [ "${1:-}" = --where ]; then
+    # only says where they are, and installs what is missing
+    where=yes
+    shift
+fi
 sources=${1:-${AIKEN_SRC:-}}
 if [ -z "$sources" ]; then
     echo "build.sh: say where the Rust sources are: build.sh FOLDER, or AIKEN_SRC=FOLDER build.sh" >&2
@@ -26,8 +32,12 @@ cd "$(dirname "$0")"
 if ! [ -d /usr/share/cargo/registry/itertools-0.10.3 ] || ! [ -d /usr/share/cargo/registry/indexmap-1.9.2 ]; then
     become=""
     [ "$(id -u)" = 0 ] || become=sudo
-    $become apt-get update -q
-    $become apt-get install -q -y --no-install-recommends librust-itertools-dev librust-indexmap-dev
+    $become apt-get update -q >&2
+    $become apt-get install -q -y --no-install-recommends librust-itertools-dev librust-indexmap-dev >&2
+fi
+if [ -n "$where" ]; then
+    echo "$AIKEN_SRC"
+    exit 0
 fi
 
 # The two crates are older than the compiler: its advice about them is left out.

@@ -6,6 +6,8 @@ use std::collections::BTreeMap;
 use crate::files::Panel;
 use crate::generate::panels::Panels;
 use crate::generate::{damage, sheets};
+#[cfg(feature = "library")]
+use crate::library;
 use crate::oracle;
 use crate::random::Random;
 use crate::reached;
@@ -18,8 +20,45 @@ use crate::tree::{Node, listing};
 /// How often each refusal number was given; 0 stands for none.
 type Numbers = BTreeMap<u16, usize>;
 
+/// The proved library, where the tool is built with it; else nothing is compared with it.
+#[cfg(not(feature = "library"))]
+mod library {
+    use super::Position;
+
+    pub const HERE: bool = false;
+
+    pub fn same_build(_: &[u8], _: usize, _: usize) -> Result<(), String> {
+        Ok(())
+    }
+
+    pub fn same_fit(_: &[u8], _: &[u8]) -> Result<(), String> {
+        Ok(())
+    }
+
+    pub fn same_walk(_: &[u8], _: &[u8], _: usize) -> Result<(), String> {
+        Ok(())
+    }
+
+    pub fn same_text(_: &[u8], _: Position) -> Result<(), String> {
+        Ok(())
+    }
+}
+
+/// The length of a buffer: the least that 01 asks, and in some cases one fewer or some more.
+fn around(case: usize, least: usize) -> usize {
+    match case % 64 {
+        0 => least - 1,
+        1 => least + 100,
+        _ => least,
+    }
+}
+
 #[derive(Default)]
 pub struct Counts {
+    library_builds: usize,
+    library_walks: usize,
+    library_fits: usize,
+    library_texts: usize,
     sheets: Numbers,
     compared: usize,
     compared_idle: usize,
@@ -50,7 +89,7 @@ pub fn run(cases: usize, seed: u64) -> Counts {
     for case in 0..cases {
         let mut random = Random::of_case(seed, case as u64);
         let bytes = sheets::any(&mut random);
-        if let Err(what) = one(&mut random, &bytes, &mut counts) {
+        if let Err(what) = one(&mut random, case, &bytes, &mut counts) {
             let decimal: Vec<String> = bytes.iter().map(u8::to_string).collect();
             counts.differences.push(format!("case {case}: {what}\nsheet: {}", decimal.join(" ")));
         }
@@ -59,7 +98,9 @@ pub fn run(cases: usize, seed: u64) -> Counts {
 }
 
 /// One sheet: what differs, if something does.
-fn one(random: &mut Random, bytes: &[u8], counts: &mut Counts) -> Result<(), String> {
+fn one(random: &mut Random, case: usize, bytes: &[u8], counts: &mut Counts) -> Result<(), String> {
+    library::same_build(bytes, around(case, 65536), around(case / 64, 65536))?;
+    counts.library_builds += 1;
     let checked = sheet::check(bytes);
     let answer = checked.as_ref().map_err(|r| *r).and_then(build::build);
     *counts.sheets.entry(number(&answer)).or_default() += 1;
@@ -92,14 +133,32 @@ fn one(random: &mut Random, bytes: &[u8], counts: &mut Counts) -> Result<(), Str
         };
         counts.fitting += 1;
         fitting(bytes, &checked, &tree, &panel, counts)?;
+        let panel = panel.to_bytes();
+        library_on(bytes, &file, &panel, around(case, 576), counts)?;
     }
     for _ in 0..3 {
         let panel = panels.any(random);
-        any_panel(random, bytes, &file, &panel, counts);
+        any_panel(random, bytes, &file, &panel, counts)?;
+        library_on(bytes, &file, &panel, 576, counts)?;
     }
     for _ in 0..2 {
-        damaged_tree(random, &file, &panels, counts);
+        damaged_tree(random, &file, &panels, counts)?;
     }
+    Ok(())
+}
+
+/// The library's fit check and walk of a panel.
+fn library_on(
+    sheet: &[u8],
+    tree: &[u8],
+    panel: &[u8],
+    bound: usize,
+    counts: &mut Counts,
+) -> Result<(), String> {
+    library::same_fit(sheet, panel)?;
+    counts.library_fits += 1;
+    library::same_walk(tree, panel, bound)?;
+    counts.library_walks += 1;
     Ok(())
 }
 
@@ -152,6 +211,8 @@ fn fitting(
     for (_, at) in walked.iter().flat_map(|reached| &reached.bound) {
         let text = calls::text(&bytes, *at);
         *counts.texts.entry(number(&text)).or_default() += 1;
+        library::same_text(&bytes, *at)?;
+        counts.library_texts += 1;
         if text.is_ok() && calls::text_part(&bytes, *at) != panel.text(at.record) {
             return Err("the text of a binding differs".to_string());
         }
@@ -168,7 +229,13 @@ fn fitting(
 }
 
 /// A panel of any kind: counts what the fit check, the walk and the text call answer.
-fn any_panel(random: &mut Random, sheet: &[u8], tree: &[u8], panel: &[u8], counts: &mut Counts) {
+fn any_panel(
+    random: &mut Random,
+    sheet: &[u8],
+    tree: &[u8],
+    panel: &[u8],
+    counts: &mut Counts,
+) -> Result<(), String> {
     *counts.panels.entry(number(&calls::fit(sheet, panel))).or_default() += 1;
     let walked = calls::walk(tree, panel, &mut [0; 576]);
     *counts.any_walks.entry(number(&walked)).or_default() += 1;
@@ -178,16 +245,28 @@ fn any_panel(random: &mut Random, sheet: &[u8], tree: &[u8], panel: &[u8], count
         Position { record: random.below(600) as u16, dropped: random.below(3) as u16 }
     };
     *counts.texts.entry(number(&calls::text(panel, at))).or_default() += 1;
+    counts.library_texts += 1;
+    library::same_text(panel, at)
 }
 
 /// A damaged tree: counts what the reader answers, and the walk where it is still read.
-fn damaged_tree(random: &mut Random, tree: &[u8], panels: &Panels, counts: &mut Counts) {
+fn damaged_tree(
+    random: &mut Random,
+    tree: &[u8],
+    panels: &Panels,
+    counts: &mut Counts,
+) -> Result<(), String> {
     let damaged = damage::damaged(random, &damage::TREE, tree);
     let read = tree_file::read(&damaged);
     *counts.trees.entry(number(&read)).or_default() += 1;
-    if let (Ok(tree), Some(panel)) = (read, panels.fitting(random)) {
+    let Some(panel) = panels.fitting(random) else {
+        return Ok(());
+    };
+    if let Ok(tree) = read {
         *counts.tree_walks.entry(number(&walk::walk(&tree, &panel))).or_default() += 1;
     }
+    counts.library_walks += 1;
+    library::same_walk(&damaged, &panel.to_bytes(), 576)
 }
 
 fn show(numbers: &Numbers) -> String {
@@ -228,6 +307,13 @@ impl std::fmt::Display for Counts {
         writeln!(f, "damaged trees: {}", show(&c.trees))?;
         writeln!(f, "walks of damaged trees that are still read: {}", show(&c.tree_walks))?;
         writeln!(f, "text calls: {}", show(&c.texts))?;
+        if library::HERE {
+            writeln!(
+                f,
+                "the library against the reference, answers and every byte: {} builds, {} fit checks, {} walks, {} text calls",
+                c.library_builds, c.library_fits, c.library_walks, c.library_texts
+            )?;
+        }
         writeln!(f, "differences: {}", c.differences.len())
     }
 }

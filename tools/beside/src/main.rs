@@ -6,6 +6,8 @@ mod compare;
 mod files;
 mod generate;
 mod hand;
+#[cfg(feature = "library")]
+mod library;
 mod oracle;
 mod random;
 mod reached;
@@ -31,6 +33,7 @@ beside compare N SEED       N random sheets: the Rust against the reference, wal
 beside gen SEED DIR K       writes K random sheets with panels, and what the reference answers
 beside bytes [NAME]         hand-made sheets and panels, and their trees, as lists of bytes
 beside hand DIR             writes the hand-made ones, and what the reference answers
+beside vectors SEED K OUT   writes K random sheets that are accepted, each with the listing of the Rust's tree
 ";
 
 /// The Rust recurses once for every level of a tree, and so does the reference.
@@ -79,6 +82,10 @@ fn command(args: &[String]) -> Result<bool, String> {
             }
         }
         ["hand", dir] => by_hand(dir)?,
+        ["vectors", seed, k, out] => {
+            let vectors = vectors(number(seed)?, number(k)?);
+            std::fs::write(out, vectors).map_err(|e| format!("{out}: {e}"))?;
+        }
         _ => return Err(format!("the commands are\n{USAGE}")),
     }
     Ok(true)
@@ -190,6 +197,33 @@ fn generated(seed: u64, dir: &str, many: u64) -> Result<(), String> {
         }
     }
     write("answers", answers.as_bytes())
+}
+
+/// The longest listing that is taken as a vector, so that the file stays small.
+const VECTOR_MOST: usize = 3000;
+
+/// For each of so many accepted sheets: the length of the sheet and of the listing of the Rust's tree, two u16,
+/// low byte first; the sheet; the listing.
+fn vectors(seed: u64, many: u64) -> Vec<u8> {
+    let mut out = Vec::new();
+    let (mut case, mut found) = (0, 0);
+    while found < many {
+        let sheet = generate::sheets::any(&mut Random::of_case(seed, case));
+        case += 1;
+        let Ok((checked, _)) = calls::tree_of(&sheet) else {
+            continue;
+        };
+        let listing = tree::listing(&oracle::build(&checked));
+        if listing.len() > VECTOR_MOST {
+            continue;
+        }
+        out.extend((sheet.len() as u16).to_le_bytes());
+        out.extend((listing.len() as u16).to_le_bytes());
+        out.extend(sheet);
+        out.extend(listing.as_bytes());
+        found += 1;
+    }
+    out
 }
 
 /// A list of bytes as the proofs write it.

@@ -1,0 +1,21 @@
+#!/usr/bin/env bash
+# Runs ./dewmycel on every sample and compares: the listing with NAME.listing, what each of its panels takes with NAME.walks.
+set -u
+cd "$(dirname "$0")/.." || exit 1
+
+walks() {
+    local panel
+    for panel in $(sed -n 's/^panel  *\([A-Za-z0-9_]*\) *=.*/\1/p' "$1"); do
+        echo "panel $panel"
+        ./dewmycel walk "$1" "$panel"
+    done
+}
+
+count=0 wrong=0
+for text in samples/*.txt; do
+    count=$((count + 1))
+    ./dewmycel list "$text" | cmp - "${text%.txt}.listing" || wrong=$((wrong + 1))
+    walks "$text" | cmp - "${text%.txt}.walks" || wrong=$((wrong + 1))
+done
+echo "$count samples, $wrong differ"
+[ "$wrong" -eq 0 ]
