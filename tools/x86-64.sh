@@ -6,6 +6,7 @@ set -eu
 missing=""
 command -v x86_64-linux-gnu-gcc >/dev/null || missing="$missing gcc-x86-64-linux-gnu libc6-dev-amd64-cross"
 command -v qemu-x86_64 >/dev/null || missing="$missing qemu-user"
+[ -e /lib64/ld-linux-x86-64.so.2 ] || missing="$missing libc6:amd64"
 [ -x /usr/bin/rustc ] || missing="$missing rustc-web"
 [ -d /usr/lib/rustlib/x86_64-unknown-linux-gnu ] || missing="$missing libstd-rust-web-dev:amd64"
 [ -n "$missing" ] || exit 0

@@ -29,4 +29,4 @@ fi
 "$root/tools/x86-64.sh"
 RUSTC=/usr/bin/rustc CARGO_TARGET_X86_64_UNKNOWN_LINUX_GNU_LINKER=x86_64-linux-gnu-gcc \
     cargo build --release --offline --quiet --features library --target "$target"
-exec qemu-x86_64 -L /usr/x86_64-linux-gnu "target/$target/release/beside" "$@"
+exec qemu-x86_64 "target/$target/release/beside" "$@"
