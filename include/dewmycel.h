@@ -41,14 +41,14 @@ extern "C" {
 #define DEWMYCEL_NO_CLAUSE 4     /* the sheet has no clause */
 #define DEWMYCEL_COUNT 5         /* over 64 types, 128 constructors, 256 type entries, 192 patterns or children, 32 clauses */
 #define DEWMYCEL_TYPES 6         /* a type, constructor, type entry or the subject breaks the format */
-#define DEWMYCEL_TRANSPARENT 7   /* an opaque type of one constructor with one field; place: the lowest such type */
+#define DEWMYCEL_TRANSPARENT 7   /* a type is opaque, not list-decorated, with one constructor of one field; place: the lowest such type */
 #define DEWMYCEL_SHAPE 8         /* a pattern, child or root breaks the format, or patterns nest deeper than 12 */
 #define DEWMYCEL_TEXT 9          /* an integer is not canonical, or a text is over 64 bytes; place: the lowest pattern */
 #define DEWMYCEL_MISFIT 10       /* a pattern does not fit its type; place: the lowest clause */
 #define DEWMYCEL_NAME_TWICE 11   /* a clause binds a name twice; place: the lowest clause */
 #define DEWMYCEL_NODES 12        /* the tree would have over 1,024 nodes */
 #define DEWMYCEL_BINDINGS 13     /* the tree would have over 4,096 bindings */
-#define DEWMYCEL_IDLE 14         /* a clause can never be reached; place: the lowest clause */
+#define DEWMYCEL_IDLE 14         /* a clause has no leaf in the tree; place: the lowest clause */
 #define DEWMYCEL_PANEL_LENGTH 21 /* the panel is under 8 or over 16,384 bytes, or says another length */
 #define DEWMYCEL_PANEL_LAYOUT 22 /* the panel's sections are wrong, or it has no record or over 512 */
 #define DEWMYCEL_PANEL_SHAPE 23  /* a record of the panel breaks the format, or records nest deeper than 32 */
@@ -56,7 +56,7 @@ extern "C" {
 #define DEWMYCEL_PANEL_MISFIT 25 /* the panel does not fit the sheet's subject type */
 #define DEWMYCEL_TREE 31         /* the bytes are not a tree file */
 #define DEWMYCEL_STUCK 32        /* a part that the tree asks for is of another kind, or is not there */
-#define DEWMYCEL_NO_TEXT 33      /* the position is not an integer or a byte string with 0 dropped */
+#define DEWMYCEL_NO_TEXT 33      /* the position is not an integer or a byte string of the panel with 0 dropped */
 
 /* Builds the decision tree of a sheet.
  *
