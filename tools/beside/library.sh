@@ -16,7 +16,7 @@ root=$(cd "$here/../.." && pwd)
 
 AIKEN_SRC=$("$here/build.sh" --where "$sources")
 export AIKEN_SRC
-(cd "$root" && rt staticlib dewmycel >/dev/null)
+said=$(cd "$root" && rt staticlib dewmycel 2>&1) || { echo "$said" >&2; exit 1; }
 export DEWMYCEL_LIB=$root/target/staticlib
 
 cd "$here"
