@@ -2,6 +2,8 @@
 //!
 //! Commands: see USAGE. A refused sheet prints `refused NUMBER PLACE`, as the lister does.
 
+#[cfg(feature = "library")]
+mod bench;
 mod compare;
 mod files;
 mod generate;
@@ -33,6 +35,7 @@ beside compare N SEED       N random sheets: the Rust against the reference, wal
 beside gen SEED DIR K       writes K random sheets with panels, and what the reference answers
 beside bytes [NAME]         hand-made sheets and panels, and their trees, as lists of bytes
 beside hand DIR             writes the hand-made ones, and what the reference answers
+beside bench K SEED         with the library: builds of K sheets a family, by the Rust and by the library
 beside vectors SEED K OUT   writes K random sheets that are accepted, each with the listing of the Rust's tree
 ";
 
@@ -82,6 +85,8 @@ fn command(args: &[String]) -> Result<bool, String> {
             }
         }
         ["hand", dir] => by_hand(dir)?,
+        #[cfg(feature = "library")]
+        ["bench", k, seed] => bench::run(number(k)? as usize, number(seed)?),
         ["vectors", seed, k, out] => {
             let vectors = vectors(number(seed)?, number(k)?);
             std::fs::write(out, vectors).map_err(|e| format!("{out}: {e}"))?;

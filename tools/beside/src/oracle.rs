@@ -24,6 +24,32 @@ use crate::reference::sheet::Checked;
 use crate::tree::*;
 
 /// The Rust's tree of a sheet.
+/// How long the Rust takes to build a sheet's tree so many times. Its types and patterns are made before, and
+/// nothing is read back: only `build_tree` is timed.
+#[cfg(feature = "library")]
+pub fn time(checked: &Checked, rounds: u32) -> std::time::Duration {
+    let types = Types::of(&checked.sheet);
+    let subject = types.all[checked.sheet.subject as usize].clone();
+    let named: Vec<(DataTypeKey, TypedDataType)> = types.data_types(checked);
+    let data_types: IndexMap<&DataTypeKey, &TypedDataType> =
+        named.iter().map(|(key, data)| (key, data)).collect();
+    let clauses: Vec<TypedClause> = checked
+        .sheet
+        .clauses
+        .iter()
+        .map(|&root| TypedClause { pattern: types.pattern(checked, root), then: TypedExpr })
+        .collect();
+    let wild_card = TypedPattern::Discard { name: "_".to_string() };
+    let start = std::time::Instant::now();
+    for _ in 0..rounds {
+        let mut interner = AirInterner::new();
+        let tree =
+            TreeGen::new(&mut interner, &data_types, &wild_card).build_tree(&subject, &clauses);
+        std::hint::black_box(&tree);
+    }
+    start.elapsed()
+}
+
 pub fn build(checked: &Checked) -> Node {
     let types = Types::of(&checked.sheet);
     let subject = types.all[checked.sheet.subject as usize].clone();
