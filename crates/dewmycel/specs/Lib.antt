@@ -3,3 +3,4 @@ pub mod Answers
 pub mod Packed
 pub mod Face
 pub mod AnswersLaws
+pub mod PackedLaws
