@@ -9,6 +9,8 @@ pub const CASE_SIZE: usize = 8;
 
 pub const BINDING_SIZE: usize = 4;
 
+pub const NODES_MOST: usize = 1024;
+
 // Nodes stand from 0 on; there is room for 1,024 nodes, 1,024 cases and 4,096 bindings.
 pub const CASES_START: usize = 12288;
 

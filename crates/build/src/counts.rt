@@ -1,5 +1,6 @@
 // What hoisting adds to the tree in the arena: a hoist for each clause with a leaf, with the bindings of its first leaf.
 // One look at each clause; refusals 12 and 13 go by these sums.
+use arena::NODES_MOST;
 use arena::reading::node_word;
 use scopes::Scopes;
 ghost use mathlib.Core.Path.{_≡_};
@@ -11,8 +12,6 @@ ghost use Rattle.rules.specs.Rows.{bit};
 ghost use Rattle.hoisting.specs.Trees.{sum};
 ghost use Rattle.arena.specs.Arena.{arenaEnd};
 ghost use Rattle.build.specs.Counts.{isMarked, leafBindings};
-
-const NODES_MOST: usize = 1024;
 
 fn one_if(mark: u8) -> usize
     ensures { λ r. ⌜ r ≡ bit (isMarked mark) ⌝ }

@@ -3,8 +3,14 @@
 use crate::Built;
 use crate::counts::hoist_bindings;
 use crate::counts::hoists;
+use arena::BINDING_SIZE;
+use arena::CASE_SIZE;
+use arena::NODE_SIZE;
+use arena::NODES_MOST;
 use building::raw;
+use leaves::BINDINGS_MOST;
 use paths::put_tail;
+use scopes::CLAUSES_MOST;
 use scopes::Scopes;
 use scopes::get_hoist_paths;
 use sheet::Map;
@@ -19,18 +25,6 @@ ghost use Rattle.panel.specs.Answers.{SheetAccepts};
 ghost use Rattle.table.specs.Tabled.{Tabled};
 ghost use Rattle.build.specs.Answers.{Gives, treeEnd};
 ghost use Rattle.build.specs.Raw.{Raw, Hoistable, Whole};
-
-pub const NODES_MOST: usize = 1024;
-
-pub const BINDINGS_MOST: usize = 4096;
-
-pub const CLAUSES_MOST: usize = 32;
-
-const NODE_SIZE: usize = 12;
-
-const CASE_SIZE: usize = 8;
-
-const BINDING_SIZE: usize = 4;
 
 // A refusal whose place is 0.
 pub fn refused(number: u16) -> Built

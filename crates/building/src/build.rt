@@ -2,6 +2,7 @@
 // One more column is tested at each call, and there are no more columns than patterns: 192 less the columns tested falls.
 use crate::tops::Built;
 use crate::tops::Tops;
+use arena::NODES_MOST;
 use arena::reading::case_at;
 use arena::writing::put_child;
 use arena::writing::put_node;
@@ -31,9 +32,7 @@ ghost use Rattle.arena.specs.Arena.{arenaEnd, casesMost};
 ghost use Rattle.building.specs.Built.{Put, Roomy, Builds, BuildsCases};
 ghost use Rattle.building.specs.Steps.{caseList, caseTree, Asked, AskedColumn, AskedCases};
 
-pub const NODES_MOST: usize = 1024;
-
-// "First 0 at count 0".
+// 01: "first 0 at count 0".
 fn first_of(count: usize, first: usize) -> usize
     ensures { λ r. ⌜ r ≡ firstOf count first ⌝ }
 {

@@ -5,10 +5,8 @@ use crate::tops::Built;
 use crate::tops::Tops;
 use matrix::splitting::first_matrix;
 use sheet::Map;
-use table::fill;
 ghost use Prim.Native.Nat.{_≤_};
 ghost use lib.ListN.{length};
-ghost use Rattle.table.specs.Tabled.{Checked};
 ghost use Rattle.matrix.specs.Ready.{Ready};
 ghost use Rattle.arena.specs.Arena.{arenaEnd};
 ghost use Rattle.building.specs.Raw.{BuildsRaw};
@@ -26,14 +24,4 @@ pub fn build_tree(s: &[u8], m: Map, t: &[u8], work: &mut [u8]) -> Built
         leaves: [0; 32],
     };
     do_build_tree(s, m, t, x, work, none)
-}
-
-// With a table of its own.
-pub fn build_raw(s: &[u8], m: Map, work: &mut [u8]) -> Built
-    requires { ⌜ Checked (now s) m × (arenaEnd ≤ length (now work)) ⌝ }
-    ensures { λ r. ⌜ BuildsRaw (now (s .entry)) (now (work .exit)) r ⌝ }
-{
-    let mut t = [0u8; 9984];
-    fill(s, m, &mut t);
-    build_tree(s, m, &t, work)
 }

@@ -14,8 +14,9 @@ use Rattle.table.specs.Standing.{classOf}
 use Rattle.table.specs.Seen.{bindingAt}
 use Rattle.arena.specs.Arena.{bindingsStart, arenaEnd}
 use Rattle.matrix.specs.declared.Matrix.{Matrix}
-use Rattle.matrix.specs.Lists.{classesIn, numbersIn, Whole, WholeRows}
-use Rattle.matrix.specs.Numbered.{Numbered, SoundOf}
+use Rattle.matrix.specs.InNumbers.{inNumbers}
+use Rattle.matrix.specs.Lists.{Whole, WholeRows}
+use Rattle.matrix.specs.Numbered.{SoundOf}
 use Rattle.matrix.specs.Bound.{boundNumbers}
 
 -- a number of bindings, told up to one more than there is room for
@@ -49,16 +50,12 @@ boundAll s x [] = x
 boundAll s x (q ∷ qs) = boundAll s (boundOne s x q) qs
 
 -- ---- a leaf
--- the matrix by its numbers
-abbrev pub numbered : Matrix → Numbered
-numbered x = record { rows = numbersIn (x .rows); columns = classesIn (x .columns); tested = classesIn (x .tested); opened = x .opened }
-
 -- the clause of its first row, and what that row binds
 abbrev pub firstClause : Matrix → ℕ
 firstClause x = getD (x .rows .list) 0 0
 
 abbrev pub leafBindings : List ℕ → Matrix → List Binding
-leafBindings s x = map (bindingAt s) (boundNumbers s (numbered x) (firstClause x))
+leafBindings s x = map (bindingAt s) (boundNumbers s (inNumbers x) (firstClause x))
 
 -- ---- what is asked
 -- the arena, and a number of bindings that can be told
@@ -75,5 +72,5 @@ pub record Entries (s : List ℕ) (p j n : ℕ) : Type 0 where
 pub record WithRow (s : List ℕ) (x : Matrix) : Type 0 where
   pub rows : WholeRows (x .rows)
   pub tested : Whole (x .tested)
-  pub sound : SoundOf s (numbered x)
+  pub sound : SoundOf s (inNumbers x)
   pub some-row : 0 < x .rows .count

@@ -34,8 +34,9 @@ use Rattle.matrix.specs.LiveLaws.{cell-some}
 use Rattle.matrix.specs.Bound.{numbersHeld, openedNumbers, boundNumbers}
 use Rattle.matrix.specs.Matrices.{Rising}
 use Rattle.matrix.specs.ReadingLaws.{all-at, slice-on, slice-end}
+use Rattle.matrix.specs.InNumbers.{inNumbers}
 use Rattle.matrix.specs.Lists.{numbersIn, classesIn}
-use Rattle.leaves.specs.Bindings.{Bound, bound, boundOne, boundAll, Entries, Room, numbered, firstClause, WithRow}
+use Rattle.leaves.specs.Bindings.{Bound, bound, boundOne, boundAll, Entries, Room, firstClause, WithRow}
 use Rattle.leaves.specs.BindingsLaws.{bound-none, bound-single, bound-append, bound-top, bound-length}
 
 -- ---- the store, by its answers
@@ -228,7 +229,7 @@ module _ (s : List ℕ) (x : Matrix) (with : WithRow s x) where
   module _ (c r time : ℕ) (a b z : Bound) (is-clause : c ≡ firstClause x) (is-root : r ≡ root s c) (done : time ≡ x .tested .count) where
     pub leaf-put : b ≡ boundAll s a (bindsOf s r)
         → boundAll s z (leftFrom s (x .opened) (x .tested .list) (x .tested .count) c time) ≡ boundAll s b (leftFrom s (x .opened) (x .tested .list) (x .tested .count) c 0)
-        → z ≡ boundAll s a (boundNumbers s (numbered x) (firstClause x))
+        → z ≡ boundAll s a (boundNumbers s (inNumbers x) (firstClause x))
     unfolding boundNumbers
     leaf-put e f =
         let left = leftFrom s (x .opened) (x .tested .list) (x .tested .count) c 0 in

@@ -25,12 +25,13 @@ use Rattle.table.specs.Seen.{bindingAt}
 use Rattle.arena.specs.Arena.{casesStart, casesMost, bindingsStart, arenaEnd}
 use Rattle.arena.specs.WritingLaws.{Kept, stands-stored}
 use Rattle.matrix.specs.declared.Matrix.{Matrix}
+use Rattle.matrix.specs.InNumbers.{inNumbers}
 use Rattle.matrix.specs.Lists.{numbersIn, classesIn}
 use Rattle.matrix.specs.Matrices.{rowsAt}
 use Rattle.matrix.specs.Bound.{boundNumbers}
 use Rattle.matrix.specs.BoundLaws.{leaf-numbers}
 use Rattle.matrix.specs.ReadingLaws.{slice-on}
-use Rattle.leaves.specs.Bindings.{capped, Bound, bound, bindingRecord, boundOne, boundAll, Room, numbered, firstClause, leafBindings, WithRow}
+use Rattle.leaves.specs.Bindings.{capped, Bound, bound, bindingRecord, boundOne, boundAll, Room, firstClause, leafBindings, WithRow}
 use Rattle.leaves.specs.BindingsLaws.{bound-top, bound-length}
 
 -- byte k is before the bindings from `top` on, or behind the arena
@@ -133,9 +134,9 @@ module _ (s : List ℕ) (ok : Accepted s) (x : Matrix) (with : WithRow s x) wher
   pub leaf-is : leafOf (rowsAt s (classesIn (x .tested)) (numbersIn (x .rows))) ≡ leaf (firstClause x) (leafBindings s x)
   leaf-is =
       let first = slice-on (x .rows .list) 0 (x .rows .count) (with .some-row) (omega (arith, with .rows)) in
-      leaf-numbers ok (numbered x) (with .sound) (firstClause x) (slice 1 (x .rows .count) (x .rows .list)) first
+      leaf-numbers ok (inNumbers x) (with .sound) (firstClause x) (slice 1 (x .rows .count) (x .rows .list)) first
 
   -- THEOREM: what `leaf_bindings` answers and leaves
-  pub leaf-bound : (w : List ℕ) (top : ℕ) (w' : List ℕ) (r : ℕ) → Room w top → bound w' r ≡ boundAll s (bound w top) (boundNumbers s (numbered x) (firstClause x))
+  pub leaf-bound : (w : List ℕ) (top : ℕ) (w' : List ℕ) (r : ℕ) → Room w top → bound w' r ≡ boundAll s (bound w top) (boundNumbers s (inNumbers x) (firstClause x))
       → LeafBound s (leafBindings s x) w top w' r
-  leaf-bound w top w' r room e = all-bound s (boundNumbers s (numbered x) (firstClause x)) w top w' r room e
+  leaf-bound w top w' r room e = all-bound s (boundNumbers s (inNumbers x) (firstClause x)) w top w' r room e

@@ -19,8 +19,9 @@ ghost use Rattle.rules.specs.SheetFile.{patterns, clauses};
 ghost use Rattle.table.specs.Seen.{bindsOf, bindsOfEach};
 ghost use Rattle.matrix.specs.Live.{openedTest};
 ghost use Rattle.matrix.specs.Bound.{numbersHeld, boundNumbers};
+ghost use Rattle.matrix.specs.InNumbers.{inNumbers};
 ghost use Rattle.matrix.specs.Ready.{Ready};
-ghost use Rattle.leaves.specs.Bindings.{bound, boundOne, boundAll, Room, Entries, numbered, firstClause, WithRow};
+ghost use Rattle.leaves.specs.Bindings.{bound, boundOne, boundAll, Room, Entries, firstClause, WithRow};
 
 // The room for bindings. Where there are more, their number is told as one more than it.
 pub const BINDINGS_MOST: usize = 4096;
@@ -113,7 +114,7 @@ fn put_opened(
 // The bindings of the first row's clause, behind the `top` bindings there are; the number of all of them.
 pub fn leaf_bindings(s: &[u8], m: Map, t: &[u8], x: Matrix, work: &mut [u8], top: usize) -> usize
     requires { ⌜ Ready (now s) m (now t) × WithRow (now s) x × Room (now work) top ⌝ }
-    ensures { λ r. ⌜ bound (now (work .exit)) r ≡ boundAll (now (s .entry)) (bound (now (work .entry)) top) (boundNumbers (now (s .entry)) (numbered x) (firstClause x)) ⌝ }
+    ensures { λ r. ⌜ bound (now (work .exit)) r ≡ boundAll (now (s .entry)) (bound (now (work .entry)) top) (boundNumbers (now (s .entry)) (inNumbers x) (firstClause x)) ⌝ }
 {
     let rows = x.rows;
     let tested = x.tested;

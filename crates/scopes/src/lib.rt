@@ -1,10 +1,10 @@
 // Where each clause is hoisted, and its first leaf in building order: rules 5 to 7 of the scope document over the tree in the arena.
 // Scopes are found from the root down, with no places written out. For each clause one pass over the nodes and the cases marks where it
 // has a leaf, so the cost is that of nodes times clauses, and the memory two bytes a node.
+use arena::NODES_MOST;
 use descent::first_leaf;
 use descent::get_hoist_path;
 use last::mark_last;
-use marks::NODES_MOST;
 use marks::mark;
 ghost use mathlib.Core.Path.{_≡_};
 ghost use Prim.Native.Nat.{_<_, _≤_};

@@ -1,6 +1,7 @@
 // For one clause, which nodes have a leaf of it at or below them: a byte by node, 1 or 0.
 // A child has a larger number than its parent, so one pass over the nodes from the last to the first marks them all; it reads each
 // node and each case once.
+use arena::NODES_MOST;
 use arena::reading::case_child;
 use arena::reading::node_kind;
 use arena::reading::node_word;
@@ -11,8 +12,6 @@ ghost use Rattle.rules.specs.Limits.{nodesMost};
 ghost use Rattle.rules.specs.Rows.{bit};
 ghost use Rattle.arena.specs.Arena.{arenaEnd};
 ghost use Rattle.scopes.specs.Marks.{ReadyWith, Marked, CasesInside, SwitchInside, NodeInside, childrenOf, markedCases, firstMarked, markedDefault, markedChildren, firstChild, nodeMarked};
-
-pub const NODES_MOST: usize = 1024;
 
 // Where a switch's cases begin, how many it has with the tail cases, and its default, one more than the node or 0.
 pub struct Children {

@@ -19,8 +19,7 @@ use Rattle.facts.specs.SheetFacts.{Accepted}
 use Rattle.table.specs.Standing.{pathOf, isCell, oneMore, cellOf}
 use Rattle.table.specs.StandingLaws.{owner-below}
 use Rattle.table.specs.PathsLaws.{path-short}
-use Rattle.table.specs.ClassLaws.{class-known}
-use Rattle.table.specs.Table.{classAt, ownerAt, depthAt, indicesAt, cellsAt, firstBefore, indicesIn}
+use Rattle.table.specs.Table.{ownerAt, depthAt, indicesAt, cellsAt, firstBefore, indicesIn}
 use Rattle.table.specs.Tabled.{Tabled}
 
 -- a path is before another where its indices are
@@ -46,9 +45,6 @@ cell-most s c class =
 module _ {s t : List ℕ} (ok : Accepted s) (table : Tabled s t) where
   -- ---- the limits of a pattern's fields
   module _ (q : ℕ) (h : q < patterns s) where
-    pub class-inside : getD t (classAt + q) 0 < patterns s
-    class-inside = omega (arith, table .classed q h .class, class-known s q h)
-
     pub owner-inside : getD t (ownerAt + q) 0 ≤ patternsMost
     owner-inside = omega (arith, table .placed q h .owner, owner-below (ok .is-shaped) (ok .is-counted) q h, ok .is-counted .patterns-most)
 
