@@ -307,7 +307,7 @@ pub hoistAll-by : (n : ℕ) (a : Tree) → hoistAll n a ≡ hoistBy (λ c. first
 unfolding hoistAll
 hoistAll-by n a = descent a n [] a (λ c. true) (λ c x. ap (isAt x) (scope-is c a))
 
--- ---- hoisting over a node by a loop over the clauses: "n - c are left from c on"
+-- ---- hoisting over a node by a loop over the clauses: n - c of them are left from c on
 module _ (f : ℕ → Bool) (bs : ℕ → List Binding) (a : Tree) where
   wrapStep : ℕ → ℕ → Bool → Tree
   wrapStep c n b = elim b [ true ↦ hoist c (bs c) (wrapBy f bs (c + 1) n a) | false ↦ wrapBy f bs (c + 1) n a ]

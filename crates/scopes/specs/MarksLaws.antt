@@ -1,5 +1,5 @@
 -- Laws of what is read at one node, over plain values, as the code has them.
--- In a loop over the cases of a switch, "n - j are left from case i + j on".
+-- In a loop over the n cases of a switch from case i on, n - j are left from case i + j on.
 use mathlib.Core.Path.{_≡_, refl, sym, ap, ap₂, _∙_, subst}
 use mathlib.Core.Bool.{Bool, true, false}
 use mathlib.Core.List.{List}
