@@ -6,6 +6,7 @@ use listing::Listed;
 ghost use mathlib.Core.Path.{_≡_};
 ghost use lib.ListN.{length};
 ghost use Rattle.io.specs.Counts.{Counts};
+ghost use Rattle.programs.specs.Shown.{ShowsTree, ShowsRefusal, ShowsSheet};
 
 // Room for a sheet, and for a panel, with one byte more than either may have: a longer input fills it, and its length refuses it.
 pub const SHEET_ROOM: usize = 8193;
@@ -112,10 +113,10 @@ pub fn read_argument(i: usize, buf: &mut [u8]) -> Input
 
 // The listing of a tree file; 0 bytes where it has no room or is no tree.
 fn list_tree(t: &[u8], out: &mut [u8]) -> usize
-    ensures { λ r. ⌜ Counts r (now (out .exit)) ⌝ }
+    ensures { λ r. ⌜ ShowsTree (now (t .entry)) (now (out .entry)) r (now (out .exit)) ⌝ }
 {
     match listing::listing(t, out) {
-        Listed::Written(n) => within(n, out),
+        Listed::Written(n) => n,
         Listed::Full => 0,
         Listed::Refused => 0,
     }
@@ -123,15 +124,14 @@ fn list_tree(t: &[u8], out: &mut [u8]) -> usize
 
 // `refused NUMBER PLACE`; 0 bytes where it has no room.
 fn refuse(number: u16, place: u16, out: &mut [u8]) -> usize
-    ensures { λ r. ⌜ Counts r (now (out .exit)) ⌝ }
+    ensures { λ r. ⌜ ShowsRefusal number place (now (out .entry)) r (now (out .exit)) ⌝ }
 {
-    let n = listing::refused_line(number, place, out);
-    within(n, out)
+    listing::refused_line(number, place, out)
 }
 
 // The listing of a sheet's tree, or the line of its refusal; 0 bytes where it has no room.
 pub fn list(s: &[u8], out: &mut [u8]) -> usize
-    ensures { λ r. ⌜ Counts r (now (out .exit)) ⌝ }
+    ensures { λ r. ⌜ ShowsSheet (now (s .entry)) (now (out .entry)) r (now (out .exit)) ⌝ }
 {
     let mut tree = io::large_buffer();
     let mut work = io::large_buffer();
@@ -141,7 +141,7 @@ pub fn list(s: &[u8], out: &mut [u8]) -> usize
             nodes,
             bindings,
         } => {
-            let n = within(length as usize, &tree);
+            let n = length as usize;
             list_tree(&tree[..n], out)
         }
         Built::Refused { number, place } => refuse(number, place, out),
