@@ -8,16 +8,27 @@ use lib.Dec.{eqb, ltb}
 use Rattle.words.specs.Words.{both, pick, zeros}
 use Rattle.rules.specs.Limits.{recordsMost, panelDepthMost}
 use Rattle.rules.specs.PanelFile.{records, parts, recordKind, recordZero, recordFirst, recordCount, part, recordKindOf, hasParts, recordFieldsFit, isHigher}
-use Rattle.panel.specs.declared.shape.Seen.{Seen}
 
 -- the zero byte and the fields of record r by its kind
 unfoldable pub fieldsFit : List ℕ → ℕ → Bool
 unfolding recordZero recordKind recordKindOf recordFieldsFit
 fieldsFit v r = both (eqb (recordZero v r) 0) (recordFieldsFit v r (recordKindOf (recordKind v r)))
 
+-- what the pass has met: the depth of each record, 0 for one that was not met yet, and whether no rule is broken
+pub record Seen : Type 0 where
+  pub depths : List ℕ
+  pub sound : Bool
+
+abbrev pub seen : List ℕ → Bool → Seen
+seen depths sound = record { depths = depths; sound = sound }
+
+-- no rule is broken
+abbrev pub met : List ℕ → Seen
+met depths = seen depths true
+
 -- a rule is broken
-unfoldable pub broken : Seen → Seen
-broken s = record { depths = s .depths; sound = false }
+abbrev pub broken : Seen → Seen
+broken s = seen (s .depths) false
 
 -- an entry of record r: its record is higher than r and of the panel, is met for the first time, and is not too deep
 unfoldable pub entersFirst : List ℕ → List ℕ → ℕ → ℕ → Bool
@@ -28,10 +39,10 @@ entersFirst v depths r j =
     (ltb (getD depths r 0) panelDepthMost))
 
 unfoldable pub enterPart : List ℕ → Seen → ℕ → ℕ → Seen
-unfolding part broken entersFirst
+unfolding part entersFirst
 enterPart v s r j =
     pick (entersFirst v (s .depths) r j)
-    (record { depths = set (s .depths) (part v j) (getD (s .depths) r 0 + 1); sound = s .sound })
+    (seen (set (s .depths) (part v j) (getD (s .depths) r 0 + 1)) (s .sound))
     (broken s)
 
 -- the n entries of record r from entry j on, as long as none breaks a rule
@@ -50,7 +61,7 @@ unfolding fieldsFit
 recordMet v depths r = both (ltb 0 (getD depths r 0)) (fieldsFit v r)
 
 unfoldable pub enterRecord : List ℕ → Seen → ℕ → Seen
-unfolding recordMet broken enterParts recordKind recordKindOf hasParts recordFirst recordCount
+unfolding recordMet enterParts recordKind recordKindOf hasParts recordFirst recordCount
 enterRecord v s r =
     pick (recordMet v (s .depths) r)
     (pick (hasParts (recordKindOf (recordKind v r))) (enterParts v s r (recordFirst v r) (recordCount v r)) s)
@@ -68,7 +79,7 @@ enterRecords v s r (suc n) =
 
 -- at first the root alone is met, at depth 1
 unfoldable pub atRoot : Seen
-atRoot = record { depths = set (zeros recordsMost) 0 1; sound = true }
+atRoot = met (set (zeros recordsMost) 0 1)
 
 -- every record but the root is one part: so there is one part fewer than there are records
 unfoldable pub shapePasses : List ℕ → Bool

@@ -17,10 +17,9 @@ use Rattle.rules.specs.Searching.{times}
 use Rattle.rules.specs.SearchingLaws.{times-some, times-found}
 use Rattle.rules.specs.PanelFile.{records, parts, recordFirst, recordCount, part, isHigher, isPart, holds, recordWithin, panelShapeFits}
 use Rattle.facts.specs.PanelFacts.{Holds, holds-listed, listed-holds, recordWithin-part, PanelShaped, panel-shaped, panel-shape-depth, held-entry, held-record, one-part, record-is-part}
-use Rattle.panel.specs.declared.shape.Seen.{Seen}
 use Rattle.sheet.specs.Sums.{sum, sum-same, sum-none, sum-exchange, sum-run}
 use Rattle.panel.specs.CountingLaws.{same-or-not, sum-grows, sum-all-one, sum-each-one, times-sum, times-alone}
-use Rattle.panel.specs.Shape.{fieldsFit, entersFirst, enterPart, enterParts, recordMet, enterRecord, enterRecords, atRoot, shapePasses}
+use Rattle.panel.specs.Shape.{Seen, fieldsFit, entersFirst, enterPart, enterParts, recordMet, enterRecord, enterRecords, atRoot, shapePasses}
 use Rattle.panel.specs.ShapeLaws.{listed, parts-on, records-on, higher-make, list-inside, within-make, shape-fields, shape-make}
 use Rattle.panel.specs.ShapePass.{entries, Passed, Met, Good, Sound, depthOf, part-sound, owner-met, to-first, record-sound, records-sound}
 

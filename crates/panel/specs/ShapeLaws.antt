@@ -14,8 +14,7 @@ use Rattle.rules.specs.Searching.{every, times}
 use Rattle.rules.specs.SearchingLaws.{every-true, every-make}
 use Rattle.rules.specs.PanelFile.{records, parts, recordKind, recordZero, recordFirst, recordCount, part, recordKindOf, hasParts, recordFieldsFit, isHigher, partsHigher, recordKeepsRules, isPart, isOnePart, holds, partKeepsRules, recordWithin, panelShapeFits}
 use Rattle.facts.specs.PanelFacts.{Holds, holder-kind, fields-kind, fields-run}
-use Rattle.panel.specs.declared.shape.Seen.{Seen}
-use Rattle.panel.specs.Shape.{fieldsFit, enterPart, enterParts, enterRecord, enterRecords}
+use Rattle.panel.specs.Shape.{Seen, fieldsFit, enterPart, enterParts, enterRecord, enterRecords}
 
 -- record r has a list of parts
 abbrev pub listed : List ℕ → ℕ → Bool

@@ -15,10 +15,9 @@ use Rattle.words.specs.WordsLaws.{both-true}
 use Rattle.rules.specs.Limits.{recordsMost, panelDepthMost}
 use Rattle.rules.specs.PanelFile.{records, parts, recordFirst, recordCount, part, isHigher, holds, recordWithin}
 use Rattle.facts.specs.PanelFacts.{Holds, recordWithin-part}
-use Rattle.panel.specs.declared.shape.Seen.{Seen}
 use Rattle.sheet.specs.Sums.{sum}
 use Rattle.panel.specs.CountingLaws.{same-or-not, sum-next, sum-grows}
-use Rattle.panel.specs.Shape.{fieldsFit, broken, entersFirst, enterPart, enterParts, recordMet, enterRecord, enterRecords}
+use Rattle.panel.specs.Shape.{Seen, fieldsFit, broken, entersFirst, enterPart, enterParts, recordMet, enterRecord, enterRecords}
 use Rattle.panel.specs.ShapeLaws.{listed, parts-on, parts-stop, records-on, records-stop, higher-true}
 
 -- how many entries the list of record r has
@@ -192,7 +191,7 @@ module _ (v : List ℕ) (few : records v ≤ recordsMost) where
   -- where nothing broke, the entry was right
   pub part-sound : (s : Seen) (r j c : ℕ) → Sound v r j c s → Holds v r j → 1 ≤ depthOf s r → (enterPart v s r j) .sound ≡ true
       → Sound v r (j + 1) (c + 1) (enterPart v s r j)
-  unfolding enterPart broken
+  unfolding enterPart
   part-sound s r j c sd held some h = go (entersFirst v (s .depths) r j) refl
     where
       go : (b : Bool) → entersFirst v (s .depths) r j ≡ b → Sound v r (j + 1) (c + 1) (enterPart v s r j)
@@ -278,7 +277,7 @@ module _ (v : List ℕ) (few : records v ≤ recordsMost) where
 
   pub record-sound : (s : Seen) (r : ℕ) → Sound v r 0 (sum (entries v) 0 r) s → (enterRecord v s r) .sound ≡ true
       → Sound v (r + 1) 0 (sum (entries v) 0 (r + 1)) (enterRecord v s r)
-  unfolding enterRecord broken
+  unfolding enterRecord
   record-sound s r sd h = go (recordMet v (s .depths) r) refl
     where
       listing : recordMet v (s .depths) r ≡ true → (b : Bool) → listed v r ≡ b → Sound v (r + 1) 0 (sum (entries v) 0 (r + 1)) (enterRecord v s r)

@@ -18,10 +18,9 @@ use Rattle.facts.specs.KindsLaws.{record-unknown}
 use Rattle.facts.specs.PanelFacts.{kind-holder}
 use Rattle.panel.specs.declared.Map.{Map}
 use Rattle.panel.specs.declared.records.Record.{Record}
-use Rattle.panel.specs.declared.shape.Seen.{Seen}
 use Rattle.panel.specs.Opened.{Opened, recordOf}
 use Rattle.panel.specs.CountingLaws.{same-or-not}
-use Rattle.panel.specs.Shape.{fieldsFit, broken, entersFirst, enterPart, enterParts, recordMet, enterRecord, enterRecords}
+use Rattle.panel.specs.Shape.{Seen, seen, fieldsFit, broken, entersFirst, enterPart, enterParts, recordMet, enterRecord, enterRecords}
 use Rattle.panel.specs.ShapeLaws.{listed, parts-on, parts-stop, records-on, records-stop, higher-make, list-inside, fit-kind}
 
 -- ---- the fields of a record, by its kind byte
@@ -93,44 +92,44 @@ module _ (v : List ℕ) (m : Map) (o : Opened v m) where
   part-read j p e = e ∙ rw (o .parts-at)
 
 module _ (v : List ℕ) (s : Seen) (r j p : ℕ) (is : p ≡ part v j) where
-  enters-not : (x : Seen) → entersFirst v (s .depths) r j ≡ false → x ≡ broken s → x ≡ enterPart v s r j
+  enters-not : entersFirst v (s .depths) r j ≡ false → broken s ≡ enterPart v s r j
   unfolding enterPart
-  enters-not x h e = rw (enterPart, h) e
+  enters-not h = rw (enterPart, h)
 
-  pub part-low : (x : Seen) → p ≤ r → x ≡ broken s → x ≡ enterPart v s r j
+  pub part-low : p ≤ r → broken s ≡ enterPart v s r j
   unfolding entersFirst isHigher
-  part-low x h e = enters-not x (rw (← is, le-ltb r p h)) e
+  part-low h = enters-not (rw (← is, le-ltb r p h))
 
-  pub part-high : (x : Seen) → records v ≤ p → x ≡ broken s → x ≡ enterPart v s r j
+  pub part-high : records v ≤ p → broken s ≡ enterPart v s r j
   unfolding entersFirst isHigher
-  part-high x h e =
-      enters-not x (both-first-false (isHigher v r j) _ (both-second-false (ltb r (part v j)) _ (le-ltb _ _ (rw is at h)))) e
+  part-high h =
+      enters-not (both-first-false (isHigher v r j) _ (both-second-false (ltb r (part v j)) _ (le-ltb _ _ (rw is at h))))
 
-  pub part-again : (x : Seen) → (getD (s .depths) p 0 ≡ 0 → ⊥) → x ≡ broken s → x ≡ enterPart v s r j
+  pub part-again : (getD (s .depths) p 0 ≡ 0 → ⊥) → broken s ≡ enterPart v s r j
   unfolding entersFirst
-  part-again x h e =
-      enters-not x (both-second-false (isHigher v r j) _ (both-first-false (eqb (getD (s .depths) (part v j) 0) 0) _ (ne-eqb _ _ (rw is at h)))) e
+  part-again h =
+      enters-not (both-second-false (isHigher v r j) _ (both-first-false (eqb (getD (s .depths) (part v j) 0) 0) _ (ne-eqb _ _ (rw is at h))))
 
-  pub part-deep : (x : Seen) → panelDepthMost ≤ getD (s .depths) r 0 → x ≡ broken s → x ≡ enterPart v s r j
+  pub part-deep : panelDepthMost ≤ getD (s .depths) r 0 → broken s ≡ enterPart v s r j
   unfolding entersFirst
-  part-deep x h e =
-      enters-not x (both-second-false (isHigher v r j) _ (both-second-false (eqb (getD (s .depths) (part v j) 0) 0) _ (le-ltb _ _ h))) e
+  part-deep h =
+      enters-not (both-second-false (isHigher v r j) _ (both-second-false (eqb (getD (s .depths) (part v j) 0) 0) _ (le-ltb _ _ h)))
 
   pub part-enters : r < p → p < records v → getD (s .depths) p 0 ≡ 0 → getD (s .depths) r 0 < panelDepthMost
-      → _≡_ {A = Seen} (record { depths = set (s .depths) p (getD (s .depths) r 0 + 1); sound = s .sound }) (enterPart v s r j)
+      → seen (set (s .depths) p (getD (s .depths) r 0 + 1)) (s .sound) ≡ enterPart v s r j
   unfolding entersFirst enterPart
   part-enters low high new shallow =
       rw (enterPart, higher-make v r j (rw is at low) (rw is at high), eq-eqb _ _ (rw is at new), lt-ltb _ _ shallow, is)
 
 -- ---- a record
 module _ (v : List ℕ) (s : Seen) (r : ℕ) where
-  pub record-unmet : (x : Seen) → getD (s .depths) r 0 ≡ 0 → x ≡ broken s → x ≡ enterRecord v s r
+  pub record-unmet : getD (s .depths) r 0 ≡ 0 → broken s ≡ enterRecord v s r
   unfolding enterRecord recordMet
-  record-unmet x h e = rw (enterRecord, h) e
+  record-unmet h = rw (enterRecord, h)
 
-  pub record-unfit : (x : Seen) → fieldsFit v r ≡ false → x ≡ broken s → x ≡ enterRecord v s r
+  pub record-unfit : fieldsFit v r ≡ false → broken s ≡ enterRecord v s r
   unfolding enterRecord recordMet
-  record-unfit x h e = rw (enterRecord, both-second-false (ltb 0 (getD (s .depths) r 0)) (fieldsFit v r) h) e
+  record-unfit h = rw (enterRecord, both-second-false (ltb 0 (getD (s .depths) r 0)) (fieldsFit v r) h)
 
   met-fit : (getD (s .depths) r 0 ≡ 0 → ⊥) → fieldsFit v r ≡ true → recordMet v (s .depths) r ≡ true
   unfolding recordMet

@@ -3,9 +3,9 @@
 //
 // Cost. The check reads the trailer, each record twice (for its shape and for its text), each part once, and each byte of an integer
 // once: at most 512 records, 511 parts and 32,768 bytes of text, whatever the lists of a damaged panel say, since the pass over the
-// records ends at the first part that it meets a second time. Besides the panel it needs a table of 512 depths, handed on by value.
-// The text call adds one record to the check. Fitting reads each record and each part once, with its type and its type entry; its
-// calls are at most 544 deep, one for each of 511 parts and 32 levels.
+// records ends at the first part that it meets a second time. Besides the panel it needs a table of 512 depths, which is lent on:
+// nothing is copied for a record or a part. The text call adds one record to the check. Fitting reads each record and each part
+// once, with its type and its type entry; its calls are at most 544 deep, one for each of 511 parts and 32 levels.
 ghost use mathlib.Core.Path.{_≡_};
 ghost use Rattle.rules.specs.Calls.{textPart};
 ghost use Rattle.panel.specs.Answers.{checked, located, fitted, Accepts, SheetAccepts};

@@ -1,4 +1,5 @@
 // Document 01's numbers for a panel, each in this one place of the code; crates/rules/specs/Limits.antt has them for the definitions.
+// The longest text (refusal 24) is that of a sheet: crates/sheet/src/limits.rt.
 
 // The panel file: records and trailer, in bytes.
 pub const RECORD_SIZE: usize = 8;
@@ -13,6 +14,3 @@ pub const PANEL_MOST: usize = 16384;
 pub const RECORDS_MOST: usize = 512;
 
 pub const PANEL_DEPTH_MOST: u8 = 32;
-
-// Refusal 24.
-pub const TEXT_MOST: usize = 64;

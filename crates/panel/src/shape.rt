@@ -1,5 +1,6 @@
 // Refusal 23 of a panel: its shape, in one pass over the records in order and the parts of each in order. A part's number is
-// larger than its owner's, so that when a record is at hand its depth is known, or it is nobody's part.
+// larger than its owner's, so that when a record is at hand its depth is known, or it is nobody's part. The depths are in one
+// buffer that is lent on, 0 for a record that was not met yet; each step answers whether no rule is broken.
 use crate::Map;
 use crate::limits::PANEL_DEPTH_MOST;
 use crate::limits::RECORDS_MOST;
@@ -10,24 +11,11 @@ use sheet::records::run_in;
 ghost use mathlib.Core.Path.{_≡_};
 ghost use mathlib.Core.List.{List};
 ghost use Prim.Native.Nat.{ℕ, _+_, _<_, _≤_};
+ghost use lib.ListN.{length};
+ghost use Rattle.rules.specs.Limits.{recordsMost};
 ghost use Rattle.rules.specs.PanelFile.{records, parts, panelPoolSize, panelShapeFits};
 ghost use Rattle.panel.specs.Opened.{Opened, recordOf};
-ghost use Rattle.panel.specs.Shape.{fieldsFit, enterPart, enterParts, enterRecord, enterRecords};
-ghost use Rattle.panel.specs.Shape.{broken as Shape·broken};
-
-// What the pass has met: the depth of each record, 0 for one that was not met yet, and whether no rule is broken.
-pub(crate) struct Seen {
-    pub depths: [u8; RECORDS_MOST],
-    pub sound: bool,
-}
-
-fn broken(s: Seen) -> Seen
-    ensures { λ r. ⌜ r ≡ Shape·broken s ⌝ }
-{
-    let mut next = s;
-    next.sound = false;
-    next
-}
+ghost use Rattle.panel.specs.Shape.{fieldsFit, seen, met, enterPart, enterParts, enterRecord, enterRecords};
 
 // The zero byte and the fields of a record by its kind, in a panel of so many parts and so many bytes of text.
 fn fields_fit(x: Record, held: usize, pool: usize) -> bool
@@ -68,80 +56,73 @@ fn fields_fit(x: Record, held: usize, pool: usize) -> bool
 }
 
 // Entry j, in the list of record r: its record is higher than r, met for the first time, and not too deep.
-fn enter_part(v: &[u8], m: Map, s: Seen, r: usize, j: usize) -> Seen
-    requires { ⌜ Opened (now v) m × (r < records (now v)) × (j < parts (now v)) ⌝ }
-    ensures { λ res. ⌜ res ≡ enterPart (now (v .entry)) s r j ⌝ }
+fn enter_part(v: &[u8], m: Map, depths: &mut [u8], r: usize, j: usize) -> bool
+    requires { ⌜ Opened (now v) m × (length (now depths) ≡ recordsMost) × (r < records (now v)) × (j < parts (now v)) ⌝ }
+    ensures { λ res. ⌜ seen (now (depths .exit)) res ≡ enterPart (now (v .entry)) (met (now (depths .entry))) r j ⌝ }
 {
     let p = part_at(v, m, j);
     if p <= r {
-        return broken(s);
+        return false;
     }
     if m.records <= p {
-        return broken(s);
+        return false;
     }
-    let before = s.depths[p];
-    if before != 0 {
-        return broken(s);
+    if depths[p] != 0 {
+        return false;
     }
-    let depth = s.depths[r];
+    let depth = depths[r];
     if PANEL_DEPTH_MOST <= depth {
-        return broken(s);
+        return false;
     }
-    let mut next = s;
-    next.depths[p] = depth + 1;
-    next
+    depths[p] = depth + 1;
+    true
 }
 
 // The n entries from j on, in the list of record r.
-fn enter_parts(v: &[u8], m: Map, s: Seen, r: usize, j: usize, n: usize) -> Seen
-    requires { ⌜ Opened (now v) m × (r < records (now v)) × (j + n ≤ parts (now v)) ⌝ }
-    ensures { λ res. ⌜ res ≡ enterParts (now (v .entry)) s r j n ⌝ }
+fn enter_parts(v: &[u8], m: Map, depths: &mut [u8], r: usize, j: usize, n: usize) -> bool
+    requires { ⌜ Opened (now v) m × (length (now depths) ≡ recordsMost) × (r < records (now v)) × (j + n ≤ parts (now v)) ⌝ }
+    ensures { λ res. ⌜ seen (now (depths .exit)) res ≡ enterParts (now (v .entry)) (met (now (depths .entry))) r j n ⌝ }
 {
-    let mut out = s;
     let mut k: usize = 0;
     while k < n {
-        out = enter_part(v, m, out, r, j + k);
-        if !out.sound {
-            return out;
+        if !enter_part(v, m, depths, r, j + k) {
+            return false;
         }
         k += 1;
     }
-    out
+    true
 }
 
 // Record r: it was met, as the root or as somebody's part; its fields fit; and then its parts.
-fn enter_record(v: &[u8], m: Map, s: Seen, r: usize) -> Seen
-    requires { ⌜ Opened (now v) m × (r < records (now v)) ⌝ }
-    ensures { λ res. ⌜ res ≡ enterRecord (now (v .entry)) s r ⌝ }
+fn enter_record(v: &[u8], m: Map, depths: &mut [u8], r: usize) -> bool
+    requires { ⌜ Opened (now v) m × (length (now depths) ≡ recordsMost) × (r < records (now v)) ⌝ }
+    ensures { λ res. ⌜ seen (now (depths .exit)) res ≡ enterRecord (now (v .entry)) (met (now (depths .entry))) r ⌝ }
 {
-    let met = s.depths[r];
-    if met == 0 {
-        return broken(s);
+    if depths[r] == 0 {
+        return false;
     }
     let x = record_at(v, r);
     if !fields_fit(x, m.parts, m.pool_end - m.pool_at) {
-        return broken(s);
+        return false;
     }
     if x.kind < 2 {
-        return s;
+        return true;
     }
-    enter_parts(v, m, s, r, x.first, x.count)
+    enter_parts(v, m, depths, r, x.first, x.count)
 }
 
-fn enter_records(v: &[u8], m: Map, s: Seen) -> Seen
-    requires { ⌜ Opened (now v) m ⌝ }
-    ensures { λ res. ⌜ res ≡ enterRecords (now (v .entry)) s 0 (records (now (v .entry))) ⌝ }
+fn enter_records(v: &[u8], m: Map, depths: &mut [u8]) -> bool
+    requires { ⌜ Opened (now v) m × (length (now depths) ≡ recordsMost) ⌝ }
+    ensures { λ res. ⌜ seen (now (depths .exit)) res ≡ enterRecords (now (v .entry)) (met (now (depths .entry))) 0 (records (now (v .entry))) ⌝ }
 {
-    let mut out = s;
     let mut r: usize = 0;
     while r < m.records {
-        out = enter_record(v, m, out, r);
-        if !out.sound {
-            return out;
+        if !enter_record(v, m, depths, r) {
+            return false;
         }
         r += 1;
     }
-    out
+    true
 }
 
 // 23: every record but the root is one part of a lower record, each part is in one list, and no record is deeper than 32.
@@ -154,13 +135,5 @@ pub(crate) fn shape_fits(v: &[u8], m: Map) -> bool
     }
     let mut depths = [0u8; RECORDS_MOST];
     depths[0] = 1;
-    let end = enter_records(
-        v,
-        m,
-        Seen {
-            depths,
-            sound: true,
-        },
-    );
-    end.sound
+    enter_records(v, m, &mut depths)
 }

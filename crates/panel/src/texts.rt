@@ -1,7 +1,7 @@
 // Refusal 24 of a panel: an integer is canonical, and a text has at most 64 bytes.
 use crate::Map;
-use crate::limits::TEXT_MOST;
 use crate::records::record_at;
+use sheet::limits::TEXT_MOST;
 use sheet::texts::canonical;
 ghost use mathlib.Core.Path.{_≡_};
 ghost use Prim.Native.Nat.{_<_};

@@ -6,7 +6,6 @@ use mathlib.Core.List.{List}
 use Prim.Native.Nat.{ℕ, _+_, _*_, _<_, _≤_}
 use borrow.Author.Tests.{lt-ltb, le-ltb}
 use lib.Dec.{ltb}
-use lib.ListN.{getD}
 use denote.Ref.{RefT, now}
 use Rattle.words.specs.Words.{wordAt}
 use Rattle.rules.specs.Limits.{patternSize, clauseSize}
@@ -20,7 +19,7 @@ use Rattle.sheet.specs.declared.Checked.the-variants as checks
 use Rattle.sheet.specs.declared.records.PatternRecord.{PatternRecord}
 use Rattle.sheet.specs.Sections.{startsOf, mapOf}
 use Rattle.sheet.specs.SectionsLaws.{mapped}
-use Rattle.sheet.specs.Records.{patternOf}
+use Rattle.sheet.specs.Records.{patternFrom, patternOf}
 use Rattle.sheet.specs.Check.{answer, checked}
 use Rattle.reader.specs.declared.Reader.{Reader}
 use Rattle.reader.specs.declared.Clause.{Clause}
@@ -36,11 +35,9 @@ module _ (r : Reader) (o : Opened r) where
   clauses-start = ap (λ (x : Reader). x .clauses) (o .is-open)
 
 -- ---- the records by the start of their section
-pub pattern-there : (s : List ℕ) (start p a first count : ℕ) → start ≡ patternsAt s
-    → a ≡ wordAt s (start + patternSize * p + 2) → first ≡ wordAt s (start + patternSize * p + 4) → count ≡ wordAt s (start + patternSize * p + 6)
-    → _≡_ {A = PatternRecord} (record { kind = getD s (start + patternSize * p) 0; zero = getD s (start + patternSize * p + 1) 0; a = a; first = first; count = count }) (patternOf s p)
+pub pattern-there : (s : List ℕ) (start p : ℕ) → start ≡ patternsAt s → patternFrom s (start + patternSize * p) ≡ patternOf s p
 unfolding patternKind patternZero patternA patternFirst patternCount
-pattern-there s start p a first count e ea ef ec = rw (ea, ef, ec, e)
+pattern-there s start p e = rw e
 
 pub root-there : (s : List ℕ) (start c : ℕ) → start ≡ clausesAt s → wordAt s (start + clauseSize * c) ≡ root s c
 unfolding root

@@ -4,7 +4,7 @@ use mathlib.Core.Bool.{Bool, true, false}
 use mathlib.Core.List.{List, [], _∷_, _++_, append-assoc}
 use Prim.Native.Nat.{ℕ, _+_, _-_, _≤_, _<_}
 use native.Mathlib.Omega.{arith}
-use lib.ListN.{length, length-append, replicate, length-replicate}
+use lib.ListN.{length, length-append}
 use Rattle.words.specs.Words.{pick}
 use Rattle.rules.specs.SheetFile.{patterns, clauses, patternKind, patternFirst, patternCount, child, root}
 use Rattle.rules.specs.Patterns.{patternKindOf}
@@ -12,10 +12,9 @@ use Rattle.rules.specs.SheetRefusals.{hasChildren, repeats, nameTwice}
 use Rattle.facts.specs.SheetFacts.{Owns, owned-entry, owned-pattern}
 use Rattle.sheet.specs.declared.Map.{Map}
 use Rattle.sheet.specs.declared.records.Run.{Run}
-use Rattle.sheet.specs.declared.names.Names.{Names}
 use Rattle.sheet.specs.Shape.{childrenFirst, childrenCount, childrenOf}
 use Rattle.sheet.specs.Fitting.{Ready}
-use Rattle.sheet.specs.Names.{ownName, joined, namesIn, held, Adds, Lacks}
+use Rattle.sheet.specs.Names.{ownName, joined, namesIn, Names, inBuffer, held, Adds, Lacks}
 use Rattle.sheet.specs.NamesLaws.{names-open, clause-names, joined-next, joined-end, joined-begin, lacks-all, lacks-less, lacks-nothing}
 use Rattle.sheet.specs.ForestLaws.{names-few}
 
@@ -85,20 +84,15 @@ module _ (s : List ℕ) (m : Map) (ready : Ready s m) (p : ℕ) (h : p < pattern
     collect-ends names start next k l own lacks =
         rw names-are (adds-both names start next (ownName s p) inside own (lacks-nothing start next inside (insideFrom k) lacks (joined-end s (λ j. namesIn s (child s j)) (r .first) (r .count) k l)))
 
--- ---- the names of a clause, from none
-abbrev pub noNames : Names
-noNames = record { found = replicate 192 0; count = 0 }
+-- ---- the names of a clause, from none in a buffer of whatever it holds
+pub clause-room : (s : List ℕ) (m : Map) → Ready s m → (c q : ℕ) → c < clauses s → q ≡ root s c → 0 + length (namesIn s q) ≤ 192
+clause-room s m ready c q h e = omega (arith, names-few s (ready .is-shaped) (ready .is-counted) c h, ap (λ (x : ℕ). length (namesIn s x)) e)
 
-pub clause-room : (s : List ℕ) (m : Map) → Ready s m → (c q : ℕ) → c < clauses s → q ≡ root s c
-    → (length (noNames .found) ≡ 192) × (noNames .count + length (namesIn s q) ≤ 192)
-clause-room s m ready c q h e =
-    (length-replicate {A = ℕ} 192 0, omega (arith, names-few s (ready .is-shaped) (ready .is-counted) c h, ap (λ (x : ℕ). length (namesIn s x)) e))
-
-pub clause-held : (s : List ℕ) (m : Map) → Ready s m → (c q : ℕ) → c < clauses s → q ≡ root s c → (r : Names) → Adds noNames (namesIn s q) r
-    → (length (r .found) ≡ 192) × (r .count ≤ 192) × (repeats (held r) ≡ nameTwice s c)
+pub clause-held : (s : List ℕ) (m : Map) → Ready s m → (c q : ℕ) → c < clauses s → q ≡ root s c → (l : List ℕ) → length l ≡ 192 → (r : Names)
+    → Adds (inBuffer l 0) (namesIn s q) r → (length (r .found) ≡ 192) × (r .count ≤ 192) × (repeats (held r) ≡ nameTwice s c)
 unfolding nameTwice
-clause-held s m ready c q h e r a = (
-  a .kept ∙ length-replicate {A = ℕ} 192 0,
+clause-held s m ready c q h e l long r a = (
+  a .kept ∙ long,
   omega (arith, a .counted, names-few s (ready .is-shaped) (ready .is-counted) c h, ap (λ (x : ℕ). length (namesIn s x)) e),
   ap repeats (a .holds ∙ ap (namesIn s) e ∙ sym (clause-names s (ready .is-shaped) c h)),
 )

@@ -38,6 +38,7 @@ pub record RootsMet (s l : List ℕ) : Type 0 where
   pub roots-met : (p : ℕ) → getD l p 0 ≡ times (isRoot s p) 0 (clauses s)
 
 pub record AllMet (s l : List ℕ) : Type 0 where
+  pub long : length l ≡ 192
   pub all-met : (p : ℕ) → getD l p 0 ≡ times (isRoot s p) 0 (clauses s) + times (isEntry s p) 0 (children s)
 
 -- a loop of n turns met thing k in each turn of which `meets k` holds, after `base k` times before; c turns are done

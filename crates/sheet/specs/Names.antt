@@ -8,7 +8,6 @@ use Rattle.words.specs.Words.{textAt}
 use Rattle.rules.specs.Limits.{patternsMost}
 use Rattle.rules.specs.SheetFile.{patternKind, patternA, child}
 use Rattle.rules.specs.Patterns.{PatternKind, Discard, Variable, Assign, Integer, ByteString, ListOfAll, ListWithRest, Constructor, Pair, Tuple, Unknown, patternKindOf}
-use Rattle.sheet.specs.declared.names.Names.{Names}
 use Rattle.sheet.specs.Shape.{childrenFirst, childrenCount}
 
 -- a pattern's own name, if its kind has one
@@ -41,7 +40,15 @@ namesTo (suc deep) s p = ownName s p ++ joined (λ j. namesTo deep s (child s j)
 unfoldable pub namesIn : List ℕ → ℕ → List ℕ
 namesIn s p = namesTo patternsMost s p
 
--- ---- names collected in a struct
+-- ---- names collected in a buffer
+-- the buffer, and how many names it has
+pub record Names : Type 0 where
+  pub found : List ℕ
+  pub count : ℕ
+
+abbrev pub inBuffer : List ℕ → ℕ → Names
+inBuffer l n = record { found = l; count = n }
+
 -- what it holds
 abbrev pub held : Names → List ℕ
 held h = textAt (h .found) 0 (h .count)

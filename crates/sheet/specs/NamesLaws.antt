@@ -1,4 +1,4 @@
--- The names by number are the names of the pattern, and how a struct of names grows.
+-- The names by number are the names of the pattern, and how a buffer of names grows.
 -- Rests on the law by which a pattern opens one level.
 use mathlib.Core.Path.{_≡_, refl, ap, ap₂, sym, _∙_}
 use mathlib.Core.Bool.{Bool, true, false, not}
@@ -20,11 +20,10 @@ use Rattle.facts.specs.KindsLaws.{pattern-byte}
 use Rattle.facts.specs.SheetFacts.{Counted, Shaped, Owns, owned-pattern}
 use Rattle.facts.specs.PatternsLaws.{pattern-open}
 use Rattle.sheet.specs.declared.records.PatternRecord.{PatternRecord}
-use Rattle.sheet.specs.declared.names.Names.{Names}
 use Rattle.sheet.specs.Records.{patternOf}
 use Rattle.sheet.specs.Shape.{childrenFirst, childrenCount}
 use Rattle.sheet.specs.TextsLaws.{text-cons}
-use Rattle.sheet.specs.Names.{nameOfKind, ownName, joined, namesTo, namesIn, held, Adds, Lacks}
+use Rattle.sheet.specs.Names.{nameOfKind, ownName, joined, namesTo, namesIn, Names, inBuffer, held, Adds, Lacks}
 
 -- ---- lists joined
 pub joined-same : (f g : ℕ → List ℕ) (i n : ℕ) → ((k : ℕ) → i ≤ k → k < i + n → f k ≡ g k) → joined f i n ≡ joined g i n
@@ -108,9 +107,9 @@ module _ (s : List ℕ) (sh : Shaped s) where
   unfolding clausePattern
   clause-names c h = names-in (root s c) _ (sh .root-pattern c h)
 
--- ---- a struct of names that grows
+-- ---- a buffer of names that grows
 pub adds-one : (h : Names) (x : ℕ) → length (h .found) ≡ 192 → h .count < 192
-    → Adds h (x ∷ []) (record { found = set (h .found) (h .count) x; count = h .count + 1 })
+    → Adds h (x ∷ []) (inBuffer (set (h .found) (h .count) x) (h .count + 1))
 adds-one h x long few = record {
   kept = length-set (h .found) (h .count) x;
   counted = refl;

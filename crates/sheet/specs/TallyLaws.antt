@@ -34,9 +34,9 @@ module _ (s : List ℕ) where
   roots-begin none = tally-begins (isRoot s) (λ p. 0) (clauses s) (none .long) (none .none-met)
 
   module _ (c r : ℕ) {l : List ℕ} (h : c < clauses s) (e : r ≡ root s c) (t : RootTally s c l) where
-    pub root-room-to-meet : Counted s → RootsKnown s → (r < 192) × (length l ≡ 192) × (getD l r 0 < 255)
+    pub root-room-to-meet : Counted s → RootsKnown s → (r < length l) × (getD l r 0 < 255)
     root-room-to-meet few known =
-        (omega (arith, e, known .root-known c h, few .patterns-most), t .long, omega (arith, tally-most (isRoot s) (λ p. 0) (clauses s) c r t, few .clauses-most))
+        (omega (arith, e, known .root-known c h, few .patterns-most, t .long), omega (arith, tally-most (isRoot s) (λ p. 0) (clauses s) c r t, few .clauses-most))
 
     pub roots-go-on : {l' : List ℕ} → Meets r 1 l l' → RootTally s (c + 1) l'
     unfolding isRoot
@@ -54,16 +54,16 @@ module _ (s : List ℕ) where
   entries-begin met = tally-begins (isEntry s) (λ p. times (isRoot s p) 0 (clauses s)) (children s) (met .long) (met .roots-met)
 
   module _ (j q : ℕ) {l : List ℕ} (h : j < children s) (e : q ≡ child s j) (t : EntryTally s j l) where
-    pub entry-room-to-meet : Counted s → ChildrenKnown s → (q < 192) × (length l ≡ 192) × (getD l q 0 < 255)
+    pub entry-room-to-meet : Counted s → ChildrenKnown s → (q < length l) × (getD l q 0 < 255)
     entry-room-to-meet few known =
-        (omega (arith, e, known .child-known j h, few .patterns-most), t .long, omega (arith, tally-most (isEntry s) (λ p. times (isRoot s p) 0 (clauses s)) (children s) j q t, times-most (isRoot s q) 0 (clauses s), few .clauses-most, few .children-most))
+        (omega (arith, e, known .child-known j h, few .patterns-most, t .long), omega (arith, tally-most (isEntry s) (λ p. times (isRoot s p) 0 (clauses s)) (children s) j q t, times-most (isRoot s q) 0 (clauses s), few .clauses-most, few .children-most))
 
     pub entries-go-on : {l' : List ℕ} → Meets q 1 l l' → EntryTally s (j + 1) l'
     unfolding isEntry
     entries-go-on f = tally-goes-on (isEntry s) (λ p. times (isRoot s p) 0 (clauses s)) (children s) j q 1 h t f (λ k. among-one q k ∙ ap (λ (x : ℕ). pick (eqb x k) 1 0) e)
 
   pub entries-done : (j : ℕ) {l : List ℕ} → children s ≤ j → EntryTally s j l → AllMet s l
-  entries-done j h t = record { all-met = tally-ends (isEntry s) (λ p. times (isRoot s p) 0 (clauses s)) (children s) j h t }
+  entries-done j h t = record { long = t .long; all-met = tally-ends (isEntry s) (λ p. times (isRoot s p) 0 (clauses s)) (children s) j h t }
 
   pub stand-once : (m : Map) {l : List ℕ} → m ≡ mapOf s → AllMet s l → metOnce l (m .counts .patterns) ≡ every (standsOnce s) 0 (patterns s)
   unfolding metOnce standsOnce

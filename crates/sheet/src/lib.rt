@@ -3,12 +3,13 @@
 //
 // Cost: every record and entry is read a fixed number of times, and the whole is linear in the sheet but for what 01 implies: texts
 // may overlap in the pool, so that a byte is read once for each integer that has it (at most 192, of at most 64 bytes each), and
-// each name of a clause is looked for among those after it. What 01 asks of each pattern and each entry (refusal 8) is counted in an
-// array, not searched for. Calls go at most 12 levels deep for the depth, and at most one level for each pattern and each entry in
+// each name of a clause is looked for among those after it. What 01 asks of each pattern and each entry (refusal 8) is counted in a
+// buffer, not searched for; that buffer and the one for the names of a clause are lent on, so that nothing is copied for a pattern,
+// an entry or a name. Calls go at most 12 levels deep for the depth, and at most one level for each pattern and each entry in
 // fitting, where 192 less the pattern number falls.
 mod fitting;
 mod layout;
-mod limits;
+pub mod limits;
 mod names;
 pub mod records;
 mod shape;

@@ -1,7 +1,8 @@
-// Refusal 11: a clause binds no name twice. The names of a clause are collected from left to right, and each is looked for among
-// those after it.
+// Refusal 11: a clause binds no name twice. The names of a clause are collected from left to right, in one buffer that is lent on
+// with the number of names in it, and each is looked for among those after it.
 use crate::Found;
 use crate::Map;
+use crate::limits::PATTERNS_MOST;
 use crate::records::child_at;
 use crate::records::children_of;
 use crate::records::pattern_at;
@@ -15,64 +16,56 @@ ghost use Rattle.rules.specs.SheetFile.{patterns, clauses};
 ghost use Rattle.rules.specs.SheetRefusals.{isIn, repeats as Repeats, nameTwice, lowestNameTwice};
 ghost use Rattle.sheet.specs.Found.{foundOf};
 ghost use Rattle.sheet.specs.Fitting.{Ready};
-ghost use Rattle.sheet.specs.Names.{ownName, namesIn, held, Adds};
-
-struct Names {
-    found: [u16; 192],
-    count: usize,
-}
+ghost use Rattle.sheet.specs.Names.{ownName, namesIn, inBuffer, held, Adds};
 
 // One name more.
-fn add(names: Names, x: u16) -> Names
-    requires { ⌜ (length (names .found) ≡ 192) × (names .count < 192) ⌝ }
-    ensures { λ r. ⌜ Adds names (x ∷ []) r ⌝ }
+fn add(found: &mut [u16], count: usize, x: u16) -> usize
+    requires { ⌜ (length (now found) ≡ 192) × (count < 192) ⌝ }
+    ensures { λ r. ⌜ Adds (inBuffer (now (found .entry)) count) (x ∷ []) (inBuffer (now (found .exit)) r) ⌝ }
 {
-    let at = names.count;
-    let mut next = names;
-    next.found[at] = x;
-    next.count = at + 1;
-    next
+    found[count] = x;
+    count + 1
 }
 
 // The name of pattern p itself, if it has one.
-fn add_own(s: &[u8], m: Map, p: usize, names: Names) -> Names
+fn add_own(s: &[u8], m: Map, p: usize, found: &mut [u16], count: usize) -> usize
     requires { ⌜ Ready (now s) m × (p < patterns (now s)) ⌝ }
-    requires { ⌜ (length (names .found) ≡ 192) × (names .count + length (ownName (now s) p) ≤ 192) ⌝ }
-    ensures { λ r. ⌜ Adds names (ownName (now (s .entry)) p) r ⌝ }
+    requires { ⌜ (length (now found) ≡ 192) × (count + length (ownName (now s) p) ≤ 192) ⌝ }
+    ensures { λ r. ⌜ Adds (inBuffer (now (found .entry)) count) (ownName (now (s .entry)) p) (inBuffer (now (found .exit)) r) ⌝ }
 {
     let r = pattern_at(s, m, p);
     let kind = r.kind;
     match kind {
-        1 => add(names, r.a as u16),
-        2 => add(names, r.a as u16),
-        _ => names,
+        1 => add(found, count, r.a as u16),
+        2 => add(found, count, r.a as u16),
+        _ => count,
     }
 }
 
 // The names of pattern p and of what is inside it.
-fn collect(s: &[u8], m: Map, p: usize, names: Names) -> Names
+fn collect(s: &[u8], m: Map, p: usize, found: &mut [u16], count: usize) -> usize
     requires { ⌜ Ready (now s) m × (p < patterns (now s)) ⌝ }
-    requires { ⌜ (length (names .found) ≡ 192) × (names .count + length (namesIn (now s) p) ≤ 192) ⌝ }
-    ensures { λ r. ⌜ Adds names (namesIn (now (s .entry)) p) r ⌝ }
+    requires { ⌜ (length (now found) ≡ 192) × (count + length (namesIn (now s) p) ≤ 192) ⌝ }
+    ensures { λ r. ⌜ Adds (inBuffer (now (found .entry)) count) (namesIn (now (s .entry)) p) (inBuffer (now (found .exit)) r) ⌝ }
 {
-    let mut next = add_own(s, m, p, names);
+    let mut next = add_own(s, m, p, found, count);
     let run = children_of(s, m, p);
     let mut k: usize = 0;
     while k < run.count {
-        next = collect(s, m, child_at(s, m, run.first + k), next);
+        next = collect(s, m, child_at(s, m, run.first + k), found, next);
         k += 1;
     }
     next
 }
 
 // The name at i is among those after it.
-fn again(names: Names, i: usize) -> bool
-    requires { ⌜ (length (names .found) ≡ 192) × (names .count ≤ 192) × (i < names .count) ⌝ }
-    ensures { λ r. ⌜ r ≡ isIn (getD (names .found) i 0) (textAt (names .found) (i + 1) (names .count - (i + 1))) ⌝ }
+fn again(found: &[u16], count: usize, i: usize) -> bool
+    requires { ⌜ (length (now found) ≡ 192) × (count ≤ 192) × (i < count) ⌝ }
+    ensures { λ r. ⌜ r ≡ isIn (getD (now (found .entry)) i 0) (textAt (now (found .entry)) (i + 1) (count - (i + 1))) ⌝ }
 {
     let mut k = i + 1;
-    while k < names.count {
-        if names.found[i] == names.found[k] {
+    while k < count {
+        if found[i] == found[k] {
             return true;
         }
         k += 1;
@@ -80,13 +73,13 @@ fn again(names: Names, i: usize) -> bool
     false
 }
 
-fn repeats(names: Names) -> bool
-    requires { ⌜ (length (names .found) ≡ 192) × (names .count ≤ 192) ⌝ }
-    ensures { λ r. ⌜ r ≡ Repeats (held names) ⌝ }
+fn repeats(found: &[u16], count: usize) -> bool
+    requires { ⌜ (length (now found) ≡ 192) × (count ≤ 192) ⌝ }
+    ensures { λ r. ⌜ r ≡ Repeats (held (inBuffer (now (found .entry)) count)) ⌝ }
 {
     let mut i: usize = 0;
-    while i < names.count {
-        if again(names, i) {
+    while i < count {
+        if again(found, count, i) {
             return true;
         }
         i += 1;
@@ -94,15 +87,13 @@ fn repeats(names: Names) -> bool
     false
 }
 
-fn name_twice(s: &[u8], m: Map, c: usize) -> bool
-    requires { ⌜ Ready (now s) m × (c < clauses (now s)) ⌝ }
+// What the buffer holds before does not matter.
+fn name_twice(s: &[u8], m: Map, c: usize, found: &mut [u16]) -> bool
+    requires { ⌜ Ready (now s) m × (c < clauses (now s)) × (length (now found) ≡ 192) ⌝ }
     ensures { λ r. ⌜ r ≡ nameTwice (now (s .entry)) c ⌝ }
 {
-    let none = Names {
-        found: [0; 192],
-        count: 0,
-    };
-    repeats(collect(s, m, root_at(s, m, c), none))
+    let count = collect(s, m, root_at(s, m, c), found, 0);
+    repeats(found, count)
 }
 
 // 11.
@@ -110,9 +101,10 @@ pub(crate) fn lowest_name_twice(s: &[u8], m: Map) -> Found
     requires { ⌜ Ready (now s) m ⌝ }
     ensures { λ r. ⌜ r ≡ foundOf (lowestNameTwice (now (s .entry))) ⌝ }
 {
+    let mut found = [0u16; PATTERNS_MOST];
     let mut c: usize = 0;
     while c < m.counts.clauses {
-        if name_twice(s, m, c) {
+        if name_twice(s, m, c, &mut found) {
             return Found::At(c as u16);
         }
         c += 1;

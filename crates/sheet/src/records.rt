@@ -66,7 +66,8 @@ fn run_from(s: &[u8], at: usize) -> Run
     Run { first, count }
 }
 
-fn pattern_from(s: &[u8], at: usize) -> PatternRecord
+// The pattern whose record stands at a place of the slice.
+pub fn pattern_from(s: &[u8], at: usize) -> PatternRecord
     requires { ⌜ at + patternSize ≤ length (now s) ⌝ }
     ensures { λ r. ⌜ r ≡ patternFrom (now (s .entry)) at ⌝ }
 {

@@ -1,6 +1,9 @@
 // Refusal 8, what is counted: each entry is in one pattern's list, and each pattern is one clause's root or one entry.
-// Things are met and counted in an array, so that no section is searched once for each pattern.
+// Things are met and counted in a buffer of 192 bytes that is lent on, so that no section is searched once for each pattern and
+// nothing is copied.
 use crate::Map;
+use crate::limits::CHILDREN_MOST;
+use crate::limits::PATTERNS_MOST;
 use crate::records::child_at;
 use crate::records::children_of;
 use crate::records::root_at;
@@ -16,19 +19,14 @@ ghost use Rattle.sheet.specs.Sections.{mapOf};
 ghost use Rattle.sheet.specs.Shape.{listedOnce, ChildrenKnown, RootsKnown, RunsInside};
 ghost use Rattle.sheet.specs.Meeting.{noneMet, metOnce, Meets, NoneMet, RootsMet, AllMet};
 
-// How often each of 192 things was met.
-struct Met {
-    times: [u8; 192],
-}
-
 // None of `count` things from `first` on was met.
-fn none_met(met: Met, first: usize, count: usize) -> bool
-    requires { ⌜ first + count ≤ 192 ⌝ }
-    ensures { λ r. ⌜ r ≡ noneMet (met .times) first count ⌝ }
+fn none_met(times: &[u8], first: usize, count: usize) -> bool
+    requires { ⌜ first + count ≤ length (now times) ⌝ }
+    ensures { λ r. ⌜ r ≡ noneMet (now (times .entry)) first count ⌝ }
 {
     let mut k: usize = 0;
     while k < count {
-        if met.times[first + k] != 0 {
+        if times[first + k] != 0 {
             return false;
         }
         k += 1;
@@ -37,37 +35,33 @@ fn none_met(met: Met, first: usize, count: usize) -> bool
 }
 
 // One thing met once more.
-fn meet(met: Met, i: usize) -> Met
-    requires { ⌜ (i < 192) × (length (met .times) ≡ 192) × (getD (met .times) i 0 < 255) ⌝ }
-    ensures { λ r. ⌜ Meets i 1 (met .times) (r .times) ⌝ }
+fn meet(times: &mut [u8], i: usize)
+    requires { ⌜ (i < length (now times)) × (getD (now times) i 0 < 255) ⌝ }
+    ensures { λ _. ⌜ Meets i 1 (now (times .entry)) (now (times .exit)) ⌝ }
 {
-    let mut next = met;
-    next.times[i] = next.times[i] + 1;
-    next
+    times[i] = times[i] + 1;
 }
 
 // `count` things from `first` on, none met before, met once.
-fn meet_all(met: Met, first: usize, count: usize) -> Met
-    requires { ⌜ (first + count ≤ 192) × (length (met .times) ≡ 192) × (noneMet (met .times) first count ≡ true) ⌝ }
-    ensures { λ r. ⌜ Meets first count (met .times) (r .times) ⌝ }
+fn meet_all(times: &mut [u8], first: usize, count: usize)
+    requires { ⌜ (first + count ≤ length (now times)) × (noneMet (now times) first count ≡ true) ⌝ }
+    ensures { λ _. ⌜ Meets first count (now (times .entry)) (now (times .exit)) ⌝ }
 {
-    let mut next = met;
     let mut k: usize = 0;
     while k < count {
-        next = meet(next, first + k);
+        meet(times, first + k);
         k += 1;
     }
-    next
 }
 
 // Each of the first n things was met once.
-fn all_met_once(met: Met, n: usize) -> bool
-    requires { ⌜ n ≤ 192 ⌝ }
-    ensures { λ r. ⌜ r ≡ metOnce (met .times) n ⌝ }
+fn all_met_once(times: &[u8], n: usize) -> bool
+    requires { ⌜ n ≤ length (now times) ⌝ }
+    ensures { λ r. ⌜ r ≡ metOnce (now (times .entry)) n ⌝ }
 {
     let mut i: usize = 0;
     while i < n {
-        if met.times[i] != 1 {
+        if times[i] != 1 {
             return false;
         }
         i += 1;
@@ -80,45 +74,41 @@ pub(crate) fn entries_listed_once(s: &[u8], m: Map) -> bool
     requires { ⌜ Laid (now s) × (m ≡ mapOf (now s)) × Counted (now s) × RunsInside (now s) ⌝ }
     ensures { λ r. ⌜ r ≡ every (listedOnce (now (s .entry))) 0 (children (now (s .entry))) ⌝ }
 {
-    let mut met = Met { times: [0; 192] };
+    let mut times = [0u8; CHILDREN_MOST];
     let mut p: usize = 0;
     while p < m.counts.patterns {
         let run = children_of(s, m, p);
-        if !none_met(met, run.first, run.count) {
+        if !none_met(&times, run.first, run.count) {
             return false;
         }
-        met = meet_all(met, run.first, run.count);
+        meet_all(&mut times, run.first, run.count);
         p += 1;
     }
-    all_met_once(met, m.counts.children)
+    all_met_once(&times, m.counts.children)
 }
 
 // Each root met.
-fn meet_roots(s: &[u8], m: Map, met: Met) -> Met
-    requires { ⌜ Laid (now s) × (m ≡ mapOf (now s)) × Counted (now s) × RootsKnown (now s) × NoneMet (met .times) ⌝ }
-    ensures { λ r. ⌜ RootsMet (now (s .entry)) (r .times) ⌝ }
+fn meet_roots(s: &[u8], m: Map, times: &mut [u8])
+    requires { ⌜ Laid (now s) × (m ≡ mapOf (now s)) × Counted (now s) × RootsKnown (now s) × NoneMet (now times) ⌝ }
+    ensures { λ _. ⌜ RootsMet (now (s .entry)) (now (times .exit)) ⌝ }
 {
-    let mut next = met;
     let mut c: usize = 0;
     while c < m.counts.clauses {
-        next = meet(next, root_at(s, m, c));
+        meet(times, root_at(s, m, c));
         c += 1;
     }
-    next
 }
 
 // Each entry of the child list met, after the roots.
-fn meet_children(s: &[u8], m: Map, met: Met) -> Met
-    requires { ⌜ Laid (now s) × (m ≡ mapOf (now s)) × Counted (now s) × ChildrenKnown (now s) × RootsMet (now s) (met .times) ⌝ }
-    ensures { λ r. ⌜ AllMet (now (s .entry)) (r .times) ⌝ }
+fn meet_children(s: &[u8], m: Map, times: &mut [u8])
+    requires { ⌜ Laid (now s) × (m ≡ mapOf (now s)) × Counted (now s) × ChildrenKnown (now s) × RootsMet (now s) (now times) ⌝ }
+    ensures { λ _. ⌜ AllMet (now (s .entry)) (now (times .exit)) ⌝ }
 {
-    let mut next = met;
     let mut j: usize = 0;
     while j < m.counts.children {
-        next = meet(next, child_at(s, m, j));
+        meet(times, child_at(s, m, j));
         j += 1;
     }
-    next
 }
 
 // Each pattern is one clause's root or one entry.
@@ -126,8 +116,8 @@ pub(crate) fn patterns_stand_once(s: &[u8], m: Map) -> bool
     requires { ⌜ Laid (now s) × (m ≡ mapOf (now s)) × Counted (now s) × RootsKnown (now s) × ChildrenKnown (now s) ⌝ }
     ensures { λ r. ⌜ r ≡ every (standsOnce (now (s .entry))) 0 (patterns (now (s .entry))) ⌝ }
 {
-    let none = Met { times: [0; 192] };
-    let roots = meet_roots(s, m, none);
-    let all = meet_children(s, m, roots);
-    all_met_once(all, m.counts.patterns)
+    let mut times = [0u8; PATTERNS_MOST];
+    meet_roots(s, m, &mut times);
+    meet_children(s, m, &mut times);
+    all_met_once(&times, m.counts.patterns)
 }

@@ -1,8 +1,8 @@
 -- `panel::shape::shape_fits` meets its contract: the pass answers what the rules of the shape say.
 use native.Mathlib.Omega.{arith}
-use borrow.Author.Needs.{needs}
-use Rattle.panel.specs.Shape.{atRoot}
+use Rattle.panel.specs.Shape.{seen, atRoot}
 use Rattle.panel.specs.ShapeAnswer.{count-wrong, count-right}
+use borrow.Author.Needs.{needs}
 use Rattle.panel.proofs.shape.shape_fits.Statement.{statement}
 use Rattle.panel.proofs.shape.shape_fits.Tie as tie
 
@@ -18,16 +18,26 @@ returns c =
 array-write-depths : tie.Need-array-write-depths
 array-write-depths c = search needs
 
+slice-aggregate-enter-records : tie.Need-slice-aggregate-enter-records
+slice-aggregate-enter-records c = search needs
+
 enter-records-requires : tie.Need-enter-records-requires
 enter-records-requires c κs = search needs
 
 returns-2 : tie.Need-returns-2
 unfolding atRoot
 returns-2 c =
-    let o = c .before .before .before .before .before .pre in
-    count-right (c .before .before .before .before .before .args .v .now) (o .laid .some-record) (o .laid .records-most) (omega (arith, o .parts-are, o .records-are, c .before .if1 .left))
-    (c .enter-records .result) (c .enter-records .ensures)
+    let o = c .before .before .before .before .before .before .before .pre in
+    let pass = c .before .enter-records in
+    count-right (c .before .before .before .before .before .before .before .args .v .now) (o .laid .some-record) (o .laid .records-most) (omega (arith, o .parts-are, o .records-are, c .before .before .before .if1 .left)) (seen (pass .last .1 .1 .0) (pass .result)) (pass .ensures)
 
 pub shape-fits-spec : {M : Type 1} → statement M
 shape-fits-spec =
-    tie.close (tie.spec add-if1 returns array-write-depths enter-records-requires returns-2)
+    tie.close
+    (tie.spec
+    add-if1
+    returns
+    array-write-depths
+    slice-aggregate-enter-records
+    enter-records-requires
+    returns-2)

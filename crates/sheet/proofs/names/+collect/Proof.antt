@@ -1,10 +1,11 @@
-use borrow.Author.Needs.{needs}
-use Prim.Native.Nat.{_+_, _-_, _≤_, ℕ, _<_}
+use mathlib.Core.Path.{_∙_}
 use native.Mathlib.Omega.{arith}
 use Rattle.rules.specs.SheetFile.{child}
 use Rattle.facts.specs.SheetFacts.{owned-entry}
-use Rattle.sheet.specs.Names.{joined, namesIn, Lacks}
+use Rattle.sheet.specs.Names.{joined, namesIn, inBuffer, Lacks}
 use Rattle.sheet.specs.CollectLaws.{run-owned, own-room, collect-begins, child-known, collect-room, collect-goes-on, collect-ends}
+use borrow.Author.Needs.{needs}
+use Prim.Native.Nat.{ℕ, _+_, _-_, _≤_, _<_}
 use borrow.Fn.Kinds.{In}
 use borrow.Fn.PlainCycle.{Measures, is, falls, and}
 use Rattle.sheet.proofs.names.collect.Reads as collect
@@ -16,20 +17,20 @@ use Rattle.sheet.proofs.records.children_of.Reads as children-of-reads
 use Rattle.sheet.proofs.names.+collect.{statement}
 use Rattle.sheet.proofs.names.+collect.Tie.{close}
 
-abbrev μ-collect : Measures 1 collect-kinds.ps ℕ
+abbrev μ-collect : Measures 2 collect-kinds.ps ℕ
 μ-collect κs a = 192 - a .1 .1 .0
 
-abbrev collect-at : ℕ → In 1 collect-kinds.ps
-collect-at t = and 1 collect-kinds.ps (is 1 collect-kinds.ps μ-collect t) collect.Pre
+abbrev collect-at : ℕ → In 2 collect-kinds.ps
+collect-at t = and 2 collect-kinds.ps (is 2 collect-kinds.ps μ-collect t) collect.Pre
 
-abbrev collect-below : ℕ → In 1 collect-kinds.ps
-collect-below t = and 1 collect-kinds.ps (falls 1 collect-kinds.ps _<_ μ-collect t) collect.Pre
+abbrev collect-below : ℕ → In 2 collect-kinds.ps
+collect-below t = and 2 collect-kinds.ps (falls 2 collect-kinds.ps _<_ μ-collect t) collect.Pre
 
 abbrev collect-Inv-loop : collect-lts.InvT-loop
-collect-Inv-loop s m p next₀ run k₀ next k = (k ≤ run .count) × Lacks next₀ (joined (λ j. namesIn s (child s j)) (run .first) (run .count)) next (joined (λ j. namesIn s (child s j)) (run .first + k) (run .count - k))
+collect-Inv-loop s m p found₀ count next₀ run k₀ found next k = (k ≤ run .count) × Lacks (inBuffer found₀ next₀) (joined (λ j. namesIn s (child s j)) (run .first) (run .count)) (inBuffer found next) (joined (λ j. namesIn s (child s j)) (run .first + k) (run .count - k))
 
 abbrev collect-μ-loop : collect-lts.MeasureT-loop
-collect-μ-loop s m p next₀ run k₀ next k = run .count - k
+collect-μ-loop s m p found₀ count next₀ run k₀ found next k = run .count - k
 
 collect-add-own-requires : (t : ℕ) → collect-lts.Need-add-own-requires (
   add-own-reads.Asked,
@@ -41,7 +42,7 @@ collect-add-own-requires : (t : ℕ) → collect-lts.Need-add-own-requires (
   collect-below t,
   collect.Post,
 ) (collect-at t) collect.Post collect-Inv-loop collect-μ-loop
-collect-add-own-requires t c κs = ((c .before .pre .1 .0 .0, c .before .pre .1 .0 .1), (c .before .pre .1 .1 .0, own-room (c .before .args .s .now) (c .before .args .m) (c .before .pre .1 .0 .0) (c .before .args .p) (c .before .pre .1 .0 .1) (c .before .args .names .count) (c .before .pre .1 .1 .1)))
+collect-add-own-requires t c κs = let a = c .before .before .before in ((a .pre .1 .0 .0, a .pre .1 .0 .1), (a .pre .1 .1 .0, own-room (a .args .s .now) (a .args .m) (a .pre .1 .0 .0) (a .args .p) (a .pre .1 .0 .1) (a .args .count) (a .pre .1 .1 .1)))
 
 collect-children-of-requires : (t : ℕ) → collect-lts.Need-children-of-requires (
   add-own-reads.Asked,
@@ -53,7 +54,7 @@ collect-children-of-requires : (t : ℕ) → collect-lts.Need-children-of-requir
   collect-below t,
   collect.Post,
 ) (collect-at t) collect.Post collect-Inv-loop collect-μ-loop
-collect-children-of-requires t c κs = (c .before .before .pre .1 .0 .0 .is-laid, c .before .before .pre .1 .0 .0 .is-map, c .before .before .pre .1 .0 .1)
+collect-children-of-requires t c κs = let a = c .before .before .before .before .before .before in (a .pre .1 .0 .0 .is-laid, a .pre .1 .0 .0 .is-map, a .pre .1 .0 .1)
 
 collect-loop-holds : (t : ℕ) → collect-lts.Need-loop-holds (
   add-own-reads.Asked,
@@ -65,7 +66,9 @@ collect-loop-holds : (t : ℕ) → collect-lts.Need-loop-holds (
   collect-below t,
   collect.Post,
 ) (collect-at t) collect.Post collect-Inv-loop collect-μ-loop
-collect-loop-holds t c = (omega arith, collect-begins (c .before .before .before .args .s .now) (c .before .before .before .args .m) (c .before .before .before .pre .1 .0 .0) (c .before .before .before .args .p) (c .before .before .before .pre .1 .0 .1) (c .children-of .result) (c .children-of .ensures) (c .before .add-own .result))
+collect-loop-holds t c =
+    let a = c .before .before .before .before .before .before .before in
+    (omega arith, collect-begins (a .args .s .now) (a .args .m) (a .pre .1 .0 .0) (a .args .p) (a .pre .1 .0 .1) (c .children-of .result) (c .children-of .ensures) (inBuffer (c .before .before .before .add-own .last .1 .1 .1 .0) (c .before .before .before .add-own .result)))
 
 collect-add-child-at : (t : ℕ) → collect-lts.Need-add-child-at (
   add-own-reads.Asked,
@@ -77,7 +80,11 @@ collect-add-child-at : (t : ℕ) → collect-lts.Need-add-child-at (
   collect-below t,
   collect.Post,
 ) (collect-at t) collect.Post collect-Inv-loop collect-μ-loop
-collect-add-child-at t c = omega (arith, owned-entry (c .before .before .before .before .before .before .before .pre .1 .0 .0 .is-shaped) (c .before .before .before .before .before .before .before .args .p) (c .before .before .before .before .children-of .result .first + c .before .before .before .loop .k) (c .before .before .before .before .before .before .before .pre .1 .0 .1) (run-owned (c .before .before .before .before .before .before .before .args .s .now) (c .before .before .before .before .before .before .before .args .p) (c .before .before .before .before .children-of .result) (c .before .before .before .before .children-of .ensures) (c .before .before .before .loop .k) (c .before .if1 .taken)), c .before .before .before .before .before .before .before .pre .1 .0 .0 .is-counted .children-most)
+collect-add-child-at t c =
+    let a = c .before .before .before .before .before .before .before .before .before .before .before in
+    let r = c .before .before .before .before .children-of in
+    let known = owned-entry (a .pre .1 .0 .0 .is-shaped) (a .args .p) (r .result .first + c .before .before .before .loop .k) (a .pre .1 .0 .1) (run-owned (a .args .s .now) (a .args .p) (r .result) (r .ensures) (c .before .before .before .loop .k) (c .before .if1 .taken)) in
+    omega (arith, known, a .pre .1 .0 .0 .is-counted .children-most)
 
 collect-child-at-requires : (t : ℕ) → collect-lts.Need-child-at-requires (
   add-own-reads.Asked,
@@ -89,7 +96,10 @@ collect-child-at-requires : (t : ℕ) → collect-lts.Need-child-at-requires (
   collect-below t,
   collect.Post,
 ) (collect-at t) collect.Post collect-Inv-loop collect-μ-loop
-collect-child-at-requires t c κs = (c .before .before .before .before .before .before .before .pre .1 .0 .0 .is-laid, c .before .before .before .before .before .before .before .pre .1 .0 .0 .is-map, owned-entry (c .before .before .before .before .before .before .before .pre .1 .0 .0 .is-shaped) (c .before .before .before .before .before .before .before .args .p) (c .before .before .before .before .children-of .result .first + c .before .before .before .loop .k) (c .before .before .before .before .before .before .before .pre .1 .0 .1) (run-owned (c .before .before .before .before .before .before .before .args .s .now) (c .before .before .before .before .before .before .before .args .p) (c .before .before .before .before .children-of .result) (c .before .before .before .before .children-of .ensures) (c .before .before .before .loop .k) (c .before .if1 .taken)))
+collect-child-at-requires t c κs =
+    let a = c .before .before .before .before .before .before .before .before .before .before .before in
+    let r = c .before .before .before .before .children-of in
+    (a .pre .1 .0 .0 .is-laid, a .pre .1 .0 .0 .is-map, owned-entry (a .pre .1 .0 .0 .is-shaped) (a .args .p) (r .result .first + c .before .before .before .loop .k) (a .pre .1 .0 .1) (run-owned (a .args .s .now) (a .args .p) (r .result) (r .ensures) (c .before .before .before .loop .k) (c .before .if1 .taken)))
 
 collect-collect-requires : (t : ℕ) → collect-lts.Need-collect-requires (
   add-own-reads.Asked,
@@ -102,11 +112,20 @@ collect-collect-requires : (t : ℕ) → collect-lts.Need-collect-requires (
   collect.Post,
 ) (collect-at t) collect.Post collect-Inv-loop collect-μ-loop
 collect-collect-requires t c κs =
-    let known = child-known (c .before .before .before .before .before .before .before .before .args .s .now) (c .before .before .before .before .before .before .before .before .args .m) (c .before .before .before .before .before .before .before .before .pre .1 .0 .0) (c .before .before .before .before .before .before .before .before .args .p) (c .before .before .before .before .before .before .before .before .pre .1 .0 .1) (c .before .before .before .before .before .children-of .result) (c .before .before .before .before .before .children-of .ensures) (c .before .before .before .before .before .before .before .before .args .names) (c .before .before .before .before .before .before .add-own .result) (c .before .before .before .before .loop .next) (c .before .before .before .before .loop .k) (c .child-at .result) (c .before .before .if1 .taken) (c .child-at .ensures) (c .before .before .before .before .loop .inv .1) in (
-      omega (arith, c .before .before .before .before .before .before .before .before .pre .0, known, c .before .before .before .before .before .before .before .before .pre .1 .0 .0 .is-counted .patterns-most),
+    let a = c .before .before .before .before .before .before .before .before .before .before .before .before .before in
+    let ok = a .pre .1 .0 .0 in
+    let r = c .before .before .before .before .before .before .children-of in
+    let own = c .before .before .before .before .before .before .before .before .before .add-own in
+    let l = c .before .before .before .before .before .loop in
+    let q = c .before .child-at in
+    let names = inBuffer (a .args .found .now) (a .args .count) in
+    let start = inBuffer (own .last .1 .1 .1 .0) (own .result) in
+    let next = inBuffer (l .found) (l .next) in
+    let known = child-known (a .args .s .now) (a .args .m) ok (a .args .p) (a .pre .1 .0 .1) (r .result) (r .ensures) names start next (l .k) (q .result) (c .before .before .before .if1 .taken) (q .ensures) (l .inv .1) in (
+      omega (arith, a .pre .0, known, ok .is-counted .patterns-most),
       (
-        (c .before .before .before .before .before .before .before .before .pre .1 .0 .0, known .1),
-        collect-room (c .before .before .before .before .before .before .before .before .args .s .now) (c .before .before .before .before .before .before .before .before .args .m) (c .before .before .before .before .before .before .before .before .pre .1 .0 .0) (c .before .before .before .before .before .before .before .before .args .p) (c .before .before .before .before .before .before .before .before .pre .1 .0 .1) (c .before .before .before .before .before .children-of .result) (c .before .before .before .before .before .children-of .ensures) (c .before .before .before .before .before .before .before .before .args .names) (c .before .before .before .before .before .before .add-own .result) (c .before .before .before .before .loop .next) (c .before .before .before .before .loop .k) (c .child-at .result) (c .before .before .if1 .taken) (c .child-at .ensures) (c .before .before .before .before .loop .inv .1) (c .before .before .before .before .before .before .before .before .pre .1 .1 .0) (c .before .before .before .before .before .before .before .before .pre .1 .1 .1) (c .before .before .before .before .before .before .add-own .ensures),
+        (ok, known .1),
+        collect-room (a .args .s .now) (a .args .m) ok (a .args .p) (a .pre .1 .0 .1) (r .result) (r .ensures) names start next (l .k) (q .result) (c .before .before .before .if1 .taken) (q .ensures) (l .inv .1) (a .pre .1 .1 .0) (a .pre .1 .1 .1) (own .ensures),
       ),
     )
 
@@ -132,7 +151,7 @@ collect-loop-less : (t : ℕ) → collect-lts.Need-loop-less (
   collect-below t,
   collect.Post,
 ) (collect-at t) collect.Post collect-Inv-loop collect-μ-loop
-collect-loop-less t c = omega (arith, c .before .before .before .if1 .taken)
+collect-loop-less t c = omega (arith, c .before .before .before .before .before .before .if1 .taken)
 
 collect-loop-again : (t : ℕ) → collect-lts.Need-loop-again (
   add-own-reads.Asked,
@@ -144,7 +163,26 @@ collect-loop-again : (t : ℕ) → collect-lts.Need-loop-again (
   collect-below t,
   collect.Post,
 ) (collect-at t) collect.Post collect-Inv-loop collect-μ-loop
-collect-loop-again t c = (omega (arith, c .before .before .before .if1 .taken), collect-goes-on (c .before .before .before .before .before .before .before .before .before .args .s .now) (c .before .before .before .before .before .before .before .before .before .args .m) (c .before .before .before .before .before .before .before .before .before .pre .1 .0 .0) (c .before .before .before .before .before .before .before .before .before .args .p) (c .before .before .before .before .before .before .before .before .before .pre .1 .0 .1) (c .before .before .before .before .before .before .children-of .result) (c .before .before .before .before .before .before .children-of .ensures) (c .before .before .before .before .before .before .before .before .before .args .names) (c .before .before .before .before .before .before .before .add-own .result) (c .before .before .before .before .before .loop .next) (c .before .before .before .before .before .loop .k) (c .before .child-at .result) (c .before .before .before .if1 .taken) (c .before .child-at .ensures) (c .before .before .before .before .before .loop .inv .1) (c .collect .result) (c .collect .ensures))
+collect-loop-again t c =
+    let a = c .before .before .before .before .before .before .before .before .before .before .before .before .before .before .before .before in
+    let r = c .before .before .before .before .before .before .before .before .before .children-of in
+    let own = c .before .before .before .before .before .before .before .before .before .before .before .before .add-own in
+    let l = c .before .before .before .before .before .before .before .before .loop in
+    let q = c .before .before .before .before .child-at in
+    let more = c .before .before .collect in
+    (omega (arith, c .before .before .before .before .before .before .if1 .taken), collect-goes-on (a .args .s .now) (a .args .m) (a .pre .1 .0 .0) (a .args .p) (a .pre .1 .0 .1) (r .result) (r .ensures) (inBuffer (a .args .found .now) (a .args .count)) (inBuffer (own .last .1 .1 .1 .0) (own .result)) (inBuffer (l .found) (l .next)) (l .k) (q .result) (c .before .before .before .before .before .before .if1 .taken) (q .ensures) (l .inv .1) (inBuffer (more .last .1 .1 .1 .0) (more .result)) (more .ensures))
+
+collect-same-length : (t : ℕ) → collect-lts.Need-same-length (
+  add-own-reads.Asked,
+  add-own-reads.Learnt,
+  children-of-reads.Asked,
+  children-of-reads.Learnt,
+  child-at-reads.Asked,
+  child-at-reads.Learnt,
+  collect-below t,
+  collect.Post,
+) (collect-at t) collect.Post collect-Inv-loop collect-μ-loop
+collect-same-length t c = c .before .before .loop .inv .1 .kept ∙ c .before .before .before .before .before .before .add-own .ensures .kept
 
 collect-returns : (t : ℕ) → collect-lts.Need-returns (
   add-own-reads.Asked,
@@ -156,7 +194,12 @@ collect-returns : (t : ℕ) → collect-lts.Need-returns (
   collect-below t,
   collect.Post,
 ) (collect-at t) collect.Post collect-Inv-loop collect-μ-loop
-collect-returns t c = collect-ends (c .before .before .before .before .before .before .args .s .now) (c .before .before .before .before .before .before .args .m) (c .before .before .before .before .before .before .pre .1 .0 .0) (c .before .before .before .before .before .before .args .p) (c .before .before .before .before .before .before .pre .1 .0 .1) (c .before .before .before .children-of .result) (c .before .before .before .children-of .ensures) (c .before .before .before .before .before .before .args .names) (c .before .before .before .before .add-own .result) (c .before .before .loop .next) (c .before .before .loop .k) (c .if1 .left) (c .before .before .before .before .add-own .ensures) (c .before .before .loop .inv .1)
+collect-returns t c =
+    let a = c .before .before .before .before .before .before .before .before .before .before in
+    let r = c .before .before .before .children-of in
+    let own = c .before .before .before .before .before .before .add-own in
+    let l = c .before .before .loop in
+    collect-ends (a .args .s .now) (a .args .m) (a .pre .1 .0 .0) (a .args .p) (a .pre .1 .0 .1) (r .result) (r .ensures) (inBuffer (a .args .found .now) (a .args .count)) (inBuffer (own .last .1 .1 .1 .0) (own .result)) (inBuffer (l .found) (l .next)) (l .k) (c .if1 .left) (own .ensures) (l .inv .1)
 
 pub +collect-spec : {M : Type 1} → statement M
 +collect-spec = close μ-collect λ t. collect-lts.spec (
@@ -182,4 +225,5 @@ pub +collect-spec : {M : Type 1} → statement M
     (collect-add-k t)
     (collect-loop-less t)
     (collect-loop-again t)
+    (collect-same-length t)
     (collect-returns t)

@@ -1,19 +1,17 @@
-use borrow.Author.Needs.{needs}
 use mathlib.Core.Path.{refl}
 use Prim.Native.Nat.{_+_, _-_, _≤_}
 use native.Mathlib.Omega.{arith}
 use lib.ListN.{getD}
 use Rattle.sheet.specs.NamesLaws.{AmongLeft, among-found, among-goes-on, among-ends}
+use borrow.Author.Needs.{needs}
 use Rattle.sheet.proofs.names.again.Statement.{statement}
 use Rattle.sheet.proofs.names.again.Tie as tie
-use Rattle.sheet.proofs.names.again.Reads as reads
-use Rattle.sheet.proofs.names.again.Lts as lts
 
 abbrev Inv-loop : tie.InvT-loop
-Inv-loop i names k₀ k = (i + 1 ≤ k) × (k ≤ names .count) × AmongLeft (names .found) (getD (names .found) i 0) (i + 1) (names .count) k
+Inv-loop found count i k₀ k = (i + 1 ≤ k) × (k ≤ count) × AmongLeft found (getD found i 0) (i + 1) count k
 
 abbrev μ-loop : tie.MeasureT-loop
-μ-loop i names k₀ k = names .count - k
+μ-loop found count i k₀ k = count - k
 
 add-k : tie.Need-add-k Inv-loop μ-loop
 add-k c = search needs
@@ -24,17 +22,20 @@ loop-holds c = (omega arith, omega arith, refl)
 mul-if1 : tie.Need-mul-if1 Inv-loop μ-loop
 mul-if1 c = search needs
 
-element-copy-out-if1 : tie.Need-element-copy-out-if1 Inv-loop μ-loop
-element-copy-out-if1 c = search needs
+shared-slice-read-if1 : tie.Need-shared-slice-read-if1 Inv-loop μ-loop
+shared-slice-read-if1 c = search needs
 
 mul-if1-2 : tie.Need-mul-if1-2 Inv-loop μ-loop
 mul-if1-2 c = search needs
 
-element-copy-out-if1-2 : tie.Need-element-copy-out-if1-2 Inv-loop μ-loop
-element-copy-out-if1-2 c = search needs
+shared-slice-read-if1-2 : tie.Need-shared-slice-read-if1-2 Inv-loop μ-loop
+shared-slice-read-if1-2 c = search needs
 
 returns : tie.Need-returns Inv-loop μ-loop
-returns c = among-found (c .before .before .before .before .before .args .t1 .found) (getD (c .before .before .before .before .before .args .t1 .found) (c .before .before .before .before .before .args .i) 0) (c .before .before .before .before .before .args .i + 1) (c .before .before .before .before .before .args .t1 .count) (c .before .before .before .before .loop .k) (omega (arith, c .before .before .before .before .before .pre)) (c .before .before .before .loop-test .taken) (c .before .before .before .before .loop .inv .2) (c .if1 .taken)
+returns c =
+    let a = c .before .before .before .before .before in
+    let l = a .args .found .now in
+    among-found l (getD l (a .args .i) 0) (a .args .i + 1) (a .args .count) (c .before .before .before .before .loop .k) (omega (arith, a .pre)) (c .before .before .before .loop-test .taken) (c .before .before .before .before .loop .inv .2) (c .if1 .taken)
 
 add-k-2 : tie.Need-add-k-2 Inv-loop μ-loop
 add-k-2 c = search needs
@@ -43,10 +44,16 @@ loop-less : tie.Need-loop-less Inv-loop μ-loop
 loop-less c = search needs
 
 loop-again : tie.Need-loop-again Inv-loop μ-loop
-loop-again c = (omega arith, omega arith, among-goes-on (c .before .before .before .before .before .args .t1 .found) (getD (c .before .before .before .before .before .args .t1 .found) (c .before .before .before .before .before .args .i) 0) (c .before .before .before .before .before .args .i + 1) (c .before .before .before .before .before .args .t1 .count) (c .before .before .before .before .loop .k) (omega (arith, c .before .before .before .before .before .pre)) (c .before .before .before .loop-test .taken) (c .before .before .before .before .loop .inv .2) (c .if1 .left))
+loop-again c =
+    let a = c .before .before .before .before .before in
+    let l = a .args .found .now in
+    (omega arith, omega arith, among-goes-on l (getD l (a .args .i) 0) (a .args .i + 1) (a .args .count) (c .before .before .before .before .loop .k) (omega (arith, a .pre)) (c .before .before .before .loop-test .taken) (c .before .before .before .before .loop .inv .2) (c .if1 .left))
 
 returns-2 : tie.Need-returns-2 Inv-loop μ-loop
-returns-2 c = among-ends (c .before .before .args .t1 .found) (getD (c .before .before .args .t1 .found) (c .before .before .args .i) 0) (c .before .before .args .i + 1) (c .before .before .args .t1 .count) (c .before .loop .k) (c .loop-test .left) (c .before .loop .inv .2)
+returns-2 c =
+    let a = c .before .before in
+    let l = a .args .found .now in
+    among-ends l (getD l (a .args .i) 0) (a .args .i + 1) (a .args .count) (c .before .loop .k) (c .loop-test .left) (c .before .loop .inv .2)
 
 pub again-spec : {M : Type 1} → statement M
 again-spec =
@@ -57,9 +64,9 @@ again-spec =
     add-k
     loop-holds
     mul-if1
-    element-copy-out-if1
+    shared-slice-read-if1
     mul-if1-2
-    element-copy-out-if1-2
+    shared-slice-read-if1-2
     returns
     add-k-2
     loop-less

@@ -1,48 +1,67 @@
-use borrow.Author.Needs.{needs}
-use mathlib.Core.Path.{sym, _∙_}
-use Prim.Native.Nat.{_-_, _≤_}
+use mathlib.Core.Path.{_≡_, sym, _∙_}
+use Prim.Native.Nat.{ℕ, _-_, _≤_}
 use native.Mathlib.Omega.{arith}
+use lib.ListN.{length, length-replicate}
 use Rattle.rules.specs.SheetRefusals.{nameTwice, lowestNameTwice}
 use Rattle.rules.specs.SheetFile.{clauses}
 use Rattle.sheet.specs.SectionsLaws.{mapped}
 use Rattle.sheet.specs.LoopsLaws.{LowestLeft, lowest-begins, lowest-goes-on, lowest-stops, lowest-ends}
+use borrow.Author.Needs.{needs}
 use Rattle.sheet.proofs.names.lowest_name_twice.Statement.{statement}
 use Rattle.sheet.proofs.names.lowest_name_twice.Tie as tie
-use Rattle.sheet.proofs.names.lowest_name_twice.Reads as reads
-use Rattle.sheet.proofs.names.lowest_name_twice.Lts as lts
-use Rattle.sheet.proofs.names.name_twice.Reads as name-twice-reads
 
 abbrev Inv-loop : tie.InvT-loop
-Inv-loop s m c₀ c = (c ≤ clauses s) × LowestLeft (nameTwice s) (clauses s) c
+Inv-loop s m found₀ c₀ found c = (c ≤ clauses s) × (length found ≡ 192) × LowestLeft (nameTwice s) (clauses s) c
 
 abbrev μ-loop : tie.MeasureT-loop
-μ-loop s m c₀ c = clauses s - c
+μ-loop s m found₀ c₀ found c = clauses s - c
 
 loop-holds : tie.Need-loop-holds Inv-loop μ-loop
-loop-holds c = (omega arith, lowest-begins (nameTwice (c .before .args .s .now)) (clauses (c .before .args .s .now)))
+loop-holds c = (omega arith, length-replicate {A = ℕ} 192 0, lowest-begins (nameTwice (c .before .args .s .now)) (clauses (c .before .args .s .now)))
+
+slice-aggregate-name-twice : tie.Need-slice-aggregate-name-twice Inv-loop μ-loop
+slice-aggregate-name-twice c = sym (c .before .before .before .loop .inv .1)
 
 name-twice-requires : tie.Need-name-twice-requires Inv-loop μ-loop
-name-twice-requires c κs = (c .before .before .before .before .pre, omega (arith, mapped (c .before .before .before .before .args .s .now) (c .before .before .before .before .args .m) (c .before .before .before .before .pre .is-map) .of-clauses))
+name-twice-requires c κs =
+    let a = c .before .before .before .before .before in
+    (a .pre, omega (arith, c .before .if1 .taken, mapped (a .args .s .now) (a .args .m) (a .pre .is-map) .of-clauses), c .before .before .before .loop .inv .1)
 
-cast-t6 : tie.Need-cast-t6 Inv-loop μ-loop
-cast-t6 c = omega (arith, mapped (c .before .before .before .before .before .before .args .s .now) (c .before .before .before .before .before .before .args .m) (c .before .before .before .before .before .before .pre .is-map) .of-clauses, c .before .before .before .before .before .before .pre .is-counted .clauses-most)
+cast-t9 : tie.Need-cast-t9 Inv-loop μ-loop
+cast-t9 c = let a = c .before .before .before .before .before .before .before .before in omega (arith, c .before .before .before .before .if1 .taken, mapped (a .args .s .now) (a .args .m) (a .pre .is-map) .of-clauses, a .pre .is-counted .clauses-most)
 
 returns : tie.Need-returns Inv-loop μ-loop
 unfolding lowestNameTwice
-returns c = lowest-stops (nameTwice (c .before .before .before .before .before .before .args .s .now)) (clauses (c .before .before .before .before .before .before .args .s .now)) (c .before .before .before .before .loop .c) (omega (arith, mapped (c .before .before .before .before .before .before .args .s .now) (c .before .before .before .before .before .before .args .m) (c .before .before .before .before .before .before .pre .is-map) .of-clauses)) (c .before .before .before .before .loop .inv .1) (sym (c .before .name-twice .ensures) ∙ c .if2 .taken)
+returns c =
+    let a = c .before .before .before .before .before .before .before .before in
+    let s = a .args .s .now in
+    let l = c .before .before .before .before .before .before .loop in
+    lowest-stops (nameTwice s) (clauses s) (l .c) (omega (arith, c .before .before .before .before .if1 .taken, mapped s (a .args .m) (a .pre .is-map) .of-clauses)) (l .inv .2) (sym (c .before .before .name-twice .ensures) ∙ c .if2 .taken)
 
 add-c : tie.Need-add-c Inv-loop μ-loop
 add-c c = search needs
 
 loop-less : tie.Need-loop-less Inv-loop μ-loop
-loop-less c = omega (arith, mapped (c .before .before .before .before .before .before .args .s .now) (c .before .before .before .before .before .before .args .m) (c .before .before .before .before .before .before .pre .is-map) .of-clauses)
+loop-less c = let a = c .before .before .before .before .before .before .before .before in omega (arith, c .before .before .before .before .if1 .taken, mapped (a .args .s .now) (a .args .m) (a .pre .is-map) .of-clauses)
 
 loop-again : tie.Need-loop-again Inv-loop μ-loop
-loop-again c = (omega (arith, mapped (c .before .before .before .before .before .before .args .s .now) (c .before .before .before .before .before .before .args .m) (c .before .before .before .before .before .before .pre .is-map) .of-clauses), lowest-goes-on (nameTwice (c .before .before .before .before .before .before .args .s .now)) (clauses (c .before .before .before .before .before .before .args .s .now)) (c .before .before .before .before .loop .c) (omega (arith, mapped (c .before .before .before .before .before .before .args .s .now) (c .before .before .before .before .before .before .args .m) (c .before .before .before .before .before .before .pre .is-map) .of-clauses)) (c .before .before .before .before .loop .inv .1) (sym (c .before .name-twice .ensures) ∙ c .if2 .left))
+loop-again c =
+    let a = c .before .before .before .before .before .before .before .before in
+    let s = a .args .s .now in
+    let l = c .before .before .before .before .before .before .loop in
+    let more = mapped s (a .args .m) (a .pre .is-map) .of-clauses in (
+      omega (arith, c .before .before .before .before .if1 .taken, more),
+      omega (arith, c .before .before .name-twice .kept .1 .1 .1 .0, l .inv .1),
+      lowest-goes-on (nameTwice s) (clauses s) (l .c) (omega (arith, c .before .before .before .before .if1 .taken, more)) (l .inv .2) (sym (c .before .before .name-twice .ensures) ∙ c .if2 .left),
+    )
 
 returns-2 : tie.Need-returns-2 Inv-loop μ-loop
 unfolding lowestNameTwice
-returns-2 c = lowest-ends (nameTwice (c .before .before .before .before .args .s .now)) (clauses (c .before .before .before .before .args .s .now)) (c .before .before .loop .c) (omega (arith, mapped (c .before .before .before .before .args .s .now) (c .before .before .before .before .args .m) (c .before .before .before .before .pre .is-map) .of-clauses)) (c .before .before .loop .inv .1)
+returns-2 c =
+    let a = c .before .before .before .before in
+    let s = a .args .s .now in
+    let l = c .before .before .loop in
+    lowest-ends (nameTwice s) (clauses s) (l .c) (omega (arith, c .if1 .left, mapped s (a .args .m) (a .pre .is-map) .of-clauses)) (l .inv .2)
 
 pub lowest-name-twice-spec : {M : Type 1} → statement M
 lowest-name-twice-spec =
@@ -51,8 +70,9 @@ lowest-name-twice-spec =
     Inv-loop
     μ-loop
     loop-holds
+    slice-aggregate-name-twice
     name-twice-requires
-    cast-t6
+    cast-t9
     returns
     add-c
     loop-less

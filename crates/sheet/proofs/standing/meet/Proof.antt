@@ -1,22 +1,22 @@
-use borrow.Author.Needs.{needs}
-use native.Mathlib.Omega.{arith}
 use Rattle.sheet.specs.MeetingLaws.{meets-one}
+use borrow.Author.Needs.{needs}
 use Rattle.sheet.proofs.standing.meet.Statement.{statement}
 use Rattle.sheet.proofs.standing.meet.Tie as tie
-use Rattle.sheet.proofs.standing.meet.Reads as reads
-use Rattle.sheet.proofs.standing.meet.Lts as lts
 
-element-copy-out-next : tie.Need-element-copy-out-next
-element-copy-out-next c = search needs
+slice-read-times : tie.Need-slice-read-times
+slice-read-times c = search needs
 
-add-next : tie.Need-add-next
-add-next c = search needs
+add-times : tie.Need-add-times
+add-times c = search needs
 
-element-write-next : tie.Need-element-write-next
-element-write-next c = search needs
+slice-write-times : tie.Need-slice-write-times
+slice-write-times c = search needs
+
+same-length : tie.Need-same-length
+same-length c = search needs
 
 returns : tie.Need-returns
-returns c = meets-one (c .before .args .met .times) (c .before .args .i) (omega (arith, c .before .pre))
+returns c = meets-one (c .before .args .times .now) (c .before .args .i) (c .before .pre .0)
 
 pub meet-spec : {M : Type 1} → statement M
-meet-spec = tie.close (tie.spec element-copy-out-next add-next element-write-next returns)
+meet-spec = tie.close (tie.spec slice-read-times add-times slice-write-times same-length returns)

@@ -1,42 +1,51 @@
-use borrow.Author.Needs.{needs}
+use mathlib.Core.Path.{sym, _∙_}
 use Prim.Native.Nat.{_-_, _≤_}
 use native.Mathlib.Omega.{arith}
 use Rattle.rules.specs.SheetFile.{clauses}
 use Rattle.sheet.specs.SectionsLaws.{mapped}
 use Rattle.sheet.specs.TallyLaws.{RootTally, roots-begin, root-room-to-meet, roots-go-on, roots-done}
+use borrow.Author.Needs.{needs}
 use Rattle.sheet.proofs.standing.meet_roots.Statement.{statement}
 use Rattle.sheet.proofs.standing.meet_roots.Tie as tie
-use Rattle.sheet.proofs.standing.meet_roots.Reads as reads
-use Rattle.sheet.proofs.standing.meet_roots.Lts as lts
-use Rattle.sheet.proofs.records.root_at.Reads as root-at-reads
-use Rattle.sheet.proofs.standing.meet.Reads as meet-reads
 
 abbrev Inv-loop : tie.InvT-loop
-Inv-loop s m next₀ c₀ next c = (c ≤ clauses s) × RootTally s c (next .times)
+Inv-loop s m times₀ c₀ times c = (c ≤ clauses s) × RootTally s c times
 
 abbrev μ-loop : tie.MeasureT-loop
-μ-loop s m next₀ c₀ next c = clauses s - c
+μ-loop s m times₀ c₀ times c = clauses s - c
 
 loop-holds : tie.Need-loop-holds Inv-loop μ-loop
-loop-holds c = (omega arith, roots-begin (c .before .args .s .now) (c .before .pre .4))
+loop-holds c = (omega arith, roots-begin (c .before .before .args .s .now) (c .before .before .pre .4))
 
 root-at-requires : tie.Need-root-at-requires Inv-loop μ-loop
-root-at-requires c κs = (c .before .before .before .before .pre .0, c .before .before .before .before .pre .1, omega (arith, mapped (c .before .before .before .before .args .s .now) (c .before .before .before .before .args .m) (c .before .before .before .before .pre .1) .of-clauses))
+root-at-requires c κs =
+    let a = c .before .before .before .before .before .before in
+    (a .pre .0, a .pre .1, omega (arith, c .before .if1 .taken, mapped (a .args .s .now) (a .args .m) (a .pre .1) .of-clauses))
 
 meet-requires : tie.Need-meet-requires Inv-loop μ-loop
-meet-requires c κs = root-room-to-meet (c .before .before .before .before .before .args .s .now) (c .before .before .before .loop .c) (c .root-at .result) (omega (arith, mapped (c .before .before .before .before .before .args .s .now) (c .before .before .before .before .before .args .m) (c .before .before .before .before .before .pre .1) .of-clauses)) (c .root-at .ensures) (c .before .before .before .loop .inv .1) (c .before .before .before .before .before .pre .2) (c .before .before .before .before .before .pre .3)
+meet-requires c κs =
+    let a = c .before .before .before .before .before .before .before in
+    let l = c .before .before .before .before .loop in
+    root-room-to-meet (a .args .s .now) (l .c) (c .root-at .result) (omega (arith, c .before .before .if1 .taken, mapped (a .args .s .now) (a .args .m) (a .pre .1) .of-clauses)) (c .root-at .ensures) (l .inv .1) (a .pre .2) (a .pre .3)
 
 add-c : tie.Need-add-c Inv-loop μ-loop
 add-c c = search needs
 
 loop-less : tie.Need-loop-less Inv-loop μ-loop
-loop-less c = omega (arith, mapped (c .before .before .before .before .before .before .args .s .now) (c .before .before .before .before .before .before .args .m) (c .before .before .before .before .before .before .pre .1) .of-clauses)
+loop-less c = let a = c .before .before .before .before .before .before .before .before .before .before in omega (arith, c .before .before .before .before .before .if1 .taken, mapped (a .args .s .now) (a .args .m) (a .pre .1) .of-clauses)
 
 loop-again : tie.Need-loop-again Inv-loop μ-loop
-loop-again c = (omega (arith, mapped (c .before .before .before .before .before .before .args .s .now) (c .before .before .before .before .before .before .args .m) (c .before .before .before .before .before .before .pre .1) .of-clauses), roots-go-on (c .before .before .before .before .before .before .args .s .now) (c .before .before .before .before .loop .c) (c .before .root-at .result) (omega (arith, mapped (c .before .before .before .before .before .before .args .s .now) (c .before .before .before .before .before .before .args .m) (c .before .before .before .before .before .before .pre .1) .of-clauses)) (c .before .root-at .ensures) (c .before .before .before .before .loop .inv .1) (c .meet .ensures))
+loop-again c =
+    let a = c .before .before .before .before .before .before .before .before .before .before in
+    let l = c .before .before .before .before .before .before .before .loop in
+    let more = mapped (a .args .s .now) (a .args .m) (a .pre .1) .of-clauses in
+    (omega (arith, c .before .before .before .before .before .if1 .taken, more), roots-go-on (a .args .s .now) (l .c) (c .before .before .before .root-at .result) (omega (arith, c .before .before .before .before .before .if1 .taken, more)) (c .before .before .before .root-at .ensures) (l .inv .1) (c .before .before .meet .ensures))
+
+same-length : tie.Need-same-length Inv-loop μ-loop
+same-length c = c .before .before .loop .inv .1 .long ∙ sym (c .before .before .before .before .before .pre .4 .long)
 
 returns : tie.Need-returns Inv-loop μ-loop
-returns c = roots-done (c .before .before .before .before .args .s .now) (c .before .before .loop .c) (omega (arith, mapped (c .before .before .before .before .args .s .now) (c .before .before .before .before .args .m) (c .before .before .before .before .pre .1) .of-clauses)) (c .before .before .loop .inv .1)
+returns c = let a = c .before .before .before .before .before in roots-done (a .args .s .now) (c .before .before .loop .c) (omega (arith, c .if1 .left, mapped (a .args .s .now) (a .args .m) (a .pre .1) .of-clauses)) (c .before .before .loop .inv .1)
 
 pub meet-roots-spec : {M : Type 1} → statement M
 meet-roots-spec =
@@ -50,4 +59,5 @@ meet-roots-spec =
     add-c
     loop-less
     loop-again
+    same-length
     returns)

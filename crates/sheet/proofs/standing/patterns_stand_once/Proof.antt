@@ -3,26 +3,39 @@ use native.Mathlib.Omega.{arith}
 use Rattle.sheet.specs.SectionsLaws.{mapped}
 use Rattle.sheet.specs.MeetingLaws.{none-of-zeros}
 use Rattle.sheet.specs.TallyLaws.{stand-once}
+use borrow.Author.Needs.{needs}
 use Rattle.sheet.proofs.standing.patterns_stand_once.Statement.{statement}
 use Rattle.sheet.proofs.standing.patterns_stand_once.Tie as tie
-use Rattle.sheet.proofs.standing.patterns_stand_once.Reads as reads
-use Rattle.sheet.proofs.standing.patterns_stand_once.Lts as lts
-use Rattle.sheet.proofs.standing.all_met_once.Reads as all-met-once-reads
-use Rattle.sheet.proofs.standing.meet_children.Reads as meet-children-reads
-use Rattle.sheet.proofs.standing.meet_roots.Reads as meet-roots-reads
+
+slice-aggregate-meet-roots : tie.Need-slice-aggregate-meet-roots
+slice-aggregate-meet-roots c = search needs
 
 meet-roots-requires : tie.Need-meet-roots-requires
-meet-roots-requires c κs = (c .before .pre .0, c .before .pre .1, c .before .pre .2, c .before .pre .3, none-of-zeros)
+meet-roots-requires c κs = let a = c .before .before in (a .pre .0, a .pre .1, a .pre .2, a .pre .3, none-of-zeros)
+
+slice-aggregate-meet-children : tie.Need-slice-aggregate-meet-children
+slice-aggregate-meet-children c = search needs
 
 meet-children-requires : tie.Need-meet-children-requires
-meet-children-requires c κs = (c .before .before .pre .0, c .before .before .pre .1, c .before .before .pre .2, c .before .before .pre .4, c .meet-roots .ensures)
+meet-children-requires c κs = let a = c .before .before .before .before .before in (a .pre .0, a .pre .1, a .pre .2, a .pre .4, c .before .before .meet-roots .ensures)
+
+slice-aggregate-all-met-once : tie.Need-slice-aggregate-all-met-once
+slice-aggregate-all-met-once c = search needs
 
 all-met-once-requires : tie.Need-all-met-once-requires
-all-met-once-requires c κs = omega (arith, mapped (c .before .before .before .args .s .now) (c .before .before .before .args .m) (c .before .before .before .pre .1) .of-patterns, c .before .before .before .pre .2 .patterns-most)
+all-met-once-requires c κs = let a = c .before .before .before .before .before .before .before .before in omega (arith, mapped (a .args .s .now) (a .args .m) (a .pre .1) .of-patterns, a .pre .2 .patterns-most, c .before .before .meet-children .ensures .long)
 
 returns : tie.Need-returns
-returns c = c .all-met-once .ensures ∙ stand-once (c .before .before .before .before .args .s .now) (c .before .before .before .before .args .m) (c .before .before .before .before .pre .1) (c .before .meet-children .ensures)
+returns c = let a = c .before .before .before .before .before .before .before .before .before in c .all-met-once .ensures ∙ stand-once (a .args .s .now) (a .args .m) (a .pre .1) (c .before .before .before .meet-children .ensures)
 
 pub patterns-stand-once-spec : {M : Type 1} → statement M
 patterns-stand-once-spec =
-    tie.close (tie.spec meet-roots-requires meet-children-requires all-met-once-requires returns)
+    tie.close
+    (tie.spec
+    slice-aggregate-meet-roots
+    meet-roots-requires
+    slice-aggregate-meet-children
+    meet-children-requires
+    slice-aggregate-all-met-once
+    all-met-once-requires
+    returns)
