@@ -5,20 +5,22 @@ use mathlib.Core.Logic.{_⊎_, inl, inr, ⊎-elim}
 use mathlib.Core.List.{List, [], _∷_, _++_}
 use Prim.Native.Nat.{ℕ, zero, suc, _+_, _-_, _≤_, _<_}
 use native.Mathlib.Omega.{arith}
-use Rattle.rules.specs.TreeReader.{nodes, cases, paths, nodeKind, nodePath, nodeFirstCase, nodeCases, nodeTailCases, nodeDefault, nodeClause, nodeFirstBinding, nodeBindings, nodeChild, NodeKind, Switch, List-switch, Leaf, Hoist-node, Unknown-node, nodeKindOf, caseChildren, defaultChild, childrenOfKind, nodeChildren}
+use Rattle.rules.specs.TreeReader.{nodes, cases, paths, nodeKind, nodeWord, caseKind, nodePath, nodeFirstCase, nodeCases, nodeTailCases, nodeDefault, nodeClause, nodeFirstBinding, nodeBindings, nodeChild, NodeKind, Switch, List-switch, Leaf, Hoist-node, Unknown-node, nodeKindOf, caseChildren, defaultChild, childrenOfKind, nodeChildren}
 use Rattle.facts.specs.KindsLaws.{node-byte, unknown-node}
 use Rattle.facts.specs.TreeFacts.{TreeRuled, switch-children, hoist-children}
 use Rattle.tree.specs.declared.reading.Node.{Node}
-use Rattle.tree.specs.Reading.{nodeOfFields, nodeOf}
+use Rattle.tree.specs.declared.reading.Test.{Test}
+use Rattle.tree.specs.Reading.{nodeOfFields, nodeOf, testOf}
 use Rattle.tree.specs.PreOrder.{AllBelow}
 
 -- ---- what was read
-pub record SwitchNode (t : List ℕ) (k path first cases default : ℕ) : Type 0 where
+pub record SwitchNode (t : List ℕ) (k path first cases default : ℕ) (test : Test) : Type 0 where
   pub kind : nodeKind t k ≡ 0
   pub path-is : path ≡ nodePath t k
   pub first-is : first ≡ nodeFirstCase t k
   pub cases-is : cases ≡ nodeCases t k
   pub default-is : default ≡ nodeDefault t k
+  pub test-is : test ≡ testOf t first
 
 pub record ListSwitchNode (t : List ℕ) (k path first cases tails default : ℕ) : Type 0 where
   pub kind : nodeKind t k ≡ 1
@@ -43,18 +45,18 @@ module _ (t : List ℕ) (k : ℕ) where
   unfolding nodeOf
   of-kind kind x q e = ap (nodeOfFields t k) (sym q) ∙ e
 
-  pub switch-node : (p f n d : ℕ) → nodeOf t k ≡ Node.Switch p f n d → SwitchNode t k p f n d
+  pub switch-node : (p f n d : ℕ) (x : Test) → nodeOf t k ≡ Node.Switch p f n d x → SwitchNode t k p f n d x
   unfolding nodeOfFields
-  switch-node p f n d e = go (nodeKindOf (nodeKind t k)) refl
+  switch-node p f n d x e = go (nodeKindOf (nodeKind t k)) refl
     where
-      go : (kind : NodeKind) → nodeKindOf (nodeKind t k) ≡ kind → SwitchNode t k p f n d
+      go : (kind : NodeKind) → nodeKindOf (nodeKind t k) ≡ kind → SwitchNode t k p f n d x
       go Switch q =
-          let x = of-kind Switch (Node.Switch p f n d) q e in
-          record { kind = node-byte (nodeKind t k) Switch q (omega arith); path-is = cc; first-is = cc; cases-is = cc; default-is = cc }
-      go List-switch q = let x = of-kind List-switch (Node.Switch p f n d) q e in let z : _≡_ {A = ℕ} 0 1 = cc in absurd (omega arith)
-      go Leaf q = let x = of-kind Leaf (Node.Switch p f n d) q e in let z : _≡_ {A = ℕ} 0 1 = cc in absurd (omega arith)
-      go Hoist-node q = let x = of-kind Hoist-node (Node.Switch p f n d) q e in let z : _≡_ {A = ℕ} 0 1 = cc in absurd (omega arith)
-      go Unknown-node q = let x = of-kind Unknown-node (Node.Switch p f n d) q e in let z : _≡_ {A = ℕ} 0 1 = cc in absurd (omega arith)
+          let y = of-kind Switch (Node.Switch p f n d x) q e in
+          record { kind = node-byte (nodeKind t k) Switch q (omega arith); path-is = cc; first-is = cc; cases-is = cc; default-is = cc; test-is = cc }
+      go List-switch q = let y = of-kind List-switch (Node.Switch p f n d x) q e in let z : _≡_ {A = ℕ} 0 1 = cc in absurd (omega arith)
+      go Leaf q = let y = of-kind Leaf (Node.Switch p f n d x) q e in let z : _≡_ {A = ℕ} 0 1 = cc in absurd (omega arith)
+      go Hoist-node q = let y = of-kind Hoist-node (Node.Switch p f n d x) q e in let z : _≡_ {A = ℕ} 0 1 = cc in absurd (omega arith)
+      go Unknown-node q = let y = of-kind Unknown-node (Node.Switch p f n d x) q e in let z : _≡_ {A = ℕ} 0 1 = cc in absurd (omega arith)
 
   pub list-switch-node : (p f n u d : ℕ) → nodeOf t k ≡ Node.ListSwitch p f n u d → ListSwitchNode t k p f n u d
   unfolding nodeOfFields
@@ -95,20 +97,27 @@ module _ (t : List ℕ) (k : ℕ) where
 
 -- ---- the parts of a node of a file whose records keep the rules
 module _ {t : List ℕ} (rules : TreeRuled t) (k : ℕ) (h : k < nodes t) where
-  pub switch-node-run : (p f n d : ℕ) → SwitchNode t k p f n d → (1 ≤ n) × (f + n ≤ cases t)
-  switch-node-run p f n d w =
+  pub switch-node-run : (p f n d : ℕ) (x : Test) → SwitchNode t k p f n d x → (1 ≤ n) × (f + n ≤ cases t)
+  switch-node-run p f n d x w =
       let kind = w .kind in
       let run = rules .switch-run k h (omega arith) in
       (omega (arith, rules .switch-some k h kind), omega (arith, run .inside))
 
-  pub switch-node-path : (p f n d : ℕ) → SwitchNode t k p f n d → p < paths t
-  switch-node-path p f n d w =
+  pub switch-first-case : (f : ℕ) → nodeKind t k ≡ 0 → f ≡ nodeWord t k 1 → (f < cases t) × (caseKind t f ≤ 4)
+  unfolding nodeFirstCase
+  switch-first-case f e x =
+      let kind = rules .switch-kinds k h e in
+      let run = rules .switch-run k h (omega arith) in
+      (omega (arith, rules .switch-some k h e, run .inside), rw x (omega arith))
+
+  pub switch-node-path : (p f n d : ℕ) (x : Test) → SwitchNode t k p f n d x → p < paths t
+  switch-node-path p f n d x w =
       let kind = w .kind in
       let p-is = w .path-is in
       omega (arith, rules .switch-path k h (omega arith))
 
-  pub switch-node-children : (p f n d : ℕ) → SwitchNode t k p f n d → nodeChildren t k ≡ caseChildren t f n ++ defaultChild d
-  switch-node-children p f n d w =
+  pub switch-node-children : (p f n d : ℕ) (x : Test) → SwitchNode t k p f n d x → nodeChildren t k ≡ caseChildren t f n ++ defaultChild d
+  switch-node-children p f n d x w =
       let kind = w .kind in
       let n-is = w .cases-is in
       let f-is = w .first-is in

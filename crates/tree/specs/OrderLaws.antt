@@ -3,20 +3,23 @@
 use mathlib.Core.Path.{_≡_, refl, sym, ap, _∙_}
 use mathlib.Core.Bool.{Bool, true, false}
 use mathlib.Core.List.{List, [], _∷_, _++_, append-nil}
+use mathlib.Core.Logic.{⊎-elim}
 use Prim.Native.Nat.{ℕ, zero, suc, _+_, _-_, _≤_, _<_}
 use native.Mathlib.Omega.{arith}
-use native.Mathlib.Nat.{add-zero}
+use native.Mathlib.Nat.{add-zero, eq-or-lt-of-le}
 use lib.Dec.{eqb}
 use borrow.Author.Tests.{eq-eqb, ne-eqb, lt-ltb, le-ltb}
 use Rattle.words.specs.Words.{both}
 use Rattle.rules.specs.Searching.{every}
-use Rattle.rules.specs.TreeReader.{nodes, nodeKind, caseChild, caseChildren, defaultChild, nodeChildren, nodesInPreOrder}
+use Rattle.rules.specs.TreeReader.{nodes, nodeKind, nodeWord, nodeFirstCase, nodeCases, nodeTailCases, nodeDefault, nodeChild, caseChild, caseChildren, defaultChild, nodeChildren, nodesInPreOrder}
+use Rattle.facts.specs.TreeFacts.{switch-children, hoist-children}
 use Rattle.tree.specs.declared.layout.Map.{Map}
+use Rattle.tree.specs.declared.order.Children.{Children}
 use Rattle.tree.specs.Reading.{Ruled}
 use Rattle.tree.specs.ReadingLaws.{nodes-count, cases-count}
-use Rattle.tree.specs.PreOrder.{lastFrom, lastChild, endOf, chained, childrenFollow, allFollow}
+use Rattle.tree.specs.PreOrder.{lastFrom, lastChild, endOf, chained, childrenFollow, allFollow, ChildrenAre}
 use Rattle.tree.specs.PreOrderLaws.{last-in, end-of-last, end-at-leaf, pre-order-is}
-use Rattle.tree.specs.NodesLaws.{children-in}
+use Rattle.tree.specs.NodesLaws.{leaf-children, children-in}
 
 -- ---- the last child
 lastFrom-append : (k c : ℕ) (cs : List ℕ) → lastFrom k (cs ++ c ∷ []) ≡ c
@@ -179,3 +182,28 @@ module _ {t : List ℕ} {m : Map} (w : Ruled t m) where
   ends-decide z x =
       let c = nodes-count (w .mapped) in
       sym (pre-order-is t (children-in (w .rules)) ∙ rw (lt-ltb 0 (nodes t) (omega arith), c, x))
+
+-- ---- where the children of a node stand
+module _ {t : List ℕ} {m : Map} (w : Ruled t m) (k : ℕ) (h : k < m .nodes .count) where
+  pub children-leaf : nodeKind t k ≡ 2 → ChildrenAre t m k Children.Nothing
+  children-leaf e = leaf-children (w .rules) k (in-nodes w k h) e
+
+  pub children-hoist : (c : ℕ) → nodeKind t k ≡ 3 → c ≡ nodeWord t k 3 → ChildrenAre t m k (Children.One c)
+  unfolding nodeChild
+  children-hoist c e x = hoist-children t k e ∙ ap (λ (y : ℕ). y ∷ []) (sym x)
+
+  some-case : nodeKind t k ≤ 1 → 1 ≤ nodeCases t k + nodeTailCases t k
+  some-case l =
+      ⊎-elim (λ e. w .rules .list-switch-some k (in-nodes w k h) e)
+      (λ z. omega (arith, w .rules .switch-some k (in-nodes w k h) (omega arith))) (eq-or-lt-of-le l)
+
+  pub children-cases : (first cases tails default : ℕ) → (nodeKind t k ≡ 2 → ⊥) → (nodeKind t k ≡ 3 → ⊥) → first ≡ nodeWord t k 1 → cases ≡ nodeWord t k 2
+      → tails ≡ nodeWord t k 3 → default ≡ nodeWord t k 4 → ChildrenAre t m k (Children.Cases first (cases + tails) default)
+  unfolding nodeFirstCase nodeCases nodeTailCases nodeDefault
+  children-cases first cases tails default two three f-is c-is t-is d-is =
+      let l : nodeKind t k ≤ 1 = omega (arith, two, three, node-kind-known w k h) in
+      let run = w .rules .switch-run k (in-nodes w k h) l in (
+        switch-children t k l ∙ rw (f-is, c-is, t-is, d-is),
+        omega (arith, some-case l),
+        omega (arith, run .inside, cases-count (w .mapped)),
+      )

@@ -1,12 +1,15 @@
 -- Pre-order, said of each node alone: its first child is the next node, each later child is where the subtree of the child before it
 -- ends, and the subtree of node 0 ends where the nodes do. PreOrderLaws proves that this is the rules' condition.
-use Prim.Native.Nat.{ℕ, zero, suc, _+_, _<_}
+use Prim.Native.Nat.{ℕ, zero, suc, _+_, _<_, _≤_}
+use mathlib.Core.Path.{_≡_}
 use mathlib.Core.Bool.{Bool, true, false}
-use mathlib.Core.List.{List, [], _∷_}
+use mathlib.Core.List.{List, [], _∷_, _++_}
 use lib.Dec.{eqb, ltb}
 use Rattle.words.specs.Words.{both}
 use Rattle.rules.specs.Searching.{every}
-use Rattle.rules.specs.TreeReader.{nodes, nodeChildren}
+use Rattle.rules.specs.TreeReader.{nodes, nodeChildren, caseChildren, defaultChild}
+use Rattle.tree.specs.declared.layout.Map.{Map}
+use Rattle.tree.specs.declared.order.Children.{Children}
 
 -- the last of the children cs, and k where there is none
 unfoldable pub lastFrom : ℕ → List ℕ → ℕ
@@ -46,3 +49,10 @@ allFollow t = both (ltb 0 (nodes t)) (both (every (childrenFollow t) 0 (nodes t)
 abbrev pub AllBelow : ℕ → List ℕ → Type 0
 AllBelow n [] = Unit {0}
 AllBelow n (c ∷ cs) = (c < n) × AllBelow n cs
+
+-- the children of node k as the code has them; a run of cases has one, and lies in its section
+abbrev pub ChildrenAre : List ℕ → Map → ℕ → Children → Type 0
+ChildrenAre t m k (Children.Cases first count default) =
+    (nodeChildren t k ≡ caseChildren t first count ++ defaultChild default) × (1 ≤ count) × (first + count ≤ m .cases .count)
+ChildrenAre t m k (Children.One c) = nodeChildren t k ≡ c ∷ []
+ChildrenAre t m k Children.Nothing = nodeChildren t k ≡ []

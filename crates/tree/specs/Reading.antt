@@ -50,17 +50,6 @@ pub record Ruled (t : List ℕ) (m : Map) : Type 0 where
   pub mapped : Mapped t m
   pub rules : TreeRuled t
 
-unfoldable pub nodeOfFields : List ℕ → ℕ → NodeKind → Node
-nodeOfFields t k Switch = Node.Switch (nodePath t k) (nodeFirstCase t k) (nodeCases t k) (nodeDefault t k)
-nodeOfFields t k List-switch = Node.ListSwitch (nodePath t k) (nodeFirstCase t k) (nodeCases t k) (nodeTailCases t k) (nodeDefault t k)
-nodeOfFields t k Leaf = Node.Leaf (nodeClause t k) (nodeFirstBinding t k) (nodeBindings t k)
-nodeOfFields t k Hoist-node = Node.Hoist (nodeClause t k) (nodeFirstBinding t k) (nodeBindings t k) (nodeChild t k)
-nodeOfFields t k Unknown-node = Node.Hoist (nodeClause t k) (nodeFirstBinding t k) (nodeBindings t k) (nodeChild t k)
-
-unfoldable pub nodeOf : List ℕ → ℕ → Node
-unfolding nodeOfFields
-nodeOf t k = nodeOfFields t k (nodeKindOf (nodeKind t k))
-
 unfoldable pub testOfFields : List ℕ → ℕ → CaseKind → Test
 testOfFields t i Constr-case = Test.Constr (caseNumber t i)
 testOfFields t i Int-case = Test.Text true (caseNumber t i) (caseLength t i)
@@ -69,9 +58,24 @@ testOfFields t i List-case = Test.List (caseNumber t i)
 testOfFields t i List-with-tail-case = Test.Tailed (caseNumber t i)
 testOfFields t i Unknown-case = Test.Tailed (caseNumber t i)
 
-unfoldable pub caseOf : List ℕ → ℕ → Case
+unfoldable pub testOf : List ℕ → ℕ → Test
 unfolding testOfFields
-caseOf t i = record { test = testOfFields t i (caseKindOf (caseKind t i)); child = caseChild t i }
+testOf t i = testOfFields t i (caseKindOf (caseKind t i))
+
+unfoldable pub caseOf : List ℕ → ℕ → Case
+unfolding testOf
+caseOf t i = record { test = testOf t i; child = caseChild t i }
+
+unfoldable pub nodeOfFields : List ℕ → ℕ → NodeKind → Node
+nodeOfFields t k Switch = Node.Switch (nodePath t k) (nodeFirstCase t k) (nodeCases t k) (nodeDefault t k) (testOf t (nodeFirstCase t k))
+nodeOfFields t k List-switch = Node.ListSwitch (nodePath t k) (nodeFirstCase t k) (nodeCases t k) (nodeTailCases t k) (nodeDefault t k)
+nodeOfFields t k Leaf = Node.Leaf (nodeClause t k) (nodeFirstBinding t k) (nodeBindings t k)
+nodeOfFields t k Hoist-node = Node.Hoist (nodeClause t k) (nodeFirstBinding t k) (nodeBindings t k) (nodeChild t k)
+nodeOfFields t k Unknown-node = Node.Hoist (nodeClause t k) (nodeFirstBinding t k) (nodeBindings t k) (nodeChild t k)
+
+unfoldable pub nodeOf : List ℕ → ℕ → Node
+unfolding nodeOfFields
+nodeOf t k = nodeOfFields t k (nodeKindOf (nodeKind t k))
 
 abbrev pub bindingOf : List ℕ → ℕ → Binding
 bindingOf t b = record { name = bindingName t b; path = bindingPath t b }

@@ -3,16 +3,49 @@
 // A subtree's end is found by going from a node to its last child as far as there is one. This is done for children that are not
 // the last alone, so that each node is met once on the way to an end: the cost is that of one pass over nodes and cases.
 use crate::layout::Map;
-use crate::reading::Node;
 use crate::reading::case_child;
-use crate::reading::node_at;
+use crate::reading::node_kind;
+use crate::reading::node_word;
 ghost use mathlib.Core.Path.{_≡_};
 ghost use mathlib.Core.List.{_++_};
 ghost use Prim.Native.Nat.{ℕ, _+_, _<_, _≤_};
 ghost use Rattle.rules.specs.Searching.{every};
 ghost use Rattle.rules.specs.TreeReader.{caseChildren, defaultChild, nodesInPreOrder};
 ghost use Rattle.tree.specs.Reading.{Mapped, Ruled};
-ghost use Rattle.tree.specs.PreOrder.{lastFrom, lastChild, endOf, chained, childrenFollow};
+ghost use Rattle.tree.specs.PreOrder.{lastFrom, lastChild, endOf, chained, childrenFollow, ChildrenAre};
+
+// Where the children of a node stand: in a run of cases with a default behind it, or in the node itself.
+enum Children {
+    Cases {
+        first: usize,
+        count: usize,
+        default: usize,
+    },
+    One(usize),
+    Nothing,
+}
+
+fn children_of(t: &[u8], m: Map, k: usize) -> Children
+    requires { ⌜ Ruled (now t) m × (k < m .nodes .count) ⌝ }
+    ensures { λ r. ⌜ ChildrenAre (now (t .entry)) m k r ⌝ }
+{
+    let kind = node_kind(t, m, k);
+    if kind == 2 {
+        return Children::Nothing;
+    }
+    let tails = node_word(t, m, k, 3) as usize;
+    if kind == 3 {
+        return Children::One(tails);
+    }
+    let first = node_word(t, m, k, 1) as usize;
+    let cases = node_word(t, m, k, 2) as usize;
+    let default = node_word(t, m, k, 4) as usize;
+    Children::Cases {
+        first,
+        count: cases + tails,
+        default,
+    }
+}
 
 // The last child of a switch with n cases from i on and this default.
 fn last_of_switch(t: &[u8], m: Map, i: usize, n: usize, default: usize) -> usize
@@ -30,40 +63,15 @@ fn last_child(t: &[u8], m: Map, k: usize) -> usize
     requires { ⌜ Ruled (now t) m × (k < m .nodes .count) ⌝ }
     ensures { λ r. ⌜ r ≡ lastChild (now (t .entry)) k ⌝ }
 {
-    let node = node_at(t, m, k);
-    match node {
-        Node::Switch {
-            path: _,
+    let children = children_of(t, m, k);
+    match children {
+        Children::Cases {
             first,
-            cases,
+            count,
             default,
-        } => last_of_switch(t, m, first as usize, cases as usize, default as usize),
-        Node::ListSwitch {
-            path: _,
-            first,
-            cases,
-            tails,
-            default,
-        } => {
-            last_of_switch(
-                t,
-                m,
-                first as usize,
-                cases as usize + tails as usize,
-                default as usize,
-            )
-        }
-        Node::Leaf {
-            clause: _,
-            first: _,
-            count: _,
-        } => k,
-        Node::Hoist {
-            clause: _,
-            first: _,
-            count: _,
-            child,
-        } => child as usize,
+        } => last_of_switch(t, m, first, count, default),
+        Children::One(child) => child,
+        Children::Nothing => k,
     }
 }
 
@@ -121,41 +129,15 @@ fn children_follow(t: &[u8], m: Map, k: usize) -> bool
     requires { ⌜ Ruled (now t) m × (k < m .nodes .count) ⌝ }
     ensures { λ r. ⌜ r ≡ childrenFollow (now (t .entry)) k ⌝ }
 {
-    let node = node_at(t, m, k);
-    match node {
-        Node::Switch {
-            path: _,
+    let children = children_of(t, m, k);
+    match children {
+        Children::Cases {
             first,
-            cases,
+            count,
             default,
-        } => switch_follows(t, m, k, first as usize, cases as usize, default as usize),
-        Node::ListSwitch {
-            path: _,
-            first,
-            cases,
-            tails,
-            default,
-        } => {
-            switch_follows(
-                t,
-                m,
-                k,
-                first as usize,
-                cases as usize + tails as usize,
-                default as usize,
-            )
-        }
-        Node::Leaf {
-            clause: _,
-            first: _,
-            count: _,
-        } => true,
-        Node::Hoist {
-            clause: _,
-            first: _,
-            count: _,
-            child,
-        } => child as usize == k + 1,
+        } => switch_follows(t, m, k, first, count, default),
+        Children::One(child) => child == k + 1,
+        Children::Nothing => true,
     }
 }
 

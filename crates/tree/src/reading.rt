@@ -1,5 +1,6 @@
 // Reading one record of a tree file whose sections are mapped: a node, a case with its test, a binding, a path, a step.
-// Rests on the words of a file, and on what a map says of the sections.
+// Rests on the words of a file, and on what a map says of the sections. A node is read of a file whose records keep the rules, since
+// what a switch asks is read with it.
 use crate::layout::BINDING_SIZE;
 use crate::layout::CASE_SIZE;
 use crate::layout::Map;
@@ -10,15 +11,17 @@ use words::word_at;
 ghost use mathlib.Core.Path.{_≡_};
 ghost use Prim.Native.Nat.{_+_, _<_, _≤_};
 ghost use Rattle.rules.specs.TreeReader.{nodeKind, nodeZero, nodeWord, caseKind, caseZero, caseNumber, caseLength, caseChild, stepKind, stepFlag};
-ghost use Rattle.tree.specs.Reading.{Mapped, nodeOf, caseOf, bindingOf, pathOf, stepOf};
+ghost use Rattle.tree.specs.Reading.{Mapped, Ruled, nodeOf, testOf, caseOf, bindingOf, pathOf, stepOf};
 
 // A node with its fields. A default is one more than its node's number, and 0 where there is none.
+// The cases of a switch are of one kind, so that the test of its first case says what it asks of a part.
 pub enum Node {
     Switch {
         path: u16,
         first: u16,
         cases: u16,
         default: u16,
+        test: Test,
     },
     ListSwitch {
         path: u16,
@@ -97,45 +100,6 @@ pub fn node_word(t: &[u8], m: Map, k: usize, i: usize) -> u16
     word_at(t, NODE_SIZE * k + 2 + 2 * i)
 }
 
-// Node k, of a known kind.
-pub fn node_at(t: &[u8], m: Map, k: usize) -> Node
-    requires { ⌜ Mapped (now t) m × (k < m .nodes .count) × (nodeKind (now t) k ≤ 3) ⌝ }
-    ensures { λ r. ⌜ r ≡ nodeOf (now (t .entry)) k ⌝ }
-{
-    let kind = node_kind(t, m, k);
-    let a = node_word(t, m, k, 0);
-    let b = node_word(t, m, k, 1);
-    let c = node_word(t, m, k, 2);
-    let d = node_word(t, m, k, 3);
-    let e = node_word(t, m, k, 4);
-    match kind {
-        0 => Node::Switch {
-            path: a,
-            first: b,
-            cases: c,
-            default: e,
-        },
-        1 => Node::ListSwitch {
-            path: a,
-            first: b,
-            cases: c,
-            tails: d,
-            default: e,
-        },
-        2 => Node::Leaf {
-            clause: a,
-            first: b,
-            count: c,
-        },
-        _ => Node::Hoist {
-            clause: a,
-            first: b,
-            count: c,
-            child: d,
-        },
-    }
-}
-
 pub fn case_kind(t: &[u8], m: Map, i: usize) -> u8
     requires { ⌜ Mapped (now t) m × (i < m .cases .count) ⌝ }
     ensures { λ r. ⌜ r ≡ caseKind (now (t .entry)) i ⌝ }
@@ -173,43 +137,76 @@ pub fn case_child(t: &[u8], m: Map, i: usize) -> u16
     word_at(t, m.cases.start + CASE_SIZE * i + 6)
 }
 
+// What case i asks; its kind is known.
+pub fn test_at(t: &[u8], m: Map, i: usize) -> Test
+    requires { ⌜ Mapped (now t) m × (i < m .cases .count) × (caseKind (now t) i ≤ 4) ⌝ }
+    ensures { λ r. ⌜ r ≡ testOf (now (t .entry)) i ⌝ }
+{
+    let kind = case_kind(t, m, i);
+    let a = case_number(t, m, i);
+    let b = case_length(t, m, i);
+    match kind {
+        0 => Test::Constr(a),
+        1 => Test::Text {
+            integer: true,
+            start: a,
+            count: b,
+        },
+        2 => Test::Text {
+            integer: false,
+            start: a,
+            count: b,
+        },
+        3 => Test::List(a),
+        _ => Test::Tailed(a),
+    }
+}
+
 // Case i, of a known kind.
 pub fn case_at(t: &[u8], m: Map, i: usize) -> Case
     requires { ⌜ Mapped (now t) m × (i < m .cases .count) × (caseKind (now t) i ≤ 4) ⌝ }
     ensures { λ r. ⌜ r ≡ caseOf (now (t .entry)) i ⌝ }
 {
-    let kind = case_kind(t, m, i);
-    let a = case_number(t, m, i);
-    let b = case_length(t, m, i);
+    let test = test_at(t, m, i);
     let child = case_child(t, m, i);
+    Case { test, child }
+}
+
+pub fn node_at(t: &[u8], m: Map, k: usize) -> Node
+    requires { ⌜ Ruled (now t) m × (k < m .nodes .count) ⌝ }
+    ensures { λ r. ⌜ r ≡ nodeOf (now (t .entry)) k ⌝ }
+{
+    let kind = node_kind(t, m, k);
+    let a = node_word(t, m, k, 0);
+    let b = node_word(t, m, k, 1);
+    let c = node_word(t, m, k, 2);
+    let d = node_word(t, m, k, 3);
+    let e = node_word(t, m, k, 4);
     match kind {
-        0 => Case {
-            test: Test::Constr(a),
-            child,
+        0 => Node::Switch {
+            path: a,
+            first: b,
+            cases: c,
+            default: e,
+            test: test_at(t, m, b as usize),
         },
-        1 => Case {
-            test: Test::Text {
-                integer: true,
-                start: a,
-                count: b,
-            },
-            child,
+        1 => Node::ListSwitch {
+            path: a,
+            first: b,
+            cases: c,
+            tails: d,
+            default: e,
         },
-        2 => Case {
-            test: Test::Text {
-                integer: false,
-                start: a,
-                count: b,
-            },
-            child,
+        2 => Node::Leaf {
+            clause: a,
+            first: b,
+            count: c,
         },
-        3 => Case {
-            test: Test::List(a),
-            child,
-        },
-        _ => Case {
-            test: Test::Tailed(a),
-            child,
+        _ => Node::Hoist {
+            clause: a,
+            first: b,
+            count: c,
+            child: d,
         },
     }
 }
