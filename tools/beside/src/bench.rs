@@ -1,6 +1,10 @@
 //! Speed: a build by the Rust and by the proved library on the same sheets, and the library's walk beside a plain
-//! walker, in one run. Each call is timed in many short batches, of which the least counts: what else the machine
-//! does at the time makes a batch longer, never shorter. The batches of what is compared take turns.
+//! walker, in one run. Each call is timed in many short batches, and the batches of what is compared take turns.
+//! Of a build the least batch counts: what else the machine does at the time makes a batch longer, never shorter.
+//! The walk itself is a small difference of larger times. A difference of least times, which come from different
+//! moments, was seen to vary more from run to run than the median of the differences of one turn each: that is taken.
+//! And a family shows the median of its walks, since a few panels of some hundred records take most of the time of all
+//! and their readers' pass hides the walk.
 
 use std::hint::black_box;
 use std::time::{Duration, Instant};
@@ -11,6 +15,7 @@ use crate::{library, plain};
 
 /// How many batches are timed of each call.
 const BATCHES: usize = 40;
+const WALK_BATCHES: usize = 100;
 
 /// How long a batch is to be; a call that is longer is a batch by itself.
 const BATCH: Duration = Duration::from_micros(50);
@@ -57,6 +62,8 @@ struct Build {
     /// Freeing the Rust's tree, which is not in the time above.
     freeing: f64,
     library: f64,
+    /// The library on an empty sheet: refused 2 once both buffers are cleared. It is in the time above too.
+    clearing: f64,
 }
 
 fn build(member: &Member) -> Build {
@@ -66,11 +73,16 @@ fn build(member: &Member) -> Build {
     let mut by_library = || {
         black_box(library::build(black_box(&member.sheet), &mut tree, &mut work));
     };
+    let (mut tree2, mut work2) = (vec![0; 65536], vec![0; 65536]);
+    let mut clear = || {
+        black_box(library::build(black_box(&[]), &mut tree2, &mut work2));
+    };
     let by_rust = || {
         black_box(ready.tree(&data_types));
     };
     let (mut rust, mut library) = (Least::of(by_rust), Least::of(&mut by_library));
     let mut freeing = Least { calls: rust.calls, time: f64::INFINITY };
+    let mut clearing = Least::of(&mut clear);
     for _ in 0..BATCHES {
         let (mut built, mut freed) = (Duration::ZERO, Duration::ZERO);
         for _ in 0..rust.calls {
@@ -84,42 +96,61 @@ fn build(member: &Member) -> Build {
         rust.note(built);
         freeing.note(freed);
         library.batch(&mut by_library);
+        clearing.batch(&mut clear);
     }
-    Build { rust: rust.time, freeing: freeing.time, library: library.time }
-}
-
-/// Times of a walk, in nanoseconds.
-#[derive(Default)]
-struct Walk {
-    whole: f64,
-    /// The walk of an empty panel: refused 21 once the buffer is cleared and the tree is read.
-    tree: f64,
-    /// The text call of a record that is not there: refused 33 once the panel is read.
-    panel: f64,
-    /// The text call of an empty panel: what calling costs, and turning an empty panel away.
-    bare: f64,
-    plain: f64,
-    indexed: f64,
+    Build { rust: rust.time, freeing: freeing.time, library: library.time, clearing: clearing.time }
 }
 
 /// A record that no panel has.
 const NO_RECORD: u16 = u16::MAX;
 
-/// The calls whose times make up a walk, by name: what `once` runs and counts.
-pub const WALK_CALLS: [&str; 6] = ["walk", "tree", "panel", "bare", "plain", "indexed"];
+// The calls whose times make up a walk.
+const WHOLE: usize = 0;
+/// The walk of an empty panel: refused 21 once the buffer is cleared and the tree is read.
+const TREE: usize = 1;
+/// The text call of a record that is not there: refused 33 once the panel is read.
+const PANEL: usize = 2;
+/// The text call of an empty panel: what calling costs, and turning an empty panel away.
+const BARE: usize = 3;
+const PLAIN: usize = 4;
+const INDEXED: usize = 5;
 
-/// Runs one of the calls of a walk. The files passed their checks and the walk ends.
+/// Their names, as `once` is asked for them.
+const WALK_CALLS: [&str; 6] = ["walk", "tree", "panel", "bare", "plain", "indexed"];
+
+/// Makes one of these calls. The files passed their checks and the walk ends.
 #[inline(always)]
 fn walk_call(call: usize, tree: &[u8], panel: &[u8], bound: &mut [u16; 576]) -> u64 {
     match call {
-        0 => library::walk(tree, panel, bound),
-        1 => library::walk(tree, &[], bound),
-        2 => library::text(panel, NO_RECORD, 0),
-        3 => library::text(&[], NO_RECORD, 0),
+        WHOLE => library::walk(tree, panel, bound),
+        TREE => library::walk(tree, &[], bound),
+        PANEL => library::text(panel, NO_RECORD, 0),
+        BARE => library::text(&[], NO_RECORD, 0),
         // SAFETY: the panel fits the sheet of the tree: the library checked both and walked to an end.
-        4 => unsafe { plain::unchecked(tree, panel, bound) },
+        PLAIN => unsafe { plain::unchecked(tree, panel, bound) },
         _ => plain::indexed(tree, panel, bound),
     }
+}
+
+/// Nanoseconds a call of a batch.
+fn batch<const CALL: usize>(calls: u32, tree: &[u8], panel: &[u8]) -> f64 {
+    let mut bound = [0; 576];
+    let start = Instant::now();
+    for _ in 0..calls {
+        black_box(walk_call(CALL, black_box(tree), black_box(panel), black_box(&mut bound)));
+    }
+    start.elapsed().as_nanos() as f64 / f64::from(calls)
+}
+
+/// Times of a walk, in nanoseconds: of each call the median of its batches, and the walk itself.
+struct Walk {
+    of: [f64; 6],
+    itself: f64,
+}
+
+/// The part of a walk that is neither clearing nor reading: see WALK_HEAD.
+fn itself(times: &[f64; 6]) -> f64 {
+    times[WHOLE] - times[TREE] - times[PANEL] + times[BARE]
 }
 
 fn walk(tree: &[u8], panel: &[u8]) -> Walk {
@@ -127,34 +158,25 @@ fn walk(tree: &[u8], panel: &[u8]) -> Walk {
     let answer = library::walk(tree, panel, &mut bound);
     assert_eq!(library::refusal(answer), 0, "a fitting panel is walked");
     library::same_plain(tree, panel, answer, &bound).expect("the plain walkers answer alike");
-    macro_rules! call {
-        ($call:literal) => {
-            || {
-                black_box(walk_call($call, black_box(tree), black_box(panel), &mut bound));
-            }
-        };
-    }
-    let mut whole = Least::of(call!(0));
-    let mut first = Least::of(call!(1));
-    let mut second = Least::of(call!(2));
-    let mut bare = Least::of(call!(3));
-    let mut plain = Least::of(call!(4));
-    let mut indexed = Least::of(call!(5));
-    for _ in 0..BATCHES {
-        whole.batch(call!(0));
-        first.batch(call!(1));
-        second.batch(call!(2));
-        bare.batch(call!(3));
-        plain.batch(call!(4));
-        indexed.batch(call!(5));
-    }
+    let many: [u32; 6] = std::array::from_fn(|call| {
+        calls(|| {
+            black_box(walk_call(call, tree, panel, &mut bound));
+        })
+    });
+    let turn = |_| {
+        [
+            batch::<WHOLE>(many[WHOLE], tree, panel),
+            batch::<TREE>(many[TREE], tree, panel),
+            batch::<PANEL>(many[PANEL], tree, panel),
+            batch::<BARE>(many[BARE], tree, panel),
+            batch::<PLAIN>(many[PLAIN], tree, panel),
+            batch::<INDEXED>(many[INDEXED], tree, panel),
+        ]
+    };
+    let turns: Vec<[f64; 6]> = (0..WALK_BATCHES).map(turn).collect();
     Walk {
-        whole: whole.time,
-        tree: first.time,
-        panel: second.time,
-        bare: bare.time,
-        plain: plain.time,
-        indexed: indexed.time,
+        of: std::array::from_fn(|call| median(turns.iter().map(|turn| turn[call]).collect())),
+        itself: median(turns.iter().map(itself).collect()),
     }
 }
 
@@ -170,15 +192,17 @@ fn median(mut all: Vec<f64>) -> f64 {
 const BUILD_HEAD: &str = "\
 Builds, nanoseconds a build, the mean over a family's sheets. The Rust's time is from its typed clauses, which are made before, to its
 tree; freeing that tree is apart. The library's is from the sheet's bytes, which it checks whole, to the bytes of the tree file, with
-both buffers of 65,536 bytes cleared. Ratio: the Rust's time by the library's, of the means; then the median of the sheets' own ratios.
-family    sheets  mean nodes  the Rust  freeing  the library  ratio  median  goal";
+both buffers of 65,536 bytes cleared; clearing is that part of it, timed apart on an empty sheet. Ratio: the Rust's time by the
+library's, of the means; then the median of the sheets' own ratios.
+family    sheets  mean nodes  the Rust  freeing  the library  clearing  ratio  median  goal";
 
 const WALK_HEAD: &str = "\
-Walks, nanoseconds a walk, the mean over a family's panels. Whole: the library's call, which clears the binding buffer, reads the tree
-file and the panel file with every check, and walks. Tree: the call on an empty panel, refused 21 after the clearing and the tree's pass.
-Panel: the text call of a record that is not there, refused 33 after the panel's pass. Bare: the text call of an empty panel. The walk
-itself is whole - tree - panel + bare (the last, since each of the two passes has a call of its own in it). Plain: a walker in Rust over
-the same bytes that checks nothing and clears nothing; indexed: the same with Rust's checks of indexes. Ratio: the walk itself by plain.
+Walks, nanoseconds a walk; each column has its own median over a family's walks. Whole: the library's call, which clears the binding
+buffer, reads the tree file and the panel file with every check, and walks. Tree: the call on an empty panel, refused 21 after the
+clearing and the tree's pass. Panel: the text call of a record that is not there, refused 33 after the panel's pass. Bare: the text call
+of an empty panel. The walk itself is whole - tree - panel + bare (the last, since each of the two passes has a call of its own in it),
+the median over turns in which each call is timed once. Plain: a walker in Rust over the same bytes that checks nothing and clears
+nothing; indexed: the same with Rust's checks of indexes. Ratio: the walk itself by plain, then by indexed.
 family     walks    whole     tree    panel  bare  itself  plain  ratio  goal  indexed  ratio";
 
 fn show_builds(name: &str, goal: f64, members: &[Member]) {
@@ -187,9 +211,10 @@ fn show_builds(name: &str, goal: f64, members: &[Member]) {
     let (rust, library) = (of(|t| t.rust), of(|t| t.library));
     let nodes = mean(&members.iter().map(|m| m.nodes as f64).collect::<Vec<_>>());
     println!(
-        "{name:<8} {:>7} {nodes:>11.1} {rust:>9.0} {:>8.0} {library:>12.0} {:>6.2} {:>7.2} {goal:>5}",
+        "{name:<8} {:>7} {nodes:>11.1} {rust:>9.0} {:>8.0} {library:>12.0} {:>9.0} {:>6.2} {:>7.2} {goal:>5}",
         times.len(),
         of(|t| t.freeing),
+        of(|t| t.clearing),
         rust / library,
         median(times.iter().map(|t| t.rust / t.library).collect()),
     );
@@ -198,22 +223,21 @@ fn show_builds(name: &str, goal: f64, members: &[Member]) {
 fn show_walks(name: &str, members: &[Member]) {
     let files = members.iter().flat_map(|m| m.panels.iter().map(|panel| (&m.tree, panel)));
     let times: Vec<Walk> = files.map(|(tree, panel)| walk(tree, panel)).collect();
-    let of = |part: fn(&Walk) -> f64| mean(&times.iter().map(part).collect::<Vec<_>>());
-    let [whole, tree, panel, bare] =
-        [of(|t| t.whole), of(|t| t.tree), of(|t| t.panel), of(|t| t.bare)];
-    let (itself, plain, indexed) =
-        (whole - tree - panel + bare, of(|t| t.plain), of(|t| t.indexed));
+    let of = |part: &dyn Fn(&Walk) -> f64| median(times.iter().map(part).collect());
+    let [whole, tree, panel, bare, plain, indexed] =
+        std::array::from_fn(|call| of(&|time| time.of[call]));
     println!(
-        "{name:<8} {:>7} {whole:>8.0} {tree:>8.0} {panel:>8.0} {bare:>5.1} {itself:>7.1} {plain:>6.1} {:>6.2} {WALK_GOAL:>5} {indexed:>8.1} {:>6.2}",
+        "{name:<8} {:>7} {whole:>8.0} {tree:>8.0} {panel:>8.0} {bare:>5.1} {:>7.1} {plain:>6.1} {:>6.2} {WALK_GOAL:>5} {indexed:>8.1} {:>6.2}",
         times.len(),
-        itself / plain,
-        itself / indexed,
+        of(&|time| time.itself),
+        of(&|time| time.itself / time.of[PLAIN]),
+        of(&|time| time.itself / time.of[INDEXED]),
     );
 }
 
 pub fn run(many: usize, seed: u64) {
     println!(
-        "{many} sheets a family, seed {seed}. A time is the least of {BATCHES} batches of about {} microseconds.\n",
+        "{many} sheets a family, seed {seed}. Batches of about {} microseconds: of a build the least of {BATCHES} counts, of a walk the median of {WALK_BATCHES}.\n",
         BATCH.as_micros()
     );
     let members = members(seed, many);
