@@ -14,4 +14,4 @@ if [ "$(uname -m)" = x86_64 ]; then
 else
     echo "processor: $(uname -m), so both sides run emulated: these times and their ratios are not those of an x86-64 processor"
 fi
-exec $beside bench "${2:-100}" "${3:-2026}"
+exec "${beside[@]}" bench "${2:-100}" "${3:-2026}"

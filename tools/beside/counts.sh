@@ -24,14 +24,14 @@ build_with_library speed "$1"
 sheets=${2:-100} seed=${3:-2026}
 room=$(mktemp -d)
 trap 'rm -rf "$room"' EXIT
-$beside families "$seed" "$sheets" "$room"
+"${beside[@]}" families "$seed" "$sheets" "$room"
 
 # The C library clears and copies long runs by one instruction that repeats; valgrind counts each repetition. It is told to take vectors.
 export GLIBC_TUNABLES=glibc.cpu.x86_rep_stosb_threshold=1048576:glibc.cpu.x86_rep_movsb_threshold=1048576
 
 # Leaves the counts of call $1, seen as function $2, on family $3 in $room/out, and how often it was made in $calls.
 count() {
-    calls=$(valgrind -q --tool=callgrind --toggle-collect="$2" --callgrind-out-file="$room/out" "$beside" once "$1" "$room/$3" 2>"$room/said") ||
+    calls=$(valgrind -q --tool=callgrind --toggle-collect="$2" --callgrind-out-file="$room/out" "${beside[@]}" once "$1" "$room/$3" 2>"$room/said") ||
         { cat "$room/said" >&2; exit 1; }
 }
 total() { sed -n 's/^totals: //p' "$room/out"; }

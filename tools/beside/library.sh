@@ -10,4 +10,4 @@ fi
 . "$(dirname "$0")/with-library.sh"
 build_with_library release "$1"
 shift
-exec $beside "$@"
+exec "${beside[@]}" "$@"

@@ -12,11 +12,11 @@ build_with_library() {
     said=$(cd "$root" && rt staticlib dewmycel 2>&1) || { echo "$said" >&2; return 1; }
     export DEWMYCEL_LIB=$root/target/staticlib
     export RUSTFLAGS="${RUSTFLAGS:-} --cap-lints=allow"
-    beside=$here/target/$target/$profile/beside
+    beside=("$here/target/$target/$profile/beside")
     if [ "$(uname -m)" != x86_64 ]; then
         "$root/tools/x86-64.sh"
         export RUSTC=/usr/bin/rustc CARGO_TARGET_X86_64_UNKNOWN_LINUX_GNU_LINKER=x86_64-linux-gnu-gcc
-        beside="qemu-x86_64 $beside"
+        beside=(qemu-x86_64 "${beside[@]}")
     fi
     (cd "$here" && cargo build --profile "$profile" --offline --quiet --features library --target "$target")
 }
