@@ -1,105 +1,296 @@
-//! Speed: a build by the Rust and by the proved library on the same sheets, and a walk by the library and by
-//! a plain walker, in one run. It prints ratios; under an emulator both sides pay the same.
+//! Speed: a build by the Rust and by the proved library on the same sheets, and the library's walk beside a plain
+//! walker, in one run. Each call is timed in many short batches, and the batches of what is compared take turns.
+//! Of a build the least batch counts: what else the machine does at the time makes a batch longer, never shorter.
+//! The walk itself is a small difference of larger times. A difference of least times, which come from different
+//! moments, was seen to vary more from run to run than the median of the differences of one turn each: that is taken.
+//! And a family shows the median of its walks, since a few panels of some hundred records take most of the time of all
+//! and their readers' pass hides the walk.
 
+use std::hint::black_box;
 use std::time::{Duration, Instant};
 
-use crate::generate::panels::Panels;
-use crate::generate::sheets;
-use crate::random::Random;
-use crate::reference::{calls, tree_file, walk};
-use crate::{library, oracle};
+use crate::families::{FAMILIES, Member, members};
+use crate::oracle::Ready;
+use crate::{library, plain};
 
-/// Sheets by the size of their trees.
-struct Family {
-    name: &'static str,
-    nodes: std::ops::Range<usize>,
-    rounds: u32,
+/// How many batches are timed of each call.
+const BATCHES: usize = 40;
+const WALK_BATCHES: usize = 100;
+
+/// How long a batch is to be; a call that is longer is a batch by itself.
+const BATCH: Duration = Duration::from_micros(50);
+
+/// A walk, after the readers' passes, is to take at most so many times what the plain walker takes.
+const WALK_GOAL: f64 = 1.2;
+
+/// Calls in a batch so that it is about as long as it is to be. The first call warms up.
+fn calls(mut call: impl FnMut()) -> u32 {
+    call();
+    let start = Instant::now();
+    call();
+    let each = start.elapsed().as_nanos().max(1);
+    (BATCH.as_nanos() / each).clamp(1, 10_000) as u32
 }
 
-const FAMILIES: [Family; 3] = [
-    Family { name: "small, under 10 nodes", nodes: 0..10, rounds: 200 },
-    Family { name: "medium, 10 to 99", nodes: 10..100, rounds: 50 },
-    Family { name: "large, 100 and more", nodes: 100..1025, rounds: 10 },
-];
+/// The least time of a call so far, in nanoseconds.
+struct Least {
+    calls: u32,
+    time: f64,
+}
 
-/// The accepted sheets of a family among the random ones of a seed, so many of them.
-fn family(family: &Family, seed: u64, many: usize) -> Vec<Vec<u8>> {
-    let mut found = Vec::new();
-    let mut case = 0;
-    while found.len() < many {
-        let bytes = sheets::any(&mut Random::of_case(seed, case));
-        case += 1;
-        if calls::tree_of(&bytes).is_ok_and(|(_, built)| family.nodes.contains(&built.nodes)) {
-            found.push(bytes);
-        }
+impl Least {
+    fn of(call: impl FnMut()) -> Self {
+        Least { calls: calls(call), time: f64::INFINITY }
     }
-    found
+
+    fn note(&mut self, batch: Duration) {
+        self.time = self.time.min(batch.as_nanos() as f64 / f64::from(self.calls));
+    }
+
+    fn batch(&mut self, mut call: impl FnMut()) {
+        let start = Instant::now();
+        for _ in 0..self.calls {
+            call();
+        }
+        self.note(start.elapsed());
+    }
 }
 
-fn nanoseconds(time: Duration, times: u32) -> f64 {
-    time.as_nanos() as f64 / f64::from(times)
+/// Times of a build, in nanoseconds.
+struct Build {
+    rust: f64,
+    /// Freeing the Rust's tree, which is not in the time above.
+    freeing: f64,
+    library: f64,
+    /// The library on an empty sheet: refused 2 once both buffers are cleared. It is in the time above too.
+    clearing: f64,
 }
 
-fn build(sheets: &[Vec<u8>], rounds: u32) -> (f64, f64) {
+fn build(member: &Member) -> Build {
+    let ready = Ready::of(&member.checked);
+    let data_types = ready.data_types();
     let (mut tree, mut work) = (vec![0; 65536], vec![0; 65536]);
-    let (mut ours, mut theirs) = (Duration::ZERO, Duration::ZERO);
-    for sheet in sheets {
-        let (checked, _) = calls::tree_of(sheet).expect("it was accepted");
-        theirs += oracle::time(&checked, rounds);
-        let start = Instant::now();
-        for _ in 0..rounds {
-            std::hint::black_box(library::build(sheet, &mut tree, &mut work));
+    let mut by_library = || {
+        black_box(library::build(black_box(&member.sheet), &mut tree, &mut work));
+    };
+    let (mut tree2, mut work2) = (vec![0; 65536], vec![0; 65536]);
+    let mut clear = || {
+        black_box(library::build(black_box(&[]), &mut tree2, &mut work2));
+    };
+    let by_rust = || {
+        black_box(ready.tree(&data_types));
+    };
+    let (mut rust, mut library) = (Least::of(by_rust), Least::of(&mut by_library));
+    let mut freeing = Least { calls: rust.calls, time: f64::INFINITY };
+    let mut clearing = Least::of(&mut clear);
+    for _ in 0..BATCHES {
+        let (mut built, mut freed) = (Duration::ZERO, Duration::ZERO);
+        for _ in 0..rust.calls {
+            let start = Instant::now();
+            let tree = black_box(ready.tree(&data_types));
+            let end = Instant::now();
+            drop(tree);
+            freed += end.elapsed();
+            built += end - start;
         }
-        ours += start.elapsed();
+        rust.note(built);
+        freeing.note(freed);
+        library.batch(&mut by_library);
+        clearing.batch(&mut clear);
     }
-    let times = rounds * sheets.len() as u32;
-    (nanoseconds(theirs, times), nanoseconds(ours, times))
+    Build { rust: rust.time, freeing: freeing.time, library: library.time, clearing: clearing.time }
 }
 
-/// The library's walk, with the reader's pass over tree and panel; and the plain walker's, on a tree and a
-/// panel that are read already.
-fn walks(sheets: &[Vec<u8>], seed: u64, rounds: u32) -> (f64, f64, u32) {
-    let mut bound = [0; 576];
-    let (mut ours, mut plain) = (Duration::ZERO, Duration::ZERO);
-    let mut times = 0;
-    for (case, sheet) in sheets.iter().enumerate() {
-        let (checked, built) = calls::tree_of(sheet).expect("it was accepted");
-        let file = tree_file::written(&built.root, &checked.sheet.pool);
-        let tree = tree_file::read(&file).unwrap_or_else(|_| panic!("a written tree is read"));
-        let panels = Panels::of(&checked);
-        let Some(panel) = panels.fitting(&mut Random::of_case(seed, case as u64)) else {
-            continue;
-        };
-        let bytes = panel.to_bytes();
-        let start = Instant::now();
-        for _ in 0..rounds {
-            std::hint::black_box(library::walk(&file, &bytes, &mut bound));
-        }
-        ours += start.elapsed();
-        let start = Instant::now();
-        for _ in 0..rounds {
-            let _ = std::hint::black_box(walk::walk(&tree, &panel));
-        }
-        plain += start.elapsed();
-        times += rounds;
+/// A record that no panel has.
+const NO_RECORD: u16 = u16::MAX;
+
+// The calls whose times make up a walk.
+const WHOLE: usize = 0;
+/// The walk of an empty panel: refused 21 once the buffer is cleared and the tree is read.
+const TREE: usize = 1;
+/// The text call of a record that is not there: refused 33 once the panel is read.
+const PANEL: usize = 2;
+/// The text call of an empty panel: what calling costs, and turning an empty panel away.
+const BARE: usize = 3;
+const PLAIN: usize = 4;
+const INDEXED: usize = 5;
+
+/// Their names, as `once` is asked for them.
+const WALK_CALLS: [&str; 6] = ["walk", "tree", "panel", "bare", "plain", "indexed"];
+
+/// Makes one of these calls. The files passed their checks and the walk ends.
+#[inline(always)]
+fn walk_call(call: usize, tree: &[u8], panel: &[u8], bound: &mut [u16; 576]) -> u64 {
+    match call {
+        WHOLE => library::walk(tree, panel, bound),
+        TREE => library::walk(tree, &[], bound),
+        PANEL => library::text(panel, NO_RECORD, 0),
+        BARE => library::text(&[], NO_RECORD, 0),
+        // SAFETY: the panel fits the sheet of the tree: the library checked both and walked to an end.
+        PLAIN => unsafe { plain::unchecked(tree, panel, bound) },
+        _ => plain::indexed(tree, panel, bound),
     }
-    (nanoseconds(ours, times), nanoseconds(plain, times), times)
+}
+
+/// Nanoseconds a call of a batch.
+fn batch<const CALL: usize>(calls: u32, tree: &[u8], panel: &[u8]) -> f64 {
+    let mut bound = [0; 576];
+    let start = Instant::now();
+    for _ in 0..calls {
+        black_box(walk_call(CALL, black_box(tree), black_box(panel), black_box(&mut bound)));
+    }
+    start.elapsed().as_nanos() as f64 / f64::from(calls)
+}
+
+/// Times of a walk, in nanoseconds: of each call the median of its batches, and the walk itself.
+struct Walk {
+    of: [f64; 6],
+    itself: f64,
+}
+
+/// The part of a walk that is neither clearing nor reading: see WALK_HEAD.
+fn itself(times: &[f64; 6]) -> f64 {
+    times[WHOLE] - times[TREE] - times[PANEL] + times[BARE]
+}
+
+fn walk(tree: &[u8], panel: &[u8]) -> Walk {
+    let mut bound = [0; 576];
+    let answer = library::walk(tree, panel, &mut bound);
+    assert_eq!(library::refusal(answer), 0, "a fitting panel is walked");
+    library::same_plain(tree, panel, answer, &bound).expect("the plain walkers answer alike");
+    let many: [u32; 6] = std::array::from_fn(|call| {
+        calls(|| {
+            black_box(walk_call(call, tree, panel, &mut bound));
+        })
+    });
+    let turn = |_| {
+        [
+            batch::<WHOLE>(many[WHOLE], tree, panel),
+            batch::<TREE>(many[TREE], tree, panel),
+            batch::<PANEL>(many[PANEL], tree, panel),
+            batch::<BARE>(many[BARE], tree, panel),
+            batch::<PLAIN>(many[PLAIN], tree, panel),
+            batch::<INDEXED>(many[INDEXED], tree, panel),
+        ]
+    };
+    let turns: Vec<[f64; 6]> = (0..WALK_BATCHES).map(turn).collect();
+    Walk {
+        of: std::array::from_fn(|call| median(turns.iter().map(|turn| turn[call]).collect())),
+        itself: median(turns.iter().map(itself).collect()),
+    }
+}
+
+fn mean(all: &[f64]) -> f64 {
+    all.iter().sum::<f64>() / all.len() as f64
+}
+
+fn median(mut all: Vec<f64>) -> f64 {
+    all.sort_by(f64::total_cmp);
+    all[all.len() / 2]
+}
+
+const BUILD_HEAD: &str = "\
+Builds, nanoseconds a build, the mean over a family's sheets. The Rust's time is from its typed clauses, which are made before, to its
+tree; freeing that tree is apart. The library's is from the sheet's bytes, which it checks whole, to the bytes of the tree file, with
+both buffers of 65,536 bytes cleared; clearing is that part of it, timed apart on an empty sheet. Ratio: the Rust's time by the
+library's, of the means; then the median of the sheets' own ratios.
+family    sheets  mean nodes  the Rust  freeing  the library  clearing  ratio  median  goal";
+
+const WALK_HEAD: &str = "\
+Walks, nanoseconds a walk; each column has its own median over a family's walks. Whole: the library's call, which clears the binding
+buffer, reads the tree file and the panel file with every check, and walks. Tree: the call on an empty panel, refused 21 after the
+clearing and the tree's pass. Panel: the text call of a record that is not there, refused 33 after the panel's pass. Bare: the text call
+of an empty panel. The walk itself is whole - tree - panel + bare (the last, since each of the two passes has a call of its own in it),
+the median over turns in which each call is timed once. Plain: a walker in Rust over the same bytes that checks nothing and clears
+nothing; indexed: the same with Rust's checks of indexes. Ratio: the walk itself by plain, then by indexed.
+family     walks    whole     tree    panel  bare  itself  plain  ratio  goal  indexed  ratio";
+
+fn show_builds(name: &str, goal: f64, members: &[Member]) {
+    let times: Vec<Build> = members.iter().map(build).collect();
+    let of = |part: fn(&Build) -> f64| mean(&times.iter().map(part).collect::<Vec<_>>());
+    let (rust, library) = (of(|t| t.rust), of(|t| t.library));
+    let nodes = mean(&members.iter().map(|m| m.nodes as f64).collect::<Vec<_>>());
+    println!(
+        "{name:<8} {:>7} {nodes:>11.1} {rust:>9.0} {:>8.0} {library:>12.0} {:>9.0} {:>6.2} {:>7.2} {goal:>5}",
+        times.len(),
+        of(|t| t.freeing),
+        of(|t| t.clearing),
+        rust / library,
+        median(times.iter().map(|t| t.rust / t.library).collect()),
+    );
+}
+
+fn show_walks(name: &str, members: &[Member]) {
+    let files = members.iter().flat_map(|m| m.panels.iter().map(|panel| (&m.tree, panel)));
+    let times: Vec<Walk> = files.map(|(tree, panel)| walk(tree, panel)).collect();
+    let of = |part: &dyn Fn(&Walk) -> f64| median(times.iter().map(part).collect());
+    let [whole, tree, panel, bare, plain, indexed] =
+        std::array::from_fn(|call| of(&|time| time.of[call]));
+    println!(
+        "{name:<8} {:>7} {whole:>8.0} {tree:>8.0} {panel:>8.0} {bare:>5.1} {:>7.1} {plain:>6.1} {:>6.2} {WALK_GOAL:>5} {indexed:>8.1} {:>6.2}",
+        times.len(),
+        of(&|time| time.itself),
+        of(&|time| time.itself / time.of[PLAIN]),
+        of(&|time| time.itself / time.of[INDEXED]),
+    );
 }
 
 pub fn run(many: usize, seed: u64) {
-    for f in &FAMILIES {
-        let sheets = family(f, seed, many);
-        let (theirs, ours) = build(&sheets, f.rounds);
-        println!(
-            "build, {}: {} sheets, the Rust {theirs:.0} ns, the library {ours:.0} ns, ratio {:.2}",
-            f.name,
-            sheets.len(),
-            theirs / ours
-        );
-        let (ours, plain, times) = walks(&sheets, seed, f.rounds);
-        println!(
-            "walk, {}: {times} walks, the library with its readers {ours:.0} ns, a walker of read files {plain:.0} ns",
-            f.name
-        );
+    println!(
+        "{many} sheets a family, seed {seed}. Batches of about {} microseconds: of a build the least of {BATCHES} counts, of a walk the median of {WALK_BATCHES}.\n",
+        BATCH.as_micros()
+    );
+    let members = members(seed, many);
+    println!("{BUILD_HEAD}");
+    for (family, members) in FAMILIES.iter().zip(&members) {
+        show_builds(family.name, family.goal, members);
     }
+    println!("\n{WALK_HEAD}");
+    for (family, members) in FAMILIES.iter().zip(&members) {
+        show_walks(family.name, members);
+    }
+}
+
+/// Writes the sheets of each family into a folder of its own, with their trees and panels.
+pub fn write(seed: u64, many: usize, dir: &str) -> Result<(), String> {
+    for (family, members) in FAMILIES.iter().zip(members(seed, many)) {
+        let dir = format!("{dir}/{}", family.name);
+        let write = crate::folder(&dir)?;
+        for (number, member) in members.iter().enumerate() {
+            write(&format!("{number:03}.sheet"), &member.sheet)?;
+            write(&format!("{number:03}.tree"), &member.tree)?;
+            for (i, panel) in member.panels.iter().enumerate() {
+                write(&format!("{number:03}-{i}.panel"), panel)?;
+            }
+        }
+    }
+    Ok(())
+}
+
+/// Makes one call once on each sheet, or each panel, of such a folder; answers how often. It is run where instructions
+/// are counted, so it does nothing else that is of weight.
+pub fn once(call: &str, dir: &str) -> Result<usize, String> {
+    let mut names: Vec<String> = std::fs::read_dir(dir)
+        .map_err(|e| format!("{dir}: {e}"))?
+        .filter_map(|entry| entry.ok()?.file_name().into_string().ok())
+        .collect();
+    names.sort();
+    let read = |name: &str| crate::read(&format!("{dir}/{name}"));
+    let (mut tree, mut work, mut bound) = (vec![0; 65536], vec![0; 65536], [0; 576]);
+    let mut times = 0;
+    if call == "build" {
+        for name in names.iter().filter(|name| name.ends_with(".sheet")) {
+            black_box(library::build(&read(name)?, &mut tree, &mut work));
+            times += 1;
+        }
+        return Ok(times);
+    }
+    let number = WALK_CALLS.iter().position(|known| *known == call);
+    let number = number.ok_or_else(|| format!("there is no call {call}"))?;
+    for name in names.iter().filter(|name| name.ends_with(".panel")) {
+        let (tree, panel) = (read(&format!("{}.tree", &name[..3]))?, read(name)?);
+        black_box(walk_call(number, &tree, &panel, &mut bound));
+        times += 1;
+    }
+    Ok(times)
 }

@@ -76,29 +76,99 @@ pub struct Counts {
     trees: Numbers,
     tree_walks: Numbers,
     texts: Numbers,
-    pub differences: Vec<String>,
+    /// By case.
+    pub differences: Vec<(usize, String)>,
+}
+
+impl Counts {
+    /// Adds what another part of the cases gave.
+    fn add(&mut self, other: Counts) {
+        self.library_builds += other.library_builds;
+        self.library_walks += other.library_walks;
+        self.library_fits += other.library_fits;
+        self.library_texts += other.library_texts;
+        self.compared += other.compared;
+        self.compared_idle += other.compared_idle;
+        self.nodes += other.nodes;
+        self.bindings += other.bindings;
+        self.sizes = std::array::from_fn(|i| self.sizes[i] + other.sizes[i]);
+        self.largest = self.largest.max(other.largest);
+        self.fitting += other.fitting;
+        self.leaves += other.leaves;
+        self.no_leaves += other.no_leaves;
+        add(&mut self.reached, other.reached);
+        add(&mut self.sheets, other.sheets);
+        add(&mut self.panels, other.panels);
+        add(&mut self.any_walks, other.any_walks);
+        add(&mut self.trees, other.trees);
+        add(&mut self.tree_walks, other.tree_walks);
+        add(&mut self.texts, other.texts);
+        self.differences.extend(other.differences);
+    }
+}
+
+fn add<K: Ord>(counts: &mut BTreeMap<K, usize>, other: BTreeMap<K, usize>) {
+    for (key, count) in other {
+        *counts.entry(key).or_default() += count;
+    }
 }
 
 fn number<T>(answer: &Result<T, Refusal>) -> u16 {
     answer.as_ref().err().map_or(0, |refusal| refusal.number)
 }
 
-/// Compares `cases` random sheets and their panels.
-pub fn run(cases: usize, seed: u64) -> Counts {
+/// What a comparison is asked: the random sheets of a seed, and how many fitting panels of each are walked.
+#[derive(Clone, Copy)]
+pub struct Asked {
+    pub cases: usize,
+    pub seed: u64,
+    pub panels: usize,
+}
+
+/// Fitting panels a sheet. With them 100,000 sheets give over 1,000,000 walks.
+pub const PANELS: usize = 24;
+
+/// Compares random sheets and their panels, on every processor of the machine. Each case has a
+/// generator of its own, so the counts are the same however many there are.
+pub fn run(asked: Asked) -> Counts {
+    let threads = std::thread::available_parallelism().map_or(1, |n| n.get());
+    let parts = std::thread::scope(|scope| {
+        let spawn = |first: usize| {
+            let part = std::thread::Builder::new().stack_size(crate::STACK);
+            part.spawn_scoped(scope, move || every(asked, first, threads)).expect("a thread")
+        };
+        let parts: Vec<_> = (0..threads).map(spawn).collect();
+        parts.into_iter().map(|part| part.join().expect("its counts")).collect::<Vec<_>>()
+    });
     let mut counts = Counts::default();
-    for case in 0..cases {
-        let mut random = Random::of_case(seed, case as u64);
+    parts.into_iter().for_each(|part| counts.add(part));
+    counts.differences.sort();
+    counts
+}
+
+/// Every so many'th case from the first on.
+fn every(asked: Asked, first: usize, many: usize) -> Counts {
+    let mut counts = Counts::default();
+    for case in (first..asked.cases).step_by(many) {
+        let mut random = Random::of_case(asked.seed, case as u64);
         let bytes = sheets::any(&mut random);
-        if let Err(what) = one(&mut random, case, &bytes, &mut counts) {
+        if let Err(what) = one(&mut random, case, asked.panels, &bytes, &mut counts) {
             let decimal: Vec<String> = bytes.iter().map(u8::to_string).collect();
-            counts.differences.push(format!("case {case}: {what}\nsheet: {}", decimal.join(" ")));
+            let what = format!("case {case}: {what}\nsheet: {}", decimal.join(" "));
+            counts.differences.push((case, what));
         }
     }
     counts
 }
 
 /// One sheet: what differs, if something does.
-fn one(random: &mut Random, case: usize, bytes: &[u8], counts: &mut Counts) -> Result<(), String> {
+fn one(
+    random: &mut Random,
+    case: usize,
+    fitting_panels: usize,
+    bytes: &[u8],
+    counts: &mut Counts,
+) -> Result<(), String> {
     library::same_build(bytes, around(case, 65536), around(case / 64, 65536))?;
     counts.library_builds += 1;
     let checked = sheet::check(bytes);
@@ -127,7 +197,7 @@ fn one(random: &mut Random, case: usize, bytes: &[u8], counts: &mut Counts) -> R
         return Err("the written tree reads otherwise".to_string());
     }
     let panels = Panels::of(&checked);
-    for _ in 0..8 {
+    for _ in 0..fitting_panels {
         let Some(panel) = panels.fitting(random) else {
             break;
         };
@@ -310,7 +380,7 @@ impl std::fmt::Display for Counts {
         if library::HERE {
             writeln!(
                 f,
-                "the library against the reference, answers and every byte: {} builds, {} fit checks, {} walks, {} text calls",
+                "the library against the reference, answers and every byte: {} builds, {} fit checks, {} walks, {} text calls; the plain walkers too where a walk ends",
                 c.library_builds, c.library_fits, c.library_walks, c.library_texts
             )?;
         }

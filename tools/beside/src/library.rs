@@ -3,6 +3,7 @@
 //!
 //! The library is the archive that `rt staticlib dewmycel` writes, for x86-64 (library.sh).
 
+use crate::plain;
 use crate::reference::panel::Position;
 use crate::reference::{Refusal, calls};
 
@@ -38,8 +39,14 @@ pub const HERE: bool = true;
 /// What a buffer holds before a call: nothing that the call may leave.
 const BEFORE: u8 = 0xa5;
 
-fn packed(a: u64, b: u64, c: u64, d: u64) -> u64 {
+/// Four numbers of an answer, the refusal's first.
+pub fn packed(a: u64, b: u64, c: u64, d: u64) -> u64 {
     a | b << 16 | c << 32 | d << 48
+}
+
+/// The refusal number of an answer.
+pub fn refusal(answer: u64) -> u16 {
+    answer as u16
 }
 
 fn packed_refusal(refusal: &Refusal) -> u64 {
@@ -72,6 +79,11 @@ pub fn walk(tree: &[u8], panel: &[u8], bound: &mut [u16]) -> u64 {
             bound.len(),
         )
     }
+}
+
+pub fn text(panel: &[u8], record: u16, dropped: u16) -> u64 {
+    // SAFETY: one slice that is read, with its length.
+    unsafe { dewmycel_text(panel.as_ptr(), panel.len(), record, dropped) }
 }
 
 fn same(what: &str, ours: u64, theirs: u64) -> Result<(), String> {
@@ -122,13 +134,27 @@ pub fn same_walk(tree: &[u8], panel: &[u8], bound_length: usize) -> Result<(), S
     if bound != bound2 {
         return Err("walk: the binding buffers differ".to_string());
     }
+    if refusal(ours) == 0 { same_plain(tree, panel, ours, &bound) } else { Ok(()) }
+}
+
+/// The plain walkers on a tree and a panel that the library walked to an end.
+pub fn same_plain(tree: &[u8], panel: &[u8], answer: u64, bound: &[u16]) -> Result<(), String> {
+    for (name, walker) in plain::BOTH {
+        let mut written = vec![0; bound.len()];
+        // SAFETY: the library walked these files to an end, so the tree and the panel passed their
+        // checks and every part that is asked for is there.
+        let theirs = unsafe { walker(tree, panel, &mut written) };
+        same(name, answer, theirs)?;
+        if written != bound {
+            return Err(format!("{name}: the binding buffers differ"));
+        }
+    }
     Ok(())
 }
 
 /// The text call.
 pub fn same_text(panel: &[u8], at: Position) -> Result<(), String> {
-    // SAFETY: one slice that is read, with its length.
-    let ours = unsafe { dewmycel_text(panel.as_ptr(), panel.len(), at.record, at.dropped) };
+    let ours = text(panel, at.record, at.dropped);
     let theirs = match calls::text(panel, at) {
         Ok((start, length)) => packed(0, start as u64, length as u64, 0),
         Err(refusal) => packed_refusal(&refusal),

@@ -5,12 +5,16 @@
 #[cfg(feature = "library")]
 mod bench;
 mod compare;
+#[cfg(feature = "library")]
+mod families;
 mod files;
 mod generate;
 mod hand;
 #[cfg(feature = "library")]
 mod library;
 mod oracle;
+#[cfg(feature = "library")]
+mod plain;
 mod random;
 mod reached;
 mod reference;
@@ -31,11 +35,13 @@ beside list SHEET           the listing of the Rust's tree
 beside ref SHEET            the listing of the reference's tree
 beside tree SHEET OUT       writes the tree file, by the reference
 beside walk SHEET PANEL     fit check, build and walk, by the reference
-beside compare N SEED       N random sheets: the Rust against the reference, walks against a matcher
+beside compare N SEED [P]   N random sheets: the Rust against the reference, walks of P fitting panels each against a matcher
 beside gen SEED DIR K       writes K random sheets with panels, and what the reference answers
 beside bytes [NAME]         hand-made sheets and panels, and their trees, as lists of bytes
 beside hand DIR             writes the hand-made ones, and what the reference answers
-beside bench K SEED         with the library: builds of K sheets a family, by the Rust and by the library
+beside bench K SEED         with the library: times of K sheets a family, by the Rust and by the library
+beside families SEED K DIR  with the library: writes K sheets a family with their trees and panels
+beside once CALL DIR        with the library: one call on each file of a family, for counts.sh
 beside vectors SEED K OUT   writes K random sheets that are accepted, each with the listing of the Rust's tree
 ";
 
@@ -67,14 +73,8 @@ fn command(args: &[String]) -> Result<bool, String> {
             Err(refusal) => print!("{}", refused(refusal)),
         },
         ["walk", sheet, panel] => print!("{}", walked(&read(sheet)?, &read(panel)?)),
-        ["compare", n, seed] => {
-            let counts = compare::run(number(n)? as usize, number(seed)?);
-            print!("{counts}");
-            for difference in counts.differences.iter().take(3) {
-                println!("{difference}");
-            }
-            return Ok(counts.differences.is_empty());
-        }
+        ["compare", n, seed] => return compared(n, seed, compare::PANELS),
+        ["compare", n, seed, panels] => return compared(n, seed, number(panels)? as usize),
         ["gen", seed, dir, k] => generated(number(seed)?, dir, number(k)?)?,
         ["bytes"] => hand::proved().iter().for_each(show_bytes),
         ["bytes", name] => {
@@ -87,6 +87,10 @@ fn command(args: &[String]) -> Result<bool, String> {
         ["hand", dir] => by_hand(dir)?,
         #[cfg(feature = "library")]
         ["bench", k, seed] => bench::run(number(k)? as usize, number(seed)?),
+        #[cfg(feature = "library")]
+        ["families", seed, k, dir] => bench::write(number(seed)?, number(k)? as usize, dir)?,
+        #[cfg(feature = "library")]
+        ["once", call, dir] => println!("{}", bench::once(call, dir)?),
         ["vectors", seed, k, out] => {
             let vectors = vectors(number(seed)?, number(k)?);
             std::fs::write(out, vectors).map_err(|e| format!("{out}: {e}"))?;
@@ -94,6 +98,17 @@ fn command(args: &[String]) -> Result<bool, String> {
         _ => return Err(format!("the commands are\n{USAGE}")),
     }
     Ok(true)
+}
+
+/// Runs the comparison and shows its counts; answers whether there is no difference.
+fn compared(n: &str, seed: &str, panels: usize) -> Result<bool, String> {
+    let asked = compare::Asked { cases: number(n)? as usize, seed: number(seed)?, panels };
+    let counts = compare::run(asked);
+    print!("{counts}");
+    for (_, difference) in counts.differences.iter().take(3) {
+        println!("{difference}");
+    }
+    Ok(counts.differences.is_empty())
 }
 
 fn read(name: &str) -> Result<Vec<u8>, String> {

@@ -24,48 +24,47 @@ use crate::reference::sheet::Checked;
 use crate::tree::*;
 
 /// The Rust's tree of a sheet.
-/// How long the Rust takes to build a sheet's tree so many times. Its types and patterns are made before, and
-/// nothing is read back: only `build_tree` is timed.
-#[cfg(feature = "library")]
-pub fn time(checked: &Checked, rounds: u32) -> std::time::Duration {
-    let types = Types::of(&checked.sheet);
-    let subject = types.all[checked.sheet.subject as usize].clone();
-    let named: Vec<(DataTypeKey, TypedDataType)> = types.data_types(checked);
-    let data_types: IndexMap<&DataTypeKey, &TypedDataType> =
-        named.iter().map(|(key, data)| (key, data)).collect();
-    let clauses: Vec<TypedClause> = checked
-        .sheet
-        .clauses
-        .iter()
-        .map(|&root| TypedClause { pattern: types.pattern(checked, root), then: TypedExpr })
-        .collect();
-    let wild_card = TypedPattern::Discard { name: "_".to_string() };
-    let start = std::time::Instant::now();
-    for _ in 0..rounds {
-        let mut interner = AirInterner::new();
-        let tree =
-            TreeGen::new(&mut interner, &data_types, &wild_card).build_tree(&subject, &clauses);
-        std::hint::black_box(&tree);
-    }
-    start.elapsed()
+pub fn build(checked: &Checked) -> Node {
+    let ready = Ready::of(checked);
+    let data_types = ready.data_types();
+    Reader { types: &ready.types, subject: ready.subject.clone() }.node(&ready.tree(&data_types))
 }
 
-pub fn build(checked: &Checked) -> Node {
-    let types = Types::of(&checked.sheet);
-    let subject = types.all[checked.sheet.subject as usize].clone();
-    let named: Vec<(DataTypeKey, TypedDataType)> = types.data_types(checked);
-    let data_types: IndexMap<&DataTypeKey, &TypedDataType> =
-        named.iter().map(|(key, data)| (key, data)).collect();
-    let clauses: Vec<TypedClause> = checked
-        .sheet
-        .clauses
-        .iter()
-        .map(|&root| TypedClause { pattern: types.pattern(checked, root), then: TypedExpr })
-        .collect();
-    let wild_card = TypedPattern::Discard { name: "_".to_string() };
-    let mut interner = AirInterner::new();
-    let tree = TreeGen::new(&mut interner, &data_types, &wild_card).build_tree(&subject, &clauses);
-    Reader { types: &types, subject }.node(&tree)
+/// A sheet in the Rust's own types and patterns: what a compiler has at hand when it asks for a tree.
+pub struct Ready {
+    types: Types,
+    subject: Rc<Type>,
+    named: Vec<(DataTypeKey, TypedDataType)>,
+    clauses: Vec<TypedClause>,
+    wild_card: TypedPattern,
+}
+
+impl Ready {
+    pub fn of(checked: &Checked) -> Self {
+        let types = Types::of(&checked.sheet);
+        let subject = types.all[checked.sheet.subject as usize].clone();
+        let named = types.data_types(checked);
+        let roots = checked.sheet.clauses.iter();
+        let clauses = roots
+            .map(|&root| TypedClause { pattern: types.pattern(checked, root), then: TypedExpr })
+            .collect();
+        let wild_card = TypedPattern::Discard { name: "_".to_string() };
+        Ready { types, subject, named, clauses, wild_card }
+    }
+
+    pub fn data_types(&self) -> IndexMap<&DataTypeKey, &TypedDataType> {
+        self.named.iter().map(|(key, data)| (key, data)).collect()
+    }
+
+    /// The Rust's own answer: nothing is done here but its calls.
+    pub fn tree<'a>(
+        &'a self,
+        data_types: &IndexMap<&'a DataTypeKey, &'a TypedDataType>,
+    ) -> DecisionTree<'a> {
+        let mut interner = AirInterner::new();
+        TreeGen::new(&mut interner, data_types, &self.wild_card)
+            .build_tree(&self.subject, &self.clauses)
+    }
 }
 
 /// The Rust's type for each type number. A list, pair or tuple that contains itself is closed by a

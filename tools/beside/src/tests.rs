@@ -112,6 +112,6 @@ fn just_past_the_limits() {
 
 #[test]
 fn random_sheets() {
-    let counts = compare::run(300, 1);
-    assert!(counts.differences.is_empty(), "{}", counts.differences[0]);
+    let counts = compare::run(compare::Asked { cases: 300, seed: 1, panels: 8 });
+    assert!(counts.differences.is_empty(), "{}", counts.differences[0].1);
 }

@@ -1,0 +1,180 @@
+//! A plain walker, to be timed beside the library's walk: it takes the same bytes of a tree and a panel and gives
+//! the same answer, but trusts them. It checks neither file, nor that a part is there. It writes the words of the
+//! bindings only: the caller has cleared the rest of the buffer.
+//!
+//! It is made twice from one text: as safe Rust is, where each index is held against its slice, and without even that.
+
+use crate::files::V_CONSTR;
+use crate::library::packed;
+use crate::tree::S_LISTTAIL;
+
+type Walker = unsafe fn(&[u8], &[u8], &mut [u16]) -> u64;
+
+/// Both walkers, by name.
+pub const BOTH: [(&str, Walker); 2] =
+    [("the plain walker", unchecked), ("the plain walker with indexes checked", indexed)];
+
+/// The walk without any check.
+///
+/// # Safety
+/// The tree and the panel pass their checks, the walk is not stuck, and `bound` has three words for each binding.
+#[inline(never)]
+pub unsafe fn unchecked(tree: &[u8], panel: &[u8], bound: &mut [u16]) -> u64 {
+    Walk::<false>::of(tree, panel).answer(bound)
+}
+
+/// The walk as safe Rust has it.
+#[inline(never)]
+pub fn indexed(tree: &[u8], panel: &[u8], bound: &mut [u16]) -> u64 {
+    Walk::<true>::of(tree, panel).answer(bound)
+}
+
+/// Bytes that are read with their indexes checked, or not.
+#[derive(Clone, Copy)]
+struct Bytes<'a, const CHECKED: bool>(&'a [u8]);
+
+impl<'a, const CHECKED: bool> Bytes<'a, CHECKED> {
+    fn part(self, at: usize, length: usize) -> &'a [u8] {
+        if CHECKED {
+            return &self.0[at..][..length];
+        }
+        // SAFETY: the walkers' callers vouch for the files.
+        unsafe { self.0.get_unchecked(at..at + length) }
+    }
+
+    fn byte(self, at: usize) -> u8 {
+        self.part(at, 1)[0]
+    }
+
+    fn word(self, at: usize) -> usize {
+        let part = self.part(at, 2);
+        u16::from_le_bytes([part[0], part[1]]) as usize
+    }
+}
+
+/// A record and how many elements are dropped of it.
+#[derive(Clone, Copy)]
+struct At {
+    record: usize,
+    dropped: usize,
+}
+
+/// A tree and a panel, with the starts of their sections.
+struct Walk<'a, const CHECKED: bool> {
+    tree: Bytes<'a, CHECKED>,
+    cases: usize,
+    bindings: usize,
+    paths: usize,
+    steps: usize,
+    texts: usize,
+    panel: Bytes<'a, CHECKED>,
+    children: usize,
+    panel_texts: usize,
+}
+
+impl<'a, const CHECKED: bool> Walk<'a, CHECKED> {
+    fn of(tree: &'a [u8], panel: &'a [u8]) -> Self {
+        let (t, p) = (Bytes(tree), Bytes(panel));
+        let (of_tree, of_panel) = (tree.len() - 14, panel.len() - 8);
+        Walk {
+            tree: t,
+            cases: t.word(of_tree + 2),
+            bindings: t.word(of_tree + 4),
+            paths: t.word(of_tree + 6),
+            steps: t.word(of_tree + 8),
+            texts: t.word(of_tree + 10),
+            panel: p,
+            children: p.word(of_panel + 2),
+            panel_texts: p.word(of_panel + 4),
+        }
+    }
+
+    /// The clause and the number of its bindings, packed as the library packs them; 0 for no leaf.
+    fn answer(&self, bound: &mut [u16]) -> u64 {
+        let mut node = 0;
+        loop {
+            let at = 12 * node;
+            let field = |i: usize| self.tree.word(at + 2 + 2 * i);
+            let next = match self.tree.byte(at) {
+                0 => self.switch(field(0), field(1), field(2)),
+                1 => self.list_switch(field(0), field(1), field(2), field(3)),
+                2 => {
+                    self.bind(field(1), field(2), bound);
+                    return packed(0, field(0) as u64, field(2) as u64, 1);
+                }
+                _ => Some(field(3)),
+            };
+            node = match next {
+                Some(child) => child,
+                None if field(4) > 0 => field(4) - 1,
+                None => return 0,
+            };
+        }
+    }
+
+    fn follow(&self, path: usize) -> At {
+        let path = self.paths + 4 * path;
+        let (first, count) = (self.tree.word(path), self.tree.word(path + 2));
+        let mut at = At { record: 0, dropped: 0 };
+        for step in first..first + count {
+            let step = self.steps + 6 * step;
+            let index = self.tree.word(step + 2);
+            if self.tree.byte(step) == S_LISTTAIL {
+                at.dropped += index;
+            } else {
+                let child = self.panel.word(8 * at.record + 4) + at.dropped + index;
+                at = At { record: self.panel.word(self.children + 2 * child), dropped: 0 };
+            }
+        }
+        at
+    }
+
+    /// The child of the first case that holds.
+    fn switch(&self, path: usize, first: usize, cases: usize) -> Option<usize> {
+        let record = 8 * self.follow(path).record;
+        let field = |i: usize| self.panel.word(record + 2 + 2 * i);
+        let mut all = (first..first + cases).map(|case| self.cases + 8 * case);
+        let found = if self.panel.byte(record) == V_CONSTR {
+            all.find(|case| self.tree.word(case + 2) == field(0))
+        } else {
+            let text = self.panel.part(self.panel_texts + field(1), field(2));
+            all.find(|case| {
+                let (start, length) = (self.tree.word(case + 2), self.tree.word(case + 4));
+                text == self.tree.part(self.texts + start, length)
+            })
+        };
+        found.map(|case| self.tree.word(case + 6))
+    }
+
+    /// The child of the first case of the exact length, else of the first of the largest tail number not above it.
+    fn list_switch(&self, path: usize, first: usize, cases: usize, tails: usize) -> Option<usize> {
+        let at = self.follow(path);
+        let length = self.panel.word(8 * at.record + 6) - at.dropped;
+        let mut best = None;
+        for case in first..first + cases + tails {
+            let case_at = self.cases + 8 * case;
+            let number = self.tree.word(case_at + 2);
+            if case < first + cases {
+                if number == length {
+                    return Some(self.tree.word(case_at + 6));
+                }
+            } else if number <= length && best.is_none_or(|(most, _)| number > most) {
+                best = Some((number, case_at));
+            }
+        }
+        best.map(|(_, case_at)| self.tree.word(case_at + 6))
+    }
+
+    /// Name, record and dropped elements of each binding.
+    fn bind(&self, first: usize, count: usize, bound: &mut [u16]) {
+        for (i, words) in bound.chunks_exact_mut(3).take(count).enumerate() {
+            let binding = self.bindings + 4 * (first + i);
+            let at = self.follow(self.tree.word(binding + 2));
+            words.copy_from_slice(&[
+                self.tree.word(binding) as u16,
+                at.record as u16,
+                at.dropped as u16,
+            ]);
+        }
+    }
+}
