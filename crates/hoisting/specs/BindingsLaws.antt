@@ -39,12 +39,6 @@ among-split x (y ∷ xs) ys (inr h) = ⊎-elim (λ k. inl (inr k)) (λ k. inr k)
 no-bindings : (b : Binding) (bs : List Binding) → b ∷ bs ≡ [] → ⊥
 no-bindings b bs e = let z : _≡_ {A = ℕ} 0 1 = cc in omega arith
 
--- a table of first bindings goes from one part of the tree to the next
-pub orElse-assoc : (xs ys zs : List Binding) → orElse (orElse xs ys) zs ≡ orElse xs (orElse ys zs)
-unfolding orElse
-orElse-assoc [] ys zs = refl
-orElse-assoc (x ∷ xs) ys zs = refl
-
 orElse-both : (xs ys : List Binding) → orElse xs ys ≡ [] → (xs ≡ []) × (ys ≡ [])
 unfolding orElse
 orElse-both [] ys e = (refl, e)

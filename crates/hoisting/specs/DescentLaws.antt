@@ -5,12 +5,12 @@ use mathlib.Core.Logic.{_⊎_, inl, inr, ⊎-elim}
 use mathlib.Core.Bool.{Bool, true, false, not}
 use mathlib.Core.List.{List, [], _∷_, _++_, append-nil, append-assoc}
 use mathlib.Core.Option.{Option, none, some}
-use Prim.Native.Nat.{ℕ, zero, suc, _+_, _-_, _≤_, _<_}
+use Prim.Native.Nat.{ℕ, zero, suc, _+_, _≤_, _<_}
 use native.Mathlib.Omega.{arith}
 use native.Mathlib.Numerals.{add-one}
 use lib.ListN.{length, length-append}
 use lib.Dec.{eqb, leb}
-use borrow.Author.Tests.{eq-eqb, ne-eqb, leb-true, leb-false, le-leb, lt-leb}
+use borrow.Author.Tests.{eq-eqb, ne-eqb, leb-true, leb-false, le-leb}
 use Rattle.words.specs.Words.{both, either, pick, sameText}
 use Rattle.rules.specs.Rows.{Binding, bit}
 use Rattle.rules.specs.Searching.{times}
@@ -82,22 +82,6 @@ isScope-scopeIn c (listswitch p cs ts d) =
     sym (isAt-noted (isClause c (later (lastLeafOf cs) (later (lastLeafOf ts) (lastLeaf d)))) (merge (scopeInOf c 0 cs) o) (casesWith c cs + (casesWith c ts + bit (hasLeaf c d)))
     (inChildren-merge (casesWith c cs) (casesWith c ts + bit (hasLeaf c d)) (scopeInOf c 0 cs) o (inChildren-cases c 0 cs)
     (inChildren-merge (casesWith c ts) (bit (hasLeaf c d)) (scopeInOf c (howMany cs) ts) (beneath Fallback (scopeIn c d)) (inChildren-cases c (howMany cs) ts) (inChildren-beneath c Fallback d))))
-
--- a count of two or more, as the children are met one by one
-pub two-more : (m : ℕ) (b : Bool) → leb 2 (m + bit b) ≡ either (leb 2 m) (both (leb 1 m) b)
-unfolding bit
-two-more m false = go (leb 2 m) refl (leb 1 m) refl
-  where
-    go : (x : Bool) → leb 2 m ≡ x → (y : Bool) → leb 1 m ≡ y → leb 2 (m + 0) ≡ either (leb 2 m) (both (leb 1 m) false)
-    go true e y f = rw e (le-leb 2 (m + 0) (omega (arith, leb-true 2 m e)))
-    go false e true f = rw (e, f) (lt-leb 2 (m + 0) (omega (arith, leb-false 2 m e)))
-    go false e false f = rw (e, f) (lt-leb 2 (m + 0) (omega (arith, leb-false 2 m e)))
-two-more m true = go (leb 2 m) refl (leb 1 m) refl
-  where
-    go : (x : Bool) → leb 2 m ≡ x → (y : Bool) → leb 1 m ≡ y → leb 2 (m + 1) ≡ either (leb 2 m) (both (leb 1 m) true)
-    go true e y f = rw e (le-leb 2 (m + 1) (omega (arith, leb-true 2 m e)))
-    go false e true f = rw (e, f) (le-leb 2 (m + 1) (omega (arith, leb-true 1 m f)))
-    go false e false f = rw (e, f) (lt-leb 2 (m + 1) (omega (arith, leb-false 1 m f)))
 
 -- ---- the scope in a child
 -- b is case k of the cases, which begin with case i; b is the child of a at step k
@@ -307,28 +291,8 @@ pub hoistAll-by : (n : ℕ) (a : Tree) → hoistAll n a ≡ hoistBy (λ c. first
 unfolding hoistAll
 hoistAll-by n a = descent a n [] a (λ c. true) (λ c x. ap (isAt x) (scope-is c a))
 
--- ---- hoisting over a node by a loop over the clauses: n - c of them are left from c on
+-- ---- the counts of the hoists over a node
 module _ (f : ℕ → Bool) (bs : ℕ → List Binding) (a : Tree) where
-  wrapStep : ℕ → ℕ → Bool → Tree
-  wrapStep c n b = elim b [ true ↦ hoist c (bs c) (wrapBy f bs (c + 1) n a) | false ↦ wrapBy f bs (c + 1) n a ]
-
-  wrapBy-next : (c n : ℕ) → c < n → wrapBy f bs c (n - c) a ≡ wrapStep c (n - (c + 1)) (f c)
-  unfolding wrapBy wrapStep
-  wrapBy-next c n h = let d : n - c ≡ suc (n - (c + 1)) = omega arith in rw d
-
-  pub wrapBy-on : (c n : ℕ) → c < n → f c ≡ true → wrapBy f bs c (n - c) a ≡ hoist c (bs c) (wrapBy f bs (c + 1) (n - (c + 1)) a)
-  unfolding wrapStep
-  wrapBy-on c n h e = wrapBy-next c n h ∙ ap (wrapStep c (n - (c + 1))) e
-
-  pub wrapBy-past : (c n : ℕ) → c < n → f c ≡ false → wrapBy f bs c (n - c) a ≡ wrapBy f bs (c + 1) (n - (c + 1)) a
-  unfolding wrapStep
-  wrapBy-past c n h e = wrapBy-next c n h ∙ ap (wrapStep c (n - (c + 1))) e
-
-  pub wrapBy-end : (c n : ℕ) → n ≤ c → wrapBy f bs c (n - c) a ≡ a
-  unfolding wrapBy
-  wrapBy-end c n h = let d : n - c ≡ 0 = omega arith in rw d
-
-  -- the counts of the hoists over a node
   pub nodesIn-wrapBy : (c n : ℕ) → nodesIn (wrapBy f bs c n a) ≡ times f c n + nodesIn a
   unfolding wrapBy times nodesIn
   nodesIn-wrapBy c zero = omega arith

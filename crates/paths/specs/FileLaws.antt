@@ -67,17 +67,6 @@ module _ (pool : List ℕ) (a : Tree) (table : List Path) (is-table : table ≡ 
         length-bindingsBytes table (bindingsIn a),
       )
 
-  -- nodes, cases and bindings stored each at its place
-  pub front-stored : (l : List ℕ)
-      → stored (stored (stored l 0 (nodesFrom table 0 0 0 a)) cases (casesFrom 0 a)) bindings (bindingsBytes table (bindingsIn a)) ≡ stored l 0 (frontBytes table a)
-  unfolding frontBytes
-  front-stored l =
-      let ns = nodesFrom table 0 0 0 a in
-      let cs = casesFrom 0 a in
-      let bs = bindingsBytes table (bindingsIn a) in
-      stored-append (stored l 0 ns) cases bindings cs bs (omega (arith, length-casesFrom 0 a))
-      ∙ stored-append l 0 cases ns (cs ++ bs) (omega (arith, length-nodesFrom table 0 0 0 a))
-
   pub file-is : frontBytes table a ++ tailBytes pool table cases bindings paths ≡ treeFile pool a
   unfolding treeFile treeSections fileOf backToBack frontBytes tailBytes
   file-is =

@@ -1,10 +1,10 @@
 -- Rule 5 by numbers: the first leaf of a clause in building order has the bindings of the clause's hoist, where all leaves of the
 -- clause bind as many names. Rests on the way down: it ends at a leaf of the clause.
 use mathlib.Core.Path.{_≡_, refl, sym, ap, ap₂, _∙_}
-use mathlib.Core.Logic.{_⊎_, inl, inr, ⊎-elim}
+use mathlib.Core.Logic.{inl, inr}
 use mathlib.Core.Bool.{Bool, true, false, true≢false, false≢true}
 use mathlib.Core.List.{List, [], _∷_, _++_}
-use Prim.Native.Nat.{ℕ, zero, suc, _+_, _≤_, _<_}
+use Prim.Native.Nat.{ℕ, _+_}
 use native.Mathlib.Omega.{arith}
 use lib.ListN.{length, getD}
 use lib.Dec.{eqb}
@@ -18,7 +18,7 @@ use Rattle.arena.specs.Numbered.{subtrees, subtreesOf, subtreeAt, Within}
 use Rattle.arena.specs.NumberedLaws.{within-all, within-left, within-right, within-first, length-subtrees, length-subtreesOf}
 use Rattle.scopes.specs.Numbers.{descent, descentOf, never, firstNumber, BindCounts, BindCountsOf}
 use Rattle.scopes.specs.SwitchLaws.{either-assoc}
-use Rattle.scopes.specs.NumbersLaws.{descentOf-pick, other-has, either-turn}
+use Rattle.scopes.specs.NumbersLaws.{descentOf-pick, either-turn}
 
 -- ---- as many bindings at each leaf, from what is said of each leaf
 among-left : (x : Leaf) (xs ys : List Leaf) → Among x xs → Among x (xs ++ ys)
@@ -173,8 +173,3 @@ module _ (f : ℕ → ℕ) (c : ℕ) where
 pub first-leaf : (f : ℕ → ℕ) (c : ℕ) (a : Tree) → Plain a → BindCounts f a → hasLeaf c a ≡ true → subtreeAt a (firstNumber c 0 a) ≡ leaf c (firstBindings c a)
 unfolding subtreeAt firstNumber
 first-leaf f c a pl n h = first-there f c (subtrees a) a 0 pl n (within-all a) h
-
--- so a hoist of a clause with a leaf has as many bindings as each of its leaves
-pub first-count : (f : ℕ → ℕ) (c : ℕ) (a : Tree) → BindCounts f a → hasLeaf c a ≡ true → length (firstBindings c a) ≡ f c
-unfolding Counted
-first-count f c a n h = counted f c a n .0 h
