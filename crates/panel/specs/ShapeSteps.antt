@@ -20,7 +20,7 @@ use Rattle.panel.specs.declared.Map.{Map}
 use Rattle.panel.specs.declared.records.Record.{Record}
 use Rattle.panel.specs.Opened.{Opened, recordOf}
 use Rattle.panel.specs.CountingLaws.{same-or-not}
-use Rattle.panel.specs.Shape.{Seen, seen, fieldsFit, broken, entersFirst, enterPart, enterParts, recordMet, enterRecord, enterRecords}
+use Rattle.panel.specs.Shape.{Seen, seen, met, fieldsFit, broken, entersFirst, enterPart, enterParts, recordMet, enterRecord, enterRecords}
 use Rattle.panel.specs.ShapeLaws.{listed, parts-on, parts-stop, records-on, records-stop, higher-make, list-inside, fit-kind}
 
 -- ---- the fields of a record, by its kind byte
@@ -168,16 +168,17 @@ module _ (v : List ℕ) (s : Seen) (r j n k : ℕ) where
   unfolding enterParts
   parts-end h = let e : n - k ≡ 0 = omega arith in rw e
 
-  pub parts-go : (x : Seen) → k < n → x ≡ enterPart v s r (j + k) → x .sound ≡ true
-      → enterParts v x r (j + (k + 1)) (n - (k + 1)) ≡ enterParts v s r (j + k) (n - k)
-  parts-go x h e sound =
-      let f : j + (k + 1) ≡ j + k + 1 = omega arith in
-      ap₂ (λ (y : Seen) (i : ℕ). enterParts v y r i (n - (k + 1))) e f
-      ∙ sym (parts-left h ∙ parts-on v s r (j + k) (n - (k + 1)) (ap (λ (y : Seen). y .sound) (sym e) ∙ sound))
+  -- one entry was entered, with the answer b
+  module _ (l : List ℕ) (b : Bool) (h : k < n) (e : seen l b ≡ enterPart v s r (j + k)) where
+    pub parts-go : b ≡ true → enterParts v (met l) r (j + (k + 1)) (n - (k + 1)) ≡ enterParts v s r (j + k) (n - k)
+    parts-go sound =
+        let f : j + (k + 1) ≡ j + k + 1 = omega arith in
+        ap₂ (λ (y : Seen) (i : ℕ). enterParts v y r i (n - (k + 1))) (ap (seen l) (sym sound) ∙ e) f
+        ∙ sym (parts-left h ∙ parts-on v s r (j + k) (n - (k + 1)) (ap (λ (y : Seen). y .sound) (sym e) ∙ sound))
 
-  pub parts-broke : (x : Seen) → k < n → x ≡ enterPart v s r (j + k) → x .sound ≡ false → x ≡ enterParts v s r (j + k) (n - k)
-  parts-broke x h e sound =
-      e ∙ sym (parts-left h ∙ parts-stop v s r (j + k) (n - (k + 1)) (ap (λ (y : Seen). y .sound) (sym e) ∙ sound))
+    pub parts-broke : b ≡ false → seen l false ≡ enterParts v s r (j + k) (n - k)
+    parts-broke sound =
+        ap (seen l) (sym sound) ∙ e ∙ sym (parts-left h ∙ parts-stop v s r (j + k) (n - (k + 1)) (ap (λ (y : Seen). y .sound) (sym e) ∙ sound))
 
 module _ (v : List ℕ) (s : Seen) (r n : ℕ) where
   records-left : r < n → enterRecords v s r (n - r) ≡ enterRecords v s r (suc (n - (r + 1)))
@@ -187,12 +188,13 @@ module _ (v : List ℕ) (s : Seen) (r n : ℕ) where
   unfolding enterRecords
   records-end h = let e : n - r ≡ 0 = omega arith in rw e
 
-  pub records-go : (x : Seen) → r < n → x ≡ enterRecord v s r → x .sound ≡ true
-      → enterRecords v x (r + 1) (n - (r + 1)) ≡ enterRecords v s r (n - r)
-  records-go x h e sound =
-      ap (λ (y : Seen). enterRecords v y (r + 1) (n - (r + 1))) e
-      ∙ sym (records-left h ∙ records-on v s r (n - (r + 1)) (ap (λ (y : Seen). y .sound) (sym e) ∙ sound))
+  -- one record was entered, with the answer b
+  module _ (l : List ℕ) (b : Bool) (h : r < n) (e : seen l b ≡ enterRecord v s r) where
+    pub records-go : b ≡ true → enterRecords v (met l) (r + 1) (n - (r + 1)) ≡ enterRecords v s r (n - r)
+    records-go sound =
+        ap (λ (y : Seen). enterRecords v y (r + 1) (n - (r + 1))) (ap (seen l) (sym sound) ∙ e)
+        ∙ sym (records-left h ∙ records-on v s r (n - (r + 1)) (ap (λ (y : Seen). y .sound) (sym e) ∙ sound))
 
-  pub records-broke : (x : Seen) → r < n → x ≡ enterRecord v s r → x .sound ≡ false → x ≡ enterRecords v s r (n - r)
-  records-broke x h e sound =
-      e ∙ sym (records-left h ∙ records-stop v s r (n - (r + 1)) (ap (λ (y : Seen). y .sound) (sym e) ∙ sound))
+    pub records-broke : b ≡ false → seen l false ≡ enterRecords v s r (n - r)
+    records-broke sound =
+        ap (seen l) (sym sound) ∙ e ∙ sym (records-left h ∙ records-stop v s r (n - (r + 1)) (ap (λ (y : Seen). y .sound) (sym e) ∙ sound))

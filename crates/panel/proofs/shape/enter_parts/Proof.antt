@@ -3,12 +3,11 @@
 use Prim.Native.Nat.{_+_, _-_, _≤_}
 use native.Mathlib.Omega.{arith}
 use native.Mathlib.Nat.{add-zero, sub-zero}
-use mathlib.Core.Path.{_≡_, refl, sym, ap, _∙_}
-use mathlib.Core.Bool.{false}
+use mathlib.Core.Path.{_≡_, refl, sym, _∙_}
 use borrow.Author.Tests.{not-true, not-false}
 use lib.ListN.{length}
 use Rattle.rules.specs.Limits.{recordsMost}
-use Rattle.panel.specs.Shape.{seen, met, enterParts}
+use Rattle.panel.specs.Shape.{met, enterParts}
 use Rattle.panel.specs.ShapeSteps.{parts-end, parts-go, parts-broke}
 use borrow.Author.Needs.{needs}
 use Rattle.panel.proofs.shape.enter_parts.Statement.{statement}
@@ -37,8 +36,7 @@ returns c =
     let a = c .before .before .before .before .before .before .before .before .before .args in
     let l = c .before .before .before .before .before .before .loop in
     let step = c .before .before .before .enter-part in
-    let left = step .last .1 .1 .0 in
-    parts-broke (a .v .now) (met (l .depths)) (a .r) (a .j) (a .n) (l .k) (seen left false) (c .before .before .before .before .before .loop-test .taken) (ap (seen left) (sym (not-true _ (c .if1 .taken))) ∙ step .ensures) refl
+    parts-broke (a .v .now) (met (l .depths)) (a .r) (a .j) (a .n) (l .k) (step .last .1 .1 .0) (step .result) (c .before .before .before .before .before .loop-test .taken) (step .ensures) (not-true _ (c .if1 .taken))
     ∙ l .inv .2
 
 add-k : tie.Need-add-k Inv-loop μ-loop
@@ -51,11 +49,10 @@ loop-again : tie.Need-loop-again Inv-loop μ-loop
 loop-again c =
     let a = c .before .before .before .before .before .before .before .before .before .args in
     let l = c .before .before .before .before .before .before .loop in
-    let step = c .before .before .before .enter-part in
-    let left = step .last .1 .1 .0 in (
+    let step = c .before .before .before .enter-part in (
       omega (arith, c .before .before .before .before .before .loop-test .taken),
       omega (arith, step .kept .1 .1 .0, l .inv .1),
-      parts-go (a .v .now) (met (l .depths)) (a .r) (a .j) (a .n) (l .k) (met left) (c .before .before .before .before .before .loop-test .taken) (ap (seen left) (sym (not-false _ (c .if1 .left))) ∙ step .ensures) refl
+      parts-go (a .v .now) (met (l .depths)) (a .r) (a .j) (a .n) (l .k) (step .last .1 .1 .0) (step .result) (c .before .before .before .before .before .loop-test .taken) (step .ensures) (not-false _ (c .if1 .left))
           ∙ l .inv .2,
     )
 

@@ -3,13 +3,12 @@
 use Prim.Native.Nat.{_-_, _≤_}
 use native.Mathlib.Omega.{arith}
 use native.Mathlib.Nat.{sub-zero}
-use mathlib.Core.Path.{_≡_, refl, sym, ap, _∙_}
-use mathlib.Core.Bool.{false}
+use mathlib.Core.Path.{_≡_, refl, sym, _∙_}
 use borrow.Author.Tests.{not-true, not-false}
 use lib.ListN.{length}
 use Rattle.rules.specs.Limits.{recordsMost}
 use Rattle.rules.specs.PanelFile.{records}
-use Rattle.panel.specs.Shape.{seen, met, enterRecords}
+use Rattle.panel.specs.Shape.{met, enterRecords}
 use Rattle.panel.specs.ShapeSteps.{records-end, records-go, records-broke}
 use borrow.Author.Needs.{needs}
 use Rattle.panel.proofs.shape.enter_records.Statement.{statement}
@@ -35,8 +34,7 @@ returns c =
     let a = c .before .before .before .before .before .before .before .before .before .before in
     let l = c .before .before .before .before .before .before .before .loop in
     let step = c .before .before .before .enter-record in
-    let left = step .last .1 .1 .0 in
-    records-broke (a .args .v .now) (met (l .depths)) (l .r) (records (a .args .v .now)) (seen left false) (omega (arith, c .before .before .before .before .before .if1 .taken, a .pre .0 .records-are)) (ap (seen left) (sym (not-true _ (c .if2 .taken))) ∙ step .ensures) refl
+    records-broke (a .args .v .now) (met (l .depths)) (l .r) (records (a .args .v .now)) (step .last .1 .1 .0) (step .result) (omega (arith, c .before .before .before .before .before .if1 .taken, a .pre .0 .records-are)) (step .ensures) (not-true _ (c .if2 .taken))
     ∙ l .inv .2
 
 add-r : tie.Need-add-r Inv-loop μ-loop
@@ -49,11 +47,10 @@ loop-again : tie.Need-loop-again Inv-loop μ-loop
 loop-again c =
     let a = c .before .before .before .before .before .before .before .before .before .before in
     let l = c .before .before .before .before .before .before .before .loop in
-    let step = c .before .before .before .enter-record in
-    let left = step .last .1 .1 .0 in (
+    let step = c .before .before .before .enter-record in (
       omega (arith, c .before .before .before .before .before .if1 .taken, a .pre .0 .records-are),
       omega (arith, step .kept .1 .1 .0, l .inv .1),
-      records-go (a .args .v .now) (met (l .depths)) (l .r) (records (a .args .v .now)) (met left) (omega (arith, c .before .before .before .before .before .if1 .taken, a .pre .0 .records-are)) (ap (seen left) (sym (not-false _ (c .if2 .left))) ∙ step .ensures) refl
+      records-go (a .args .v .now) (met (l .depths)) (l .r) (records (a .args .v .now)) (step .last .1 .1 .0) (step .result) (omega (arith, c .before .before .before .before .before .if1 .taken, a .pre .0 .records-are)) (step .ensures) (not-false _ (c .if2 .left))
           ∙ l .inv .2,
     )
 
