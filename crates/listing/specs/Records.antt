@@ -46,7 +46,7 @@ abbrev pub switchRead : List ℕ → ℕ → ℕ → ℕ → ℕ → List ℕ
 switchRead t path first cases default = 32 ∷ (pathText (pathAt t path) ++ (casesText t first cases ++ defaultText default))
 
 abbrev pub nodeRead : List ℕ → Node → List ℕ
-nodeRead t (Node.Switch path first cases default) = switchWord ++ switchRead t path first cases default
+nodeRead t (Node.Switch path first cases default test) = switchWord ++ switchRead t path first cases default
 nodeRead t (Node.ListSwitch path first cases tails default) = listswitchWord ++ switchRead t path first (cases + tails) default
 nodeRead t (Node.Leaf clause first count) = leafWord ++ (32 ∷ (decimal clause ++ bindingsText t first count))
 nodeRead t (Node.Hoist clause first count child) =
@@ -54,7 +54,7 @@ nodeRead t (Node.Hoist clause first count child) =
 
 -- its path, its cases and its bindings are records of the file
 abbrev pub NodeInside : Map → Node → Type 0
-NodeInside m (Node.Switch path first cases default) = (path < m .paths .count) × (first + cases ≤ m .cases .count)
+NodeInside m (Node.Switch path first cases default test) = (path < m .paths .count) × (first + cases ≤ m .cases .count)
 NodeInside m (Node.ListSwitch path first cases tails default) = (path < m .paths .count) × (first + (cases + tails) ≤ m .cases .count)
 NodeInside m (Node.Leaf clause first count) = first + count ≤ m .bindings .count
 NodeInside m (Node.Hoist clause first count child) = first + count ≤ m .bindings .count

@@ -83,6 +83,7 @@ fn put_node(out: &mut [u8], at: usize, t: &[u8], m: Map, node: Node) -> usize
             first,
             cases,
             default,
+            test: _,
         } => {
             let end = put_text(out, at, b"switch");
             put_switch(out, end, t, m, path, first, cases as usize, default)

@@ -103,6 +103,9 @@ module _ {t : List ℕ} (rules : TreeRuled t) (k : ℕ) (h : k < nodes t) where
       let run = rules .switch-run k h (omega arith) in
       (omega (arith, rules .switch-some k h kind), omega (arith, run .inside))
 
+  pub switch-node-kind : (p f n d : ℕ) (x : Test) → SwitchNode t k p f n d x → caseKind t f ≤ 2
+  switch-node-kind p f n d x w = rw (w .first-is) (rules .switch-kinds k h (w .kind))
+
   pub switch-first-case : (f : ℕ) → nodeKind t k ≡ 0 → f ≡ nodeWord t k 1 → (f < cases t) × (caseKind t f ≤ 4)
   unfolding nodeFirstCase
   switch-first-case f e x =

@@ -80,16 +80,30 @@ tailNumberOf (TestRead.Text i s m) n = 0
 tailNumberOf (TestRead.List j) n = 0
 tailNumberOf (TestRead.Tailed j) n = pick (leb j n) (j + 1) 0
 
-abbrev pub isOfKind : Part → ℕ → Bool
-isOfKind (Part.Constr a) kind = eqb kind 0
-isOfKind (Part.Text i s n) kind = pick i (eqb kind 1) (eqb kind 2)
-isOfKind (Part.List k) kind = eqb kind 3
-isOfKind (Part.Tailed k) kind = eqb kind 4
-isOfKind Part.Other kind = false
-
 abbrev pub alike : Bool → Bool → Bool
 alike true b = b
 alike false b = not b
+
+abbrev pub showsConstr : Part → Bool
+showsConstr (Part.Constr a) = true
+showsConstr (Part.Text i s n) = false
+showsConstr (Part.List k) = false
+showsConstr (Part.Tailed k) = false
+showsConstr Part.Other = false
+
+abbrev pub showsText : Part → Bool → Bool
+showsText (Part.Constr a) int = false
+showsText (Part.Text i s n) int = alike int i
+showsText (Part.List k) int = false
+showsText (Part.Tailed k) int = false
+showsText Part.Other int = false
+
+-- what a switch asks whose first case has this test
+abbrev pub isOfKind : Part → TestRead → Bool
+isOfKind s (TestRead.Constr a) = showsConstr s
+isOfKind s (TestRead.Text int start n) = showsText s int
+isOfKind s (TestRead.List k) = false
+isOfKind s (TestRead.Tailed k) = false
 
 -- ---- choosing
 abbrev pub same : Option Test → Test → Bool

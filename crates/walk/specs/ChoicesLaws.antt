@@ -26,9 +26,9 @@ use Rattle.panel.specs.declared.records.Record.{Record}
 use Rattle.panel.specs.Opened.{recordOf, Opened}
 use Rattle.tree.specs.declared.reading.Test.{Test as TestRead}
 use Rattle.tree.specs.declared.reading.Case.{Case}
-use Rattle.tree.specs.Reading.{testOfFields, caseOf}
+use Rattle.tree.specs.Reading.{testOfFields, testOf, caseOf}
 use Rattle.walk.specs.declared.choose.Part.{Part}
-use Rattle.walk.specs.Choices.{alike, textTest, testMeans, InPool, partMeans, Shows, isConstr, isList, isTailed, tailNumberOf, isOfKind, same, firstCase}
+use Rattle.walk.specs.Choices.{alike, textTest, testMeans, InPool, partMeans, Shows, isConstr, isList, isTailed, tailNumberOf, showsConstr, showsText, isOfKind, same, firstCase}
 
 -- ---- what a part shows
 module _ (v : List ℕ) (n : PanelMap) (opened : Opened v n) (shaped : PanelShaped v) (r d : ℕ) (h : r < records v) (x : Record) (is : x ≡ recordOf v r) where
@@ -76,26 +76,50 @@ module _ (v : List ℕ) (n : PanelMap) (opened : Opened v n) (shaped : PanelShap
     inside = tt;
   }
 
-eqb-sym : (a b : ℕ) → eqb a b ≡ eqb b a
-eqb-sym a b = go (eqb a b) refl
-  where
-    go : (t : Bool) → eqb a b ≡ t → eqb a b ≡ eqb b a
-    go true e = e ∙ sym (eq-eqb b a (sym (eqb-true a b e)))
-    go false e = e ∙ sym (ne-eqb b a (λ q. eqb-false a b e (sym q)))
-
 -- a part shows what cases of a kind ask
 abbrev pub ofKind : Option Test → ℕ → Bool
 ofKind none kind = false
 ofKind (some x) kind = eqb (testKind x) kind
 
-pub of-kind-means : (v : List ℕ) (s : Part) (kind : ℕ) → isOfKind s kind ≡ ofKind (partMeans v s) kind
+constr-kind : (v : List ℕ) (s : Part) → showsConstr s ≡ ofKind (partMeans v s) 0
 unfolding testKind
-of-kind-means v (Part.Constr a) kind = eqb-sym kind 0
-of-kind-means v (Part.Text true s n) kind = eqb-sym kind 1
-of-kind-means v (Part.Text false s n) kind = eqb-sym kind 2
-of-kind-means v (Part.List k) kind = eqb-sym kind 3
-of-kind-means v (Part.Tailed k) kind = eqb-sym kind 4
-of-kind-means v Part.Other kind = refl
+constr-kind v (Part.Constr a) = refl
+constr-kind v (Part.Text true s n) = refl
+constr-kind v (Part.Text false s n) = refl
+constr-kind v (Part.List k) = refl
+constr-kind v (Part.Tailed k) = refl
+constr-kind v Part.Other = refl
+
+int-kind : (v : List ℕ) (s : Part) → showsText s true ≡ ofKind (partMeans v s) 1
+unfolding testKind
+int-kind v (Part.Constr a) = refl
+int-kind v (Part.Text true s n) = refl
+int-kind v (Part.Text false s n) = refl
+int-kind v (Part.List k) = refl
+int-kind v (Part.Tailed k) = refl
+int-kind v Part.Other = refl
+
+bytes-kind : (v : List ℕ) (s : Part) → showsText s false ≡ ofKind (partMeans v s) 2
+unfolding testKind
+bytes-kind v (Part.Constr a) = refl
+bytes-kind v (Part.Text true s n) = refl
+bytes-kind v (Part.Text false s n) = refl
+bytes-kind v (Part.List k) = refl
+bytes-kind v (Part.Tailed k) = refl
+bytes-kind v Part.Other = refl
+
+-- the test of a case says the kind that its switch asks
+pub of-kind-means : (v : List ℕ) (s : Part) (t : List ℕ) (i : ℕ) → caseKind t i ≤ 2 → isOfKind s (testOf t i) ≡ ofKind (partMeans v s) (caseKind t i)
+unfolding testOf
+of-kind-means v s t i h = go (caseKindOf (caseKind t i)) refl
+  where
+    go : (kind : CaseKind) → caseKindOf (caseKind t i) ≡ kind → isOfKind s (testOfFields t i (caseKindOf (caseKind t i))) ≡ ofKind (partMeans v s) (caseKind t i)
+    go Constr-case e = let k = case-byte (caseKind t i) Constr-case e (omega arith) in rw (e, k) (constr-kind v s)
+    go Int-case e = let k = case-byte (caseKind t i) Int-case e (omega arith) in rw (e, k) (int-kind v s)
+    go Bytes-case e = let k = case-byte (caseKind t i) Bytes-case e (omega arith) in rw (e, k) (bytes-kind v s)
+    go List-case e = absurd (omega (arith, case-byte (caseKind t i) List-case e (omega arith)))
+    go List-with-tail-case e = absurd (omega (arith, case-byte (caseKind t i) List-with-tail-case e (omega arith)))
+    go Unknown-case e = absurd (omega (arith, unknown-case (caseKind t i) e))
 
 -- ---- a case's test
 test-read : (t : List ℕ) (i : ℕ) → caseKind t i ≤ 4 → testMeans t (caseOf t i .test) ≡ caseTest t i

@@ -20,6 +20,8 @@ use Rattle.facts.specs.KindsLaws.{byte-node}
 use Rattle.facts.specs.TreeFacts.{TreeSound, case-listed, default-listed, only-listed, isIn-left, isIn-right, casesFor-some, treeBelow-of-kind}
 use Rattle.panel.specs.declared.records.Record.{Record}
 use Rattle.panel.specs.Opened.{recordOf}
+use Rattle.tree.specs.declared.reading.Test.{Test as TestRead}
+use Rattle.tree.specs.Reading.{testOf}
 use Rattle.tree.specs.NodesLaws.{SwitchNode, ListSwitchNode, LeafNode, HoistNode, switch-node-children, list-switch-node-children, hoist-node-children}
 use Rattle.walk.specs.declared.choose.Part.{Part}
 use Rattle.walk.specs.declared.nodes.Reached.{Reached}
@@ -209,26 +211,26 @@ module _ (t v : List ℕ) (path first cases d : ℕ) where
   unfolding walk atPart
   switch-no-part e = record { means = λ f. sym (rw e); leads = tt }
 
-  module _ (some-case : 1 ≤ cases) (known : caseKind t first ≤ 4) (p : Place) (s : Part) (found : follow v (pathAt t path) panelRoot ≡ some p) (shows : Shows v p s) where
+  module _ (some-case : 1 ≤ cases) (known : caseKind t first ≤ 2) (p : Place) (s : Part) (found : follow v (pathAt t path) panelRoot ≡ some p) (shows : Shows v p s) where
     opened : (f : ℕ → Tree) → switchWalk t v path first cases d f ≡ ofThisKind (caseKind t first) (partMeans v s) (λ x. walkCases (casesFor f t first cases) x v (λ u. walk (defaultFor f d) v))
     unfolding walk atPart
-    opened f = rw (found, first-kind f t first cases some-case known, shows .means)
+    opened f = rw (found, first-kind f t first cases some-case (omega (arith, known)), shows .means)
 
-    pub switch-wrong-kind : isOfKind s (caseKind t first) ≡ false
+    pub switch-wrong-kind : isOfKind s (testOf t first) ≡ false
         → Turns t v (caseChildren t first cases ++ defaultChild d) (switchWalk t v path first cases d) (Next.End Reached.Stuck)
     switch-wrong-kind e = record {
-      means = λ f. sym (opened f ∙ of-this-kind (caseKind t first) (partMeans v s) _ (sym (of-kind-means v s (caseKind t first)) ∙ e));
+      means = λ f. sym (opened f ∙ of-this-kind (caseKind t first) (partMeans v s) _ (sym (of-kind-means v s t first known) ∙ e));
       leads = tt;
     }
 
-    pub switch-turns : isOfKind s (caseKind t first) ≡ true → (r : Next)
+    pub switch-turns : isOfKind s (testOf t first) ≡ true → (r : Next)
         → ((x : Test) → partMeans v s ≡ some x
         → Turns t v (caseChildren t first cases ++ defaultChild d) (λ f. walkCases (casesFor f t first cases) x v (λ u. defaultWalk v d f)) r)
         → Turns t v (caseChildren t first cases ++ defaultChild d) (switchWalk t v path first cases d) r
     switch-turns e r w = go (partMeans v s) refl
       where
         kind : ofKind (partMeans v s) (caseKind t first) ≡ true
-        kind = sym (of-kind-means v s (caseKind t first)) ∙ e
+        kind = sym (of-kind-means v s t first known) ∙ e
 
         go : (o : Option Test) → partMeans v s ≡ o → Turns t v (caseChildren t first cases ++ defaultChild d) (switchWalk t v path first cases d) r
         go none q = let f : false ≡ true = rw q at kind in let z : _≡_ {A = ℕ} 0 1 = cc in absurd (omega arith)
@@ -247,9 +249,9 @@ module _ (t v : List ℕ) (sound : TreeSound t) (k : ℕ) (h : k < nodes t) wher
   goes-on cs (Next.End Reached.NoLeaf) e l = tt
   goes-on cs (Next.End Reached.Stuck) e l = tt
 
-  pub steps-switch : (p f n d : ℕ) (r : Next) → SwitchNode t k p f n d → Turns t v (caseChildren t f n ++ defaultChild d) (switchWalk t v p f n d) r → Steps t v k r
+  pub steps-switch : (p f n d : ℕ) (x : TestRead) (r : Next) → SwitchNode t k p f n d x → Turns t v (caseChildren t f n ++ defaultChild d) (switchWalk t v p f n d) r → Steps t v k r
   unfolding nodeFor
-  steps-switch p f n d r w u =
+  steps-switch p f n d x r w u =
       let path = w .path-is in
       let first = w .first-is in
       let many = w .cases-is in
@@ -257,7 +259,7 @@ module _ (t v : List ℕ) (sound : TreeSound t) (k : ℕ) (h : k < nodes t) wher
       let e = treeBelow-of-kind t sound k h Switch (byte-node (nodeKind t k) Switch (w .kind)) in
       record {
         means = u .means (treeBelow (nodes t) t) ∙ sym (ap (λ (a : Tree). walk a v) e ∙ rw (← path, ← first, ← many, ← default));
-        goes = goes-on (caseChildren t f n ++ defaultChild d) r (switch-node-children (sound .is-ruled) k h p f n d w) (u .leads);
+        goes = goes-on (caseChildren t f n ++ defaultChild d) r (switch-node-children (sound .is-ruled) k h p f n d x w) (u .leads);
       }
 
   pub steps-list-switch : (p f n m d : ℕ) (r : Next) → ListSwitchNode t k p f n m d

@@ -22,7 +22,7 @@ ghost use Rattle.panel.specs.Opened.{Opened};
 ghost use Rattle.tree.specs.Reading.{Mapped, Ruled};
 ghost use Rattle.walk.specs.Positions.{placed};
 ghost use Rattle.walk.specs.Choices.{alike as Choices·alike};
-ghost use Rattle.walk.specs.Choices.{textTest, testMeans, InPool, partMeans, Inside, Shows, isConstr, isList, isTailed, tailNumberOf, isOfKind, same, firstCase, chosenOf};
+ghost use Rattle.walk.specs.Choices.{textTest, testMeans, InPool, partMeans, Inside, Shows, isConstr, isList, isTailed, tailNumberOf, showsConstr, showsText, isOfKind, same, firstCase, chosenOf};
 
 // What a part shows to a test, or what is looked for among the cases of a list switch. A text stands so far into the panel.
 pub enum Part {
@@ -67,20 +67,57 @@ pub fn shown_at(v: &[u8], n: PanelMap, p: Position) -> Part
     }
 }
 
-// A part shows what cases of this kind ask.
-pub fn of_kind(s: Part, kind: u8) -> bool
-    ensures { λ r. ⌜ r ≡ isOfKind s kind ⌝ }
+fn alike(a: bool, b: bool) -> bool
+    ensures { λ r. ⌜ r ≡ Choices·alike a b ⌝ }
+{
+    if a { b } else { !b }
+}
+
+fn shows_constr(s: Part) -> bool
+    ensures { λ r. ⌜ r ≡ showsConstr s ⌝ }
 {
     match s {
-        Part::Constr(_) => kind == 0,
+        Part::Constr(_) => true,
+        Part::Text {
+            integer: _,
+            start: _,
+            count: _,
+        } => false,
+        Part::List(_) => false,
+        Part::Tailed(_) => false,
+        Part::Other => false,
+    }
+}
+
+fn shows_text(s: Part, int: bool) -> bool
+    ensures { λ r. ⌜ r ≡ showsText s int ⌝ }
+{
+    match s {
+        Part::Constr(_) => false,
         Part::Text {
             integer,
             start: _,
             count: _,
-        } => if integer { kind == 1 } else { kind == 2 },
-        Part::List(_) => kind == 3,
-        Part::Tailed(_) => kind == 4,
+        } => alike(int, integer),
+        Part::List(_) => false,
+        Part::Tailed(_) => false,
         Part::Other => false,
+    }
+}
+
+// A part shows what a switch asks whose first case has this test. A switch asks no length.
+pub fn of_kind(s: Part, test: Test) -> bool
+    ensures { λ r. ⌜ r ≡ isOfKind s test ⌝ }
+{
+    match test {
+        Test::Constr(_) => shows_constr(s),
+        Test::Text {
+            integer,
+            start: _,
+            count: _,
+        } => shows_text(s, integer),
+        Test::List(_) => false,
+        Test::Tailed(_) => false,
     }
 }
 
@@ -138,12 +175,6 @@ fn texts_same(t: &[u8], v: &[u8], i: usize, count: usize, j: usize, len: usize) 
         return false;
     }
     same_text(v, i, t, j, count)
-}
-
-fn alike(a: bool, b: bool) -> bool
-    ensures { λ r. ⌜ r ≡ Choices·alike a b ⌝ }
-{
-    if a { b } else { !b }
 }
 
 fn is_text(t: &[u8], m: Map, v: &[u8], test: Test, int: bool, i: usize, n: usize) -> bool

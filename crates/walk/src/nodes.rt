@@ -12,13 +12,13 @@ use panel::Map as PanelMap;
 use panel::records::record_at;
 use tree::layout::Map;
 use tree::reading::Node;
-use tree::reading::case_kind;
+use tree::reading::Test;
 use tree::reading::node_at;
 ghost use mathlib.Core.Path.{_≡_};
 ghost use mathlib.Core.List.{List, _++_};
 ghost use Prim.Native.Nat.{ℕ, _+_, _<_, _≤_};
-ghost use Rattle.rules.specs.TreeReader.{caseChildren, defaultChild};
-ghost use Rattle.tree.specs.Reading.{Ruled};
+ghost use Rattle.rules.specs.TreeReader.{caseKind, caseChildren, defaultChild};
+ghost use Rattle.tree.specs.Reading.{Ruled, testOf};
 ghost use Rattle.walk.specs.Positions.{Ready};
 ghost use Rattle.walk.specs.Turns.{Turns, defaultWalk, switchWalk, listWalk, tailsWalk, lengthWalk, Steps, Arrives};
 
@@ -33,13 +33,13 @@ pub enum Next {
     End(Reached),
 }
 
-fn default_of(default: usize) -> Next
+fn default_of(default: u16) -> Next
     ensures { λ r. ⌜ ((t v : List ℕ) → Turns t v (defaultChild default) (defaultWalk v default) r) ⌝ }
 {
     if default == 0 {
         return Next::End(Reached::NoLeaf);
     }
-    Next::Node(default - 1)
+    Next::Node(default as usize - 1)
 }
 
 fn from_switch(
@@ -47,22 +47,23 @@ fn from_switch(
     m: Map,
     v: &[u8],
     n: PanelMap,
-    path: usize,
-    first: usize,
-    cases: usize,
-    default: usize,
+    path: u16,
+    first: u16,
+    cases: u16,
+    default: u16,
+    test: Test,
 ) -> Next
-    requires { ⌜ Ready (now t) m (now v) n × (path < m .paths .count) × (1 ≤ cases) × (first + cases ≤ m .cases .count) ⌝ }
+    requires { ⌜ Ready (now t) m (now v) n × (path < m .paths .count) × (1 ≤ cases) × (first + cases ≤ m .cases .count) × (caseKind (now t) first ≤ 2) × (test ≡ testOf (now t) first) ⌝ }
     ensures { λ r. ⌜ Turns (now (t .entry)) (now (v .entry)) (caseChildren (now (t .entry)) first cases ++ defaultChild default) (switchWalk (now (t .entry)) (now (v .entry)) path first cases default) r ⌝ }
 {
-    let Found::At(p) = follow(t, m, v, n, path) else {
+    let Found::At(p) = follow(t, m, v, n, path as usize) else {
         return Next::End(Reached::Stuck);
     };
     let s = shown_at(v, n, p);
-    if !of_kind(s, case_kind(t, m, first)) {
+    if !of_kind(s, test) {
         return Next::End(Reached::Stuck);
     }
-    let Chosen::Child(c) = first_case(t, m, v, first, cases, s) else {
+    let Chosen::Child(c) = first_case(t, m, v, first as usize, cases as usize, s) else {
         return default_of(default);
     };
     Next::Node(c)
@@ -76,7 +77,7 @@ fn from_tails(
     length: usize,
     first: usize,
     tails: usize,
-    default: usize,
+    default: u16,
 ) -> Next
     requires { ⌜ Ruled (now t) m × (first + tails ≤ m .cases .count) ⌝ }
     ensures { λ r. ⌜ Turns (now (t .entry)) (now (v .entry)) (caseChildren (now (t .entry)) first tails ++ defaultChild default) (tailsWalk (now (t .entry)) (now (v .entry)) length first tails default) r ⌝ }
@@ -99,7 +100,7 @@ fn from_length(
     first: usize,
     cases: usize,
     tails: usize,
-    default: usize,
+    default: u16,
 ) -> Next
     requires { ⌜ Ruled (now t) m × (first + (cases + tails) ≤ m .cases .count) ⌝ }
     ensures { λ r. ⌜ Turns (now (t .entry)) (now (v .entry)) (caseChildren (now (t .entry)) first (cases + tails) ++ defaultChild default) (lengthWalk (now (t .entry)) (now (v .entry)) length first cases tails default) r ⌝ }
@@ -115,16 +116,16 @@ fn from_list_switch(
     m: Map,
     v: &[u8],
     n: PanelMap,
-    path: usize,
-    first: usize,
-    cases: usize,
-    tails: usize,
-    default: usize,
+    path: u16,
+    first: u16,
+    cases: u16,
+    tails: u16,
+    default: u16,
 ) -> Next
     requires { ⌜ Ready (now t) m (now v) n × (path < m .paths .count) × (first + (cases + tails) ≤ m .cases .count) ⌝ }
     ensures { λ r. ⌜ Turns (now (t .entry)) (now (v .entry)) (caseChildren (now (t .entry)) first (cases + tails) ++ defaultChild default) (listWalk (now (t .entry)) (now (v .entry)) path first cases tails default) r ⌝ }
 {
-    let Found::At(p) = follow(t, m, v, n, path) else {
+    let Found::At(p) = follow(t, m, v, n, path as usize) else {
         return Next::End(Reached::Stuck);
     };
     let r = p.record;
@@ -132,7 +133,16 @@ fn from_list_switch(
     if x.kind != 2 {
         return Next::End(Reached::Stuck);
     }
-    from_length(t, m, v, x.count - p.dropped, first, cases, tails, default)
+    from_length(
+        t,
+        m,
+        v,
+        x.count - p.dropped,
+        first as usize,
+        cases as usize,
+        tails as usize,
+        default,
+    )
 }
 
 fn from_node(t: &[u8], m: Map, v: &[u8], n: PanelMap, k: usize) -> Next
@@ -146,37 +156,15 @@ fn from_node(t: &[u8], m: Map, v: &[u8], n: PanelMap, k: usize) -> Next
             first,
             cases,
             default,
-        } => {
-            from_switch(
-                t,
-                m,
-                v,
-                n,
-                path as usize,
-                first as usize,
-                cases as usize,
-                default as usize,
-            )
-        }
+            test,
+        } => from_switch(t, m, v, n, path, first, cases, default, test),
         Node::ListSwitch {
             path,
             first,
             cases,
             tails,
             default,
-        } => {
-            from_list_switch(
-                t,
-                m,
-                v,
-                n,
-                path as usize,
-                first as usize,
-                cases as usize,
-                tails as usize,
-                default as usize,
-            )
-        }
+        } => from_list_switch(t, m, v, n, path, first, cases, tails, default),
         Node::Leaf {
             clause,
             first,

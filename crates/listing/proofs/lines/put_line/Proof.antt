@@ -1,5 +1,5 @@
 use Rattle.listing.specs.WritingLaws.{writes-then, writes-as}
-use Rattle.listing.specs.RecordsLaws.{node-kind-known, node-inside, node-line}
+use Rattle.listing.specs.RecordsLaws.{node-inside, node-line}
 use borrow.Author.Needs.{needs}
 use Rattle.listing.proofs.lines.put_line.Statement.{statement}
 use Rattle.listing.proofs.lines.put_line.Tie as tie
@@ -12,7 +12,7 @@ use Rattle.tree.proofs.reading.node_at.Reads as node-at-reads
 
 -- src/lines.rt:119:9
 node-at-requires : tie.Need-node-at-requires
-node-at-requires c κs = (c .before .before .pre .0 .mapped, c .before .before .pre .1, node-kind-known (c .before .before .pre .0) (c .before .before .args .k) (c .before .before .pre .1))
+node-at-requires c κs = (c .before .before .pre .0, c .before .before .pre .1)
 
 -- src/lines.rt:120:39
 cast-put-decimal : tie.Need-cast-put-decimal

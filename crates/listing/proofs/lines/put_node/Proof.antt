@@ -12,7 +12,7 @@ use Rattle.listing.proofs.lines.put_leaf.Reads as put-leaf-reads
 use Rattle.listing.proofs.lines.put_switch.Reads as put-switch-reads
 use Rattle.listing.proofs.texts.put_text.Reads as put-text-reads
 
-is-switch : (c : tie.After-known-told) → c .before .before .before .before .before .args .node ≡ Node.Switch (c .before .node .given .0 .0) (c .before .node .given .0 .1 .0) (c .before .node .given .0 .1 .1 .0) (c .before .node .given .0 .1 .1 .1 .0)
+is-switch : (c : tie.After-known-told) → c .before .before .before .before .before .args .node ≡ Node.Switch (c .before .node .given .0 .0) (c .before .node .given .0 .1 .0) (c .before .node .given .0 .1 .1 .0) (c .before .node .given .0 .1 .1 .1 .0) (c .before .node .given .0 .1 .1 .1 .1 .0)
 is-switch c = search needs
 
 is-list-switch : (c : tie.After-known-told2) → c .before .before .before .before .before .args .node ≡ Node.ListSwitch (c .before .node2 .given .0 .0) (c .before .node2 .given .0 .1 .0) (c .before .node2 .given .0 .1 .1 .0) (c .before .node2 .given .0 .1 .1 .1 .0) (c .before .node2 .given .0 .1 .1 .1 .1 .0)

@@ -4,7 +4,7 @@ use borrow.Author.Needs.{needs}
 use Rattle.tree.specs.ReadingLaws.{cases-count, paths-count}
 use Rattle.walk.specs.TurnsLaws.{steps-switch, steps-list-switch, steps-leaf, steps-hoist}
 use Rattle.walk.specs.FollowLaws.{ready-ruled}
-use Rattle.tree.specs.NodesLaws.{switch-node, list-switch-node, leaf-node, hoist-node, switch-node-run, switch-node-path, list-switch-node-run, list-switch-node-path}
+use Rattle.tree.specs.NodesLaws.{switch-node, list-switch-node, leaf-node, hoist-node, switch-node-run, switch-node-path, switch-node-kind, list-switch-node-run, list-switch-node-path}
 use Rattle.tree.specs.OrderLaws.{in-nodes, node-kind-known}
 use Rattle.tree.specs.declared.reading.Node.{Node}
 use native.Mathlib.Omega.{arith}
@@ -13,26 +13,10 @@ use Rattle.walk.proofs.nodes.from_node.Statement.{statement}
 use Rattle.walk.proofs.nodes.from_node.Tie as tie
 
 node-at-requires : tie.Need-node-at-requires
-node-at-requires c κs = (
-  c .before .before .pre .0 .mapped,
-  c .before .before .pre .1,
-  node-kind-known (ready-ruled (c .before .before .pre .0)) (c .before .before .args .k) (c .before .before .pre .1),
-)
+node-at-requires c κs = (ready-ruled (c .before .before .pre .0), c .before .before .pre .1)
 
 enum-known-node : tie.Need-enum-known-node
 enum-known-node c = search needs
-
-cast-from-switch : tie.Need-cast-from-switch
-cast-from-switch c = search needs
-
-cast-from-switch-2 : tie.Need-cast-from-switch-2
-cast-from-switch-2 c = search needs
-
-cast-from-switch-3 : tie.Need-cast-from-switch-3
-cast-from-switch-3 c = search needs
-
-cast-from-switch-4 : tie.Need-cast-from-switch-4
-cast-from-switch-4 c = search needs
 
 from-switch-requires : tie.Need-from-switch-requires
 from-switch-requires c κs =
@@ -43,29 +27,15 @@ from-switch-requires c κs =
     let ruled = ready-ruled ready in
     let h = in-nodes ruled (a .k) (back6 .pre .1) in
     let g = c .before .node .given .0 in
-    let e : back3 .node-at .result ≡ Node.Switch (g .0) (g .1 .0) (g .1 .1 .0) (g .1 .1 .1 .0) = c .before .node .given .1 in
-    let w = switch-node (a .t .now) (a .k) (g .0) (g .1 .0) (g .1 .1 .0) (g .1 .1 .1 .0) (sym (back3 .node-at .ensures) ∙ e) in
-    let run = switch-node-run (ruled .rules) (a .k) h (g .0) (g .1 .0) (g .1 .1 .0) (g .1 .1 .1 .0) w in
-    let path = switch-node-path (ruled .rules) (a .k) h (g .0) (g .1 .0) (g .1 .1 .0) (g .1 .1 .1 .0) w in
-    (ready, omega (arith, path, paths-count (ready .mapped)), run .0, omega (arith, run .1, cases-count (ready .mapped)))
+    let e : back3 .node-at .result ≡ Node.Switch (g .0) (g .1 .0) (g .1 .1 .0) (g .1 .1 .1 .0) (g .1 .1 .1 .1 .0) = c .before .node .given .1 in
+    let w = switch-node (a .t .now) (a .k) (g .0) (g .1 .0) (g .1 .1 .0) (g .1 .1 .1 .0) (g .1 .1 .1 .1 .0) (sym (back3 .node-at .ensures) ∙ e) in
+    let run = switch-node-run (ruled .rules) (a .k) h (g .0) (g .1 .0) (g .1 .1 .0) (g .1 .1 .1 .0) (g .1 .1 .1 .1 .0) w in
+    let path = switch-node-path (ruled .rules) (a .k) h (g .0) (g .1 .0) (g .1 .1 .0) (g .1 .1 .1 .0) (g .1 .1 .1 .1 .0) w in
+    let kind = switch-node-kind (ruled .rules) (a .k) h (g .0) (g .1 .0) (g .1 .1 .0) (g .1 .1 .1 .0) (g .1 .1 .1 .1 .0) w in
+    (ready, omega (arith, path, paths-count (ready .mapped)), run .0, omega (arith, run .1, cases-count (ready .mapped)), kind, w .test-is)
 
 enum-known-node-2 : tie.Need-enum-known-node-2
 enum-known-node-2 c = search needs
-
-cast-from-list-switch : tie.Need-cast-from-list-switch
-cast-from-list-switch c = search needs
-
-cast-from-list-switch-2 : tie.Need-cast-from-list-switch-2
-cast-from-list-switch-2 c = search needs
-
-cast-from-list-switch-3 : tie.Need-cast-from-list-switch-3
-cast-from-list-switch-3 c = search needs
-
-cast-from-list-switch-4 : tie.Need-cast-from-list-switch-4
-cast-from-list-switch-4 c = search needs
-
-cast-from-list-switch-5 : tie.Need-cast-from-list-switch-5
-cast-from-list-switch-5 c = search needs
 
 from-list-switch-requires : tie.Need-from-list-switch-requires
 from-list-switch-requires c κs =
@@ -90,8 +60,8 @@ enum-known-node-3 c = search needs
 enum-known-node-4 : tie.Need-enum-known-node-4
 enum-known-node-4 c = search needs
 
-cast-t31 : tie.Need-cast-t31
-cast-t31 c = search needs
+cast-t23 : tie.Need-cast-t23
+cast-t23 c = search needs
 
 returns : tie.Need-returns
 returns c =
@@ -102,9 +72,9 @@ returns c =
     let ruled = ready-ruled ready in
     let h = in-nodes ruled (a .k) (back7 .pre .1) in
     let g = c .before .before .node .given .0 in
-    let e : back4 .node-at .result ≡ Node.Switch (g .0) (g .1 .0) (g .1 .1 .0) (g .1 .1 .1 .0) = c .before .before .node .given .1 in
-    let w = switch-node (a .t .now) (a .k) (g .0) (g .1 .0) (g .1 .1 .0) (g .1 .1 .1 .0) (sym (back4 .node-at .ensures) ∙ e) in
-    steps-switch (a .t .now) (a .v .now) (ready .sound) (a .k) h (g .0) (g .1 .0) (g .1 .1 .0) (g .1 .1 .1 .0) (c .from-switch .result) w
+    let e : back4 .node-at .result ≡ Node.Switch (g .0) (g .1 .0) (g .1 .1 .0) (g .1 .1 .1 .0) (g .1 .1 .1 .1 .0) = c .before .before .node .given .1 in
+    let w = switch-node (a .t .now) (a .k) (g .0) (g .1 .0) (g .1 .1 .0) (g .1 .1 .1 .0) (g .1 .1 .1 .1 .0) (sym (back4 .node-at .ensures) ∙ e) in
+    steps-switch (a .t .now) (a .v .now) (ready .sound) (a .k) h (g .0) (g .1 .0) (g .1 .1 .0) (g .1 .1 .1 .0) (g .1 .1 .1 .1 .0) (c .from-switch .result) w
     (c .from-switch .ensures)
 
 returns-2 : tie.Need-returns-2
@@ -157,21 +127,12 @@ from-node-spec =
     (tie.spec
     node-at-requires
     enum-known-node
-    cast-from-switch
-    cast-from-switch-2
-    cast-from-switch-3
-    cast-from-switch-4
     from-switch-requires
     enum-known-node-2
-    cast-from-list-switch
-    cast-from-list-switch-2
-    cast-from-list-switch-3
-    cast-from-list-switch-4
-    cast-from-list-switch-5
     from-list-switch-requires
     enum-known-node-3
     enum-known-node-4
-    cast-t31
+    cast-t23
     returns
     returns-2
     returns-3

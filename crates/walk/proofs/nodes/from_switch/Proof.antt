@@ -1,7 +1,6 @@
 -- `walk::nodes::from_switch` meets its contract: one law of the walk at a switch for each way out.
 use borrow.Author.Needs.{needs}
 use Rattle.walk.specs.declared.nodes.Next.{Next}
-use Rattle.tree.specs.ReadingLaws.{cases-count}
 use Rattle.walk.specs.TurnsLaws.{turns-case, turns-past, switch-no-part, switch-wrong-kind, switch-turns}
 use Rattle.walk.specs.Turns.{defaultWalk}
 use Rattle.walk.specs.FollowLaws.{found-some, found-none, found-within, ready-ruled}
@@ -12,7 +11,6 @@ use Rattle.rules.specs.Walking.{panelRoot, follow}
 use Rattle.walk.specs.declared.choose.Chosen.the-variants.{Child}
 use Rattle.walk.specs.declared.follow.Found.the-variants.{At}
 use borrow.Author.Tests.{not-true, not-false}
-use native.Mathlib.Omega.{arith}
 use mathlib.Core.Path.{_≡_, sym, ap, _∙_}
 use Rattle.walk.proofs.nodes.from_switch.Statement.{statement}
 use Rattle.walk.proofs.nodes.from_switch.Tie as tie
@@ -45,37 +43,28 @@ shown-at-requires c κs =
     let within = found-within ready (a .path) p found in
     (ready .opened, ready .panel .is-shaped, within .place-in)
 
-case-kind-requires : tie.Need-case-kind-requires
-case-kind-requires c κs =
-    let back7 = c .before .before .before .before .before .before .before in
-    (back7 .pre .0 .mapped, omega (arith, back7 .pre .2, back7 .pre .3))
-
 of-kind-requires : tie.Need-of-kind-requires
 of-kind-requires c κs = search needs
 
 returns-2 : tie.Need-returns-2
 returns-2 c =
-    let back3 = c .before .before .before in
-    let back5 = back3 .before .before in
-    let back7 = back5 .before .before in
-    let back10 = back7 .before .before .before in
-    let a = back10 .args in
-    let ready = back10 .pre .0 in
-    let p = back5 .p .given .0 .0 in
-    let r : back7 .follow .result ≡ At p = back5 .p .given .1 in
-    let found = found-some (follow (a .v .now) (pathAt (a .t .now) (a .path)) panelRoot) p (sym (back7 .follow .ensures) ∙ r) in
-    let within = found-within ready (a .path) p found in
-    let shows = back3 .shown-at .ensures in
-    let s = back3 .shown-at .result in
-    let known = ready .sound .is-ruled .case-kind (a .first) (omega (arith, cases-count (ready .mapped), back10 .pre .2, back10 .pre .3)) in
-    switch-wrong-kind (a .t .now) (a .v .now) (a .path) (a .first) (a .cases) (a .default) (back10 .pre .2) known (placed p) s found shows
-    (ap (isOfKind s) (sym (c .before .before .case-kind .ensures)) ∙ sym (c .before .of-kind .ensures) ∙ not-true _ (c .if1 .taken))
+    let back4 = c .before .before .before .before in
+    let back6 = back4 .before .before in
+    let back9 = back6 .before .before .before in
+    let a = back9 .args in
+    let ready = back9 .pre .0 in
+    let p = back4 .p .given .0 .0 in
+    let r : back6 .follow .result ≡ At p = back4 .p .given .1 in
+    let found = found-some (follow (a .v .now) (pathAt (a .t .now) (a .path)) panelRoot) p (sym (back6 .follow .ensures) ∙ r) in
+    let shows = c .before .before .shown-at .ensures in
+    let s = c .before .before .shown-at .result in
+    switch-wrong-kind (a .t .now) (a .v .now) (a .path) (a .first) (a .cases) (a .default) (back9 .pre .2) (back9 .pre .4) (placed p) s found shows
+    (ap (isOfKind s) (sym (back9 .pre .5)) ∙ sym (c .before .of-kind .ensures) ∙ not-true _ (c .if1 .taken))
 
 first-case-requires : tie.Need-first-case-requires
 first-case-requires c κs =
-    let back3 = c .before .before .before in
-    let back10 = back3 .before .before .before .before .before .before .before in
-    (ready-ruled (back10 .pre .0), back3 .shown-at .ensures .inside, back10 .pre .3)
+    let back9 = c .before .before .before .before .before .before .before .before .before in
+    (ready-ruled (back9 .pre .0), c .before .before .shown-at .ensures .inside, back9 .pre .3)
 
 enum-known-c : tie.Need-enum-known-c
 enum-known-c c = search needs
@@ -92,22 +81,19 @@ returns-3 c =
     let back4 = back3 .before in
     let back5 = back4 .before in
     let back6 = back5 .before in
-    let back7 = back6 .before in
-    let back9 = back7 .before .before in
-    let back11 = back9 .before .before in
-    let back14 = back11 .before .before .before in
-    let a = back14 .args in
-    let ready = back14 .pre .0 in
-    let p = back9 .p .given .0 .0 in
-    let r : back11 .follow .result ≡ At p = back9 .p .given .1 in
-    let found = found-some (follow (a .v .now) (pathAt (a .t .now) (a .path)) panelRoot) p (sym (back11 .follow .ensures) ∙ r) in
-    let within = found-within ready (a .path) p found in
-    let shows = back7 .shown-at .ensures in
-    let s = back7 .shown-at .result in
-    let known = ready .sound .is-ruled .case-kind (a .first) (omega (arith, cases-count (ready .mapped), back14 .pre .2, back14 .pre .3)) in
+    let back8 = back6 .before .before in
+    let back10 = back8 .before .before in
+    let back13 = back10 .before .before .before in
+    let a = back13 .args in
+    let ready = back13 .pre .0 in
+    let p = back8 .p .given .0 .0 in
+    let r : back10 .follow .result ≡ At p = back8 .p .given .1 in
+    let found = found-some (follow (a .v .now) (pathAt (a .t .now) (a .path)) panelRoot) p (sym (back10 .follow .ensures) ∙ r) in
+    let shows = back6 .shown-at .ensures in
+    let s = back6 .shown-at .result in
     let rest = c .default-of .result in
-    switch-turns (a .t .now) (a .v .now) (a .path) (a .first) (a .cases) (a .default) (back14 .pre .2) known (placed p) s found shows
-    (ap (isOfKind s) (sym (back6 .case-kind .ensures)) ∙ sym (back5 .of-kind .ensures) ∙ not-false _ (back4 .if1 .left)) rest
+    switch-turns (a .t .now) (a .v .now) (a .path) (a .first) (a .cases) (a .default) (back13 .pre .2) (back13 .pre .4) (placed p) s found shows
+    (ap (isOfKind s) (sym (back13 .pre .5)) ∙ sym (back5 .of-kind .ensures) ∙ not-false _ (back4 .if1 .left)) rest
     (λ x q. turns-past (a .t .now) (a .v .now) s x q (a .first) (a .cases) (defaultChild (a .default)) (defaultWalk (a .v .now) (a .default)) rest (sym (back3 .first-case .ensures) ∙ c .before .enum-told2 .given .1) (c .default-of .ensures (a .t .now) (a .v .now)))
 
 returns-4 : tie.Need-returns-4
@@ -116,23 +102,20 @@ returns-4 c =
     let back4 = back3 .before in
     let back5 = back4 .before in
     let back6 = back5 .before in
-    let back7 = back6 .before in
-    let back9 = back7 .before .before in
-    let back11 = back9 .before .before in
-    let back14 = back11 .before .before .before in
-    let a = back14 .args in
-    let ready = back14 .pre .0 in
-    let p = back9 .p .given .0 .0 in
-    let r : back11 .follow .result ≡ At p = back9 .p .given .1 in
-    let found = found-some (follow (a .v .now) (pathAt (a .t .now) (a .path)) panelRoot) p (sym (back11 .follow .ensures) ∙ r) in
-    let within = found-within ready (a .path) p found in
-    let shows = back7 .shown-at .ensures in
-    let s = back7 .shown-at .result in
-    let known = ready .sound .is-ruled .case-kind (a .first) (omega (arith, cases-count (ready .mapped), back14 .pre .2, back14 .pre .3)) in
+    let back8 = back6 .before .before in
+    let back10 = back8 .before .before in
+    let back13 = back10 .before .before .before in
+    let a = back13 .args in
+    let ready = back13 .pre .0 in
+    let p = back8 .p .given .0 .0 in
+    let r : back10 .follow .result ≡ At p = back8 .p .given .1 in
+    let found = found-some (follow (a .v .now) (pathAt (a .t .now) (a .path)) panelRoot) p (sym (back10 .follow .ensures) ∙ r) in
+    let shows = back6 .shown-at .ensures in
+    let s = back6 .shown-at .result in
     let child = c .before .c .given .0 .0 in
     let chosen : back3 .first-case .result ≡ Child child = c .before .c .given .1 in
-    switch-turns (a .t .now) (a .v .now) (a .path) (a .first) (a .cases) (a .default) (back14 .pre .2) known (placed p) s found shows
-    (ap (isOfKind s) (sym (back6 .case-kind .ensures)) ∙ sym (back5 .of-kind .ensures) ∙ not-false _ (back4 .if1 .left)) (Next.Node child)
+    switch-turns (a .t .now) (a .v .now) (a .path) (a .first) (a .cases) (a .default) (back13 .pre .2) (back13 .pre .4) (placed p) s found shows
+    (ap (isOfKind s) (sym (back13 .pre .5)) ∙ sym (back5 .of-kind .ensures) ∙ not-false _ (back4 .if1 .left)) (Next.Node child)
     (λ x q. turns-case (a .t .now) (a .v .now) s x q (a .first) (a .cases) (defaultChild (a .default)) (defaultWalk (a .v .now) (a .default)) child (sym (back3 .first-case .ensures) ∙ chosen))
 
 pub from-switch-spec : {M : Type 1} → statement M
@@ -144,7 +127,6 @@ from-switch-spec =
     enum-told
     returns
     shown-at-requires
-    case-kind-requires
     of-kind-requires
     returns-2
     first-case-requires
