@@ -1,6 +1,5 @@
 -- The answers of the calls as the rules have them, from the code's enums.
 -- Rests on the calls of the crate rules; the walk's own answer is in the crate walk.
-use Prim.Native.Nat.{ℕ}
 use Rattle.rules.specs.SheetRefusals.{Verdict, accepted, refused}
 use Rattle.rules.specs.Calls.{Answer, answers, refuses, Span}
 use Rattle.panel.specs.declared.Fitted.{Fitted}

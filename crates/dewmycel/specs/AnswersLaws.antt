@@ -3,18 +3,14 @@
 use mathlib.Core.Path.{_≡_, refl, sym, ap, _∙_}
 use mathlib.Core.Bool.{Bool, true, false}
 use mathlib.Core.List.{List}
-use Prim.Native.Nat.{ℕ, _+_, _≤_, _<_}
+use Prim.Native.Nat.{ℕ, _+_, _<_}
 use native.Mathlib.Omega.{arith}
 use borrow.Author.Tests.{ltb-true, leb-true}
-use lib.Dec.{eqb, leb, ltb}
-use lib.ListN.{length}
-use Rattle.words.specs.Words.{both}
 use Rattle.words.specs.WordsLaws.{both-true}
-use Rattle.rules.specs.Limits.{panelMost, textMost}
-use Rattle.rules.specs.PanelFile.{records, recordKind, recordFirst, recordCount, panelPoolAt, panelPoolSize}
+use Rattle.rules.specs.PanelFile.{recordFirst, recordCount, panelPoolAt}
 use Rattle.rules.specs.SheetRefusals.{Verdict, accepted, refused, require}
 use Rattle.rules.specs.PanelFile.{panelVerdict}
-use Rattle.rules.specs.Calls.{Answer, answers, refuses, unless, BuildCall, WalkEnd, leafOf, withoutLeaf, WalkCall, Span, fitCall, textCall, hasText}
+use Rattle.rules.specs.Calls.{Answer, answers, refuses, unless, BuildCall, WalkCall, Span, fitCall, textCall, hasText}
 use Rattle.facts.specs.PanelFacts.{PanelAccepted, accepted-panel, panel-text-inside}
 use Rattle.panel.specs.declared.Fitted.{Fitted}
 use Rattle.panel.specs.declared.Fitted.the-variants.{Fits, Refused as NotFitted}

@@ -3,9 +3,9 @@
 use mathlib.Core.Path.{_≡_, refl, sym, ap, ap₂, _∙_}
 use mathlib.Core.Bool.{Bool, true, false}
 use mathlib.Core.List.{List, _++_}
-use Prim.Native.Nat.{ℕ, _+_, _-_, _≤_, min}
+use Prim.Native.Nat.{ℕ, _+_, _-_, _≤_}
 use native.Mathlib.Omega.{arith}
-use borrow.Author.Tests.{leb-true, leb-false}
+use borrow.Author.Tests.{leb-true}
 use lib.Dec.{leb}
 use lib.ListN.{length, take, length-take, length-append, length-replicate}
 use Rattle.io.specs.Counts.{Counts}
@@ -22,7 +22,7 @@ use Rattle.build.specs.declared.Built.{Built}
 use Rattle.build.specs.declared.Built.the-variants.{Tree, Refused}
 use Rattle.build.specs.Answers.{answerOf as buildAnswerOf}
 use Rattle.dewmycel.specs.Contracts.{BuildFits}
-use Rattle.programs.specs.Shown.{shown, treeShown, Shows, ShowsTree, ShowsRefusal, ShowsSheet}
+use Rattle.programs.specs.Shown.{shown, treeShown, Shows}
 
 -- ---- how many bytes there are
 textIn-long : (text : List ℕ) (room : ℕ) → length (textIn text room) ≡ room
