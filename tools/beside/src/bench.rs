@@ -1,10 +1,10 @@
 //! Speed: a build by the Rust and by the proved library on the same sheets, and the library's walk beside a plain
 //! walker, in one run. Each call is timed in many short batches, and the batches of what is compared take turns.
 //! Of a build the least batch counts: what else the machine does at the time makes a batch longer, never shorter.
-//! The walk itself is a small difference of larger times. A difference of least times, which come from different
-//! moments, was seen to vary more from run to run than the median of the differences of one turn each: that is taken.
-//! And a family shows the median of its walks, since a few panels of some hundred records take most of the time of all
-//! and their readers' pass hides the walk.
+//! The walk itself is a small difference of larger times, and no way to reckon it was seen to hold still: on one
+//! library and the same sheets its ratio to the plain walker moved by a factor of two between runs, and between builds
+//! of this tool. So it is shown in two ways (the median of the differences of one turn each, over a family's walks
+//! their median; and from least times and means), bench.sh runs it in several processes, and counts.sh counts instead.
 
 use std::hint::black_box;
 use std::time::{Duration, Instant};
@@ -142,9 +142,10 @@ fn batch<const CALL: usize>(calls: u32, tree: &[u8], panel: &[u8]) -> f64 {
     start.elapsed().as_nanos() as f64 / f64::from(calls)
 }
 
-/// Times of a walk, in nanoseconds: of each call the median of its batches, and the walk itself.
+/// Times of a walk, in nanoseconds: of each call the median of its batches and the least, and the walk itself.
 struct Walk {
     of: [f64; 6],
+    least: [f64; 6],
     itself: f64,
 }
 
@@ -176,6 +177,9 @@ fn walk(tree: &[u8], panel: &[u8]) -> Walk {
     let turns: Vec<[f64; 6]> = (0..WALK_BATCHES).map(turn).collect();
     Walk {
         of: std::array::from_fn(|call| median(turns.iter().map(|turn| turn[call]).collect())),
+        least: std::array::from_fn(|call| {
+            turns.iter().map(|turn| turn[call]).fold(f64::INFINITY, f64::min)
+        }),
         itself: median(turns.iter().map(itself).collect()),
     }
 }
@@ -202,8 +206,9 @@ buffer, reads the tree file and the panel file with every check, and walks. Tree
 clearing and the tree's pass. Panel: the text call of a record that is not there, refused 33 after the panel's pass. Bare: the text call
 of an empty panel. The walk itself is whole - tree - panel + bare (the last, since each of the two passes has a call of its own in it),
 the median over turns in which each call is timed once. Plain: a walker in Rust over the same bytes that checks nothing and clears
-nothing; indexed: the same with Rust's checks of indexes. Ratio: the walk itself by plain, then by indexed.
-family     walks    whole     tree    panel  bare  itself  plain  ratio  goal  indexed  ratio";
+nothing; indexed: the same with Rust's checks of indexes. Ratio: the walk itself by plain, then by indexed. The last three columns are
+another way to reckon: the walk itself and plain from the least batch of each call, the mean over all walks, and their ratio.
+family     walks    whole     tree    panel  bare  itself  plain  ratio  goal  indexed  ratio  l.itself l.plain  ratio";
 
 fn show_builds(name: &str, goal: f64, members: &[Member]) {
     let times: Vec<Build> = members.iter().map(build).collect();
@@ -226,26 +231,39 @@ fn show_walks(name: &str, members: &[Member]) {
     let of = |part: &dyn Fn(&Walk) -> f64| median(times.iter().map(part).collect());
     let [whole, tree, panel, bare, plain, indexed] =
         std::array::from_fn(|call| of(&|time| time.of[call]));
+    let least: [f64; 6] = std::array::from_fn(|call| {
+        mean(&times.iter().map(|time| time.least[call]).collect::<Vec<_>>())
+    });
     println!(
-        "{name:<8} {:>7} {whole:>8.0} {tree:>8.0} {panel:>8.0} {bare:>5.1} {:>7.1} {plain:>6.1} {:>6.2} {WALK_GOAL:>5} {indexed:>8.1} {:>6.2}",
+        "{name:<8} {:>7} {whole:>8.0} {tree:>8.0} {panel:>8.0} {bare:>5.1} {:>7.1} {plain:>6.1} {:>6.2} {WALK_GOAL:>5} {indexed:>8.1} {:>6.2} {:>8.1} {:>6.1} {:>6.2}",
         times.len(),
         of(&|time| time.itself),
         of(&|time| time.itself / time.of[PLAIN]),
         of(&|time| time.itself / time.of[INDEXED]),
+        itself(&least),
+        least[PLAIN],
+        itself(&least) / least[PLAIN],
     );
 }
 
-pub fn run(many: usize, seed: u64) {
-    println!(
-        "{many} sheets a family, seed {seed}. Batches of about {} microseconds: of a build the least of {BATCHES} counts, of a walk the median of {WALK_BATCHES}.\n",
-        BATCH.as_micros()
-    );
+/// Times the families; `again` leaves out what the columns are.
+pub fn run(many: usize, seed: u64, again: bool) {
+    let head = |words: &str| match again {
+        true => words.lines().last().unwrap_or_default().to_string(),
+        false => words.to_string(),
+    };
+    if !again {
+        println!(
+            "{many} sheets a family, seed {seed}. Batches of about {} microseconds: of a build the least of {BATCHES} counts, of a walk {WALK_BATCHES} are timed.\n",
+            BATCH.as_micros()
+        );
+    }
     let members = members(seed, many);
-    println!("{BUILD_HEAD}");
+    println!("{}", head(BUILD_HEAD));
     for (family, members) in FAMILIES.iter().zip(&members) {
         show_builds(family.name, family.goal, members);
     }
-    println!("\n{WALK_HEAD}");
+    println!("\n{}", head(WALK_HEAD));
     for (family, members) in FAMILIES.iter().zip(&members) {
         show_walks(family.name, members);
     }

@@ -39,7 +39,7 @@ beside compare N SEED [P]   N random sheets: the Rust against the reference, wal
 beside gen SEED DIR K       writes K random sheets with panels, and what the reference answers
 beside bytes [NAME]         hand-made sheets and panels, and their trees, as lists of bytes
 beside hand DIR             writes the hand-made ones, and what the reference answers
-beside bench K SEED         with the library: times of K sheets a family, by the Rust and by the library
+beside bench K SEED [again] with the library: times of K sheets a family, by the Rust and by the library
 beside families SEED K DIR  with the library: writes K sheets a family with their trees and panels
 beside once CALL DIR        with the library: one call on each file of a family, for counts.sh
 beside vectors SEED K OUT   writes K random sheets that are accepted, each with the listing of the Rust's tree
@@ -86,7 +86,9 @@ fn command(args: &[String]) -> Result<bool, String> {
         }
         ["hand", dir] => by_hand(dir)?,
         #[cfg(feature = "library")]
-        ["bench", k, seed] => bench::run(number(k)? as usize, number(seed)?),
+        ["bench", k, seed] => bench::run(number(k)? as usize, number(seed)?, false),
+        #[cfg(feature = "library")]
+        ["bench", k, seed, "again"] => bench::run(number(k)? as usize, number(seed)?, true),
         #[cfg(feature = "library")]
         ["families", seed, k, dir] => bench::write(number(seed)?, number(k)? as usize, dir)?,
         #[cfg(feature = "library")]
