@@ -48,7 +48,6 @@ use Rattle.scopes.specs.WriterLaws.{ready-held, scoped-leaf}
 use Rattle.building.specs.declared.tops.Tops.{Tops as BuildingTops}
 use Rattle.building.specs.Raw.{Raw as BuildingRaw}
 use Rattle.writing.specs.declared.nodes.Tops.{Tops}
-use Rattle.writing.specs.Uses.{classesIn}
 use Rattle.writing.specs.Written.{WritingAsked, Written}
 use Rattle.paths.specs.Tail.{Puts, Used, usedPaths, frontBytes, tailBytes, TailReady}
 use Rattle.paths.specs.FileLaws.{tail-ready, file-put}
@@ -307,19 +306,19 @@ module _ {s : List ℕ} (ok : Accepted s) where
     }
 
     -- what is written is the sheet's tree, over the paths of all patterns
-    pub is-written : (before after : List ℕ) (r : Tops) → ((a : WritingAsked w nodes cases x (clauses s)) → Written (a .ready .table) (hoistAll (clauses s) (a .tree)) before after r)
-        → Written (sheetPaths s) (sheetTree s) before after r
+    pub is-written : (before after classes : List ℕ) (r : Tops) → ((a : WritingAsked w nodes cases x (clauses s)) → Written (a .ready .table) (hoistAll (clauses s) (a .tree)) before after classes r)
+        → Written (sheetPaths s) (sheetTree s) before after classes r
     unfolding writing-asked raw-ready
-    is-written before after r f = rw hoisted-is at (f writing-asked)
+    is-written before after classes r f = rw hoisted-is at (f writing-asked)
 
     -- the same of a number of clauses that is the sheet's
     pub asked-at : (n : ℕ) → n ≡ clauses s → WritingAsked w nodes cases x n
     asked-at n e = subst (λ k. WritingAsked w nodes cases x k) (sym e) writing-asked
 
-    pub written-at : (n : ℕ) → n ≡ clauses s → (before after : List ℕ) (r : Tops)
-        → ((a : WritingAsked w nodes cases x n) → Written (a .ready .table) (hoistAll n (a .tree)) before after r) → Written (sheetPaths s) (sheetTree s) before after r
-    written-at n e before after r f =
-        is-written before after r (subst (λ k. (a : WritingAsked w nodes cases x k) → Written (a .ready .table) (hoistAll k (a .tree)) before after r) e f)
+    pub written-at : (n : ℕ) → n ≡ clauses s → (before after classes : List ℕ) (r : Tops)
+        → ((a : WritingAsked w nodes cases x n) → Written (a .ready .table) (hoistAll n (a .tree)) before after classes r) → Written (sheetPaths s) (sheetTree s) before after classes r
+    written-at n e before after classes r f =
+        is-written before after classes r (subst (λ k. (a : WritingAsked w nodes cases x k) → Written (a .ready .table) (hoistAll k (a .tree)) before after classes r) e f)
 
     builds : verdict s ≡ accepted → Builds s
     builds v = record { sheet = v; tree = none-refused s (h .nodes-fit) (h .bindings-fit) (h .busy) }
@@ -334,8 +333,8 @@ module _ {s : List ℕ} (ok : Accepted s) where
     abbrev pub pathsFromTops : Tops → ℕ
     pathsFromTops r = bindingsFromTops r + bindingSize * r .bindings
 
-    module _ (v : verdict s ≡ accepted) (tree middle : List ℕ) (r : Tops) (f : Written (sheetPaths s) (sheetTree s) tree middle r) where
-      table-is : usedPaths s (r .uses .list) 0 (r .uses .count) ≡ pathTable (sheetTree s)
+    module _ (v : verdict s ≡ accepted) (tree middle classes : List ℕ) (r : Tops) (f : Written (sheetPaths s) (sheetTree s) tree middle classes r) where
+      table-is : usedPaths s classes 0 (r .paths) ≡ pathTable (sheetTree s)
       unfolding sheetPaths
       table-is =
           f .paths-are (pathOf s) (λ c l. let e : 0 + c ≡ c = omega arith in sym (paths-at s 0 (patterns s) c (omega (arith, l, length-paths s)) ∙ ap (pathOf s) e))
@@ -363,23 +362,23 @@ module _ {s : List ℕ} (ok : Accepted s) where
       small = sheet-file-small s (builds v)
 
       pub tail-is-ready : (m : Map) (t : List ℕ) → Checked s m → Tabled s t → treeRoom ≤ length middle
-          → TailReady s m t (r .uses .list) (r .uses .count) middle (casesFromTops r) (bindingsFromTops r) (pathsFromTops r)
+          → TailReady s m t classes (r .paths) middle (casesFromTops r) (bindingsFromTops r) (pathsFromTops r)
       unfolding sheetTreeFile
       tail-is-ready m t ch tabled room =
           tail-ready (sheetTree s) ch tabled (record { inside = f .classes-inside; known = λ i l. omega (arith, f .classes-known i l, length-paths s) }) table-is (casesFromTops r)
           (bindingsFromTops r) (pathsFromTops r) cases-start bindings-start paths-start small room
 
-      front-is : middle ≡ stored tree 0 (frontBytes (usedPaths s (r .uses .list) 0 (r .uses .count)) (sheetTree s))
+      front-is : middle ≡ stored tree 0 (frontBytes (usedPaths s classes 0 (r .paths)) (sheetTree s))
       unfolding frontBytes
       front-is = f .bytes-are ∙ ap (λ (p : List Path). stored tree 0 (frontBytes p (sheetTree s))) (sym table-is)
 
       -- the tail behind the bindings
       abbrev pub tailOf : List ℕ
-      tailOf = tailBytes (pool s) (usedPaths s (r .uses .list) 0 (r .uses .count)) (casesFromTops r) (bindingsFromTops r) (pathsFromTops r)
+      tailOf = tailBytes (pool s) (usedPaths s classes 0 (r .paths)) (casesFromTops r) (bindingsFromTops r) (pathsFromTops r)
 
       file-stands : (after : List ℕ) (end : ℕ) → Puts middle after (pathsFromTops r) end tailOf → Puts tree after 0 end (treeFile (pool s) (sheetTree s))
       file-stands after end puts =
-          file-put (pool s) (sheetTree s) (usedPaths s (r .uses .list) 0 (r .uses .count)) table-is (casesFromTops r) (bindingsFromTops r) (pathsFromTops r) cases-start bindings-start paths-start
+          file-put (pool s) (sheetTree s) (usedPaths s classes 0 (r .paths)) table-is (casesFromTops r) (bindingsFromTops r) (pathsFromTops r) cases-start bindings-start paths-start
           front-is puts
 
       pub end-small : (after : List ℕ) (end : ℕ) → Puts middle after (pathsFromTops r) end tailOf → end < treeRoom

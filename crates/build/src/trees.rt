@@ -48,14 +48,12 @@ fn write_tree(
     requires { ⌜ (treeRoom ≤ length (now tree)) × (now tree ≡ zeros (length (now tree))) ⌝ }
     ensures { λ r. ⌜ Gives (now (s .entry)) (treeEnd (now (s .entry))) (now (tree .entry)) (now (tree .exit)) r ⌝ }
 {
-    let f = write_nodes(w, nodes, cases, x, m.counts.clauses, tree);
-    let uses = f.uses;
-    let classes = uses.list;
-    let count = uses.count;
+    let mut classes = [0u8; 192];
+    let f = write_nodes(w, nodes, cases, x, m.counts.clauses, tree, &mut classes);
     let second = NODE_SIZE * f.nodes;
     let third = second + CASE_SIZE * f.cases;
     let fourth = third + BINDING_SIZE * f.bindings;
-    let end = put_tail(s, m, t, &classes, count, tree, second, third, fourth);
+    let end = put_tail(s, m, t, &classes, f.paths, tree, second, third, fourth);
     Built::Tree {
         length: end as u16,
         nodes: f.nodes as u16,

@@ -11,11 +11,9 @@ use Rattle.rules.specs.Limits.{clausesMost, patternsMost, nodesMost, bindingsMo
 use Rattle.rules.specs.TreeFile.{firstOf, nodeBytes}
 use Rattle.arena.specs.Arena.{casesStart, casesMost, bindingsStart, arenaEnd, nodeKind, nodeWord, caseKind, caseNumber, caseLength, caseChild, bindingName, bindingPath}
 use Rattle.arena.specs.RecordsLaws.{caseFields}
-use Rattle.scopes.specs.declared.Scopes.{Scopes}
 use Rattle.scopes.specs.WriterLaws.{standsAt}
-use Rattle.writing.specs.declared.uses.Uses.{Uses}
 use Rattle.writing.specs.declared.nodes.Tops.{Tops}
-use Rattle.writing.specs.Uses.{Counted, withClass, numberIn}
+use Rattle.writing.specs.Uses.{Uses, usesOf, Counted, withClass, numberIn}
 
 -- ---- bindings
 -- binding b of the arena as the file has it
@@ -52,9 +50,20 @@ pub record PutBindings (w : List ℕ) (first count at : ℕ) (u : Uses) (before 
   pub bytes-are : after ≡ stored before at (boundBytes w first count u)
 
 -- ---- cases
+-- by clause, the node above which it is hoisted and the leaf whose bindings its hoist has
+pub record Places : Type 0 where
+  pub node : List ℕ
+  pub leaf : List ℕ
+
+abbrev pub placesOf : List ℕ → List ℕ → Places
+placesOf node leaf = record { node = node; leaf = leaf }
+
+abbrev pub nodeIn : List ℕ → ℕ → ℕ
+nodeIn node c = getD node c 0
+
 -- the node above which a clause is hoisted
-abbrev pub clauseNode : Scopes → ℕ → ℕ
-clauseNode x c = getD (x .node) c 0
+abbrev pub clauseNode : Places → ℕ → ℕ
+clauseNode x = nodeIn (x .node)
 
 -- case i of the arena with this child
 abbrev pub movedCase : List ℕ → ℕ → ℕ → List ℕ
@@ -75,12 +84,23 @@ pub record CasesAsked (w : List ℕ) (first count : ℕ) : Type 0 where
   pub children : (i : ℕ) → i < count → caseChild w (first + i) < nodesMost
 
 -- ---- the state of the file
--- its bytes, how much is written of each section, and the path numbers
+-- how much is written of each section, and the path numbers
+pub record Reach : Type 0 where
+  pub nodes : ℕ
+  pub cases : ℕ
+  pub bindings : ℕ
+  pub uses : Uses
+
+-- as the code has it: the tops of the sections, and the buffers of the path numbers
+abbrev pub reachOf : List ℕ → List ℕ → Tops → Reach
+reachOf number list f = record { nodes = f .nodes; cases = f .cases; bindings = f .bindings; uses = usesOf number list (f .paths) }
+
+-- its bytes, and how far it is written
 pub record Out : Type 0 where
   pub tree : List ℕ
-  pub tops : Tops
+  pub tops : Reach
 
-abbrev pub outOf : List ℕ → Tops → Out
+abbrev pub outOf : List ℕ → Reach → Out
 outOf t f = record { tree = t; tops = f }
 
 -- ---- a leaf or a hoist
@@ -96,12 +116,12 @@ boundOut w at leaf kind child o =
     }
 
 -- the hoist of clause c, if node k is its scope
-unfoldable pub hoistOut : List ℕ → ℕ → Scopes → ℕ → ℕ → Out → Out
+unfoldable pub hoistOut : List ℕ → ℕ → Places → ℕ → ℕ → Out → Out
 unfolding boundOut
 hoistOut w at x k c o = pick (eqb (clauseNode x c) k) (boundOut w at (getD (x .leaf) c 0) 3 (o .tops .nodes + 1) o) o
 
 -- of the n clauses from c on
-unfoldable pub hoistsOut : List ℕ → ℕ → Scopes → ℕ → ℕ → ℕ → Out → Out
+unfoldable pub hoistsOut : List ℕ → ℕ → Places → ℕ → ℕ → ℕ → Out → Out
 unfolding hoistOut
 hoistsOut w at x k c zero o = o
 hoistsOut w at x k c (suc n) o = hoistsOut w at x k (c + 1) n (hoistOut w at x k c o)
@@ -112,7 +132,7 @@ pub record LeafSound (w : List ℕ) (leaf : ℕ) : Type 0 where
   pub node : leaf < nodesMost
   pub bindings : BindingsAsked w (nodeWord w leaf 1) (nodeWord w leaf 2)
 
-pub record BoundAsked (w : List ℕ) (leaf at : ℕ) (tree : List ℕ) (f : Tops) : Type 0 where
+pub record BoundAsked (w : List ℕ) (leaf at : ℕ) (tree : List ℕ) (f : Reach) : Type 0 where
   pub sound : LeafSound w leaf
   pub tree-room : treeRoom ≤ length tree
   pub start : at ≤ bindingsStart
@@ -120,17 +140,20 @@ pub record BoundAsked (w : List ℕ) (leaf at : ℕ) (tree : List ℕ) (f : Tops
   pub nodes-fit : f .nodes < nodesMost
   pub bindings-fit : f .bindings + nodeWord w leaf 2 ≤ bindingsMost
 
-pub record HoistAsked (w : List ℕ) (k : ℕ) (x : Scopes) (c at : ℕ) (tree : List ℕ) (f : Tops) : Type 0 where
-  pub clause : c < clausesMost
-  pub bound : clauseNode x c ≡ k → BoundAsked w (getD (x .leaf) c 0) at tree f
+-- r is the first clause from c on that is hoisted above node k, or how many clauses there are
+pub record NextHoist (node : ℕ → ℕ) (k c clauses r : ℕ) : Type 0 where
+  pub from : c ≤ r
+  pub most : r ≤ clauses
+  pub passed : (d : ℕ) → c ≤ d → d < r → node d ≡ k → ⊥
+  pub here : r < clauses → node r ≡ k
 
 -- within what refusals 12 and 13 leave
-pub record Within (f : Tops) : Type 0 where
+pub record Within (f : Reach) : Type 0 where
   pub nodes-most : f .nodes ≤ nodesMost
   pub cases-most : f .cases ≤ casesMost
   pub bindings-most : f .bindings ≤ bindingsMost
 
-pub record HoistsAsked (w : List ℕ) (k : ℕ) (x : Scopes) (clauses at : ℕ) (tree : List ℕ) (f : Tops) : Type 0 where
+pub record HoistsAsked (w : List ℕ) (k : ℕ) (x : Places) (clauses at : ℕ) (tree : List ℕ) (f : Reach) : Type 0 where
   pub few : clauses ≤ clausesMost
   pub leaf : (c : ℕ) → c < clauses → clauseNode x c ≡ k → LeafSound w (getD (x .leaf) c 0)
   pub tree-room : treeRoom ≤ length tree
@@ -139,21 +162,21 @@ pub record HoistsAsked (w : List ℕ) (k : ℕ) (x : Scopes) (clauses at : ℕ) 
   pub within : Within (hoistsOut w at x k 0 clauses (outOf tree f) .tops)
 
 -- ---- a switch
-abbrev pub switchUses : List ℕ → ℕ → Tops → Uses
+abbrev pub switchUses : List ℕ → ℕ → Reach → Uses
 switchUses w k f = withClass (f .uses) (nodeWord w k 0)
 
-unfoldable pub switchBytes : List ℕ → Scopes → ℕ → ℕ → Tops → List ℕ
+unfoldable pub switchBytes : List ℕ → (ℕ → ℕ) → ℕ → ℕ → Reach → List ℕ
 unfolding nodeBytes movedDefault withClass
-switchBytes w x n k f =
-    nodeBytes (nodeKind w k) (numberIn (switchUses w k f) (nodeWord w k 0)) (f .cases) (nodeWord w k 2) (nodeWord w k 3) (movedDefault (clauseNode x) n (nodeWord w k 4))
+switchBytes w node n k f =
+    nodeBytes (nodeKind w k) (numberIn (switchUses w k f) (nodeWord w k 0)) (f .cases) (nodeWord w k 2) (nodeWord w k 3) (movedDefault node n (nodeWord w k 4))
 
-unfoldable pub switchOut : List ℕ → ℕ → Scopes → ℕ → ℕ → Out → Out
+unfoldable pub switchOut : List ℕ → ℕ → (ℕ → ℕ) → ℕ → ℕ → Out → Out
 unfolding switchBytes movedCases withClass
-switchOut w at x n k o =
+switchOut w at node n k o =
     let f = o .tops in
     let m = nodeWord w k 2 + nodeWord w k 3 in
     record {
-      tree = stored (stored (o .tree) (nodeSize * f .nodes) (switchBytes w x n k f)) (at + caseSize * f .cases) (movedCases w (clauseNode x) n (nodeWord w k 1) m);
+      tree = stored (stored (o .tree) (nodeSize * f .nodes) (switchBytes w node n k f)) (at + caseSize * f .cases) (movedCases w node n (nodeWord w k 1) m);
       tops = record { nodes = f .nodes + 1; cases = f .cases + m; bindings = f .bindings; uses = switchUses w k f };
     }
 
@@ -164,7 +187,7 @@ pub record SwitchSound (w : List ℕ) (k : ℕ) : Type 0 where
   pub cases : CasesAsked w (nodeWord w k 1) (nodeWord w k 2 + nodeWord w k 3)
   pub default : nodeWord w k 4 ≤ nodesMost
 
-pub record SwitchNodeAsked (w : List ℕ) (k clauses : ℕ) (tree : List ℕ) (f : Tops) : Type 0 where
+pub record SwitchNodeAsked (w : List ℕ) (k clauses : ℕ) (tree : List ℕ) (f : Reach) : Type 0 where
   pub sound : SwitchSound w k
   pub few : clauses ≤ clausesMost
   pub tree-room : treeRoom ≤ length tree
@@ -172,38 +195,38 @@ pub record SwitchNodeAsked (w : List ℕ) (k clauses : ℕ) (tree : List ℕ) (f
   pub nodes-fit : f .nodes < nodesMost
   pub cases-fit : f .cases + (nodeWord w k 2 + nodeWord w k 3) ≤ casesMost
 
-pub record SwitchAsked (w : List ℕ) (k clauses at : ℕ) (tree : List ℕ) (f : Tops) : Type 0 where
+pub record SwitchAsked (w : List ℕ) (k clauses at : ℕ) (tree : List ℕ) (f : Reach) : Type 0 where
   pub asked : SwitchNodeAsked w k clauses tree f
   pub start : at ≤ casesStart
 
-pub record PutSwitchNode (w : List ℕ) (x : Scopes) (clauses k : ℕ) (f : Tops) (before after : List ℕ) (r : Uses) : Type 0 where
+pub record PutSwitchNode (w : List ℕ) (node : ℕ → ℕ) (clauses k : ℕ) (f : Reach) (before after : List ℕ) (r : Uses) : Type 0 where
   pub uses-are : r ≡ switchUses w k f
-  pub bytes-are : after ≡ stored before (nodeSize * f .nodes) (switchBytes w x clauses k f)
+  pub bytes-are : after ≡ stored before (nodeSize * f .nodes) (switchBytes w node clauses k f)
 
 -- ---- nodes
-unfoldable pub ownOut : List ℕ → ℕ → ℕ → Scopes → ℕ → ℕ → Out → Out
+unfoldable pub ownOut : List ℕ → ℕ → ℕ → (ℕ → ℕ) → ℕ → ℕ → Out → Out
 unfolding boundOut switchOut
-ownOut w cases-at bindings-at x n k o = pick (eqb (nodeKind w k) 2) (boundOut w bindings-at k 2 0 o) (switchOut w cases-at x n k o)
+ownOut w cases-at bindings-at node n k o = pick (eqb (nodeKind w k) 2) (boundOut w bindings-at k 2 0 o) (switchOut w cases-at node n k o)
 
-pub record OwnAsked (w : List ℕ) (k clauses cases-at bindings-at : ℕ) (tree : List ℕ) (f : Tops) : Type 0 where
+pub record OwnAsked (w : List ℕ) (k clauses cases-at bindings-at : ℕ) (tree : List ℕ) (f : Reach) : Type 0 where
   pub room : arenaEnd ≤ length w
   pub node : k < nodesMost
   pub leaf : nodeKind w k ≡ 2 → BoundAsked w k bindings-at tree f
   pub switch : (nodeKind w k ≡ 2 → ⊥) → SwitchAsked w k clauses cases-at tree f
 
 -- node k with the hoists above it
-unfoldable pub nodeOut : List ℕ → ℕ → ℕ → Scopes → ℕ → ℕ → Out → Out
+unfoldable pub nodeOut : List ℕ → ℕ → ℕ → Places → ℕ → ℕ → Out → Out
 unfolding hoistsOut ownOut
-nodeOut w cases-at bindings-at x n k o = ownOut w cases-at bindings-at x n k (hoistsOut w bindings-at x k 0 n o)
+nodeOut w cases-at bindings-at x n k o = ownOut w cases-at bindings-at (clauseNode x) n k (hoistsOut w bindings-at x k 0 n o)
 
 -- the m nodes from k on
-unfoldable pub nodesOut : List ℕ → ℕ → ℕ → Scopes → ℕ → ℕ → ℕ → Out → Out
+unfoldable pub nodesOut : List ℕ → ℕ → ℕ → Places → ℕ → ℕ → ℕ → Out → Out
 unfolding nodeOut
 nodesOut w cases-at bindings-at x n k zero o = o
 nodesOut w cases-at bindings-at x n k (suc m) o = nodesOut w cases-at bindings-at x n (k + 1) m (nodeOut w cases-at bindings-at x n k o)
 
 -- an arena of so many nodes, and scopes of so many clauses, whose numbers are in range
-pub record ArenaSound (w : List ℕ) (nodes : ℕ) (x : Scopes) (clauses : ℕ) : Type 0 where
+pub record ArenaSound (w : List ℕ) (nodes : ℕ) (x : Places) (clauses : ℕ) : Type 0 where
   pub room : arenaEnd ≤ length w
   pub most : nodes ≤ nodesMost
   pub few : clauses ≤ clausesMost
@@ -217,7 +240,7 @@ pub record FileRoom (cases-at bindings-at : ℕ) (tree : List ℕ) : Type 0 wher
   pub cases-start : cases-at ≤ casesStart
   pub bindings-start : bindings-at ≤ bindingsStart
 
-pub record NodeAsked (w : List ℕ) (k : ℕ) (x : Scopes) (clauses cases-at bindings-at : ℕ) (tree : List ℕ) (f : Tops) : Type 0 where
+pub record NodeAsked (w : List ℕ) (k : ℕ) (x : Places) (clauses cases-at bindings-at : ℕ) (tree : List ℕ) (f : Reach) : Type 0 where
   pub nodes : ℕ
   pub sound : ArenaSound w nodes x clauses
   pub inside : k < nodes
@@ -225,7 +248,7 @@ pub record NodeAsked (w : List ℕ) (k : ℕ) (x : Scopes) (clauses cases-at bin
   pub counted : Counted (f .uses)
   pub within : Within (nodeOut w cases-at bindings-at x clauses k (outOf tree f) .tops)
 
-pub record NodesAsked (w : List ℕ) (nodes : ℕ) (x : Scopes) (clauses cases-at bindings-at : ℕ) (tree : List ℕ) (f : Tops) : Type 0 where
+pub record NodesAsked (w : List ℕ) (nodes : ℕ) (x : Places) (clauses cases-at bindings-at : ℕ) (tree : List ℕ) (f : Reach) : Type 0 where
   pub sound : ArenaSound w nodes x clauses
   pub file : FileRoom cases-at bindings-at tree
   pub counted : Counted (f .uses)

@@ -21,13 +21,10 @@ use Rattle.rules.specs.TreeFile.{firstOf, nodeBytes}
 use Rattle.arena.specs.Arena.{nodeKind, nodeWord, caseKind, caseNumber, caseLength, caseChild, bindingName, bindingPath}
 use Rattle.arena.specs.RecordsLaws.{caseFields}
 use Rattle.arena.specs.ReadingLaws.{kind-stored, words-stored, fields-stored}
-use Rattle.scopes.specs.declared.Scopes.{Scopes}
 use Rattle.scopes.specs.WriterLaws.{hoistsBefore, standsAt}
-use Rattle.writing.specs.declared.uses.Uses.{Uses}
-use Rattle.writing.specs.declared.nodes.Tops.{Tops}
-use Rattle.writing.specs.Uses.{Counted, withClass, numberIn}
+use Rattle.writing.specs.Uses.{Uses, Counted, withClass, numberIn}
 use Rattle.writing.specs.UsesLaws.{counted-with, use-some}
-use Rattle.writing.specs.Model.{boundBinding, boundBytes, boundUses, BindingAsked, BindingsAsked, PutBinding, PutBindings, clauseNode, movedCase, movedCases, movedDefault, CasesAsked, Out, outOf, boundOut, hoistOut, hoistsOut, LeafSound, HoistAsked, Within, HoistsAsked, switchBytes, switchOut, PutSwitchNode, ownOut, OwnAsked, nodeOut, nodesOut, NodeAsked, NodesAsked}
+use Rattle.writing.specs.Model.{Places, Reach, boundBinding, boundBytes, boundUses, BindingAsked, BindingsAsked, PutBinding, PutBindings, clauseNode, movedCase, movedCases, movedDefault, CasesAsked, Out, outOf, boundOut, hoistOut, hoistsOut, LeafSound, BoundAsked, NextHoist, Within, HoistsAsked, switchBytes, switchOut, PutSwitchNode, ownOut, OwnAsked, nodeOut, nodesOut, NodeAsked, NodesAsked}
 
 -- ---- bindings
 pub binding-asked : (w : List ℕ) (first count i : ℕ) → BindingsAsked w first count → i < count → BindingAsked w (first + i)
@@ -199,6 +196,10 @@ module _ (node : ℕ → ℕ) (n k : ℕ) where
   pub before-end : (c m : ℕ) → n ≤ c → m + times (λ d. ltb (node d) k) c (n - c) ≡ hoistsBefore node n k → m ≡ hoistsBefore node n k
   before-end c m l h = omega (arith, times-end (λ d. ltb (node d) k) c n l)
 
+-- the test of one clause, by the number that was read
+pub before-bit : (node : ℕ → ℕ) (k c a r : ℕ) → a ≡ node c → r ≡ bit (ltb a k) → r ≡ bit (ltb (node c) k)
+before-bit node k c a r p e = e ∙ ap (λ z. bit (ltb z k)) p
+
 pub bit-small : (b : Bool) → bit b ≤ 1
 unfolding bit
 bit-small true = omega arith
@@ -228,32 +229,32 @@ unfolding firstOf
 first-small zero first = omega arith
 first-small (suc count) first = omega arith
 
-pub bound-put : (w : List ℕ) (at leaf kind child : ℕ) (t : List ℕ) (f : Tops) (clause from count first : ℕ) (uses : Uses) {t₁ t₂ : List ℕ}
+pub bound-put : (w : List ℕ) (at leaf kind child : ℕ) (t : List ℕ) (f : Reach) (clause from count first : ℕ) (uses : Uses) {t₁ t₂ : List ℕ}
     → clause ≡ nodeWord w leaf 0 → from ≡ nodeWord w leaf 1 → count ≡ nodeWord w leaf 2 → first ≡ firstOf count (f .bindings)
     → t₁ ≡ stored t (nodeSize * f .nodes) (nodeBytes kind clause first count child 0) → PutBindings w from count (at + bindingSize * f .bindings) (f .uses) t₁ t₂ uses
     → outOf t₂ (record { nodes = f .nodes + 1; cases = f .cases; bindings = f .bindings + count; uses = uses }) ≡ boundOut w at leaf kind child (outOf t f)
 unfolding boundOut
 bound-put w at leaf kind child t f clause from count first uses e₀ e₁ e₂ e₃ e₄ p = rw (p .bytes-are, p .uses-are, e₄, e₃, e₂, e₁, e₀)
 
-pub switch-node-put : (w : List ℕ) (x : Scopes) (n k : ℕ) (t : List ℕ) (f : Tops) (path cases tails default : ℕ) (uses : Uses) (number kind : ℕ) {t₁ : List ℕ}
-    → path ≡ nodeWord w k 0 → cases ≡ nodeWord w k 2 → tails ≡ nodeWord w k 3 → default ≡ movedDefault (clauseNode x) n (nodeWord w k 4)
+pub switch-node-put : (w : List ℕ) (node : ℕ → ℕ) (n k : ℕ) (t : List ℕ) (f : Reach) (path cases tails default : ℕ) (uses : Uses) (number kind : ℕ) {t₁ : List ℕ}
+    → path ≡ nodeWord w k 0 → cases ≡ nodeWord w k 2 → tails ≡ nodeWord w k 3 → default ≡ movedDefault node n (nodeWord w k 4)
     → uses ≡ withClass (f .uses) path → number ≡ getD (uses .number) path 0 → kind ≡ nodeKind w k
-    → t₁ ≡ stored t (nodeSize * f .nodes) (nodeBytes kind (number - 1) (f .cases) cases tails default) → PutSwitchNode w x n k f t t₁ uses
+    → t₁ ≡ stored t (nodeSize * f .nodes) (nodeBytes kind (number - 1) (f .cases) cases tails default) → PutSwitchNode w node n k f t t₁ uses
 unfolding switchBytes
-switch-node-put w x n k t f path cases tails default uses number kind e₀ e₂ e₃ e₄ u m q g =
+switch-node-put w node n k t f path cases tails default uses number kind e₀ e₂ e₃ e₄ u m q g =
     record { uses-are = u ∙ ap (withClass (f .uses)) e₀; bytes-are = rw (g, q, m, u, e₄, e₃, e₂, e₀) }
 
-pub switch-put : (w : List ℕ) (at : ℕ) (x : Scopes) (n k : ℕ) (t : List ℕ) (f : Tops) (first count : ℕ) (uses : Uses) {t₁ t₂ : List ℕ} → first ≡ nodeWord w k 1
-    → count ≡ nodeWord w k 2 + nodeWord w k 3 → PutSwitchNode w x n k f t t₁ uses → t₂ ≡ stored t₁ (at + caseSize * f .cases) (movedCases w (clauseNode x) n first count)
-    → outOf t₂ (record { nodes = f .nodes + 1; cases = f .cases + count; bindings = f .bindings; uses = uses }) ≡ switchOut w at x n k (outOf t f)
+pub switch-put : (w : List ℕ) (at : ℕ) (node : ℕ → ℕ) (n k : ℕ) (t : List ℕ) (f : Reach) (first count : ℕ) (uses : Uses) {t₁ t₂ : List ℕ} → first ≡ nodeWord w k 1
+    → count ≡ nodeWord w k 2 + nodeWord w k 3 → PutSwitchNode w node n k f t t₁ uses → t₂ ≡ stored t₁ (at + caseSize * f .cases) (movedCases w node n first count)
+    → outOf t₂ (record { nodes = f .nodes + 1; cases = f .cases + count; bindings = f .bindings; uses = uses }) ≡ switchOut w at node n k (outOf t f)
 unfolding switchOut
-switch-put w at x n k t f first count uses e₁ e₂ p g = rw (g, p .bytes-are, p .uses-are, e₂, e₁)
+switch-put w at node n k t f first count uses e₁ e₂ p g = rw (g, p .bytes-are, p .uses-are, e₂, e₁)
 
 pub cases-asked-as : (w : List ℕ) (first count a b : ℕ) → first ≡ a → count ≡ b → CasesAsked w a b → CasesAsked w first count
 cases-asked-as w first count a b e f h = rw (e, f) h
 
 -- ---- hoists
-module _ (w : List ℕ) (at : ℕ) (x : Scopes) (k c : ℕ) (o : Out) where
+module _ (w : List ℕ) (at : ℕ) (x : Places) (k c : ℕ) (o : Out) where
   pub hoist-here : clauseNode x c ≡ k → hoistOut w at x k c o ≡ boundOut w at (getD (x .leaf) c 0) 3 (o .tops .nodes + 1) o
   unfolding hoistOut
   hoist-here e = pick-true (eqb (clauseNode x c) k) (boundOut w at (getD (x .leaf) c 0) 3 (o .tops .nodes + 1) o) o (eq-eqb (clauseNode x c) k e)
@@ -270,16 +271,21 @@ module _ (w : List ℕ) (at : ℕ) (x : Scopes) (k c : ℕ) (o : Out) where
       go true e = let z = eqb-true (clauseNode x c) k e in rw (hoist-here z) (f z)
       go false e = rw (hoist-elsewhere (eqb-false (clauseNode x c) k e)) g
 
+-- a hoist with the bindings of a leaf, by the number that was read
+pub hoist-from : (w : List ℕ) (at : ℕ) (tree : List ℕ) (g : Reach) (leaf real : ℕ) → leaf ≡ real → (o : Out) → o ≡ boundOut w at leaf 3 (g .nodes + 1) (outOf tree g)
+    → o ≡ boundOut w at real 3 (g .nodes + 1) (outOf tree g)
+hoist-from w at tree g leaf real e o h = h ∙ ap (λ z. boundOut w at z 3 (g .nodes + 1) (outOf tree g)) e
+
 -- nothing written is taken back
-pub record Grown (f g : Tops) : Type 0 where
+pub record Grown (f g : Reach) : Type 0 where
   pub nodes-grow : f .nodes ≤ g .nodes
   pub cases-grow : f .cases ≤ g .cases
   pub bindings-grow : f .bindings ≤ g .bindings
 
-grown-refl : (f : Tops) → Grown f f
+grown-refl : (f : Reach) → Grown f f
 grown-refl f = record { nodes-grow = omega arith; cases-grow = omega arith; bindings-grow = omega arith }
 
-grown-trans : (f g h : Tops) → Grown f g → Grown g h → Grown f h
+grown-trans : (f g h : Reach) → Grown f g → Grown g h → Grown f h
 grown-trans f g h a b =
     record {
       nodes-grow = omega (arith, a .nodes-grow, b .nodes-grow);
@@ -287,7 +293,7 @@ grown-trans f g h a b =
       bindings-grow = omega (arith, a .bindings-grow, b .bindings-grow);
     }
 
-within-before : (f g : Tops) → Grown f g → Within g → Within f
+within-before : (f g : Reach) → Grown f g → Within g → Within f
 within-before f g a h =
     record {
       nodes-most = omega (arith, a .nodes-grow, h .nodes-most);
@@ -299,79 +305,134 @@ bound-grows : (w : List ℕ) (at leaf kind child : ℕ) (o : Out) → Grown (o .
 unfolding boundOut
 bound-grows w at leaf kind child o = record { nodes-grow = omega arith; cases-grow = omega arith; bindings-grow = omega arith }
 
-switch-grows : (w : List ℕ) (at : ℕ) (x : Scopes) (n k : ℕ) (o : Out) → Grown (o .tops) (switchOut w at x n k o .tops)
+switch-grows : (w : List ℕ) (at : ℕ) (node : ℕ → ℕ) (n k : ℕ) (o : Out) → Grown (o .tops) (switchOut w at node n k o .tops)
 unfolding switchOut
-switch-grows w at x n k o = record { nodes-grow = omega arith; cases-grow = omega arith; bindings-grow = omega arith }
+switch-grows w at node n k o = record { nodes-grow = omega arith; cases-grow = omega arith; bindings-grow = omega arith }
 
-hoist-grows : (w : List ℕ) (at : ℕ) (x : Scopes) (k c : ℕ) (o : Out) → Grown (o .tops) (hoistOut w at x k c o .tops)
+hoist-grows : (w : List ℕ) (at : ℕ) (x : Places) (k c : ℕ) (o : Out) → Grown (o .tops) (hoistOut w at x k c o .tops)
 hoist-grows w at x k c o =
     by-hoist w at x k c o (λ z. Grown (o .tops) (z .tops)) (λ e. bound-grows w at (getD (x .leaf) c 0) 3 (o .tops .nodes + 1) o) (grown-refl (o .tops))
 
-hoists-grow : (w : List ℕ) (at : ℕ) (x : Scopes) (k c n : ℕ) (o : Out) → Grown (o .tops) (hoistsOut w at x k c n o .tops)
+hoists-grow : (w : List ℕ) (at : ℕ) (x : Places) (k c n : ℕ) (o : Out) → Grown (o .tops) (hoistsOut w at x k c n o .tops)
 unfolding hoistsOut
 hoists-grow w at x k c zero o = grown-refl (o .tops)
 hoists-grow w at x k c (suc n) o =
     grown-trans (o .tops) (hoistOut w at x k c o .tops) (hoistsOut w at x k (c + 1) n (hoistOut w at x k c o) .tops) (hoist-grows w at x k c o)
     (hoists-grow w at x k (c + 1) n (hoistOut w at x k c o))
 
--- ---- the loop over the clauses
-pub record HoistsLeft (w : List ℕ) (at : ℕ) (x : Scopes) (k clauses : ℕ) (before : List ℕ) (f : Tops) (tree : List ℕ) (g : Tops) (c : ℕ) : Type 0 where
+-- ---- the search for the next clause hoisted above a node
+pub record Searched (node : ℕ → ℕ) (k c clauses d : ℕ) : Type 0 where
+  pub from : c ≤ d
+  pub most : d ≤ clauses
+  pub passed : (e : ℕ) → c ≤ e → e < d → node e ≡ k → ⊥
+
+module _ (node : ℕ → ℕ) (k c clauses : ℕ) where
+  pub search-start : c ≤ clauses → Searched node k c clauses c
+  search-start l = record { from = omega arith; most = l; passed = λ e m q z. omega arith }
+
+  module _ (d : ℕ) (h : Searched node k c clauses d) where
+    pub search-next : d < clauses → (node d ≡ k → ⊥) → Searched node k c clauses (d + 1)
+    search-next l n = record { from = omega (arith, h .from); most = omega arith; passed = not-passed }
+      where
+        not-passed : (e : ℕ) → c ≤ e → e < d + 1 → node e ≡ k → ⊥
+        not-passed e m q z = go (eqb e d) refl
+          where
+            go : (b : Bool) → eqb e d ≡ b → ⊥
+            go true x = let y = eqb-true e d x in n (sym (ap node y) ∙ z)
+            go false x = let y = eqb-false e d x in h .passed e m (omega arith) z
+
+    pub search-found : d < clauses → node d ≡ k → NextHoist node k c clauses d
+    search-found l e = record { from = h .from; most = h .most; passed = h .passed; here = λ m. e }
+
+    pub search-end : clauses ≤ d → NextHoist node k c clauses clauses
+    search-end l =
+        record { from = omega (arith, h .from, h .most); most = omega arith; passed = λ e m q z. h .passed e m (omega (arith, h .most)) z; here = λ m. absurd (omega arith) }
+
+-- ---- the loop over the clauses hoisted above a node: what is left from clause c on, which is one of them or the end
+pub record HoistsLeft (w : List ℕ) (at : ℕ) (x : Places) (k clauses : ℕ) (before : List ℕ) (f : Reach) (tree : List ℕ) (g : Reach) (c : ℕ) : Type 0 where
   pub inside : c ≤ clauses
+  pub here : c < clauses → clauseNode x c ≡ k
   pub counted : Counted (g .uses)
   pub long : length tree ≡ length before
   pub left : hoistsOut w at x k c (clauses - c) (outOf tree g) ≡ hoistsOut w at x k 0 clauses (outOf before f)
 
-module _ (w : List ℕ) (at : ℕ) (x : Scopes) (k clauses : ℕ) (before : List ℕ) (f : Tops) where
-  pub hoists-start : Counted (f .uses) → HoistsLeft w at x k clauses before f before f 0
-  hoists-start h = record { inside = omega arith; counted = h; long = refl; left = rw (sub-zero clauses) }
-
+module _ (w : List ℕ) (at : ℕ) (x : Places) (k clauses : ℕ) (before : List ℕ) (f : Reach) where
   hoists-on : (c : ℕ) (o : Out) → c < clauses → hoistsOut w at x k c (clauses - c) o ≡ hoistsOut w at x k (c + 1) (clauses - (c + 1)) (hoistOut w at x k c o)
   unfolding hoistsOut
   hoists-on c o l = let d : clauses - c ≡ suc (clauses - (c + 1)) = omega arith in rw d
 
-  module _ (a : HoistsAsked w k x clauses at before f) (tree : List ℕ) (g : Tops) (c : ℕ) (h : HoistsLeft w at x k clauses before f tree g c) (l : c < clauses) where
+  -- clauses hoisted elsewhere are passed over
+  hoists-over : (m c : ℕ) (o : Out) → c + m ≤ clauses → ((d : ℕ) → c ≤ d → d < c + m → clauseNode x d ≡ k → ⊥)
+      → hoistsOut w at x k c (clauses - c) o ≡ hoistsOut w at x k (c + m) (clauses - (c + m)) o
+  hoists-over zero c o l p = ap (λ z. hoistsOut w at x k z (clauses - z) o) (sym (add-zero c))
+  hoists-over (suc m) c o l p =
+      let e : c + 1 + m ≡ c + suc m = omega arith in
+      hoists-on c o (omega arith)
+      ∙ ap (hoistsOut w at x k (c + 1) (clauses - (c + 1))) (hoist-elsewhere w at x k c o (p c (omega arith) (omega arith)))
+      ∙ hoists-over m (c + 1) o (omega arith) (λ d i j. p d (omega arith) (omega arith))
+      ∙ ap (λ z. hoistsOut w at x k z (clauses - z) o) e
+
+  hoists-to : (c r : ℕ) (o : Out) → NextHoist (clauseNode x) k c clauses r → hoistsOut w at x k c (clauses - c) o ≡ hoistsOut w at x k r (clauses - r) o
+  hoists-to c r o n =
+      let e : c + (r - c) ≡ r = omega (arith, n .from) in
+      hoists-over (r - c) c o (omega (arith, n .from, n .most)) (λ d i j. n .passed d i (omega arith)) ∙ ap (λ z. hoistsOut w at x k z (clauses - z) o) e
+
+  pub hoists-start : (r : ℕ) → Counted (f .uses) → NextHoist (clauseNode x) k 0 clauses r → HoistsLeft w at x k clauses before f before f r
+  hoists-start r h n =
+      record {
+        inside = n .most;
+        here = n .here;
+        counted = h;
+        long = refl;
+        left = sym (hoists-to 0 r (outOf before f) n) ∙ ap (λ z. hoistsOut w at x k 0 z (outOf before f)) (sub-zero clauses);
+      }
+
+  module _ (a : HoistsAsked w k x clauses at before f) (tree : List ℕ) (g : Reach) (c : ℕ) (h : HoistsLeft w at x k clauses before f tree g c) (l : c < clauses) where
     abbrev next : Out
-    next = hoistOut w at x k c (outOf tree g)
+    next = boundOut w at (getD (x .leaf) c 0) 3 (g .nodes + 1) (outOf tree g)
+
+    next-is : hoistsOut w at x k c (clauses - c) (outOf tree g) ≡ hoistsOut w at x k (c + 1) (clauses - (c + 1)) next
+    next-is = hoists-on c (outOf tree g) l ∙ ap (hoistsOut w at x k (c + 1) (clauses - (c + 1))) (hoist-here w at x k c (outOf tree g) (h .here l))
 
     next-within : Within (next .tops)
     next-within =
         within-before (next .tops) (hoistsOut w at x k (c + 1) (clauses - (c + 1)) next .tops) (hoists-grow w at x k (c + 1) (clauses - (c + 1)) next)
-        (subst (λ z. Within (z .tops)) (sym (h .left) ∙ hoists-on c (outOf tree g) l) (a .within))
+        (subst (λ z. Within (z .tops)) (sym (h .left) ∙ next-is) (a .within))
 
-    pub hoist-asked : HoistAsked w k x c at tree g
+    pub hoist-asked : BoundAsked w (getD (x .leaf) c 0) at tree g
     unfolding boundOut
     hoist-asked =
+        let n = next-within in
         record {
-          clause = omega (arith, a .few);
-          bound = λ e.
-              let n = subst (λ z. Within (z .tops)) (hoist-here w at x k c (outOf tree g) e) next-within in
-              record {
-                sound = a .leaf c l e;
-                tree-room = omega (arith, a .tree-room, h .long);
-                start = a .start;
-                counted = h .counted;
-                nodes-fit = omega (arith, n .nodes-most);
-                bindings-fit = n .bindings-most;
-              };
+          sound = a .leaf c l (h .here l);
+          tree-room = omega (arith, a .tree-room, h .long);
+          start = a .start;
+          counted = h .counted;
+          nodes-fit = omega (arith, n .nodes-most);
+          bindings-fit = n .bindings-most;
         }
 
     next-counted : Counted (next .tops .uses)
     unfolding boundOut
     next-counted =
-        by-hoist w at x k c (outOf tree g) (λ z. Counted (z .tops .uses))
-        (λ e. counted-bound w (nodeWord w (getD (x .leaf) c 0) 1) (nodeWord w (getD (x .leaf) c 0) 2) (g .uses) (a .leaf c l e .bindings) (h .counted)) (h .counted)
+        counted-bound w (nodeWord w (getD (x .leaf) c 0) 1) (nodeWord w (getD (x .leaf) c 0) 2) (g .uses) (a .leaf c l (h .here l) .bindings) (h .counted)
 
-    pub hoists-next : (tree₂ : List ℕ) (g₂ : Tops) → length tree₂ ≡ length tree → outOf tree₂ g₂ ≡ hoistOut w at x k c (outOf tree g)
-        → HoistsLeft w at x k clauses before f tree₂ g₂ (c + 1)
-    hoists-next tree₂ g₂ m e =
+    pub hoists-next : (tree₂ : List ℕ) (g₂ : Reach) (r : ℕ) → length tree₂ ≡ length tree → outOf tree₂ g₂ ≡ next → NextHoist (clauseNode x) k (c + 1) clauses r
+        → HoistsLeft w at x k clauses before f tree₂ g₂ r
+    hoists-next tree₂ g₂ r m e n =
         record {
-          inside = omega arith;
+          inside = n .most;
+          here = n .here;
           counted = subst (λ z. Counted (z .tops .uses)) (sym e) next-counted;
           long = m ∙ h .long;
-          left = ap (hoistsOut w at x k (c + 1) (clauses - (c + 1))) e ∙ sym (hoists-on c (outOf tree g) l) ∙ h .left;
+          left =
+              sym (hoists-to (c + 1) r (outOf tree₂ g₂) n)
+              ∙ ap (hoistsOut w at x k (c + 1) (clauses - (c + 1))) e
+              ∙ sym next-is
+              ∙ h .left;
         }
 
-  pub hoists-end : (tree : List ℕ) (g : Tops) (c : ℕ) → HoistsLeft w at x k clauses before f tree g c → clauses ≤ c
+  pub hoists-end : (tree : List ℕ) (g : Reach) (c : ℕ) → HoistsLeft w at x k clauses before f tree g c → clauses ≤ c
       → outOf tree g ≡ hoistsOut w at x k 0 clauses (outOf before f)
   unfolding hoistsOut
   hoists-end tree g c h l = let d : clauses - c ≡ 0 = omega arith in rw d at (h .left)
@@ -381,12 +442,12 @@ bound-counted : (w : List ℕ) (at leaf kind child : ℕ) (o : Out) → Bindings
 unfolding boundOut
 bound-counted w at leaf kind child o a h = counted-bound w (nodeWord w leaf 1) (nodeWord w leaf 2) (o .tops .uses) a h
 
-switch-counted : (w : List ℕ) (at : ℕ) (x : Scopes) (n k : ℕ) (o : Out) → Counted (o .tops .uses) → nodeWord w k 0 < patternsMost
-    → Counted (switchOut w at x n k o .tops .uses)
+switch-counted : (w : List ℕ) (at : ℕ) (node : ℕ → ℕ) (n k : ℕ) (o : Out) → Counted (o .tops .uses) → nodeWord w k 0 < patternsMost
+    → Counted (switchOut w at node n k o .tops .uses)
 unfolding switchOut
-switch-counted w at x n k o h l = counted-with (o .tops .uses) (nodeWord w k 0) h l
+switch-counted w at node n k o h l = counted-with (o .tops .uses) (nodeWord w k 0) h l
 
-hoists-counted : (w : List ℕ) (at : ℕ) (x : Scopes) (k c n m : ℕ) (o : Out) → c + n ≤ m → ((d : ℕ) → d < m → clauseNode x d ≡ k → LeafSound w (getD (x .leaf) d 0))
+hoists-counted : (w : List ℕ) (at : ℕ) (x : Places) (k c n m : ℕ) (o : Out) → c + n ≤ m → ((d : ℕ) → d < m → clauseNode x d ≡ k → LeafSound w (getD (x .leaf) d 0))
     → Counted (o .tops .uses) → Counted (hoistsOut w at x k c n o .tops .uses)
 unfolding hoistsOut boundOut
 hoists-counted w at x k c zero m o l s h = h
@@ -396,34 +457,34 @@ hoists-counted w at x k c (suc n) m o l s h =
     (λ e. counted-bound w (nodeWord w (getD (x .leaf) c 0) 1) (nodeWord w (getD (x .leaf) c 0) 2) (o .tops .uses) (s c (omega arith) e .bindings) h) h)
 
 -- ---- a node
-module _ (w : List ℕ) (cases-at bindings-at : ℕ) (x : Scopes) (n k : ℕ) (o : Out) where
-  pub own-leaf : nodeKind w k ≡ 2 → ownOut w cases-at bindings-at x n k o ≡ boundOut w bindings-at k 2 0 o
+module _ (w : List ℕ) (cases-at bindings-at : ℕ) (node : ℕ → ℕ) (n k : ℕ) (o : Out) where
+  pub own-leaf : nodeKind w k ≡ 2 → ownOut w cases-at bindings-at node n k o ≡ boundOut w bindings-at k 2 0 o
   unfolding ownOut
-  own-leaf e = pick-true (eqb (nodeKind w k) 2) (boundOut w bindings-at k 2 0 o) (switchOut w cases-at x n k o) (eq-eqb (nodeKind w k) 2 e)
+  own-leaf e = pick-true (eqb (nodeKind w k) 2) (boundOut w bindings-at k 2 0 o) (switchOut w cases-at node n k o) (eq-eqb (nodeKind w k) 2 e)
 
-  pub own-switch : (nodeKind w k ≡ 2 → ⊥) → ownOut w cases-at bindings-at x n k o ≡ switchOut w cases-at x n k o
+  pub own-switch : (nodeKind w k ≡ 2 → ⊥) → ownOut w cases-at bindings-at node n k o ≡ switchOut w cases-at node n k o
   unfolding ownOut
-  own-switch e = pick-false (eqb (nodeKind w k) 2) (boundOut w bindings-at k 2 0 o) (switchOut w cases-at x n k o) (ne-eqb (nodeKind w k) 2 e)
+  own-switch e = pick-false (eqb (nodeKind w k) 2) (boundOut w bindings-at k 2 0 o) (switchOut w cases-at node n k o) (ne-eqb (nodeKind w k) 2 e)
 
-  by-own : (P : Out → Type 0) → (nodeKind w k ≡ 2 → P (boundOut w bindings-at k 2 0 o)) → ((nodeKind w k ≡ 2 → ⊥) → P (switchOut w cases-at x n k o))
-      → P (ownOut w cases-at bindings-at x n k o)
+  by-own : (P : Out → Type 0) → (nodeKind w k ≡ 2 → P (boundOut w bindings-at k 2 0 o)) → ((nodeKind w k ≡ 2 → ⊥) → P (switchOut w cases-at node n k o))
+      → P (ownOut w cases-at bindings-at node n k o)
   by-own P f g = go (eqb (nodeKind w k) 2) refl
     where
-      go : (b : Bool) → eqb (nodeKind w k) 2 ≡ b → P (ownOut w cases-at bindings-at x n k o)
+      go : (b : Bool) → eqb (nodeKind w k) 2 ≡ b → P (ownOut w cases-at bindings-at node n k o)
       go true e = let z = eqb-true (nodeKind w k) 2 e in rw (own-leaf z) (f z)
       go false e = let z = eqb-false (nodeKind w k) 2 e in rw (own-switch z) (g z)
 
-  own-grows : Grown (o .tops) (ownOut w cases-at bindings-at x n k o .tops)
-  own-grows = by-own (λ z. Grown (o .tops) (z .tops)) (λ e. bound-grows w bindings-at k 2 0 o) (λ e. switch-grows w cases-at x n k o)
+  own-grows : Grown (o .tops) (ownOut w cases-at bindings-at node n k o .tops)
+  own-grows = by-own (λ z. Grown (o .tops) (z .tops)) (λ e. bound-grows w bindings-at k 2 0 o) (λ e. switch-grows w cases-at node n k o)
 
-node-grows : (w : List ℕ) (cases-at bindings-at : ℕ) (x : Scopes) (n k : ℕ) (o : Out) → Grown (o .tops) (nodeOut w cases-at bindings-at x n k o .tops)
+node-grows : (w : List ℕ) (cases-at bindings-at : ℕ) (x : Places) (n k : ℕ) (o : Out) → Grown (o .tops) (nodeOut w cases-at bindings-at x n k o .tops)
 unfolding nodeOut
 node-grows w cases-at bindings-at x n k o =
     let up = hoistsOut w bindings-at x k 0 n o in
-    grown-trans (o .tops) (up .tops) (ownOut w cases-at bindings-at x n k up .tops) (hoists-grow w bindings-at x k 0 n o)
-    (own-grows w cases-at bindings-at x n k up)
+    grown-trans (o .tops) (up .tops) (ownOut w cases-at bindings-at (clauseNode x) n k up .tops) (hoists-grow w bindings-at x k 0 n o)
+    (own-grows w cases-at bindings-at (clauseNode x) n k up)
 
-nodes-grow : (w : List ℕ) (cases-at bindings-at : ℕ) (x : Scopes) (n k m : ℕ) (o : Out) → Grown (o .tops) (nodesOut w cases-at bindings-at x n k m o .tops)
+nodes-grow : (w : List ℕ) (cases-at bindings-at : ℕ) (x : Places) (n k m : ℕ) (o : Out) → Grown (o .tops) (nodesOut w cases-at bindings-at x n k m o .tops)
 unfolding nodesOut
 nodes-grow w cases-at bindings-at x n k zero o = grown-refl (o .tops)
 nodes-grow w cases-at bindings-at x n k (suc m) o =
@@ -431,11 +492,11 @@ nodes-grow w cases-at bindings-at x n k (suc m) o =
     grown-trans (o .tops) (next .tops) (nodesOut w cases-at bindings-at x n (k + 1) m next .tops) (node-grows w cases-at bindings-at x n k o)
     (nodes-grow w cases-at bindings-at x n (k + 1) m next)
 
-module _ (w : List ℕ) (k : ℕ) (x : Scopes) (clauses cases-at bindings-at : ℕ) (tree : List ℕ) (f : Tops) (a : NodeAsked w k x clauses cases-at bindings-at tree f) where
+module _ (w : List ℕ) (k : ℕ) (x : Places) (clauses cases-at bindings-at : ℕ) (tree : List ℕ) (f : Reach) (a : NodeAsked w k x clauses cases-at bindings-at tree f) where
   abbrev lifted : Out
   lifted = hoistsOut w bindings-at x k 0 clauses (outOf tree f)
 
-  own-within : Within (ownOut w cases-at bindings-at x clauses k lifted .tops)
+  own-within : Within (ownOut w cases-at bindings-at (clauseNode x) clauses k lifted .tops)
   unfolding nodeOut
   own-within = a .within
 
@@ -450,16 +511,16 @@ module _ (w : List ℕ) (k : ℕ) (x : Scopes) (clauses cases-at bindings-at : �
         tree-room = a .file .tree-room;
         start = a .file .bindings-start;
         counted = a .counted;
-        within = within-before (lifted .tops) (ownOut w cases-at bindings-at x clauses k lifted .tops) (own-grows w cases-at bindings-at x clauses k lifted) own-within;
+        within = within-before (lifted .tops) (ownOut w cases-at bindings-at (clauseNode x) clauses k lifted .tops) (own-grows w cases-at bindings-at (clauseNode x) clauses k lifted) own-within;
       }
 
-  module _ (tree₂ : List ℕ) (g : Tops) (m : length tree₂ ≡ length tree) (e : outOf tree₂ g ≡ lifted) where
+  module _ (tree₂ : List ℕ) (g : Reach) (m : length tree₂ ≡ length tree) (e : outOf tree₂ g ≡ lifted) where
     g-counted : Counted (g .uses)
     g-counted =
         subst (λ z. Counted (z .tops .uses)) (sym e) (hoists-counted w bindings-at x k 0 clauses clauses (outOf tree f) (omega arith) leaves-sound (a .counted))
 
-    g-within : Within (ownOut w cases-at bindings-at x clauses k (outOf tree₂ g) .tops)
-    g-within = subst (λ z. Within (ownOut w cases-at bindings-at x clauses k z .tops)) (sym e) own-within
+    g-within : Within (ownOut w cases-at bindings-at (clauseNode x) clauses k (outOf tree₂ g) .tops)
+    g-within = subst (λ z. Within (ownOut w cases-at bindings-at (clauseNode x) clauses k z .tops)) (sym e) own-within
 
     pub own-asked : OwnAsked w k clauses cases-at bindings-at tree₂ g
     unfolding boundOut switchOut
@@ -468,7 +529,7 @@ module _ (w : List ℕ) (k : ℕ) (x : Scopes) (clauses cases-at bindings-at : �
           room = a .sound .room;
           node = omega (arith, a .inside, a .sound .most);
           leaf = λ q.
-              let n = subst (λ z. Within (z .tops)) (own-leaf w cases-at bindings-at x clauses k (outOf tree₂ g) q) g-within in
+              let n = subst (λ z. Within (z .tops)) (own-leaf w cases-at bindings-at (clauseNode x) clauses k (outOf tree₂ g) q) g-within in
               record {
                 sound = a .sound .leaf k (a .inside) q;
                 tree-room = omega (arith, a .file .tree-room);
@@ -478,7 +539,7 @@ module _ (w : List ℕ) (k : ℕ) (x : Scopes) (clauses cases-at bindings-at : �
                 bindings-fit = n .bindings-most;
               };
           switch = λ q.
-              let n = subst (λ z. Within (z .tops)) (own-switch w cases-at bindings-at x clauses k (outOf tree₂ g) q) g-within in
+              let n = subst (λ z. Within (z .tops)) (own-switch w cases-at bindings-at (clauseNode x) clauses k (outOf tree₂ g) q) g-within in
               record {
                 asked = record {
                   sound = a .sound .switch k (a .inside) q;
@@ -495,20 +556,20 @@ module _ (w : List ℕ) (k : ℕ) (x : Scopes) (clauses cases-at bindings-at : �
   node-counted : Counted (nodeOut w cases-at bindings-at x clauses k (outOf tree f) .tops .uses)
   unfolding nodeOut
   node-counted =
-      by-own w cases-at bindings-at x clauses k lifted (λ z. Counted (z .tops .uses))
-      (λ q. bound-counted w bindings-at k 2 0 lifted (a .sound .leaf k (a .inside) q .bindings) up) (λ q. switch-counted w cases-at x clauses k lifted up (a .sound .switch k (a .inside) q .path))
+      by-own w cases-at bindings-at (clauseNode x) clauses k lifted (λ z. Counted (z .tops .uses))
+      (λ q. bound-counted w bindings-at k 2 0 lifted (a .sound .leaf k (a .inside) q .bindings) up) (λ q. switch-counted w cases-at (clauseNode x) clauses k lifted up (a .sound .switch k (a .inside) q .path))
     where
       up : Counted (lifted .tops .uses)
       up = hoists-counted w bindings-at x k 0 clauses clauses (outOf tree f) (omega arith) leaves-sound (a .counted)
 
 -- ---- the loop over the nodes
-pub record NodesLeft (w : List ℕ) (nodes : ℕ) (x : Scopes) (clauses cases-at bindings-at : ℕ) (before : List ℕ) (f : Tops) (tree : List ℕ) (g : Tops) (k : ℕ) : Type 0 where
+pub record NodesLeft (w : List ℕ) (nodes : ℕ) (x : Places) (clauses cases-at bindings-at : ℕ) (before : List ℕ) (f : Reach) (tree : List ℕ) (g : Reach) (k : ℕ) : Type 0 where
   pub inside : k ≤ nodes
   pub counted : Counted (g .uses)
   pub long : length tree ≡ length before
   pub left : nodesOut w cases-at bindings-at x clauses k (nodes - k) (outOf tree g) ≡ nodesOut w cases-at bindings-at x clauses 0 nodes (outOf before f)
 
-module _ (w : List ℕ) (nodes : ℕ) (x : Scopes) (clauses cases-at bindings-at : ℕ) (before : List ℕ) (f : Tops) where
+module _ (w : List ℕ) (nodes : ℕ) (x : Places) (clauses cases-at bindings-at : ℕ) (before : List ℕ) (f : Reach) where
   pub nodes-start : Counted (f .uses) → NodesLeft w nodes x clauses cases-at bindings-at before f before f 0
   nodes-start h = record { inside = omega arith; counted = h; long = refl; left = rw (sub-zero nodes) }
 
@@ -517,7 +578,7 @@ module _ (w : List ℕ) (nodes : ℕ) (x : Scopes) (clauses cases-at bindings-at
   unfolding nodesOut
   nodes-on k o l = let d : nodes - k ≡ suc (nodes - (k + 1)) = omega arith in rw d
 
-  module _ (a : NodesAsked w nodes x clauses cases-at bindings-at before f) (tree : List ℕ) (g : Tops) (k : ℕ)
+  module _ (a : NodesAsked w nodes x clauses cases-at bindings-at before f) (tree : List ℕ) (g : Reach) (k : ℕ)
       (h : NodesLeft w nodes x clauses cases-at bindings-at before f tree g k) (l : k < nodes) where
     abbrev turn : Out
     turn = nodeOut w cases-at bindings-at x clauses k (outOf tree g)
@@ -540,7 +601,7 @@ module _ (w : List ℕ) (nodes : ℕ) (x : Scopes) (clauses cases-at bindings-at
               (subst (λ z. Within (z .tops)) (sym (h .left) ∙ nodes-on k (outOf tree g) l) (a .within));
         }
 
-    pub nodes-next : (tree₂ : List ℕ) (g₂ : Tops) → length tree₂ ≡ length tree → outOf tree₂ g₂ ≡ nodeOut w cases-at bindings-at x clauses k (outOf tree g)
+    pub nodes-next : (tree₂ : List ℕ) (g₂ : Reach) → length tree₂ ≡ length tree → outOf tree₂ g₂ ≡ nodeOut w cases-at bindings-at x clauses k (outOf tree g)
         → NodesLeft w nodes x clauses cases-at bindings-at before f tree₂ g₂ (k + 1)
     nodes-next tree₂ g₂ m e =
         record {
@@ -550,7 +611,7 @@ module _ (w : List ℕ) (nodes : ℕ) (x : Scopes) (clauses cases-at bindings-at
           left = ap (nodesOut w cases-at bindings-at x clauses (k + 1) (nodes - (k + 1))) e ∙ sym (nodes-on k (outOf tree g) l) ∙ h .left;
         }
 
-  pub nodes-end : (tree : List ℕ) (g : Tops) (k : ℕ) → NodesLeft w nodes x clauses cases-at bindings-at before f tree g k → nodes ≤ k
+  pub nodes-end : (tree : List ℕ) (g : Reach) (k : ℕ) → NodesLeft w nodes x clauses cases-at bindings-at before f tree g k → nodes ≤ k
       → outOf tree g ≡ nodesOut w cases-at bindings-at x clauses 0 nodes (outOf before f)
   unfolding nodesOut
   nodes-end tree g k h l = let d : nodes - k ≡ 0 = omega arith in rw d at (h .left)

@@ -26,15 +26,12 @@ use Rattle.arena.specs.RecordsLaws.{caseFields, caseBytes-fields, first-binding
 use Rattle.arena.specs.HeldLaws.{own-first, own-rest}
 use Rattle.arena.specs.Numbered.{joined, Each, LeafNode}
 use Rattle.arena.specs.NumberedLaws.{howMany-joined}
-use Rattle.scopes.specs.declared.Scopes.{Scopes}
 use Rattle.scopes.specs.WriterLaws.{standsAt, hoistsAt, stands-next}
-use Rattle.writing.specs.declared.uses.Uses.{Uses}
-use Rattle.writing.specs.declared.nodes.Tops.{Tops}
 use Rattle.writing.specs.Pieces.{Piece, nothing, join, boundPiece, hoistsPiece, shiftedCases, switchPiece, ownPiece, abovePiece, nodePiece, overPiece}
 use Rattle.writing.specs.PiecesLaws.{hoistsPiece-on, hoistsPiece-past, hoists-count}
-use Rattle.writing.specs.Uses.{withClass, numberIn, withClasses, classNumbers, withPath, Stand}
+use Rattle.writing.specs.Uses.{Uses, withClass, numberIn, withClasses, classNumbers, withPath, Stand}
 use Rattle.writing.specs.UsesLaws.{firstUses-with, firstUses-append, number-first-use, classNumbers-append, withClasses-append, stand-with, number-used, stand-withs}
-use Rattle.writing.specs.Model.{boundBytes, boundUses, clauseNode, movedCases, movedDefault, Out, boundOut, hoistOut, hoistsOut, switchBytes, switchOut, ownOut, nodeOut, nodesOut}
+use Rattle.writing.specs.Model.{Places, Reach, boundBytes, boundUses, clauseNode, movedCases, movedDefault, Out, boundOut, hoistOut, hoistsOut, switchBytes, switchOut, ownOut, nodeOut, nodesOut}
 use Rattle.writing.specs.ModelLaws.{hoist-here, hoist-elsewhere, own-leaf, own-switch, first-some, moved-none, moved-some}
 
 -- ---- sizes
@@ -106,7 +103,7 @@ module _ (table : List Path) (node : ℕ → ℕ) (n : ℕ) where
 
 -- ---- what the arena has of each node
 -- the leaf with the bindings of clause c's hoist
-pub record HoistLeaf (w : List ℕ) (all : List Path) (x : Scopes) (most : ℕ) (bs : ℕ → List Binding) (c : ℕ) : Type 0 where
+pub record HoistLeaf (w : List ℕ) (all : List Path) (x : Places) (most : ℕ) (bs : ℕ → List Binding) (c : ℕ) : Type 0 where
   pub node : LeafNode w all most (getD (x .leaf) c 0) c (bs c)
   pub covers : Covers all (bindingPaths (bs c))
 
@@ -206,11 +203,11 @@ module _ (all table : List Path) (cases-at bindings-at : ℕ) where
       }
 
   -- the sections do not run into each other
-  pub record Fitting (f : Tops) (x : Piece) : Type 0 where
+  pub record Fitting (f : Reach) (x : Piece) : Type 0 where
     pub nodes-room : nodeSize * (f .nodes + x .nodes) ≤ cases-at
     pub cases-room : cases-at + caseSize * (f .cases + x .cases) ≤ bindings-at
 
-  fitting-first : (f : Tops) (x y : Piece) → Fitting f (join x y) → Fitting f x
+  fitting-first : (f : Reach) (x y : Piece) → Fitting f (join x y) → Fitting f x
   unfolding join
   fitting-first f x y h = record { nodes-room = omega (arith, h .nodes-room); cases-room = omega (arith, h .cases-room) }
 
@@ -317,7 +314,7 @@ module _ (all table : List Path) (cases-at bindings-at : ℕ) where
     first-paths x y there rest e = e ∙ ap (firstUses there) (append-assoc x y rest)
 
     -- ---- the hoists above a node
-    module _ (x : Scopes) (k most : ℕ) (bs : ℕ → List Binding) where
+    module _ (x : Places) (k most : ℕ) (bs : ℕ → List Binding) where
       abbrev here : ℕ → Bool
       here c = eqb (clauseNode x c) k
 
@@ -380,13 +377,13 @@ module _ (all table : List Path) (cases-at bindings-at : ℕ) where
         ((λ l. caseFields (r .kind-is l) (r .number-is l) (r .length-is l) (standsAt node n (r .child-is l))) ∙ sym (caseBytes-fields t at (standsAt node n k)))
         (moved-cases node n cs (i + 1) (k + nodesIn a) (own-rest w i k t at a cs s))
 
-    module _ (x : Scopes) (n k : ℕ) where
+    module _ (x : Places) (n k : ℕ) where
       abbrev node : ℕ → ℕ
       node = clauseNode x
 
       switch-after : (kind : ℕ) (p : Path) (cases tails : ℕ) (cs : Cases) (d : Tree) (o : Out) (there rest : List Path) → SwitchFacts w all k kind p cases tails cs d
           → Stand all (o .tops .uses) there → table ≡ firstUses there (p ∷ rest)
-          → switchOut w cases-at x n k o ≡ after o (switchPiece table node n k (o .tops .cases) kind p cases tails cs d)
+          → switchOut w cases-at (clauseNode x) n k o ≡ after o (switchPiece table node n k (o .tops .cases) kind p cases tails cs d)
       unfolding switchOut switchBytes after switchPiece withClasses classNumbers bindingsBytes
       switch-after kind p cases tails cs d o there rest h s e =
           let f = o .tops in
@@ -419,16 +416,16 @@ module _ (all table : List Path) (cases-at bindings-at : ℕ) where
 
       own-after : (most : ℕ) (s : Tree) (o : Out) (there rest : List Path) → Own w all most k s → Stand all (o .tops .uses) there
           → table ≡ firstUses there (mine (o .tops .cases) (o .tops .bindings) s .paths ++ rest)
-          → ownOut w cases-at bindings-at x n k o ≡ after o (mine (o .tops .cases) (o .tops .bindings) s)
+          → ownOut w cases-at bindings-at (clauseNode x) n k o ≡ after o (mine (o .tops .cases) (o .tops .bindings) s)
       unfolding Own ownPiece boundPiece switchPiece
       own-after most absent o there rest h s e = absurd h
       own-after most (leaf c bs) o there rest h s e =
-          own-leaf w cases-at bindings-at x n k o (h .0 .kind-is) ∙ bound-after k 2 0 most c bs o there rest (h .0) s (h .1) e
+          own-leaf w cases-at bindings-at (clauseNode x) n k o (h .0 .kind-is) ∙ bound-after k 2 0 most c bs o there rest (h .0) s (h .1) e
       own-after most (hoist c bs a) o there rest h s e = absurd h
       own-after most (switch p cs d) o there rest h s e =
-          own-switch w cases-at bindings-at x n k o (λ z. omega (arith, h .kind-is)) ∙ switch-after 0 p (howMany cs) 0 cs d o there rest h s e
+          own-switch w cases-at bindings-at (clauseNode x) n k o (λ z. omega (arith, h .kind-is)) ∙ switch-after 0 p (howMany cs) 0 cs d o there rest h s e
       own-after most (listswitch p cs ts d) o there rest h s e =
-          own-switch w cases-at bindings-at x n k o (λ z. omega (arith, h .kind-is)) ∙ switch-after 1 p (howMany cs) (howMany ts) (joined cs ts) d o there rest h s e
+          own-switch w cases-at bindings-at (clauseNode x) n k o (λ z. omega (arith, h .kind-is)) ∙ switch-after 1 p (howMany cs) (howMany ts) (joined cs ts) d o there rest h s e
 
       own-covers : (most c b : ℕ) (s : Tree) → Own w all most k s → Covers all (mine c b s .paths)
       unfolding Own ownPiece boundPiece switchPiece
@@ -481,7 +478,7 @@ module _ (all table : List Path) (cases-at bindings-at : ℕ) where
             let mine-same : mine (f .cases + up .cases) b s ≡ me = ap (λ z. mine z b s) same in
             let lifted : hoistsOut w bindings-at x k 0 n o ≡ after o up =
             above-after o there (me .paths ++ rest) q st (first-paths (up .paths) (me .paths) there rest e) (fitting-first f up me fit) in
-            ap (ownOut w cases-at bindings-at x n k) lifted
+            ap (ownOut w cases-at bindings-at (clauseNode x) n k) lifted
             ∙ own-after most s (after o up) (firstUses there (up .paths)) rest h (after-stand o up there st (above-covers (f .bindings)))
             (left-paths (up .paths) (me .paths) there rest e ∙ ap (λ z. firstUses (firstUses there (up .paths)) (z .paths ++ rest)) (sym mine-same))
             ∙ ap (after (after o up)) mine-same
@@ -504,7 +501,7 @@ module _ (all table : List Path) (cases-at bindings-at : ℕ) where
             omega (arith, stands-next node n k, hoists-count (here x k most bs) bs (standsAt node n k) b 0 n .nodes-are, own-one most c (b + length (above b .bindings)) s h)
 
     -- ---- all nodes
-    module _ (x : Scopes) (n most total : ℕ) (bs : ℕ → List Binding) (g : (d : ℕ) → d < n → clauseNode x d < total → HoistLeaf w all x most bs d) where
+    module _ (x : Places) (n most total : ℕ) (bs : ℕ → List Binding) (g : (d : ℕ) → d < n → clauseNode x d < total → HoistLeaf w all x most bs d) where
       abbrev over : ℕ → ℕ → ℕ → List Tree → Piece
       over k c b ss = overPiece table (clauseNode x) n bs k c b ss
 

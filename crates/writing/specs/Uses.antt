@@ -10,7 +10,16 @@ use Rattle.words.specs.Words.{pick}
 use Rattle.rules.specs.Limits.{patternsMost}
 use Rattle.rules.specs.Rows.{Path, bit}
 use Rattle.rules.specs.TreeFile.{isAmong, pathNumber}
-use Rattle.writing.specs.declared.uses.Uses.{Uses}
+
+-- the code's two buffers and its count: by class one more than the number of its path, or 0 where it has none; the classes in the order
+-- of their numbers; and how many have one
+pub record Uses : Type 0 where
+  pub number : List ℕ
+  pub list : List ℕ
+  pub count : ℕ
+
+abbrev pub usesOf : List ℕ → List ℕ → ℕ → Uses
+usesOf number list count = record { number = number; list = list; count = count }
 
 -- how many elements are not 0
 unfoldable pub numbered : List ℕ → ℕ

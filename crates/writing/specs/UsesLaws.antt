@@ -17,8 +17,7 @@ use Rattle.rules.specs.Limits.{patternsMost}
 use Rattle.rules.specs.Rows.{Path, samePath, bit}
 use Rattle.rules.specs.TreeFile.{isAmong, firstUses, pathNumber}
 use Rattle.filing.specs.PathsLaws.{samePath-refl, samePath-sound, samePath-make, isAmong-append, isAmong-left, isAmong-right, isAmong-first, Covers, covers-first, covers-rest, pathNumber-first, pathNumber-rest, path-numbered, firstUses-new, firstUses-known}
-use Rattle.writing.specs.declared.uses.Uses.{Uses}
-use Rattle.writing.specs.Uses.{numbered, Counted, withClass, numberIn, classesIn, withClasses, classNumbers, placeIn, withPath, Stand}
+use Rattle.writing.specs.Uses.{Uses, numbered, Counted, withClass, numberIn, classesIn, withClasses, classNumbers, placeIn, withPath, Stand}
 
 -- ---- room in the list
 numbered-most : (l : List ℕ) → numbered l ≤ length l
@@ -252,14 +251,14 @@ module _ (all : List Path) (short : length all ≤ patternsMost) where
       (stand-withs ps (withClass u (pathNumber all p)) (withPath table p) (stand-with u table s p (covers-first all p ps v)) (covers-rest all p ps v))
 
 -- before any use
-abbrev pub unused : Uses
-unused = record { number = zeros patternsMost; list = zeros patternsMost; count = 0 }
+abbrev pub unused : List ℕ → Uses
+unused list = record { number = zeros patternsMost; list = list; count = 0 }
 
-pub stand-unused : (all : List Path) → length all ≤ patternsMost → Stand all unused []
+pub stand-unused : (all : List Path) → length all ≤ patternsMost → (list : List ℕ) → length list ≡ patternsMost → Stand all (unused list) []
 unfolding classNumbers placeIn isAmong
-stand-unused all short =
+stand-unused all short list long =
     record {
-      counted = record { number-long = length-replicate {A = ℕ} patternsMost 0; list-long = length-replicate {A = ℕ} patternsMost 0; count-is = numbered-zeros patternsMost };
+      counted = record { number-long = length-replicate {A = ℕ} patternsMost 0; list-long = long; count-is = numbered-zeros patternsMost };
       classes = refl;
       places = λ p h. getD-replicate patternsMost (pathNumber all p) 0 0 (class-small all short p h);
     }

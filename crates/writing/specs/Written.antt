@@ -3,7 +3,7 @@
 use mathlib.Core.Path.{_≡_}
 use mathlib.Core.List.{List, [], _++_, map}
 use Prim.Native.Nat.{ℕ, _≤_, _<_}
-use lib.ListN.{length, getD}
+use lib.ListN.{length, getD, take}
 use Rattle.words.specs.Stored.{stored}
 use Rattle.rules.specs.Limits.{clausesMost, patternsMost, nodesMost, bindingsMost}
 use Rattle.rules.specs.Rows.{Path}
@@ -16,7 +16,6 @@ use Rattle.scopes.specs.Numbers.{BindCounts}
 use Rattle.scopes.specs.Marks.{Ready}
 use Rattle.scopes.specs.Scoped.{Scoped}
 use Rattle.writing.specs.declared.nodes.Tops.{Tops}
-use Rattle.writing.specs.Uses.{classesIn}
 
 -- the tree of so many nodes and cases, held in the arena over a table of all its paths, with the scopes of its clauses;
 -- the leaves of a clause have as many bindings each, and the hoisted tree is within refusals 12 and 13
@@ -36,14 +35,14 @@ pub record WritingAsked (w : List ℕ) (nodes cases : ℕ) (x : Scopes) (clauses
 
 -- THE ANSWER: the first three sections of the hoisted tree's file, back to back; how many records each has; and the classes of the
 -- paths in its table, in order. However a class's path is come by, the classes' paths are the table
-pub record Written (table : List Path) (hoisted : Tree) (before after : List ℕ) (r : Tops) : Type 0 where
+pub record Written (table : List Path) (hoisted : Tree) (before after classes : List ℕ) (r : Tops) : Type 0 where
   pub bytes-are :
       after ≡ stored before 0 (nodesFrom (pathTable hoisted) 0 0 0 hoisted ++ (casesFrom 0 hoisted ++ bindingsBytes (pathTable hoisted) (bindingsIn hoisted)))
   pub nodes-are : r .nodes ≡ nodesIn hoisted
   pub cases-are : r .cases ≡ casesIn hoisted
   pub bindings-are : r .bindings ≡ length (bindingsIn hoisted)
-  pub paths-count : r .uses .count ≡ length (pathTable hoisted)
-  pub list-long : length (r .uses .list) ≡ patternsMost
-  pub classes-inside : r .uses .count ≤ length (r .uses .list)
-  pub classes-known : (i : ℕ) → i < r .uses .count → getD (r .uses .list) i 0 < length table
-  pub paths-are : (path : ℕ → Path) → ((c : ℕ) → c < length table → path c ≡ getD table c []) → map path (classesIn (r .uses)) ≡ pathTable hoisted
+  pub paths-count : r .paths ≡ length (pathTable hoisted)
+  pub list-long : length classes ≡ patternsMost
+  pub classes-inside : r .paths ≤ length classes
+  pub classes-known : (i : ℕ) → i < r .paths → getD classes i 0 < length table
+  pub paths-are : (path : ℕ → Path) → ((c : ℕ) → c < length table → path c ≡ getD table c []) → map path (take (r .paths) classes) ≡ pathTable hoisted

@@ -37,9 +37,9 @@ use Rattle.scopes.specs.WriterLaws.{scoped-hoisted, scoped-leaf, stands-first}
 use Rattle.writing.specs.declared.nodes.Tops.{Tops}
 use Rattle.writing.specs.Pieces.{Piece, treePiece, overPiece}
 use Rattle.writing.specs.PiecesLaws.{howMany-hoisted, hoisted-piece}
-use Rattle.writing.specs.Uses.{withClasses, classNumbers, Stand}
+use Rattle.writing.specs.Uses.{usesOf, withClasses, classNumbers, Stand}
 use Rattle.writing.specs.UsesLaws.{class-small, stand-withs, stand-count, unused, stand-unused, paths-of-classes, list-inside, list-known}
-use Rattle.writing.specs.Model.{clauseNode, outOf, nodesOut, LeafSound, SwitchSound, Within, ArenaSound, NodesAsked}
+use Rattle.writing.specs.Model.{Places, placesOf, Reach, reachOf, clauseNode, outOf, nodesOut, LeafSound, SwitchSound, Within, ArenaSound, NodesAsked}
 use Rattle.writing.specs.RunLaws.{HoistLeaf, Own, after, Fitting, over-covers, nodes-after}
 use Rattle.writing.specs.Written.{WritingAsked, Written}
 
@@ -198,10 +198,13 @@ own-path w all most k (switch p cs d) short e h = omega (arith, h .path-is, clas
 own-path w all most k (listswitch p cs ts d) short e h = omega (arith, h .path-is, class-small all short p (h .among))
 
 -- ---- the whole tree
-abbrev nothingYet : Tops
-nothingYet = record { nodes = 0; cases = 0; bindings = 0; uses = unused }
+abbrev nothingYet : List ℕ → Reach
+nothingYet l = record { nodes = 0; cases = 0; bindings = 0; uses = unused l }
 
-module _ (w : List ℕ) (nodes cases : ℕ) (x : Scopes) (clauses : ℕ) (h : WritingAsked w nodes cases x clauses) where
+module _ (w : List ℕ) (nodes cases : ℕ) (x : Scopes) (clauses : ℕ) (h : WritingAsked w nodes cases x clauses) (list : List ℕ) (long : length list ≡ patternsMost) where
+  abbrev places : Places
+  places = placesOf (x .node) (x .leaf)
+
   abbrev all : List Path
   all = h .ready .table
 
@@ -241,7 +244,7 @@ module _ (w : List ℕ) (nodes cases : ℕ) (x : Scopes) (clauses : ℕ) (h : Wr
       switch-own-facts w all (casesIn a) most j (subtreeAt a j) (t .is) (t .some-case) (h .ready .nodes .room) (h .ready .nodes .node j l) (covered-at all a (h .covered) j l))
       (node-there w a (h .ready) j l)
 
-  hoisted-has : (c : ℕ) → c < clauses → clauseNode x c < nodesIn a → hasLeaf c a ≡ true
+  hoisted-has : (c : ℕ) → c < clauses → clauseNode places c < nodesIn a → hasLeaf c a ≡ true
   unfolding scopeNode
   hoisted-has c l q = go (hasLeaf c a) refl
     where
@@ -255,7 +258,7 @@ module _ (w : List ℕ) (nodes cases : ℕ) (x : Scopes) (clauses : ℕ) (h : Wr
   leaf-inside c l e =
       omega (arith, h .scoped .leaf c l, pick-true (hasLeaf c a) (firstNumber c 0 a) nodesMost e, descent-in never c 0 a e (h .ready .plain) .1)
 
-  hoist-leaf : (c : ℕ) → c < clauses → clauseNode x c < nodesIn a → HoistLeaf w all x most bound c
+  hoist-leaf : (c : ℕ) → c < clauses → clauseNode places c < nodesIn a → HoistLeaf w all places most bound c
   hoist-leaf c l q =
       let e = hoisted-has c l q in
       let f = leaf-facts (getD (x .leaf) c 0) c (bound c) (leaf-inside c l e) (scoped-leaf w (h .bound) a clauses x (h .ready) (h .bind-counts) (h .scoped) c l e) in
@@ -286,7 +289,7 @@ module _ (w : List ℕ) (nodes cases : ℕ) (x : Scopes) (clauses : ℕ) (h : Wr
         default = i .default;
       }
 
-  arena-sound : ArenaSound w nodes x clauses
+  arena-sound : ArenaSound w nodes places clauses
   arena-sound =
       record {
         room = h .ready .nodes .room;
@@ -295,7 +298,7 @@ module _ (w : List ℕ) (nodes cases : ℕ) (x : Scopes) (clauses : ℕ) (h : Wr
         leaf = λ k l e. sound-leaf k (omega (arith, h .node-count)) e;
         switch = λ k l e. sound-switch k (omega (arith, h .node-count)) e;
         hoist = λ c l q.
-            let m : clauseNode x c < nodesIn a = omega (arith, h .node-count) in
+            let m : clauseNode places c < nodesIn a = omega (arith, h .node-count) in
             let g = hoist-leaf c l m in
             leaf-sound w all most (getD (x .leaf) c 0) c (bound c) (h .short) (h .ready .nodes .room) (small (getD (x .leaf) c 0) (leaf-inside c l (hoisted-has c l m)))
             (h .ready .nodes .bindings-most) (g .node) (g .covers);
@@ -303,10 +306,10 @@ module _ (w : List ℕ) (nodes cases : ℕ) (x : Scopes) (clauses : ℕ) (h : Wr
 
   -- ---- the loop's pieces are the hoisted tree
   abbrev pieces : Piece
-  pieces = overPiece table (clauseNode x) clauses bound 0 0 0 (subtrees a)
+  pieces = overPiece table (clauseNode places) clauses bound 0 0 0 (subtrees a)
 
   abbrev byNumber : Tree
-  byNumber = hoistByNumber (clauseNode x) bound clauses 0 a
+  byNumber = hoistByNumber (clauseNode places) bound clauses 0 a
 
   whole-number : whole ≡ byNumber
   whole-number = scoped-hoisted w a clauses x (h .ready) (h .scoped)
@@ -314,20 +317,20 @@ module _ (w : List ℕ) (nodes cases : ℕ) (x : Scopes) (clauses : ℕ) (h : Wr
   whole-piece : treePiece table 0 0 0 whole ≡ pieces
   whole-piece =
       ap (treePiece table 0 0 0) whole-number
-      ∙ ap (λ z. treePiece table z 0 0 byNumber) (sym (stands-first (clauseNode x) clauses))
-      ∙ hoisted-piece table (clauseNode x) clauses bound 0 0 0 a (h .ready .plain)
+      ∙ ap (λ z. treePiece table z 0 0 byNumber) (sym (stands-first (clauseNode places) clauses))
+      ∙ hoisted-piece table (clauseNode places) clauses bound 0 0 0 a (h .ready .plain)
 
   whole-nodes : nodesIn whole ≡ nodes + x .hoists
   whole-nodes = nodesIn-hoistAll clauses a ∙ ap₂ (λ y z. y + z) (h .node-count) (sym (h .scoped .hoists))
 
   whole-cases : casesIn whole ≡ cases
-  whole-cases = ap casesIn whole-number ∙ casesIn-hoisted (clauseNode x) bound clauses 0 a ∙ h .case-count
+  whole-cases = ap casesIn whole-number ∙ casesIn-hoisted (clauseNode places) bound clauses 0 a ∙ h .case-count
 
   each-own : Each (Own w all most) 0 (subtrees a)
   unfolding subtreeAt
   each-own = each-from (Own w all most) 0 (subtrees a) (λ j l. rw (zero-add j) (own-at j (omega (arith, length-subtrees a))))
 
-  pieces-fit : Fitting all table cases-at bindings-at nothingYet pieces
+  pieces-fit : Fitting all table cases-at bindings-at (nothingYet list) pieces
   unfolding treePiece
   pieces-fit =
       let n : nodesIn whole ≡ pieces .nodes = ap (λ z. z .nodes) whole-piece in
@@ -343,18 +346,18 @@ module _ (w : List ℕ) (nodes cases : ℕ) (x : Scopes) (clauses : ℕ) (h : Wr
   unfolding treePiece
   whole-covers =
       subst (λ z. Covers all (z .paths)) (sym whole-piece)
-      (over-covers all table cases-at bindings-at w (h .short) x clauses most (nodesIn a) bound hoist-leaf (subtrees a) 0 0 0 (omega (arith, length-subtrees a)) each-own)
+      (over-covers all table cases-at bindings-at w (h .short) places clauses most (nodesIn a) bound hoist-leaf (subtrees a) 0 0 0 (omega (arith, length-subtrees a)) each-own)
 
-  run : (t : List ℕ) → nodesOut w cases-at bindings-at x clauses 0 nodes (outOf t nothingYet) ≡ after all table cases-at bindings-at (outOf t nothingYet) (treePiece table 0 0 0 whole)
+  run : (t : List ℕ) → nodesOut w cases-at bindings-at places clauses 0 nodes (outOf t (nothingYet list)) ≡ after all table cases-at bindings-at (outOf t (nothingYet list)) (treePiece table 0 0 0 whole)
   run t =
       let n : nodes ≡ length (subtrees a) = omega (arith, h .node-count, length-subtrees a) in
-      ap (λ z. nodesOut w cases-at bindings-at x clauses 0 z (outOf t nothingYet)) n
-      ∙ nodes-after all table cases-at bindings-at w (h .short) x clauses most (nodesIn a) bound hoist-leaf (subtrees a) 0 (outOf t nothingYet) [] [] (omega (arith, length-subtrees a)) each-own
-      (sym (stands-first (clauseNode x) clauses)) (stand-unused all (h .short)) table-is pieces-fit
-      ∙ ap (after all table cases-at bindings-at (outOf t nothingYet)) (sym whole-piece)
+      ap (λ z. nodesOut w cases-at bindings-at places clauses 0 z (outOf t (nothingYet list))) n
+      ∙ nodes-after all table cases-at bindings-at w (h .short) places clauses most (nodesIn a) bound hoist-leaf (subtrees a) 0 (outOf t (nothingYet list)) [] [] (omega (arith, length-subtrees a)) each-own
+      (sym (stands-first (clauseNode places) clauses)) (stand-unused all (h .short) list long) table-is pieces-fit
+      ∙ ap (after all table cases-at bindings-at (outOf t (nothingYet list))) (sym whole-piece)
 
   -- THEOREM: what the loop asks
-  pub nodes-asked : (t : List ℕ) → treeRoom ≤ length t → NodesAsked w nodes x clauses cases-at bindings-at t nothingYet
+  pub nodes-asked : (t : List ℕ) → treeRoom ≤ length t → NodesAsked w nodes places clauses cases-at bindings-at t (nothingYet list)
   unfolding after treePiece
   nodes-asked t room =
       record {
@@ -364,7 +367,7 @@ module _ (w : List ℕ) (nodes cases : ℕ) (x : Scopes) (clauses : ℕ) (h : Wr
           cases-start = omega (arith, whole-nodes, h .nodes-most);
           bindings-start = omega (arith, whole-nodes, h .nodes-most, h .case-count, h .ready .nodes .cases-most);
         };
-        counted = stand-unused all (h .short) .counted;
+        counted = stand-unused all (h .short) list long .counted;
         within =
             subst (λ z. Within (z .tops)) (sym (run t))
             (record {
@@ -375,7 +378,7 @@ module _ (w : List ℕ) (nodes cases : ℕ) (x : Scopes) (clauses : ℕ) (h : Wr
       }
 
   -- the three sections as one store
-  sections : (t : List ℕ) → after all table cases-at bindings-at (outOf t nothingYet) (treePiece table 0 0 0 whole) .tree
+  sections : (t : List ℕ) → after all table cases-at bindings-at (outOf t (nothingYet list)) (treePiece table 0 0 0 whole) .tree
       ≡ stored t 0 (nodesFrom table 0 0 0 whole ++ (casesFrom 0 whole ++ bindingsBytes table (bindingsIn whole)))
   unfolding after treePiece
   sections t =
@@ -389,28 +392,30 @@ module _ (w : List ℕ) (nodes cases : ℕ) (x : Scopes) (clauses : ℕ) (h : Wr
       ∙ stored-append (stored t 0 ns) (cases-at + caseSize * 0) (bindings-at + bindingSize * 0) cs bs k
       ∙ stored-append t 0 (cases-at + caseSize * 0) ns (cs ++ bs) j
 
-  whole-stand : Stand all (withClasses unused (classNumbers all (pathsUsed whole))) table
+  whole-stand : Stand all (withClasses (unused list) (classNumbers all (pathsUsed whole))) table
   unfolding pathTable
-  whole-stand = stand-withs all (h .short) (pathsUsed whole) unused [] (stand-unused all (h .short)) whole-covers
+  whole-stand = stand-withs all (h .short) (pathsUsed whole) (unused list) [] (stand-unused all (h .short) list long) whole-covers
 
   table-covered : Covers all table
   table-covered = record { among = λ p q. whole-covers .among p (table-used whole .among p q) }
 
   -- THEOREM: the sections of the hoisted tree's file
-  pub written : (t t₂ : List ℕ) (r : Tops) → outOf t₂ r ≡ nodesOut w cases-at bindings-at x clauses 0 nodes (outOf t nothingYet) → Written all whole t t₂ r
+  pub written : (t t₂ number classes : List ℕ) (r : Tops)
+      → outOf t₂ (reachOf number classes r) ≡ nodesOut w cases-at bindings-at places clauses 0 nodes (outOf t (nothingYet list)) → Written all whole t t₂ classes r
   unfolding after treePiece
-  written t t₂ r e =
+  written t t₂ number classes r e =
       let q = e ∙ run t in
-      let s : Stand all (r .uses) table = subst (λ z. Stand all (z .tops .uses) table) (sym q) whole-stand in
+      let u = usesOf number classes (r .paths) in
+      let s : Stand all u table = subst (λ z. Stand all (z .tops .uses) table) (sym q) whole-stand in
       record {
         bytes-are = ap (λ z. z .tree) q ∙ sections t;
         nodes-are = ap (λ z. z .tops .nodes) q ∙ zero-add (nodesIn whole);
         cases-are = ap (λ z. z .tops .cases) q ∙ zero-add (casesIn whole);
         bindings-are = ap (λ z. z .tops .bindings) q ∙ zero-add (length (bindingsIn whole));
-        paths-count = stand-count all (h .short) (r .uses) table s;
+        paths-count = stand-count all (h .short) u table s;
         list-long = s .counted .list-long;
-        classes-inside = list-inside all (h .short) (r .uses) table s table-covered;
-        classes-known = list-known all (h .short) (r .uses) table s table-covered;
+        classes-inside = list-inside all (h .short) u table s table-covered;
+        classes-known = list-known all (h .short) u table s table-covered;
         paths-are = λ path f. ap (map path) (s .classes) ∙ paths-of-classes all path f table table-covered;
       }
 

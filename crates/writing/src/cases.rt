@@ -5,7 +5,6 @@ use arena::reading::case_child;
 use arena::reading::case_kind;
 use arena::reading::case_length;
 use arena::reading::case_number;
-use scopes::Scopes;
 use words::put_word;
 ghost use mathlib.Core.Path.{_≡_};
 ghost use Prim.Native.Nat.{_+_, _*_, _<_, _≤_};
@@ -15,7 +14,7 @@ ghost use Rattle.rules.specs.Limits.{clausesMost, nodesMost, caseSize};
 ghost use Rattle.rules.specs.Rows.{bit};
 ghost use Rattle.arena.specs.Arena.{arenaEnd, casesMost};
 ghost use Rattle.scopes.specs.WriterLaws.{hoistsBefore, standsAt};
-ghost use Rattle.writing.specs.Model.{clauseNode, CasesAsked, movedCase, movedCases, movedDefault};
+ghost use Rattle.writing.specs.Model.{nodeIn, CasesAsked, movedCase, movedCases, movedDefault};
 
 fn one_if(test: bool) -> usize
     ensures { λ r. ⌜ r ≡ bit test ⌝ }
@@ -26,37 +25,44 @@ fn one_if(test: bool) -> usize
     0
 }
 
+// A number of a table by clause, as wide as a count.
+pub fn as_count(x: u16) -> usize
+    ensures { λ r. ⌜ r ≡ x ⌝ }
+{
+    x as usize
+}
+
 // How many of the clauses are hoisted above a node before node k.
-fn hoists_before(x: Scopes, clauses: usize, k: usize) -> usize
+fn hoists_before(node: &[u16; 32], clauses: usize, k: usize) -> usize
     requires { ⌜ clauses ≤ clausesMost ⌝ }
-    ensures { λ r. ⌜ r ≡ hoistsBefore (clauseNode x) clauses k ⌝ }
+    ensures { λ r. ⌜ r ≡ hoistsBefore (nodeIn (now (node .entry))) clauses k ⌝ }
 {
     let mut n: usize = 0;
     let mut c = 0;
     while c < clauses {
-        n += one_if((x.node[c] as usize) < k);
+        n += one_if(as_count(node[c]) < k);
         c += 1;
     }
     n
 }
 
 // Where node k comes to stand, its hoists first.
-fn stands_at(x: Scopes, clauses: usize, k: usize) -> usize
+fn stands_at(node: &[u16; 32], clauses: usize, k: usize) -> usize
     requires { ⌜ (clauses ≤ clausesMost) × (k ≤ nodesMost) ⌝ }
-    ensures { λ r. ⌜ r ≡ standsAt (clauseNode x) clauses k ⌝ }
+    ensures { λ r. ⌜ r ≡ standsAt (nodeIn (now (node .entry))) clauses k ⌝ }
 {
-    k + hoists_before(x, clauses, k)
+    k + hoists_before(node, clauses, k)
 }
 
 // A default, which is one more than its node's number, or 0.
-pub fn moved_default(x: Scopes, clauses: usize, default: usize) -> usize
+pub fn moved_default(node: &[u16; 32], clauses: usize, default: usize) -> usize
     requires { ⌜ (clauses ≤ clausesMost) × (default ≤ nodesMost) ⌝ }
-    ensures { λ r. ⌜ r ≡ movedDefault (clauseNode x) clauses default ⌝ }
+    ensures { λ r. ⌜ r ≡ movedDefault (nodeIn (now (node .entry))) clauses default ⌝ }
 {
     if default == 0 {
         return 0;
     }
-    stands_at(x, clauses, default - 1) + 1
+    stands_at(node, clauses, default - 1) + 1
 }
 
 // Case i of the arena with another child.
@@ -79,18 +85,18 @@ pub fn put_cases(
     w: &[u8],
     first: usize,
     count: usize,
-    x: Scopes,
+    node: &[u16; 32],
     clauses: usize,
     tree: &mut [u8],
     at: usize,
 )
     requires { ⌜ CasesAsked (now w) first count × (clauses ≤ clausesMost) × (at + caseSize * count ≤ length (now tree)) ⌝ }
-    ensures { λ _. ⌜ now (tree .exit) ≡ stored (now (tree .entry)) at (movedCases (now (w .entry)) (clauseNode x) clauses first count) ⌝ }
+    ensures { λ _. ⌜ now (tree .exit) ≡ stored (now (tree .entry)) at (movedCases (now (w .entry)) (nodeIn (now (node .entry))) clauses first count) ⌝ }
 {
     let mut i = 0;
     while i < count {
         let child = case_child(w, first + i) as usize;
-        let moved = stands_at(x, clauses, child) as u16;
+        let moved = stands_at(node, clauses, child) as u16;
         put_case(w, first + i, tree, at + CASE_SIZE * i, moved);
         i += 1;
     }

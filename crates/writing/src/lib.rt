@@ -1,20 +1,21 @@
 // The nodes, cases and bindings of the tree file, from the tree in the arena and the scopes of its clauses.
 // One pass over the arena's nodes: above each node the hoists that its scopes put there, then the node, with its references moved to
-// where nodes come to stand.
+// where nodes come to stand. The tables by clause and by class are lent from one function to the next; only counts go by value.
 use arena::CASE_SIZE;
 use arena::NODE_SIZE;
 use nodes::Tops;
 use nodes::put_nodes;
 use scopes::Scopes;
-use uses::Uses;
+ghost use mathlib.Core.Path.{_≡_};
 ghost use Prim.Native.Nat.{_≤_};
 ghost use lib.ListN.{length};
-ghost use Rattle.rules.specs.Limits.{treeRoom};
+ghost use Rattle.rules.specs.Limits.{patternsMost, treeRoom};
 ghost use Rattle.rules.specs.Hoisting.{hoistAll};
 ghost use Rattle.writing.specs.Written.{WritingAsked, Written};
 
 pub mod bindings;
 pub mod cases;
+pub mod hoists;
 pub mod nodes;
 pub mod uses;
 
@@ -27,22 +28,33 @@ pub fn write_nodes(
     x: Scopes,
     clauses: usize,
     tree: &mut [u8],
+    classes: &mut [u8; 192],
 ) -> Tops
-    requires { ⌜ WritingAsked (now w) nodes cases x clauses × (treeRoom ≤ length (now tree)) ⌝ }
-    ensures { λ r. ⌜ ((h : WritingAsked (now (w .entry)) nodes cases x clauses) → Written (h .ready .table) (hoistAll clauses (h .tree)) (now (tree .entry)) (now (tree .exit)) r) ⌝ }
+    requires { ⌜ WritingAsked (now w) nodes cases x clauses × (treeRoom ≤ length (now tree)) × (length (now classes) ≡ patternsMost) ⌝ }
+    ensures { λ r. ⌜ ((h : WritingAsked (now (w .entry)) nodes cases x clauses) → Written (h .ready .table) (hoistAll clauses (h .tree)) (now (tree .entry)) (now (tree .exit)) (now (classes .exit)) r) ⌝ }
 {
     let second = NODE_SIZE * (nodes + x.hoists);
     let third = second + CASE_SIZE * cases;
-    let uses = Uses {
-        number: [0; 192],
-        list: [0; 192],
-        count: 0,
-    };
+    let node = x.node;
+    let leaf = x.leaf;
+    let mut number = [0u8; 192];
     let f = Tops {
         nodes: 0,
         cases: 0,
         bindings: 0,
-        uses,
+        paths: 0,
     };
-    put_nodes(w, nodes, x, clauses, tree, second, third, f)
+    put_nodes(
+        w,
+        nodes,
+        &node,
+        &leaf,
+        clauses,
+        tree,
+        second,
+        third,
+        &mut number,
+        classes,
+        f,
+    )
 }

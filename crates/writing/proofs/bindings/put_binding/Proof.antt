@@ -2,6 +2,7 @@
 use borrow.Author.Needs.{needs}
 use native.Mathlib.Omega.{arith}
 use mathlib.Core.Path.{ap}
+use Rattle.writing.specs.Uses.{usesOf}
 use Rattle.writing.specs.ModelLaws.{binding-put, used-some}
 use Rattle.writing.proofs.bindings.put_binding.Statement.{statement}
 use Rattle.writing.proofs.bindings.put_binding.Tie as tie
@@ -13,10 +14,16 @@ cast-class : tie.Need-cast-class
 cast-class c = search needs
 
 used-requires : tie.Need-used-requires
-used-requires c κs = (c .before .before .before .before .pre .2, omega (arith, c .before .before .before .before .pre .0 .class, ap (λ z. z .path) (c .before .binding-at .ensures)))
+used-requires c κs =
+    let s = c .before .before .before .before .before .before in
+    let binding-at = c .before .before .before .binding-at in
+    (s .pre .2, omega (arith, s .pre .0 .class, ap (λ z. z .path) (binding-at .ensures)))
 
 element-copy-out-wide : tie.Need-element-copy-out-wide
-element-copy-out-wide c = omega (arith, c .before .before .before .before .before .pre .0 .class, ap (λ z. z .path) (c .before .before .binding-at .ensures))
+element-copy-out-wide c =
+    let s = c .before .before .before .before .before .before .before in
+    let binding-at = c .before .before .before .before .binding-at in
+    omega (arith, s .pre .0 .class, ap (λ z. z .path) (binding-at .ensures))
 
 wide-requires : tie.Need-wide-requires
 wide-requires c κs = search needs
@@ -28,7 +35,12 @@ add-put-word : tie.Need-add-put-word
 add-put-word c = search needs
 
 sub-put-word : tie.Need-sub-put-word
-sub-put-word c = omega (arith, c .before .before .before .before .before .wide .ensures, used-some (c .before .before .before .before .before .before .before .before .before .before .before .before .args .u) (c .before .before .before .before .before .before .before .used .result) (c .before .before .before .before .before .before .before .before .before .binding-at .result .path) (c .before .before .before .before .before .before .before .used .ensures) (c .before .before .before .before .before .before .before .before .before .before .before .before .pre .2) (omega (arith, c .before .before .before .before .before .before .before .before .before .before .before .before .pre .0 .class, ap (λ z. z .path) (c .before .before .before .before .before .before .before .before .before .binding-at .ensures))))
+sub-put-word c =
+    let s = c .before .before .before .before .before .before .before .before .before .before .before .before .before .before in
+    let binding-at = c .before .before .before .before .before .before .before .before .before .before .before .binding-at in
+    let used = c .before .before .before .before .before .before .before .used in
+    let wide = c .before .before .before .before .before .wide in
+    omega (arith, wide .ensures, used-some (usesOf (s .args .number .now) (s .args .list .now) (s .args .paths)) (usesOf (used .last .0) (used .last .1 .0) (used .result)) (binding-at .result .path) (used .ensures) (s .pre .2) (omega (arith, s .pre .0 .class, ap (λ z. z .path) (binding-at .ensures))))
 
 put-word-requires-2 : tie.Need-put-word-requires-2
 put-word-requires-2 c κs = search needs
@@ -37,7 +49,14 @@ same-length : tie.Need-same-length
 same-length c = search needs
 
 returns : tie.Need-returns
-returns c = binding-put (c .before .before .before .before .before .before .before .before .before .before .before .before .before .before .before .args .w .now) (c .before .before .before .before .before .before .before .before .before .before .before .before .before .before .before .args .b) (c .before .before .before .before .before .before .before .before .before .before .before .before .before .before .before .args .at) (c .before .before .before .before .before .before .before .before .before .before .before .before .before .before .before .args .u) (c .before .before .before .before .before .before .before .before .before .before .used .result) (c .before .before .before .before .before .before .before .before .before .before .before .before .before .before .before .args .tree .now) (c .before .before .before .before .before .before .before .before .before .before .before .before .binding-at .result .name) (c .before .before .before .before .before .before .before .before .before .before .before .before .binding-at .result .path) (c .before .before .before .before .before .before .before .before .wide .result) (ap (λ z. z .name) (c .before .before .before .before .before .before .before .before .before .before .before .before .binding-at .ensures)) (ap (λ z. z .path) (c .before .before .before .before .before .before .before .before .before .before .before .before .binding-at .ensures)) (c .before .before .before .before .before .before .before .before .before .before .used .ensures) (c .before .before .before .before .before .before .before .before .wide .ensures) (c .before .before .before .before .before .before .put-word .ensures) (c .before .before .put-word2 .ensures)
+returns c =
+    let s = c .before .before .before .before .before .before .before .before .before .before .before .before .before .before .before .before .before in
+    let binding-at = c .before .before .before .before .before .before .before .before .before .before .before .before .before .before .binding-at in
+    let used = c .before .before .before .before .before .before .before .before .before .before .used in
+    let wide = c .before .before .before .before .before .before .before .before .wide in
+    let put-word = c .before .before .before .before .before .before .put-word in
+    let put-word2 = c .before .before .put-word2 in
+    binding-put (s .args .w .now) (s .args .b) (s .args .at) (usesOf (s .args .number .now) (s .args .list .now) (s .args .paths)) (usesOf (used .last .0) (used .last .1 .0) (used .result)) (s .args .tree .now) (binding-at .result .name) (binding-at .result .path) (wide .result) (ap (λ z. z .name) (binding-at .ensures)) (ap (λ z. z .path) (binding-at .ensures)) (used .ensures) (wide .ensures) (put-word .ensures) (put-word2 .ensures)
 
 pub put-binding-spec : {M : Type 1} → statement M
 put-binding-spec =

@@ -1,45 +1,71 @@
 -- `writing::bindings::put_bindings` meets its contract. The loop's invariant: with the bindings from first + i on the whole is stored.
 use native.Mathlib.Omega.{arith}
 use Prim.Native.Nat.{_+_, _-_}
+use Rattle.writing.specs.Uses.{usesOf}
 use Rattle.writing.specs.ModelLaws.{BindingsLeft, binding-asked, bindings-start, bindings-next, bindings-end}
 use Rattle.writing.proofs.bindings.put_bindings.Statement.{statement}
 use Rattle.writing.proofs.bindings.put_bindings.Tie as tie
 
 abbrev Inv-loop : tie.InvT-loop
-Inv-loop w first count tree₀ at v₀ i₀ tree v i = BindingsLeft w first count at v₀ tree₀ tree v i
+Inv-loop w first count tree₀ at number₀ list₀ paths v₀ i₀ tree number list v i = BindingsLeft w first count at (usesOf number₀ list₀ v₀) tree₀ tree (usesOf number list v) i
 
 abbrev μ-loop : tie.MeasureT-loop
-μ-loop w first count tree₀ at v₀ i₀ tree v i = count - i
+μ-loop w first count tree₀ at number₀ list₀ paths v₀ i₀ tree number list v i = count - i
 
 loop-holds : tie.Need-loop-holds Inv-loop μ-loop
-loop-holds c = bindings-start (c .before .before .args .w .now) (c .before .before .args .first) (c .before .before .args .count) (c .before .before .args .at) (c .before .before .args .u) (c .before .before .args .tree .now) (c .before .before .pre .2)
+loop-holds c =
+    let s = c .before .before in
+    bindings-start (s .args .w .now) (s .args .first) (s .args .count) (s .args .at) (usesOf (s .args .number .now) (s .args .list .now) (s .args .paths)) (s .args .tree .now) (s .pre .2)
 
 add-put-binding : tie.Need-add-put-binding Inv-loop μ-loop
-add-put-binding c = omega (arith, c .before .before .before .before .pre .0 .inside)
+add-put-binding c =
+    let s = c .before .before .before .before in
+    omega (arith, s .pre .0 .inside)
 
 mul-put-binding : tie.Need-mul-put-binding Inv-loop μ-loop
-mul-put-binding c = omega (arith, c .before .before .before .before .before .pre .0 .inside)
+mul-put-binding c =
+    let s = c .before .before .before .before .before in
+    omega (arith, s .pre .0 .inside)
 
 add-put-binding-2 : tie.Need-add-put-binding-2 Inv-loop μ-loop
-add-put-binding-2 c = omega (arith, c .before .before .before .before .before .pre .1)
+add-put-binding-2 c =
+    let s = c .before .before .before .before .before in
+    omega (arith, s .pre .1)
 
 put-binding-requires : tie.Need-put-binding-requires Inv-loop μ-loop
-put-binding-requires c κs = (binding-asked (c .before .before .before .before .before .args .w .now) (c .before .before .before .before .before .args .first) (c .before .before .before .before .before .args .count) (c .before .before .loop .i) (c .before .before .before .before .before .pre .0) (c .before .loop-test .taken), omega (arith, c .before .before .before .before .before .pre .1, c .before .before .loop .inv .long), c .before .before .loop .inv .counted)
+put-binding-requires c κs =
+    let s = c .before .before .before .before .before .before .before in
+    let loop = c .before .before .before .before .loop in
+    let loop-test = c .before .before .before .loop-test in
+    (binding-asked (s .args .w .now) (s .args .first) (s .args .count) (loop .i) (s .pre .0) (loop-test .taken), omega (arith, s .pre .1, loop .inv .long), loop .inv .counted)
 
 add-i : tie.Need-add-i Inv-loop μ-loop
-add-i c = omega (arith, c .before .before .before .before .before .before .before .before .pre .0 .inside)
+add-i c =
+    let s = c .before .before .before .before .before .before .before .before .before .before in
+    omega (arith, s .pre .0 .inside)
 
 loop-less : tie.Need-loop-less Inv-loop μ-loop
 loop-less c = omega arith
 
 loop-again : tie.Need-loop-again Inv-loop μ-loop
-loop-again c = bindings-next (c .before .before .before .before .before .before .before .before .args .w .now) (c .before .before .before .before .before .before .before .before .args .first) (c .before .before .before .before .before .before .before .before .args .count) (c .before .before .before .before .before .before .before .before .args .at) (c .before .before .before .before .before .before .before .before .args .u) (c .before .before .before .before .before .before .before .before .args .tree .now) (c .before .before .before .before .before .loop .tree) (c .before .before .before .before .before .loop .v) (c .before .before .before .before .before .loop .i) (c .before .before .before .before .before .loop .inv) (c .before .before .before .before .loop-test .taken) (c .before .before .before .before .before .before .before .before .pre .0) (c .before .before .put-binding .last .1 .1 .0) (c .before .before .put-binding .result) (c .before .before .put-binding .ensures)
+loop-again c =
+    let s = c .before .before .before .before .before .before .before .before .before .before in
+    let loop = c .before .before .before .before .before .before .before .loop in
+    let loop-test = c .before .before .before .before .before .before .loop-test in
+    let put-binding = c .before .before .put-binding in
+    bindings-next (s .args .w .now) (s .args .first) (s .args .count) (s .args .at) (usesOf (s .args .number .now) (s .args .list .now) (s .args .paths)) (s .args .tree .now) (loop .tree) (usesOf (loop .number) (loop .list) (loop .v)) (loop .i) (loop .inv) (loop-test .taken) (s .pre .0) (put-binding .last .1 .1 .0) (usesOf (put-binding .last .1 .1 .1 .1 .0) (put-binding .last .1 .1 .1 .1 .1 .0) (put-binding .result)) (put-binding .ensures)
 
 same-length : tie.Need-same-length Inv-loop μ-loop
-same-length c = c .before .loop .inv .long
+same-length c =
+    let loop = c .before .loop in
+    loop .inv .long
 
 returns : tie.Need-returns Inv-loop μ-loop
-returns c = bindings-end (c .before .before .before .before .args .w .now) (c .before .before .before .before .args .first) (c .before .before .before .before .args .count) (c .before .before .before .before .args .at) (c .before .before .before .before .args .u) (c .before .before .before .before .args .tree .now) (c .before .loop .tree) (c .before .loop .v) (c .before .loop .i) (c .before .loop .inv) (c .loop-test .left)
+returns c =
+    let s = c .before .before .before .before in
+    let loop = c .before .loop in
+    let loop-test = c .loop-test in
+    bindings-end (s .args .w .now) (s .args .first) (s .args .count) (s .args .at) (usesOf (s .args .number .now) (s .args .list .now) (s .args .paths)) (s .args .tree .now) (loop .tree) (usesOf (loop .number) (loop .list) (loop .v)) (loop .i) (loop .inv) (loop-test .left)
 
 pub put-bindings-spec : {M : Type 1} → statement M
 put-bindings-spec =

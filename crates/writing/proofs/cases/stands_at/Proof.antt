@@ -4,7 +4,7 @@ use native.Mathlib.Omega.{arith}
 use mathlib.Core.Path.{ap}
 use Prim.Native.Nat.{_+_}
 use Rattle.scopes.specs.WriterLaws.{standsAt}
-use Rattle.writing.specs.Model.{clauseNode}
+use Rattle.writing.specs.Model.{nodeIn}
 use Rattle.writing.specs.ModelLaws.{few-before}
 use Rattle.writing.proofs.cases.stands_at.Statement.{statement}
 use Rattle.writing.proofs.cases.stands_at.Tie as tie
@@ -13,7 +13,7 @@ hoists-before-requires : tie.Need-hoists-before-requires
 hoists-before-requires c κs = search needs
 
 add-result : tie.Need-add-result
-add-result c = omega (arith, few-before (clauseNode (c .before .args .x)) (c .before .args .clauses) _ _ (c .hoists-before .ensures), c .before .pre .0, c .before .pre .1)
+add-result c = omega (arith, few-before (nodeIn (c .before .args .node .now)) (c .before .args .clauses) _ _ (c .hoists-before .ensures), c .before .pre .0, c .before .pre .1)
 
 returns : tie.Need-returns
 unfolding standsAt

@@ -2,36 +2,60 @@
 use borrow.Author.Needs.{needs}
 use native.Mathlib.Omega.{arith}
 use mathlib.Core.Path.{ap}
+use Rattle.writing.specs.Uses.{usesOf}
+use Rattle.writing.specs.Model.{nodeIn, reachOf}
 use Rattle.writing.specs.ModelLaws.{switch-put, cases-asked-as}
 use Rattle.writing.proofs.nodes.put_switch.Statement.{statement}
 use Rattle.writing.proofs.nodes.put_switch.Tie as tie
 
 children-of-requires : tie.Need-children-of-requires
-children-of-requires c κs = omega (arith, c .before .before .pre .asked .sound .room, c .before .before .pre .asked .sound .node)
+children-of-requires c κs =
+    let s = c .before .before in
+    omega (arith, s .pre .asked .sound .room, s .pre .asked .sound .node)
 
 put-switch-node-requires : tie.Need-put-switch-node-requires
-put-switch-node-requires c κs = c .before .before .before .before .pre .asked
+put-switch-node-requires c κs =
+    let s = c .before .before .before .before .before .before in
+    s .pre .asked
 
 mul-put-cases : tie.Need-mul-put-cases
-mul-put-cases c = omega (arith, c .before .before .before .before .before .before .before .before .pre .asked .cases-fit)
+mul-put-cases c =
+    let s = c .before .before .before .before .before .before .before .before .before .before in
+    omega (arith, s .pre .asked .cases-fit)
 
 add-put-cases : tie.Need-add-put-cases
-add-put-cases c = omega (arith, c .before .before .before .before .before .before .before .before .pre .asked .cases-fit, c .before .before .before .before .before .before .before .before .pre .start)
+add-put-cases c =
+    let s = c .before .before .before .before .before .before .before .before .before .before in
+    omega (arith, s .pre .asked .cases-fit, s .pre .start)
 
 put-cases-requires : tie.Need-put-cases-requires
-put-cases-requires c κs = (cases-asked-as (c .before .before .before .before .before .before .before .before .args .w .now) (c .before .before .before .before .before .children-of .result .first) (c .before .before .before .before .before .children-of .result .count) _ _ (ap (λ z. z .first) (c .before .before .before .before .before .children-of .ensures)) (ap (λ z. z .count) (c .before .before .before .before .before .children-of .ensures)) (c .before .before .before .before .before .before .before .before .pre .asked .sound .cases), c .before .before .before .before .before .before .before .before .pre .asked .few, omega (arith, c .before .before .before .before .before .before .before .before .pre .asked .cases-fit, c .before .before .before .before .before .before .before .before .pre .start, c .before .before .before .before .before .before .before .before .pre .asked .tree-room, c .before .before .before .put-switch-node .kept .1 .1 .1 .1 .0, ap (λ z. z .count) (c .before .before .before .before .before .children-of .ensures)))
+put-cases-requires c κs =
+    let s = c .before .before .before .before .before .before .before .before .before .before in
+    let children-of = c .before .before .before .before .before .before .before .children-of in
+    let put-switch-node = c .before .before .before .put-switch-node in
+    (cases-asked-as (s .args .w .now) (children-of .result .first) (children-of .result .count) _ _ (ap (λ z. z .first) (children-of .ensures)) (ap (λ z. z .count) (children-of .ensures)) (s .pre .asked .sound .cases), s .pre .asked .few, omega (arith, s .pre .asked .cases-fit, s .pre .start, s .pre .asked .tree-room, put-switch-node .kept .1 .1 .1 .1 .0, ap (λ z. z .count) (children-of .ensures)))
 
-add-t18 : tie.Need-add-t18
-add-t18 c = search needs
+add-t22 : tie.Need-add-t22
+add-t22 c =
+    let s = c .before .before .before .before .before .before .before .before .before .before .before .before .before .before in
+    omega (arith, s .pre .asked .nodes-fit)
 
-add-t19 : tie.Need-add-t19
-add-t19 c = omega (arith, c .before .before .before .before .before .before .before .before .before .before .before .before .pre .asked .cases-fit, ap (λ z. z .count) (c .before .before .before .before .before .before .before .before .before .children-of .ensures))
+add-t23 : tie.Need-add-t23
+add-t23 c =
+    let s = c .before .before .before .before .before .before .before .before .before .before .before .before .before .before in
+    let children-of = c .before .before .before .before .before .before .before .before .before .before .before .children-of in
+    omega (arith, s .pre .asked .cases-fit, ap (λ z. z .count) (children-of .ensures))
 
 same-length : tie.Need-same-length
 same-length c = search needs
 
 returns : tie.Need-returns
-returns c = switch-put (c .before .before .before .before .before .before .before .before .before .before .before .before .args .w .now) (c .before .before .before .before .before .before .before .before .before .before .before .before .args .start) (c .before .before .before .before .before .before .before .before .before .before .before .before .args .x) (c .before .before .before .before .before .before .before .before .before .before .before .before .args .clauses) (c .before .before .before .before .before .before .before .before .before .before .before .before .args .k) (c .before .before .before .before .before .before .before .before .before .before .before .before .args .tree .now) (c .before .before .before .before .before .before .before .before .before .before .before .before .args .f) (c .before .before .before .before .before .before .before .before .before .children-of .result .first) (c .before .before .before .before .before .before .before .before .before .children-of .result .count) (c .before .before .before .before .before .before .before .put-switch-node .result) (ap (λ z. z .first) (c .before .before .before .before .before .before .before .before .before .children-of .ensures)) (ap (λ z. z .count) (c .before .before .before .before .before .before .before .before .before .children-of .ensures)) (c .before .before .before .before .before .before .before .put-switch-node .ensures) (c .before .before .before .put-cases .ensures)
+returns c =
+    let s = c .before .before .before .before .before .before .before .before .before .before .before .before .before .before in
+    let children-of = c .before .before .before .before .before .before .before .before .before .before .before .children-of in
+    let put-switch-node = c .before .before .before .before .before .before .before .put-switch-node in
+    let put-cases = c .before .before .before .put-cases in
+    switch-put (s .args .w .now) (s .args .start) (nodeIn (s .args .node .now)) (s .args .clauses) (s .args .k) (s .args .tree .now) (reachOf (s .args .number .now) (s .args .list .now) (s .args .f)) (children-of .result .first) (children-of .result .count) (usesOf (put-switch-node .last .1 .1 .1 .1 .1 .0) (put-switch-node .last .1 .1 .1 .1 .1 .1 .0) (put-switch-node .result)) (ap (λ z. z .first) (children-of .ensures)) (ap (λ z. z .count) (children-of .ensures)) (put-switch-node .ensures) (put-cases .ensures)
 
 pub put-switch-spec : {M : Type 1} → statement M
 put-switch-spec =
@@ -42,7 +66,7 @@ put-switch-spec =
     mul-put-cases
     add-put-cases
     put-cases-requires
-    add-t18
-    add-t19
+    add-t22
+    add-t23
     same-length
     returns)

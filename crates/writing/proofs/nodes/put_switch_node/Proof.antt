@@ -2,61 +2,105 @@
 use borrow.Author.Needs.{needs}
 use native.Mathlib.Omega.{arith}
 use mathlib.Core.Path.{ap, _∙_}
-use Rattle.writing.specs.Model.{clauseNode, movedDefault}
+use Rattle.writing.specs.Uses.{usesOf}
+use Rattle.writing.specs.Model.{nodeIn, reachOf, movedDefault}
 use Rattle.writing.specs.ModelLaws.{switch-node-put, used-some, moved-small}
 use Rattle.writing.proofs.nodes.put_switch_node.Statement.{statement}
 use Rattle.writing.proofs.nodes.put_switch_node.Tie as tie
 
 node-word-requires : tie.Need-node-word-requires
-node-word-requires c κs = omega (arith, c .before .before .pre .sound .room, c .before .before .pre .sound .node)
+node-word-requires c κs =
+    let s = c .before .before in
+    omega (arith, s .pre .sound .room, s .pre .sound .node)
 
 cast-path : tie.Need-cast-path
 cast-path c = search needs
 
 node-word-requires-2 : tie.Need-node-word-requires-2
-node-word-requires-2 c κs = omega (arith, c .before .before .before .pre .sound .room, c .before .before .before .pre .sound .node)
+node-word-requires-2 c κs =
+    let s = c .before .before .before in
+    omega (arith, s .pre .sound .room, s .pre .sound .node)
 
 node-word-requires-3 : tie.Need-node-word-requires-3
-node-word-requires-3 c κs = omega (arith, c .before .before .before .before .pre .sound .room, c .before .before .before .before .pre .sound .node)
+node-word-requires-3 c κs =
+    let s = c .before .before .before .before in
+    omega (arith, s .pre .sound .room, s .pre .sound .node)
 
 node-word-requires-4 : tie.Need-node-word-requires-4
-node-word-requires-4 c κs = omega (arith, c .before .before .before .before .before .pre .sound .room, c .before .before .before .before .before .pre .sound .node)
+node-word-requires-4 c κs =
+    let s = c .before .before .before .before .before in
+    omega (arith, s .pre .sound .room, s .pre .sound .node)
 
 cast-moved-default : tie.Need-cast-moved-default
 cast-moved-default c = search needs
 
 moved-default-requires : tie.Need-moved-default-requires
-moved-default-requires c κs = omega (arith, c .before .before .before .before .before .before .pre .few, c .before .before .before .before .before .before .pre .sound .default, c .node-word4 .ensures)
+moved-default-requires c κs =
+    let s = c .before .before .before .before .before .before in
+    let node-word4 = c .node-word4 in
+    omega (arith, s .pre .few, s .pre .sound .default, node-word4 .ensures)
+
+cast-default : tie.Need-cast-default
+cast-default c =
+    let s = c .before .before .before .before .before .before .before in
+    let node-word4 = c .before .node-word4 in
+    let moved-default = c .moved-default in
+    omega (arith, moved-default .ensures, moved-small (nodeIn (s .args .node .now)) (s .args .clauses) (node-word4 .result) (omega (arith, s .pre .sound .default, node-word4 .ensures)) (s .pre .few))
 
 used-requires : tie.Need-used-requires
-used-requires c κs = (c .before .before .before .before .before .before .before .before .pre .counted, omega (arith, c .before .before .before .before .before .before .before .before .pre .sound .path, c .before .before .before .before .before .node-word .ensures))
+used-requires c κs =
+    let s = c .before .before .before .before .before .before .before .before .before in
+    let node-word = c .before .before .before .before .before .before .node-word in
+    (s .pre .counted, omega (arith, s .pre .sound .path, node-word .ensures))
 
 element-copy-out-wide : tie.Need-element-copy-out-wide
-element-copy-out-wide c = omega (arith, c .before .before .before .before .before .before .before .before .before .pre .sound .path, c .before .before .before .before .before .before .node-word .ensures)
+element-copy-out-wide c =
+    let s = c .before .before .before .before .before .before .before .before .before .before in
+    let node-word = c .before .before .before .before .before .before .before .node-word in
+    omega (arith, s .pre .sound .path, node-word .ensures)
 
 wide-requires : tie.Need-wide-requires
 wide-requires c κs = search needs
 
+sub-own : tie.Need-sub-own
+sub-own c =
+    let s = c .before .before .before .before .before .before .before .before .before .before .before .before in
+    let node-word = c .before .before .before .before .before .before .before .before .before .node-word in
+    let used = c .before .before .used in
+    let wide = c .wide in
+    omega (arith, wide .ensures, used-some (usesOf (s .args .number .now) (s .args .list .now) (s .args .f .paths)) (usesOf (used .last .0) (used .last .1 .0) (used .result)) (node-word .result) (used .ensures) (s .pre .counted) (omega (arith, s .pre .sound .path, node-word .ensures)))
+
 node-kind-requires : tie.Need-node-kind-requires
-node-kind-requires c κs = omega (arith, c .before .before .before .before .before .before .before .before .before .before .before .pre .sound .room, c .before .before .before .before .before .before .before .before .before .before .before .pre .sound .node)
+node-kind-requires c κs =
+    let s = c .before .before .before .before .before .before .before .before .before .before .before .before in
+    omega (arith, s .pre .sound .room, s .pre .sound .node)
 
-sub-put-node : tie.Need-sub-put-node
-sub-put-node c = omega (arith, c .before .before .wide .ensures, used-some (c .before .before .before .before .before .before .before .before .before .before .before .before .before .args .f .uses) (c .before .before .before .before .used .result) (c .before .before .before .before .before .before .before .before .before .before .node-word .result) (c .before .before .before .before .used .ensures) (c .before .before .before .before .before .before .before .before .before .before .before .before .before .pre .counted) (omega (arith, c .before .before .before .before .before .before .before .before .before .before .before .before .before .pre .sound .path, c .before .before .before .before .before .before .before .before .before .before .node-word .ensures)))
-
-cast-put-node : tie.Need-cast-put-node
-cast-put-node c = omega (arith, c .before .before .before .before .before .before .before .before .before .before .before .before .before .pre .cases-fit)
-
-cast-put-node-2 : tie.Need-cast-put-node-2
-cast-put-node-2 c = omega (arith, c .before .before .before .before .before .before .moved-default .ensures, moved-small (clauseNode (c .before .before .before .before .before .before .before .before .before .before .before .before .before .args .x)) (c .before .before .before .before .before .before .before .before .before .before .before .before .before .args .clauses) (c .before .before .before .before .before .before .before .node-word4 .result) (omega (arith, c .before .before .before .before .before .before .before .before .before .before .before .before .before .pre .sound .default, c .before .before .before .before .before .before .before .node-word4 .ensures)) (c .before .before .before .before .before .before .before .before .before .before .before .before .before .pre .few))
+cast-top : tie.Need-cast-top
+cast-top c =
+    let s = c .before .before .before .before .before .before .before .before .before .before .before .before .before .before in
+    omega (arith, s .pre .cases-fit)
 
 put-node-requires : tie.Need-put-node-requires
-put-node-requires c κs = omega (arith, c .before .before .before .before .before .before .before .before .before .before .before .before .before .pre .tree-room, c .before .before .before .before .before .before .before .before .before .before .before .before .before .pre .nodes-fit)
+put-node-requires c κs =
+    let s = c .before .before .before .before .before .before .before .before .before .before .before .before .before .before .before in
+    omega (arith, s .pre .tree-room, s .pre .nodes-fit)
 
 same-length : tie.Need-same-length
 same-length c = search needs
 
 returns : tie.Need-returns
-returns c = switch-node-put (c .before .before .before .before .before .before .before .before .before .before .before .before .before .before .before .before .args .w .now) (c .before .before .before .before .before .before .before .before .before .before .before .before .before .before .before .before .args .x) (c .before .before .before .before .before .before .before .before .before .before .before .before .before .before .before .before .args .clauses) (c .before .before .before .before .before .before .before .before .before .before .before .before .before .before .before .before .args .k) (c .before .before .before .before .before .before .before .before .before .before .before .before .before .before .before .before .args .tree .now) (c .before .before .before .before .before .before .before .before .before .before .before .before .before .before .before .before .args .f) (c .before .before .before .before .before .before .before .before .before .before .before .before .before .node-word .result) (c .before .before .before .before .before .before .before .before .before .before .before .before .node-word2 .result) (c .before .before .before .before .before .before .before .before .before .before .before .node-word3 .result) (c .before .before .before .before .before .before .before .before .before .moved-default .result) (c .before .before .before .before .before .before .before .used .result) (c .before .before .before .before .before .wide .result) (c .before .before .before .before .node-kind .result) (c .before .before .before .before .before .before .before .before .before .before .before .before .before .node-word .ensures) (c .before .before .before .before .before .before .before .before .before .before .before .before .node-word2 .ensures) (c .before .before .before .before .before .before .before .before .before .before .before .node-word3 .ensures) (c .before .before .before .before .before .before .before .before .before .moved-default .ensures ∙ ap (movedDefault (clauseNode (c .before .before .before .before .before .before .before .before .before .before .before .before .before .before .before .before .args .x)) (c .before .before .before .before .before .before .before .before .before .before .before .before .before .before .before .before .args .clauses)) (c .before .before .before .before .before .before .before .before .before .before .node-word4 .ensures)) (c .before .before .before .before .before .before .before .used .ensures) (c .before .before .before .before .before .wide .ensures) (c .before .before .before .before .node-kind .ensures) (c .before .before .put-node .ensures)
+returns c =
+    let s = c .before .before .before .before .before .before .before .before .before .before .before .before .before .before .before .before .before .before in
+    let node-word = c .before .before .before .before .before .before .before .before .before .before .before .before .before .before .before .node-word in
+    let node-word2 = c .before .before .before .before .before .before .before .before .before .before .before .before .before .before .node-word2 in
+    let node-word3 = c .before .before .before .before .before .before .before .before .before .before .before .before .before .node-word3 in
+    let node-word4 = c .before .before .before .before .before .before .before .before .before .before .before .before .node-word4 in
+    let moved-default = c .before .before .before .before .before .before .before .before .before .before .before .moved-default in
+    let used = c .before .before .before .before .before .before .before .before .used in
+    let wide = c .before .before .before .before .before .before .wide in
+    let node-kind = c .before .before .before .before .before .node-kind in
+    let put-node = c .before .before .put-node in
+    switch-node-put (s .args .w .now) (nodeIn (s .args .node .now)) (s .args .clauses) (s .args .k) (s .args .tree .now) (reachOf (s .args .number .now) (s .args .list .now) (s .args .f)) (node-word .result) (node-word2 .result) (node-word3 .result) (moved-default .result) (usesOf (used .last .0) (used .last .1 .0) (used .result)) (wide .result) (node-kind .result) (node-word .ensures) (node-word2 .ensures) (node-word3 .ensures) (moved-default .ensures ∙ ap (movedDefault (nodeIn (s .args .node .now)) (s .args .clauses)) (node-word4 .ensures)) (used .ensures) (wide .ensures) (node-kind .ensures) (put-node .ensures)
 
 pub put-switch-node-spec : {M : Type 1} → statement M
 put-switch-node-spec =
@@ -69,13 +113,13 @@ put-switch-node-spec =
     node-word-requires-4
     cast-moved-default
     moved-default-requires
+    cast-default
     used-requires
     element-copy-out-wide
     wide-requires
+    sub-own
     node-kind-requires
-    sub-put-node
-    cast-put-node
-    cast-put-node-2
+    cast-top
     put-node-requires
     same-length
     returns)

@@ -2,6 +2,7 @@
 use borrow.Author.Needs.{needs}
 use mathlib.Core.Path.{sym}
 use native.Mathlib.Omega.{arith}
+use Rattle.writing.specs.Uses.{usesOf}
 use Rattle.writing.specs.UsesLaws.{use-again, use-first, use-room}
 use Rattle.writing.proofs.uses.used.Statement.{statement}
 use Rattle.writing.proofs.uses.used.Tie as tie
@@ -10,28 +11,46 @@ element-copy-out-if1 : tie.Need-element-copy-out-if1
 element-copy-out-if1 c = search needs
 
 returns : tie.Need-returns
-returns c = let s = c .before .before in sym (use-again (s .args .t1) (s .args .class) (c .if1 .taken))
+returns c =
+    let s = c .before .before in
+    let if1 = c .if1 in
+    sym (use-again (usesOf (s .args .number .now) (s .args .list .now) (s .args .count)) (s .args .class) (if1 .taken))
 
-add-v : tie.Need-add-v
-add-v c = let s = c .before .before in omega (arith, use-room (s .args .t1) (s .args .class) (s .pre .0) (s .pre .1) (c .if1 .left))
+add-number : tie.Need-add-number
+add-number c =
+    let s = c .before .before in
+    let if1 = c .if1 in
+    omega (arith, use-room (usesOf (s .args .number .now) (s .args .list .now) (s .args .count)) (s .args .class) (s .pre .0) (s .pre .1) (if1 .left))
 
-cast-v : tie.Need-cast-v
-cast-v c = let s = c .before .before in omega (arith, use-room (s .args .t1) (s .args .class) (s .pre .0) (s .pre .1) (c .if1 .left))
+cast-number : tie.Need-cast-number
+cast-number c =
+    let s = c .before .before in
+    let if1 = c .if1 in
+    omega (arith, use-room (usesOf (s .args .number .now) (s .args .list .now) (s .args .count)) (s .args .class) (s .pre .0) (s .pre .1) (if1 .left))
 
-element-write-v : tie.Need-element-write-v
-element-write-v c = search needs
+element-write-number : tie.Need-element-write-number
+element-write-number c = search needs
 
-cast-v-2 : tie.Need-cast-v-2
-cast-v-2 c = search needs
+cast-list : tie.Need-cast-list
+cast-list c = search needs
 
-element-write-v-2 : tie.Need-element-write-v-2
-element-write-v-2 c = let s = c .before .before in omega (arith, use-room (s .args .t1) (s .args .class) (s .pre .0) (s .pre .1) (c .if1 .left))
+element-write-list : tie.Need-element-write-list
+element-write-list c =
+    let s = c .before .before in
+    let if1 = c .if1 in
+    omega (arith, use-room (usesOf (s .args .number .now) (s .args .list .now) (s .args .count)) (s .args .class) (s .pre .0) (s .pre .1) (if1 .left))
 
-add-v-2 : tie.Need-add-v-2
-add-v-2 c = let s = c .before .before in omega (arith, use-room (s .args .t1) (s .args .class) (s .pre .0) (s .pre .1) (c .if1 .left))
+add-result : tie.Need-add-result
+add-result c =
+    let s = c .before .before in
+    let if1 = c .if1 in
+    omega (arith, use-room (usesOf (s .args .number .now) (s .args .list .now) (s .args .count)) (s .args .class) (s .pre .0) (s .pre .1) (if1 .left))
 
 returns-2 : tie.Need-returns-2
-returns-2 c = let s = c .before .before in sym (use-first (s .args .t1) (s .args .class) (c .if1 .left))
+returns-2 c =
+    let s = c .before .before in
+    let if1 = c .if1 in
+    sym (use-first (usesOf (s .args .number .now) (s .args .list .now) (s .args .count)) (s .args .class) (if1 .left))
 
 pub used-spec : {M : Type 1} → statement M
 used-spec =
@@ -39,10 +58,10 @@ used-spec =
     (tie.spec
     element-copy-out-if1
     returns
-    add-v
-    cast-v
-    element-write-v
-    cast-v-2
-    element-write-v-2
-    add-v-2
+    add-number
+    cast-number
+    element-write-number
+    cast-list
+    element-write-list
+    add-result
     returns-2)
