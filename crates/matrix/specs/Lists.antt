@@ -15,6 +15,13 @@ classesIn o = take (o .count) (o .list)
 abbrev pub numbersIn : PerRow → List ℕ
 numbersIn r = take (r .count) (r .list)
 
+-- the first n of an array
+abbrev pub asClasses : List ℕ → ℕ → Classes
+asClasses l n = record { list = l; count = n }
+
+abbrev pub asRows : List ℕ → ℕ → PerRow
+asRows l n = record { list = l; count = n }
+
 pub record Holds (o : Classes) (classes : List ℕ) : Type 0 where
   pub long : length (o .list) ≡ patternsMost
   pub most : o .count ≤ patternsMost

@@ -1,6 +1,6 @@
 -- What a row has in a column and what is chosen, as the code reads it from the table: by bytes alone.
 -- ReadingLaws has that these are the same of a table that is a sheet's.
-use mathlib.Core.Bool.{Bool, true, not}
+use mathlib.Core.Bool.{Bool, true, false, not}
 use mathlib.Core.List.{List, [], _∷_}
 use mathlib.Core.Path.{_≡_}
 use Prim.Native.Nat.{ℕ, zero, suc, _+_, _-_, _*_, _≤_, _<_}
@@ -12,7 +12,6 @@ use Rattle.table.specs.Table.{ownerAt, depthAt, cellsAt, tableSize, firstBefore
 use Rattle.matrix.specs.declared.Held.{Held}
 use Rattle.matrix.specs.declared.Held.the-variants.{Test, Wildcard}
 use Rattle.matrix.specs.declared.Choice.the-variants.{Column}
-use Rattle.matrix.specs.declared.rows.Tally.{Tally}
 use Rattle.matrix.specs.declared.rows.Best.{Best}
 
 -- the test of clause c in the column of a class
@@ -47,10 +46,10 @@ pub record Ranked (t : List ℕ) (k : ℕ) : Type 0 where
 abbrev pub firstIn : List ℕ → ℕ → ℕ → Bool
 firstIn t a b = firstBefore (indicesIn t a) (indicesIn t b)
 
--- a row counted: it has a test, or the wildcards begin
-abbrev pub counted : Tally → Held → Tally
-counted o (Test p) = record { «passed_wild_card» = o .«passed_wild_card»; amount = pick (o .«passed_wild_card») (o .amount) (o .amount + 1) }
-counted o Wildcard = record { «passed_wild_card» = true; amount = o .amount }
+-- a row with a test is counted, up to the first without
+abbrev pub hasTest : Held → Bool
+hasTest (Test p) = true
+hasTest Wildcard = false
 
 -- the better of two columns; of equal ones the first
 abbrev pub bettered : Best → ℕ → ℕ → Best

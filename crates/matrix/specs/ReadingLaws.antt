@@ -1,6 +1,6 @@
 -- Laws of what the code reads from a table: each way through a function says what it answers; and a sheet's own table says what the sheet does.
 use mathlib.Core.Path.{_≡_, refl, sym, ap, _∙_}
-use mathlib.Core.Bool.{Bool, true, false}
+use mathlib.Core.Bool.{Bool, true, false, false≢true}
 use mathlib.Core.List.{List, [], _∷_, _++_, append-assoc, append-nil}
 use Prim.Native.Nat.{ℕ, zero, suc, _+_, _-_, _≤_, _<_}
 use native.Mathlib.Omega.{arith}
@@ -15,12 +15,11 @@ use Rattle.matrix.specs.declared.PerRow.{PerRow}
 use Rattle.matrix.specs.declared.Held.{Held}
 use Rattle.matrix.specs.declared.Held.the-variants.{Test, Wildcard}
 use Rattle.matrix.specs.declared.Choice.the-variants.{Column}
-use Rattle.matrix.specs.declared.rows.Tally.{Tally}
 use Rattle.matrix.specs.declared.rows.Best.{Best}
 use Rattle.matrix.specs.HeldRows.{countOf, bestOf, wildOf}
 use Rattle.matrix.specs.Lists.{numbersIn, WholeRows, HoldsRows}
 use Rattle.matrix.specs.ListsLaws.{holds-rows-same}
-use Rattle.matrix.specs.Reading.{cellIn, ownerIn, heldIn, InTable, counted, bettered, kept}
+use Rattle.matrix.specs.Reading.{cellIn, ownerIn, heldIn, InTable, hasTest, bettered, kept}
 
 -- ---- what a row has, by what was read
 module _ (t opened : List ℕ) (class c cell : ℕ) (is : cell ≡ cellIn t class c) where
@@ -54,47 +53,43 @@ module _ (t opened : List ℕ) (class c cell : ℕ) (is : cell ≡ cellIn t clas
 pub owner-most : (t : List ℕ) (class c : ℕ) → InTable t class c → (cell : ℕ) → cell ≡ cellIn t class c → (owner : ℕ) → owner ≡ ownerIn t (cell - 1) → owner ≤ 192
 owner-most t class c h cell e owner f = omega (arith, h .owner, f ∙ ap (λ (x : ℕ). ownerIn t (x - 1)) e)
 
--- ---- rows counted from the front
--- what the count comes to with the rows that are left
-abbrev pub totalOf : (ℕ → Held) → Tally → List ℕ → ℕ
-totalOf held o cs = pick (o .«passed_wild_card») (o .amount) (o .amount + countOf held cs)
+-- ---- rows counted from the front: i have a test
+pub has-test : (h : Held) {p : ℕ} → h ≡ Test p → true ≡ hasTest h
+has-test h e = rw e
 
-module _ (o : Tally) (h : Held) where
-  pub counted-passed : {p : ℕ} → h ≡ Test p → o .«passed_wild_card» ≡ true → o ≡ counted o h
-  counted-passed e f = rw (e, f)
+pub has-none : (h : Held) → h ≡ Wildcard → false ≡ hasTest h
+has-none h e = rw e
 
-  pub counted-test : {p : ℕ} → h ≡ Test p → o .«passed_wild_card» ≡ false → record { «passed_wild_card» = false; amount = o .amount + 1 } ≡ counted o h
-  counted-test e f = rw (e, f)
-
-  pub counted-wild : h ≡ Wildcard → record { «passed_wild_card» = true; amount = o .amount } ≡ counted o h
-  counted-wild e = rw e
-
-pub count-more : (held : ℕ → Held) (o next : Tally) (c : ℕ) (cs : List ℕ) → next ≡ counted o (held c) → totalOf held next cs ≡ totalOf held o (c ∷ cs)
+count-wild : (held : ℕ → Held) (c : ℕ) (cs : List ℕ) (h : Held) → held c ≡ h → hasTest (held c) ≡ false → countOf held (c ∷ cs) ≡ 0
 unfolding countOf
-count-more held o next c cs e = rw e (go (held c) refl (o .«passed_wild_card») (o .amount))
-  where
-    go : (h : Held) → held c ≡ h → (b : Bool) (n : ℕ)
-        → totalOf held (counted (record { «passed_wild_card» = b; amount = n }) (held c)) cs ≡ pick b n (n + countOf held (c ∷ cs))
-    go (Test p) x true n = rw (x, countOf)
-    go (Test p) x false n = rw (x, countOf) (omega arith)
-    go Wildcard x true n = rw (x, countOf)
-    go Wildcard x false n = rw (x, countOf) (omega arith)
+count-wild held c cs (Test p) e f = let g : true ≡ false = rw e at f in absurd (false≢true (sym g))
+count-wild held c cs Wildcard e f = rw (countOf, e)
 
-pub total-end : (held : ℕ → Held) (o : Tally) (cs : List ℕ) → cs ≡ [] → o .amount ≡ totalOf held o cs
+count-test : (held : ℕ → Held) (c : ℕ) (cs : List ℕ) (h : Held) → held c ≡ h → hasTest (held c) ≡ true → countOf held (c ∷ cs) ≡ suc (countOf held cs)
 unfolding countOf
-total-end held o cs e = rw e (go (o .«passed_wild_card») (o .amount))
-  where
-    go : (b : Bool) (n : ℕ) → n ≡ pick b n (n + 0)
-    go true n = refl
-    go false n = omega arith
+count-test held c cs (Test p) e f = rw (countOf, e)
+count-test held c cs Wildcard e f = let g : false ≡ true = rw e at f in absurd (false≢true g)
 
-pub counted-most : (o next : Tally) (h : Held) → next ≡ counted o h → next .amount ≤ o .amount + 1
-counted-most o next h e = rw e (go h (o .«passed_wild_card»))
-  where
-    go : (h : Held) (b : Bool) → (counted (record { «passed_wild_card» = b; amount = o .amount }) h) .amount ≤ o .amount + 1
-    go (Test p) true = omega arith
-    go (Test p) false = omega arith
-    go Wildcard b = omega arith
+count-none : (held : ℕ → Held) (cs : List ℕ) → cs ≡ [] → countOf held cs ≡ 0
+unfolding countOf
+count-none held cs e = rw e
+
+module _ (held : ℕ → Held) (l : List ℕ) (n i : ℕ) (counts : countOf held (take n l) ≡ i + countOf held (slice i n l)) where
+  module _ (h : i < n) (room : n ≤ length l) where
+    pub count-here : hasTest (held (getD l i 0)) ≡ false → countOf held (take n l) ≡ i
+    count-here e =
+        let z = ap (countOf held) (slice-cons i n l 0 h room) ∙ count-wild held (getD l i 0) (slice (suc i) n l) (held (getD l i 0)) refl e in
+        omega (arith, counts, z)
+
+    pub count-on : hasTest (held (getD l i 0)) ≡ true → countOf held (take n l) ≡ i + 1 + countOf held (slice (i + 1) n l)
+    count-on e =
+        let z = ap (countOf held) (slice-cons i n l 0 h room) ∙ count-test held (getD l i 0) (slice (suc i) n l) (held (getD l i 0)) refl e in
+        rw (add-one i) (omega (arith, counts, z))
+
+  pub count-end : i ≡ n → countOf held (take n l) ≡ i
+  count-end e =
+      let z = count-none held (slice i n l) (ap (λ (x : ℕ). slice x n l) e ∙ slice-empty n l) in
+      omega (arith, counts, z)
 
 -- ---- the columns compared from the front
 pub best-more : (counts : ℕ → ℕ) (best next : Best) (k n : ℕ) (ks : List ℕ) → n ≡ counts k → next ≡ bettered best k n

@@ -1,4 +1,4 @@
-// Rule 2: columns in order, as lists of classes by value, and the columns of a pattern put among others.
+// Rule 2: columns in order, as classes in a lent array up to a count, and the columns of a pattern put among others.
 // Mapping a pattern calls mapping its children, which calls mapping a pattern; a child's number is above its parent's, so 192 less
 // the pattern number falls. Columns are put last child first, since the union of rule 2 is taken from the right.
 use crate::Classes;
@@ -14,12 +14,12 @@ ghost use mathlib.Core.Path.{_≡_};
 ghost use mathlib.Core.List.{[], _∷_, _++_};
 ghost use mathlib.Core.Bool.{true};
 ghost use Prim.Native.Nat.{_+_, _-_, _<_, _≤_};
-ghost use lib.ListN.{take};
+ghost use lib.ListN.{length, take};
 ghost use lib.Seq.{slice};
 ghost use Rattle.rules.specs.SheetFile.{patterns};
 ghost use Rattle.rules.specs.SheetRefusals.{isIn};
 ghost use Rattle.table.specs.Seen.{testsOf, testsOfEach, openedTests};
-ghost use Rattle.matrix.specs.Lists.{classesIn, Holds, Whole, firstPlace};
+ghost use Rattle.matrix.specs.Lists.{asClasses, Holds, Whole, firstPlace};
 ghost use Rattle.matrix.specs.Ordered.{putClass, withoutClass};
 ghost use Rattle.matrix.specs.Reading.{firstIn};
 ghost use Rattle.matrix.specs.Ready.{Ready, Listed, Puts, putTests, Roomy, Children, itselfOrInside, Gives, TestKnown};
@@ -35,59 +35,52 @@ pub fn empty() -> Classes
 }
 
 // The class behind the others.
-pub fn push(o: Classes, class: usize) -> Classes
-    requires { ⌜ Whole o × (o .count < 192) × (class < 192) ⌝ }
-    ensures { λ r. ⌜ Holds r (classesIn o ++ class ∷ []) ⌝ }
+pub fn push(list: &mut [u8; 192], count: usize, class: usize) -> usize
+    requires { ⌜ Whole (asClasses (now list) count) × (count < 192) × (class < 192) ⌝ }
+    ensures { λ r. ⌜ Holds (asClasses (now (list .exit)) r) (take count (now (list .entry)) ++ class ∷ []) ⌝ }
 {
-    let mut list = o.list;
-    let n = o.count;
-    list[n] = class as u8;
-    Classes { list, count: n + 1 }
+    list[count] = class as u8;
+    count + 1
 }
 
 // The class at this place, the others before and behind it.
-fn insert(o: Classes, place: usize, class: usize) -> Classes
-    requires { ⌜ Whole o × (place ≤ o .count) × (o .count < 192) × (class < 192) ⌝ }
-    ensures { λ r. ⌜ Holds r (take place (o .list) ++ class ∷ slice place (o .count) (o .list)) ⌝ }
+fn insert(list: &mut [u8; 192], count: usize, place: usize, class: usize) -> usize
+    requires { ⌜ Whole (asClasses (now list) count) × (place ≤ count) × (count < 192) × (class < 192) ⌝ }
+    ensures { λ r. ⌜ Holds (asClasses (now (list .exit)) r) (take place (now (list .entry)) ++ class ∷ slice place count (now (list .entry))) ⌝ }
 {
-    let mut list = o.list;
-    let mut i = o.count;
+    let mut i = count;
     while place < i {
         list[i] = list[i - 1];
         i -= 1;
     }
     list[place] = class as u8;
-    Classes {
-        list,
-        count: o.count + 1,
-    }
+    count + 1
 }
 
-// The classes of cs from one place up to another, behind those in o.
-fn put_part(o: Classes, cs: Classes, from: usize, to: usize) -> Classes
-    requires { ⌜ Whole o × Whole cs ⌝ }
-    requires { ⌜ (from ≤ to) × (to ≤ 192) × (o .count + (to - from) ≤ 192) ⌝ }
-    ensures { λ r. ⌜ Holds r (classesIn o ++ slice from to (cs .list)) ⌝ }
+// The classes of cs from one place up to another, behind those in the list.
+fn put_part(list: &mut [u8; 192], count: usize, cs: &[u8; 192], from: usize, to: usize) -> usize
+    requires { ⌜ Whole (asClasses (now list) count) × (length (now cs) ≡ 192) ⌝ }
+    requires { ⌜ (from ≤ to) × (to ≤ 192) × (count + (to - from) ≤ 192) ⌝ }
+    ensures { λ r. ⌜ Holds (asClasses (now (list .exit)) r) (take count (now (list .entry)) ++ slice from to (now (cs .entry))) ⌝ }
 {
-    let mut list = o.list;
-    let mut count = o.count;
+    let mut n = count;
     let mut i = from;
     while i < to {
-        list[count] = cs.list[i];
-        count += 1;
+        list[n] = cs[i];
+        n += 1;
         i += 1;
     }
-    Classes { list, count }
+    n
 }
 
-// The first place of the class in cs, or their number.
-fn place_of(cs: Classes, class: usize) -> usize
-    requires { ⌜ Whole cs ⌝ }
-    ensures { λ r. ⌜ r ≡ firstPlace class (classesIn cs) ⌝ }
+// The first place of the class among the first n of cs, or n.
+fn place_of(cs: &[u8; 192], n: usize, class: usize) -> usize
+    requires { ⌜ Whole (asClasses (now cs) n) ⌝ }
+    ensures { λ r. ⌜ r ≡ firstPlace class (take n (now (cs .entry))) ⌝ }
 {
     let mut i: usize = 0;
-    while i < cs.count {
-        if wide(cs.list[i]) == class {
+    while i < n {
+        if wide(cs[i]) == class {
             return i;
         }
         i += 1;
@@ -95,33 +88,33 @@ fn place_of(cs: Classes, class: usize) -> usize
     i
 }
 
-// The classes of cs without the one tested, behind those in o.
-pub fn put_rest(o: Classes, cs: Classes, class: usize) -> Classes
-    requires { ⌜ Whole o × Whole cs × (isIn class (classesIn cs) ≡ true) × (o .count + cs .count ≤ 193) ⌝ }
-    ensures { λ r. ⌜ Holds r (classesIn o ++ withoutClass class (classesIn cs)) ⌝ }
+// The first n of cs without the one tested, behind those in the list.
+pub fn put_rest(list: &mut [u8; 192], count: usize, cs: &[u8; 192], n: usize, class: usize) -> usize
+    requires { ⌜ Whole (asClasses (now list) count) × Whole (asClasses (now cs) n) × (isIn class (take n (now cs)) ≡ true) × (count + n ≤ 193) ⌝ }
+    ensures { λ r. ⌜ Holds (asClasses (now (list .exit)) r) (take count (now (list .entry)) ++ withoutClass class (take n (now (cs .entry)))) ⌝ }
 {
-    let place = place_of(cs, class);
-    let front = put_part(o, cs, 0, place);
-    put_part(front, cs, place + 1, cs.count)
+    let place = place_of(cs, n, class);
+    let front = put_part(list, count, cs, 0, place);
+    put_part(list, front, cs, place + 1, n)
 }
 
 // The class put into its place among sorted ones, once.
-fn put(t: &[u8], o: Classes, class: usize) -> Classes
-    requires { ⌜ Puts (now t) o class ⌝ }
-    ensures { λ r. ⌜ Holds r (putClass (firstIn (now (t .entry))) class (classesIn o)) ⌝ }
+fn put(t: &[u8], list: &mut [u8; 192], count: usize, class: usize) -> usize
+    requires { ⌜ Puts (now t) (asClasses (now list) count) class ⌝ }
+    ensures { λ r. ⌜ Holds (asClasses (now (list .exit)) r) (putClass (firstIn (now (t .entry))) class (take count (now (list .entry)))) ⌝ }
 {
     let mut i: usize = 0;
-    while i < o.count {
-        let other = wide(o.list[i]);
+    while i < count {
+        let other = wide(list[i]);
         if other == class {
-            return o;
+            return count;
         }
         if before(t, class, other) {
-            return insert(o, i, class);
+            return insert(list, count, i, class);
         }
         i += 1;
     }
-    insert(o, i, class)
+    insert(list, count, i, class)
 }
 
 // What a pattern gives to the columns of its row: nothing, its own class, or what its children give.
@@ -161,16 +154,25 @@ fn gives(s: &[u8], m: Map, t: &[u8], p: usize) -> Given
     }
 }
 
-// The columns of pattern p put among those in o.
-pub fn map_pattern_to_row(s: &[u8], m: Map, t: &[u8], o: Classes, p: usize) -> Classes
-    requires { ⌜ Ready (now s) m (now t) × Listed (now s) o × (p < patterns (now s)) × Roomy (now s) (testsOf (now s) p) o ⌝ }
-    ensures { λ r. ⌜ Holds r (putTests (now (s .entry)) (testsOf (now (s .entry)) p) (classesIn o)) ⌝ }
+// The columns of pattern p put among those in the list.
+pub fn map_pattern_to_row(
+    s: &[u8],
+    m: Map,
+    t: &[u8],
+    list: &mut [u8; 192],
+    count: usize,
+    p: usize,
+) -> usize
+    requires { ⌜ Ready (now s) m (now t) × Listed (now s) (asClasses (now list) count) × (p < patterns (now s)) × Roomy (now s) (testsOf (now s) p) (asClasses (now list) count) ⌝ }
+    ensures { λ r. ⌜ Holds (asClasses (now (list .exit)) r) (putTests (now (s .entry)) (testsOf (now (s .entry)) p) (take count (now (list .entry)))) ⌝ }
 {
     let given = gives(s, m, t, p);
     match given {
-        Given::Nothing => o,
-        Given::Itself(class) => put(t, o, class),
-        Given::Inside { first, count } => map_patterns_to_row(s, m, t, o, p, first, count),
+        Given::Nothing => count,
+        Given::Itself(class) => put(t, list, count, class),
+        Given::Inside { first, count: n } => {
+            map_patterns_to_row(s, m, t, list, count, p, first, n)
+        }
     }
 }
 
@@ -179,29 +181,30 @@ fn map_patterns_to_row(
     s: &[u8],
     m: Map,
     t: &[u8],
-    o: Classes,
+    list: &mut [u8; 192],
+    count: usize,
     parent: usize,
     j: usize,
     n: usize,
-) -> Classes
-    requires { ⌜ Ready (now s) m (now t) × Listed (now s) o × Children (now s) parent j n × Roomy (now s) (testsOfEach (now s) j n) o ⌝ }
-    ensures { λ r. ⌜ Holds r (putTests (now (s .entry)) (testsOfEach (now (s .entry)) j n) (classesIn o)) ⌝ }
+) -> usize
+    requires { ⌜ Ready (now s) m (now t) × Listed (now s) (asClasses (now list) count) × Children (now s) parent j n × Roomy (now s) (testsOfEach (now s) j n) (asClasses (now list) count) ⌝ }
+    ensures { λ r. ⌜ Holds (asClasses (now (list .exit)) r) (putTests (now (s .entry)) (testsOfEach (now (s .entry)) j n) (take count (now (list .entry)))) ⌝ }
 {
     if n == 0 {
-        return o;
+        return count;
     }
-    let rest = map_patterns_to_row(s, m, t, o, parent, j + 1, n - 1);
-    map_pattern_to_row(s, m, t, rest, child_at(s, m, j))
+    let rest = map_patterns_to_row(s, m, t, list, count, parent, j + 1, n - 1);
+    map_pattern_to_row(s, m, t, list, rest, child_at(s, m, j))
 }
 
-// The columns that test p opens to put among those in o: those of its children, which a text has not.
-pub fn open(s: &[u8], m: Map, t: &[u8], o: Classes, p: usize) -> Classes
-    requires { ⌜ Ready (now s) m (now t) × Listed (now s) o × TestKnown (now s) p × Roomy (now s) (openedTests (now s) p) o ⌝ }
-    ensures { λ r. ⌜ Holds r (putTests (now (s .entry)) (openedTests (now (s .entry)) p) (classesIn o)) ⌝ }
+// The columns that test p opens to put among those in the list: those of its children, which a text has not.
+pub fn open(s: &[u8], m: Map, t: &[u8], list: &mut [u8; 192], count: usize, p: usize) -> usize
+    requires { ⌜ Ready (now s) m (now t) × Listed (now s) (asClasses (now list) count) × TestKnown (now s) p × Roomy (now s) (openedTests (now s) p) (asClasses (now list) count) ⌝ }
+    ensures { λ r. ⌜ Holds (asClasses (now (list .exit)) r) (putTests (now (s .entry)) (openedTests (now (s .entry)) p) (take count (now (list .entry)))) ⌝ }
 {
     let r = pattern_at(s, m, p);
     if r.kind < 5 {
-        return o;
+        return count;
     }
-    map_patterns_to_row(s, m, t, o, p, r.first, r.count)
+    map_patterns_to_row(s, m, t, list, count, p, r.first, r.count)
 }

@@ -11,11 +11,13 @@ use table::at;
 ghost use mathlib.Core.Path.{_≡_};
 ghost use mathlib.Core.List.{[], _∷_, _++_};
 ghost use Prim.Native.Nat.{_+_, _<_};
+ghost use lib.ListN.{take};
 ghost use Rattle.rules.specs.SplittingLaws.{All};
-ghost use Rattle.matrix.specs.HeldRows.{countOf, wildOf};
+ghost use Rattle.matrix.specs.declared.Choice.the-variants.{Leaf};
+ghost use Rattle.matrix.specs.HeldRows.{countOf, bestOf, wildOf};
 ghost use Rattle.matrix.specs.InNumbers.{inNumbers, Readable, chosenRead};
-ghost use Rattle.matrix.specs.Lists.{numbersIn, WholeRows, HoldsRows};
-ghost use Rattle.matrix.specs.Reading.{heldIn, InTable, counted, bettered, kept};
+ghost use Rattle.matrix.specs.Lists.{numbersIn, asClasses, asRows, Whole, WholeRows, HoldsRows};
+ghost use Rattle.matrix.specs.Reading.{heldIn, InTable, hasTest, bettered, kept};
 
 // What clause c's row has in the column of this class: its test there, if it is not opened and the test that it is inside of is.
 pub fn test_at(t: &[u8], opened: &[u8; 192], c: usize, class: usize) -> Held
@@ -40,48 +42,28 @@ pub fn test_at(t: &[u8], opened: &[u8; 192], c: usize, class: usize) -> Held
     Held::Test(p)
 }
 
-// How many rows had a test, and whether a wildcard was passed.
-struct Tally {
-    passed_wild_card: bool,
-    amount: usize,
-}
-
-fn count_row(o: Tally, held: Held) -> Tally
-    requires { ⌜ o .amount < 32 ⌝ }
-    ensures { λ r. ⌜ r ≡ counted o held ⌝ }
+fn has_test(held: Held) -> bool
+    ensures { λ r. ⌜ r ≡ hasTest held ⌝ }
 {
     match held {
-        Held::Test(_) => {
-            if o.passed_wild_card {
-                return o;
-            }
-            Tally {
-                passed_wild_card: false,
-                amount: o.amount + 1,
-            }
-        }
-        Held::Wildcard => Tally {
-            passed_wild_card: true,
-            amount: o.amount,
-        },
+        Held::Test(_) => true,
+        Held::Wildcard => false,
     }
 }
 
-// The rows before the column's first wildcard.
-fn occurrence(t: &[u8], rows: PerRow, opened: &[u8; 192], class: usize) -> usize
-    requires { ⌜ WholeRows rows × All (InTable (now t) class) (numbersIn rows) ⌝ }
-    ensures { λ r. ⌜ r ≡ countOf (heldIn (now (t .entry)) (now (opened .entry)) class) (numbersIn rows) ⌝ }
+// The first n of these rows before the column's first wildcard.
+fn occurrence(t: &[u8], rows: &[u8; 32], n: usize, opened: &[u8; 192], class: usize) -> usize
+    requires { ⌜ WholeRows (asRows (now rows) n) × All (InTable (now t) class) (take n (now rows)) ⌝ }
+    ensures { λ r. ⌜ r ≡ countOf (heldIn (now (t .entry)) (now (opened .entry)) class) (take n (now (rows .entry))) ⌝ }
 {
-    let mut o = Tally {
-        passed_wild_card: false,
-        amount: 0,
-    };
     let mut i: usize = 0;
-    while i < rows.count {
-        o = count_row(o, test_at(t, opened, wide(rows.list[i]), class));
+    while i < n {
+        if !has_test(test_at(t, opened, wide(rows[i]), class)) {
+            return i;
+        }
         i += 1;
     }
-    o.amount
+    i
 }
 
 // The column with the most so far.
@@ -103,25 +85,39 @@ fn better_of(best: Best, class: usize, amount: usize) -> Best
     best
 }
 
-// The column to test: the one with the most rows before its first wildcard.
-pub fn highest_occurrence(t: &[u8], x: Matrix) -> Choice
-    requires { ⌜ Readable (now t) x ⌝ }
-    ensures { λ r. ⌜ r ≡ chosenRead (now (t .entry)) (inNumbers x) ⌝ }
+// Of the first k columns the one with the most of the first n rows before its first wildcard.
+fn best_column<'a>(
+    t: &[u8],
+    rows: &'a [u8; 32],
+    n: usize,
+    columns: &'a [u8; 192],
+    k: usize,
+    opened: &'a [u8; 192],
+) -> Choice
+    requires { ⌜ WholeRows (asRows (now rows) n) × Whole (asClasses (now columns) k) × All (λ c. All (InTable (now t) c) (take n (now rows))) (take k (now columns)) ⌝ }
+    ensures { λ r. ⌜ r ≡ bestOf (λ c. countOf (heldIn (now (t .entry)) (now (opened .entry)) c) (take n (now (rows .entry)))) Leaf 0 (take k (now (columns .entry))) ⌝ }
 {
-    let rows = x.rows;
-    let columns = x.columns;
-    let opened = x.opened;
     let mut best = Best {
         choice: Choice::Leaf,
         amount: 0,
     };
     let mut i: usize = 0;
-    while i < columns.count {
-        let class = wide(columns.list[i]);
-        best = better_of(best, class, occurrence(t, rows, &opened, class));
+    while i < k {
+        let class = wide(columns[i]);
+        best = better_of(best, class, occurrence(t, rows, n, opened, class));
         i += 1;
     }
     best.choice
+}
+
+// The column to test.
+pub fn highest_occurrence(t: &[u8], x: Matrix) -> Choice
+    requires { ⌜ Readable (now t) x ⌝ }
+    ensures { λ r. ⌜ r ≡ chosenRead (now (t .entry)) (inNumbers x) ⌝ }
+{
+    let n = x.rows.count;
+    let k = x.columns.count;
+    best_column(t, &x.rows.list, n, &x.columns.list, k, &x.opened)
 }
 
 // One more number.
@@ -135,30 +131,43 @@ pub fn push_row(r: PerRow, x: u8) -> PerRow
     PerRow { list, count: n + 1 }
 }
 
-fn keep_wild(r: PerRow, c: u8, held: Held) -> PerRow
-    requires { ⌜ WholeRows r × (r .count < 32) ⌝ }
-    ensures { λ out. ⌜ HoldsRows out (numbersIn r ++ kept held c) ⌝ }
+// One more number, in a lent array.
+pub fn put_row(list: &mut [u8; 32], count: usize, x: u8) -> usize
+    requires { ⌜ WholeRows (asRows (now list) count) × (count < 32) ⌝ }
+    ensures { λ r. ⌜ HoldsRows (asRows (now (list .exit)) r) (take count (now (list .entry)) ++ x ∷ []) ⌝ }
+{
+    list[count] = x;
+    count + 1
+}
+
+fn keep_wild(list: &mut [u8; 32], count: usize, c: u8, held: Held) -> usize
+    requires { ⌜ WholeRows (asRows (now list) count) × (count < 32) ⌝ }
+    ensures { λ r. ⌜ HoldsRows (asRows (now (list .exit)) r) (take count (now (list .entry)) ++ kept held c) ⌝ }
 {
     match held {
-        Held::Test(_) => r,
-        Held::Wildcard => push_row(r, c),
+        Held::Test(_) => count,
+        Held::Wildcard => put_row(list, count, c),
     }
 }
 
-// The rows with a wildcard in the column.
-pub fn wild_rows(t: &[u8], rows: PerRow, opened: &[u8; 192], class: usize) -> PerRow
-    requires { ⌜ WholeRows rows × All (InTable (now t) class) (numbersIn rows) ⌝ }
-    ensures { λ r. ⌜ HoldsRows r (wildOf (heldIn (now (t .entry)) (now (opened .entry)) class) (numbersIn rows)) ⌝ }
+// The first n of these rows, those with a wildcard in the column.
+pub fn wild_rows<'a>(
+    t: &[u8],
+    rows: &'a [u8; 32],
+    n: usize,
+    opened: &'a [u8; 192],
+    class: usize,
+) -> PerRow
+    requires { ⌜ WholeRows (asRows (now rows) n) × All (InTable (now t) class) (take n (now rows)) ⌝ }
+    ensures { λ r. ⌜ HoldsRows r (wildOf (heldIn (now (t .entry)) (now (opened .entry)) class) (take n (now (rows .entry)))) ⌝ }
 {
-    let mut out = PerRow {
-        list: [0; 32],
-        count: 0,
-    };
+    let mut list = [0u8; 32];
+    let mut count: usize = 0;
     let mut i: usize = 0;
-    while i < rows.count {
-        let c = rows.list[i];
-        out = keep_wild(out, c, test_at(t, opened, wide(c), class));
+    while i < n {
+        let c = rows[i];
+        count = keep_wild(&mut list, count, c, test_at(t, opened, wide(c), class));
         i += 1;
     }
-    out
+    PerRow { list, count }
 }

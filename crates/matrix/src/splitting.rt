@@ -1,5 +1,6 @@
 // Rules 2 and 4: the matrix of the clauses, of a default and of a case of a column.
-// A matrix is made once, of its parts; its rows are found going down, its columns put from the last row up.
+// A matrix is made once, of its parts, each filled in an array of its own; its rows are found going down, its columns put from the last
+// row up.
 use crate::Classes;
 use crate::Held;
 use crate::Matrix;
@@ -10,7 +11,7 @@ use crate::columns::open;
 use crate::columns::push;
 use crate::columns::put_rest;
 use crate::covering::covers;
-use crate::rows::push_row;
+use crate::rows::put_row;
 use crate::rows::test_at;
 use crate::rows::wild_rows;
 use crate::wide;
@@ -21,7 +22,7 @@ ghost use mathlib.Core.Path.{_≡_};
 ghost use mathlib.Core.Bool.{true};
 ghost use mathlib.Core.List.{[], _++_};
 ghost use Prim.Native.Nat.{_<_, _≤_};
-ghost use lib.ListN.{length};
+ghost use lib.ListN.{length, take};
 ghost use Rattle.rules.specs.Limits.{clausesMost, patternsMost};
 ghost use Rattle.rules.specs.SheetRefusals.{isIn};
 ghost use Rattle.rules.specs.SplittingLaws.{All};
@@ -33,9 +34,9 @@ ghost use Rattle.matrix.specs.RowStates.{upFrom};
 ghost use Rattle.matrix.specs.HeldRows.{joinOf, opensOf};
 ghost use Rattle.matrix.specs.Matrices.{gather, rootTests, marked};
 ghost use Rattle.matrix.specs.Numbered.{SoundOf, firstNumbered, caseNumbered};
-ghost use Rattle.matrix.specs.Lists.{classesIn, numbersIn, Holds, HoldsRows, WholeRows};
+ghost use Rattle.matrix.specs.Lists.{classesIn, asClasses, asRows, Holds, HoldsRows, WholeRows};
 ghost use Rattle.matrix.specs.Ready.{Ready, putTests, TestKnown};
-ghost use Rattle.matrix.specs.Meant.{meant, joinsTest, InPool, HeldKnown, joinRow, openRow, JoinsTo};
+ghost use Rattle.matrix.specs.Meant.{meant, joinsTest, InPool, HeldKnown, joinRow, openRow, asJoined, JoinsTo};
 ghost use Rattle.matrix.specs.InNumbers.{inNumbers, WholeMatrix, StandsFor, Splits, defaultRead};
 
 // A row for each of n clauses.
@@ -57,13 +58,14 @@ fn first_columns(s: &[u8], m: Map, t: &[u8]) -> Classes
     requires { ⌜ Ready (now s) m (now t) ⌝ }
     ensures { λ r. ⌜ Holds r (putTests (now (s .entry)) (gather (rootTests (now (s .entry))) (upFrom 0 (clauses (now (s .entry))))) []) ⌝ }
 {
-    let mut o = empty();
+    let mut list = [0u8; 192];
+    let mut count: usize = 0;
     let mut c = m.counts.clauses;
     while 0 < c {
         c -= 1;
-        o = map_pattern_to_row(s, m, t, o, root_at(s, m, c));
+        count = map_pattern_to_row(s, m, t, &mut list, count, root_at(s, m, c));
     }
-    o
+    Classes { list, count }
 }
 
 // The matrix of the clauses.
@@ -86,10 +88,17 @@ pub fn default_matrix(t: &[u8], x: Matrix, class: usize) -> Matrix
     requires { ⌜ Splits (now t) x class ⌝ }
     ensures { λ r. ⌜ StandsFor r (defaultRead (now (t .entry)) class (inNumbers x)) ⌝ }
 {
+    let n = x.rows.count;
+    let k = x.columns.count;
+    let rows = wild_rows(t, &x.rows.list, n, &x.opened, class);
+    let mut list = [0u8; 192];
+    let count = put_rest(&mut list, 0, &x.columns.list, k, class);
+    let columns = Classes { list, count };
+    let time = x.tested.count;
+    let mut list = x.tested.list;
+    let count = push(&mut list, time, class);
+    let tested = Classes { list, count };
     let opened = x.opened;
-    let rows = wild_rows(t, x.rows, &opened, class);
-    let columns = put_rest(empty(), x.columns, class);
-    let tested = push(x.tested, class);
     Matrix {
         rows,
         columns,
@@ -98,96 +107,115 @@ pub fn default_matrix(t: &[u8], x: Matrix, class: usize) -> Matrix
     }
 }
 
-// The rows of a case so far, and the tests that they open.
+// The rows of a case, and the tests that they open.
 struct Joined {
     rows: PerRow,
     opens: PerRow,
 }
 
+// How many of each there are so far.
+struct Counts {
+    rows: usize,
+    opens: usize,
+}
+
 // The row of clause c, which has this in the column: a wildcard joins, and a test that belongs to the case.
-fn join_row(s: &[u8], m: Map, o: Joined, c: u8, held: Held, test: Test) -> Joined
+fn join_row(
+    s: &[u8],
+    m: Map,
+    rows: &mut [u8; 32],
+    opens: &mut [u8; 32],
+    o: Counts,
+    c: u8,
+    held: Held,
+    test: Test,
+) -> Counts
     requires { ⌜ Checked (now s) m × HeldKnown (now s) held × InPool (now s) test ⌝ }
-    requires { ⌜ WholeRows (o .rows) × WholeRows (o .opens) × (o .rows .count < clausesMost) × (o .opens .count < clausesMost) ⌝ }
-    ensures { λ r. ⌜ JoinsTo r (numbersIn (o .rows) ++ joinRow (joinsTest (now (s .entry)) test) held c) (numbersIn (o .opens) ++ openRow (joinsTest (now (s .entry)) test) held) ⌝ }
+    requires { ⌜ WholeRows (asRows (now rows) (o .rows)) × WholeRows (asRows (now opens) (o .opens)) × (o .rows < clausesMost) × (o .opens < clausesMost) ⌝ }
+    ensures { λ r. ⌜ JoinsTo (asJoined (now (rows .exit)) (now (opens .exit)) r) (take (o .rows) (now (rows .entry)) ++ joinRow (joinsTest (now (s .entry)) test) held c) (take (o .opens) (now (opens .entry)) ++ openRow (joinsTest (now (s .entry)) test) held) ⌝ }
 {
-    let rows = o.rows;
-    let opens = o.opens;
     match held {
         Held::Test(p) => {
             if !covers(s, m, p, test) {
                 return o;
             }
-            Joined {
-                rows: push_row(rows, c),
-                opens: push_row(opens, p as u8),
+            Counts {
+                rows: put_row(rows, o.rows, c),
+                opens: put_row(opens, o.opens, p as u8),
             }
         }
         Held::Wildcard => {
-            let rows = push_row(rows, c);
-            Joined { rows, opens }
+            let count = put_row(rows, o.rows, c);
+            Counts {
+                rows: count,
+                opens: o.opens,
+            }
         }
     }
 }
 
-// The rows of a case of the column of a class, and the tests that they open.
-fn join_rows(
+// Of the first n of these rows those of a case of the column of a class, and the tests that they open.
+fn join_rows<'a>(
     s: &[u8],
     m: Map,
     t: &[u8],
-    rows: PerRow,
-    opened: &[u8; 192],
+    from: &'a [u8; 32],
+    n: usize,
+    opened: &'a [u8; 192],
     class: usize,
     test: Test,
 ) -> Joined
-    requires { ⌜ Ready (now s) m (now t) × WholeRows rows × All (λ c. c < clauses (now s)) (numbersIn rows) × (class < patternsMost) × InPool (now s) test ⌝ }
-    ensures { λ r. ⌜ JoinsTo r (joinOf (joinsTest (now (s .entry)) test) (liveIn (now (s .entry)) (now (opened .entry)) class) (numbersIn rows)) (opensOf (joinsTest (now (s .entry)) test) (liveIn (now (s .entry)) (now (opened .entry)) class) (numbersIn rows)) ⌝ }
+    requires { ⌜ Ready (now s) m (now t) × WholeRows (asRows (now from) n) × All (λ c. c < clauses (now s)) (take n (now from)) × (class < patternsMost) × InPool (now s) test ⌝ }
+    ensures { λ r. ⌜ JoinsTo r (joinOf (joinsTest (now (s .entry)) test) (liveIn (now (s .entry)) (now (opened .entry)) class) (take n (now (from .entry)))) (opensOf (joinsTest (now (s .entry)) test) (liveIn (now (s .entry)) (now (opened .entry)) class) (take n (now (from .entry)))) ⌝ }
 {
-    let mut o = Joined {
+    let mut rows = [0u8; 32];
+    let mut opens = [0u8; 32];
+    let mut o = Counts { rows: 0, opens: 0 };
+    let mut i: usize = 0;
+    while i < n {
+        let c = from[i];
+        let held = test_at(t, opened, wide(c), class);
+        o = join_row(s, m, &mut rows, &mut opens, o, c, held, test);
+        i += 1;
+    }
+    Joined {
         rows: PerRow {
-            list: [0; 32],
-            count: 0,
+            list: rows,
+            count: o.rows,
         },
         opens: PerRow {
-            list: [0; 32],
-            count: 0,
+            list: opens,
+            count: o.opens,
         },
-    };
-    let mut i: usize = 0;
-    while i < rows.count {
-        let c = rows.list[i];
-        o = join_row(s, m, o, c, test_at(t, opened, wide(c), class), test);
-        i += 1;
     }
-    o
 }
 
-// Each of these tests opened at this time.
-fn mark(opened: [u8; 192], opens: PerRow, time: usize) -> [u8; 192]
-    requires { ⌜ (length opened ≡ patternsMost) × WholeRows opens × All (λ p. p < patternsMost) (numbersIn opens) × (time ≤ patternsMost) ⌝ }
-    ensures { λ r. ⌜ r ≡ marked time opened (numbersIn opens) ⌝ }
+// Each of the first n of these tests opened at this time.
+fn mark(opened: &mut [u8; 192], opens: &[u8; 32], n: usize, time: usize)
+    requires { ⌜ (length (now opened) ≡ patternsMost) × WholeRows (asRows (now opens) n) × All (λ p. p < patternsMost) (take n (now opens)) × (time ≤ patternsMost) ⌝ }
+    ensures { λ _. ⌜ now (opened .exit) ≡ marked time (now (opened .entry)) (take n (now (opens .entry))) ⌝ }
 {
-    let mut out = opened;
     let mut i: usize = 0;
-    while i < opens.count {
-        let p = wide(opens.list[i]);
-        out[p] = time as u8;
+    while i < n {
+        let p = wide(opens[i]);
+        opened[p] = time as u8;
         i += 1;
     }
-    out
 }
 
-// The columns that these tests open to, the last test's first.
-fn open_all(s: &[u8], m: Map, t: &[u8], opens: PerRow) -> Classes
-    requires { ⌜ Ready (now s) m (now t) × WholeRows opens × All (TestKnown (now s)) (numbersIn opens) × (length (putTests (now s) (gather (openedTests (now s)) (numbersIn opens)) []) ≤ patternsMost) ⌝ }
-    ensures { λ r. ⌜ Holds r (putTests (now (s .entry)) (gather (openedTests (now (s .entry))) (numbersIn opens)) []) ⌝ }
+// The columns that the first n of these tests open to, the last test's first.
+fn open_all(s: &[u8], m: Map, t: &[u8], opens: &[u8; 32], n: usize, list: &mut [u8; 192]) -> usize
+    requires { ⌜ Ready (now s) m (now t) × WholeRows (asRows (now opens) n) × All (TestKnown (now s)) (take n (now opens)) × (length (putTests (now s) (gather (openedTests (now s)) (take n (now opens))) []) ≤ patternsMost) ⌝ }
+    requires { ⌜ length (now list) ≡ patternsMost ⌝ }
+    ensures { λ r. ⌜ Holds (asClasses (now (list .exit)) r) (putTests (now (s .entry)) (gather (openedTests (now (s .entry))) (take n (now (opens .entry)))) []) ⌝ }
 {
-    let mut o = empty();
-    let mut i = opens.count;
+    let mut count: usize = 0;
+    let mut i = n;
     while 0 < i {
         i -= 1;
-        o = open(s, m, t, o, wide(opens.list[i]));
+        count = open(s, m, t, list, count, wide(opens[i]));
     }
-    o
+    count
 }
 
 // A case of the column of a class: the rows with a wildcard there and those whose tests belong to it, what these open to before the
@@ -196,14 +224,22 @@ pub fn case_matrix(s: &[u8], m: Map, t: &[u8], x: Matrix, class: usize, test: Te
     requires { ⌜ Ready (now s) m (now t) × WholeMatrix x × SoundOf (now s) (inNumbers x) × (isIn class (classesIn (x .columns)) ≡ true) × InPool (now s) test ⌝ }
     ensures { λ r. ⌜ StandsFor r (caseNumbered (now (s .entry)) class (meant (now (s .entry)) test) (inNumbers x)) ⌝ }
 {
-    let before = x.opened;
-    let tested = x.tested;
-    let joined = join_rows(s, m, t, x.rows, &before, class, test);
+    let n = x.rows.count;
+    let k = x.columns.count;
+    let time = x.tested.count;
+    let joined = join_rows(s, m, t, &x.rows.list, n, &x.opened, class, test);
     let rows = joined.rows;
-    let opens = joined.opens;
-    let columns = put_rest(open_all(s, m, t, opens), x.columns, class);
-    let opened = mark(before, opens, tested.count + 1);
-    let tested = push(tested, class);
+    let opens = joined.opens.list;
+    let some = joined.opens.count;
+    let mut list = [0u8; 192];
+    let front = open_all(s, m, t, &opens, some, &mut list);
+    let count = put_rest(&mut list, front, &x.columns.list, k, class);
+    let columns = Classes { list, count };
+    let mut opened = x.opened;
+    mark(&mut opened, &opens, some, time + 1);
+    let mut list = x.tested.list;
+    let count = push(&mut list, time, class);
+    let tested = Classes { list, count };
     Matrix {
         rows,
         columns,

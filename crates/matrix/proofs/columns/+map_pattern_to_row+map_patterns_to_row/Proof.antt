@@ -20,42 +20,42 @@ use Rattle.sheet.proofs.records.child_at.Reads as child-at-reads
 use Rattle.matrix.proofs.columns.+map_pattern_to_row+map_patterns_to_row.{statement}
 use Rattle.matrix.proofs.columns.+map_pattern_to_row+map_patterns_to_row.Tie.{close}
 
-abbrev μ-map-pattern-to-row : Measures 2 map-pattern-to-row-kinds.ps ℕ
-μ-map-pattern-to-row κs a = (192 - a .1 .1 .1 .1 .0) * 8192
+abbrev μ-map-pattern-to-row : Measures 3 map-pattern-to-row-kinds.ps ℕ
+μ-map-pattern-to-row κs a = (192 - a .1 .1 .1 .1 .1 .0) * 8192
 
-abbrev μ-map-patterns-to-row : Measures 2 map-patterns-to-row-kinds.ps ℕ
-μ-map-patterns-to-row κs a = (191 - a .1 .1 .1 .1 .0) * 8192 + (a .1 .1 .1 .1 .1 .1 .0 + 1)
+abbrev μ-map-patterns-to-row : Measures 3 map-patterns-to-row-kinds.ps ℕ
+μ-map-patterns-to-row κs a = (191 - a .1 .1 .1 .1 .1 .0) * 8192 + (a .1 .1 .1 .1 .1 .1 .1 .0 + 1)
 
-abbrev map-pattern-to-row-at : ℕ → In 2 map-pattern-to-row-kinds.ps
+abbrev map-pattern-to-row-at : ℕ → In 3 map-pattern-to-row-kinds.ps
 map-pattern-to-row-at t =
     and
-    2
+    3
     map-pattern-to-row-kinds.ps
-    (is 2 map-pattern-to-row-kinds.ps μ-map-pattern-to-row t)
+    (is 3 map-pattern-to-row-kinds.ps μ-map-pattern-to-row t)
     map-pattern-to-row.Pre
 
-abbrev map-pattern-to-row-below : ℕ → In 2 map-pattern-to-row-kinds.ps
+abbrev map-pattern-to-row-below : ℕ → In 3 map-pattern-to-row-kinds.ps
 map-pattern-to-row-below t =
     and
-    2
+    3
     map-pattern-to-row-kinds.ps
-    (falls 2 map-pattern-to-row-kinds.ps _<_ μ-map-pattern-to-row t)
+    (falls 3 map-pattern-to-row-kinds.ps _<_ μ-map-pattern-to-row t)
     map-pattern-to-row.Pre
 
-abbrev map-patterns-to-row-at : ℕ → In 2 map-patterns-to-row-kinds.ps
+abbrev map-patterns-to-row-at : ℕ → In 3 map-patterns-to-row-kinds.ps
 map-patterns-to-row-at t =
     and
-    2
+    3
     map-patterns-to-row-kinds.ps
-    (is 2 map-patterns-to-row-kinds.ps μ-map-patterns-to-row t)
+    (is 3 map-patterns-to-row-kinds.ps μ-map-patterns-to-row t)
     map-patterns-to-row.Pre
 
-abbrev map-patterns-to-row-below : ℕ → In 2 map-patterns-to-row-kinds.ps
+abbrev map-patterns-to-row-below : ℕ → In 3 map-patterns-to-row-kinds.ps
 map-patterns-to-row-below t =
     and
-    2
+    3
     map-patterns-to-row-kinds.ps
-    (falls 2 map-patterns-to-row-kinds.ps _<_ μ-map-patterns-to-row t)
+    (falls 3 map-patterns-to-row-kinds.ps _<_ μ-map-patterns-to-row t)
     map-patterns-to-row.Pre
 
 map-pattern-to-row-gives-requires : (t : ℕ) → map-pattern-to-row-lts.Need-gives-requires (
@@ -97,10 +97,10 @@ map-pattern-to-row-put-requires : (t : ℕ) → map-pattern-to-row-lts.Need-put-
   map-patterns-to-row.Post,
 ) (map-pattern-to-row-at t) map-pattern-to-row.Post
 map-pattern-to-row-put-requires t c κs =
-    let s = c .before .before .before .before .before .before in
+    let s = c .before .before .before .before .before .before .before in
     let a = s .args in
     let asked = s .pre .1 in
-    itself-puts (asked .0) (asked .1) (a .p) (asked .2) (asked .3) {g = c .before .before .before .gives .result} {class = c .before .given .given .0 .0} (c .before .before .before .gives .ensures) (search needs)
+    itself-puts (asked .0) (asked .1) (a .p) (asked .2) (asked .3) {g = c .before .before .before .before .gives .result} {class = c .before .before .given .given .0 .0} (c .before .before .before .before .gives .ensures) (search needs)
 
 map-pattern-to-row-enum-known-given-2 : (t : ℕ) → map-pattern-to-row-lts.Need-enum-known-given-2 (
   gives-reads.Asked,
@@ -122,13 +122,13 @@ map-pattern-to-row-map-patterns-to-row-requires :
       map-patterns-to-row.Post,
     ) (map-pattern-to-row-at t) map-pattern-to-row.Post
 map-pattern-to-row-map-patterns-to-row-requires t c κs =
-    let s = c .before .before .before .before .before .before in
+    let s = c .before .before .before .before .before .before .before in
     let a = s .args in
     let asked = s .pre .1 in
-    let e : c .before .before .before .gives .result ≡ Inside (c .before .given2 .given .0 .0) (c .before .given2 .given .0 .1 .0) = search needs in
-    let children = inside-children (asked .0) (asked .1) (a .p) (asked .2) (asked .3) (c .before .before .before .gives .ensures) e in
-    let room = inside-room (asked .0) (asked .1) (a .p) (asked .2) (asked .3) (c .before .before .before .gives .ensures) e in
-    let few = children-few (asked .0) (asked .1) (a .p) (c .before .given2 .given .0 .0) (c .before .given2 .given .0 .1 .0) children room in
+    let e : c .before .before .before .before .gives .result ≡ Inside (c .before .before .given2 .given .0 .0) (c .before .before .given2 .given .0 .1 .0) = search needs in
+    let children = inside-children (asked .0) (asked .1) (a .p) (asked .2) (asked .3) (c .before .before .before .before .gives .ensures) e in
+    let room = inside-room (asked .0) (asked .1) (a .p) (asked .2) (asked .3) (c .before .before .before .before .gives .ensures) e in
+    let few = children-few (asked .0) (asked .1) (a .p) (c .before .before .given2 .given .0 .0) (c .before .before .given2 .given .0 .1 .0) children room in
     (omega (arith, s .pre .0, few, asked .2, asked .0 .checked .ok .is-counted .patterns-most), (asked .0, asked .1, children, room))
 
 map-pattern-to-row-returns : (t : ℕ) → map-pattern-to-row-lts.Need-returns (
@@ -154,10 +154,10 @@ map-pattern-to-row-returns-2 : (t : ℕ) → map-pattern-to-row-lts.Need-returns
   map-patterns-to-row.Post,
 ) (map-pattern-to-row-at t) map-pattern-to-row.Post
 map-pattern-to-row-returns-2 t c =
-    let s = c .before .before .before .before .before .before .before in
+    let s = c .before .before .before .before .before .before .before .before in
     let a = s .args in
     let asked = s .pre .1 in
-    itself-is (asked .0) (asked .1) (a .p) (asked .2) (asked .3) {g = c .before .before .before .before .gives .result} {class = c .before .before .given .given .0 .0} (c .before .before .before .before .gives .ensures) (search needs) (c .put .ensures)
+    itself-is (asked .0) (asked .1) (a .p) (asked .2) (asked .3) {g = c .before .before .before .before .before .gives .result} {class = c .before .before .before .given .given .0 .0} (c .before .before .before .before .before .gives .ensures) (search needs) (c .put .ensures)
 
 map-pattern-to-row-returns-3 : (t : ℕ) → map-pattern-to-row-lts.Need-returns-3 (
   gives-reads.Asked,
@@ -168,10 +168,10 @@ map-pattern-to-row-returns-3 : (t : ℕ) → map-pattern-to-row-lts.Need-returns
   map-patterns-to-row.Post,
 ) (map-pattern-to-row-at t) map-pattern-to-row.Post
 map-pattern-to-row-returns-3 t c =
-    let s = c .before .before .before .before .before .before .before in
+    let s = c .before .before .before .before .before .before .before .before in
     let a = s .args in
     let asked = s .pre .1 in
-    inside-is (asked .0) (asked .1) (a .p) (asked .2) (asked .3) {g = c .before .before .before .before .gives .result} {j = c .before .before .given2 .given .0 .0} {n = c .before .before .given2 .given .0 .1 .0} (c .before .before .before .before .gives .ensures) (search needs) (c .map-patterns-to-row .ensures)
+    inside-is (asked .0) (asked .1) (a .p) (asked .2) (asked .3) {g = c .before .before .before .before .before .gives .result} {j = c .before .before .before .given2 .given .0 .0} {n = c .before .before .before .given2 .given .0 .1 .0} (c .before .before .before .before .before .gives .ensures) (search needs) (c .map-patterns-to-row .ensures)
 
 map-patterns-to-row-returns : (t : ℕ) → map-patterns-to-row-lts.Need-returns (
   map-patterns-to-row-below t,
@@ -197,7 +197,7 @@ map-patterns-to-row-add-map-patterns-to-row :
       map-pattern-to-row.Post,
     ) (map-patterns-to-row-at t) map-patterns-to-row.Post
 map-patterns-to-row-add-map-patterns-to-row t c =
-    let s = c .before .before .before in
+    let s = c .before .before .before .before in
     let a = s .args in
     let asked = s .pre .1 in
     omega (arith, children-few (asked .0) (asked .1) (a .parent) (a .j) (a .n) (asked .2) (asked .3))
@@ -211,7 +211,7 @@ map-patterns-to-row-sub-map-patterns-to-row :
       map-pattern-to-row-below t,
       map-pattern-to-row.Post,
     ) (map-patterns-to-row-at t) map-patterns-to-row.Post
-map-patterns-to-row-sub-map-patterns-to-row t c = omega (arith, c .if1 .left)
+map-patterns-to-row-sub-map-patterns-to-row t c = omega (arith, (c .before .if1 .left))
 
 map-patterns-to-row-map-patterns-to-row-requires :
     (t : ℕ) → map-patterns-to-row-lts.Need-map-patterns-to-row-requires (
@@ -223,10 +223,10 @@ map-patterns-to-row-map-patterns-to-row-requires :
       map-pattern-to-row.Post,
     ) (map-patterns-to-row-at t) map-patterns-to-row.Post
 map-patterns-to-row-map-patterns-to-row-requires t c κs =
-    let s = c .before .before .before in
+    let s = c .before .before .before .before in
     let a = s .args in
     let asked = s .pre .1 in
-    (omega (arith, s .pre .0, c .if1 .left), (asked .0, asked .1, next-children (asked .0) (asked .1) (a .parent) (a .j) (a .n) (asked .2) (asked .3) (c .if1 .left), next-room (asked .0) (asked .1) (a .parent) (a .j) (a .n) (asked .2) (asked .3) (c .if1 .left)))
+    (omega (arith, s .pre .0, (c .before .if1 .left)), (asked .0, asked .1, next-children (asked .0) (asked .1) (a .parent) (a .j) (a .n) (asked .2) (asked .3) (c .before .if1 .left), next-room (asked .0) (asked .1) (a .parent) (a .j) (a .n) (asked .2) (asked .3) (c .before .if1 .left)))
 
 map-patterns-to-row-child-at-requires : (t : ℕ) → map-patterns-to-row-lts.Need-child-at-requires (
   map-patterns-to-row-below t,
@@ -237,10 +237,10 @@ map-patterns-to-row-child-at-requires : (t : ℕ) → map-patterns-to-row-lts.Ne
   map-pattern-to-row.Post,
 ) (map-patterns-to-row-at t) map-patterns-to-row.Post
 map-patterns-to-row-child-at-requires t c κs =
-    let s = c .before .before .before .before in
+    let s = c .before .before .before .before .before .before in
     let a = s .args in
     let asked = s .pre .1 in
-    (asked .0 .checked .ok .is-laid, asked .0 .checked .is-map, child-there (asked .0) (asked .1) (a .parent) (a .j) (a .n) (asked .2) (asked .3) (c .before .if1 .left))
+    (asked .0 .checked .ok .is-laid, asked .0 .checked .is-map, child-there (asked .0) (asked .1) (a .parent) (a .j) (a .n) (asked .2) (asked .3) (c .before .before .before .if1 .left))
 
 map-patterns-to-row-map-pattern-to-row-requires :
     (t : ℕ) → map-patterns-to-row-lts.Need-map-pattern-to-row-requires (
@@ -252,14 +252,14 @@ map-patterns-to-row-map-pattern-to-row-requires :
       map-pattern-to-row.Post,
     ) (map-patterns-to-row-at t) map-patterns-to-row.Post
 map-patterns-to-row-map-pattern-to-row-requires t c κs =
-    let s = c .before .before .before .before .before in
+    let s = c .before .before .before .before .before .before .before in
     let a = s .args in
     let asked = s .pre .1 in
-    let left = c .before .before .if1 .left in
+    let left = (c .before .before .before .before .if1 .left) in
     let known = child-known (asked .0) (asked .1) (a .parent) (a .j) (a .n) (asked .2) (asked .3) left in
     let higher = child-higher (asked .0) (asked .1) (a .parent) (a .j) (a .n) (asked .2) (asked .3) left in
     let q = c .child-at in
-    let rest = c .before .map-patterns-to-row .ensures in (
+    let rest = c .before .before .map-patterns-to-row .ensures in (
       omega (arith, s .pre .0, known, higher, q .ensures, asked .0 .checked .ok .is-counted .patterns-most),
       (asked .0, rest-listed (asked .0) (asked .1) (a .parent) (a .j) (a .n) (asked .2) (asked .3) left rest (q .result) (q .ensures), omega (arith, known, q .ensures), rest-room (asked .0) (asked .1) (a .parent) (a .j) (a .n) (asked .2) (asked .3) left rest (q .result) (q .ensures)),
     )
@@ -273,11 +273,11 @@ map-patterns-to-row-returns-2 : (t : ℕ) → map-patterns-to-row-lts.Need-retur
   map-pattern-to-row.Post,
 ) (map-patterns-to-row-at t) map-patterns-to-row.Post
 map-patterns-to-row-returns-2 t c =
-    let s = c .before .before .before .before .before .before in
+    let s = c .before .before .before .before .before .before .before .before in
     let a = s .args in
     let asked = s .pre .1 in
     let q = c .before .child-at in
-    each-is (asked .0) (asked .1) (a .parent) (a .j) (a .n) (asked .2) (asked .3) (c .before .before .before .if1 .left) (c .before .before .map-patterns-to-row .ensures) (q .result) (q .ensures) (c .map-pattern-to-row .ensures)
+    each-is (asked .0) (asked .1) (a .parent) (a .j) (a .n) (asked .2) (asked .3) (c .before .before .before .before .before .if1 .left) (c .before .before .before .map-patterns-to-row .ensures) (q .result) (q .ensures) (c .map-pattern-to-row .ensures)
 
 pub +map-pattern-to-row+map-patterns-to-row-spec : {M : Type 1} → statement M
 +map-pattern-to-row+map-patterns-to-row-spec =

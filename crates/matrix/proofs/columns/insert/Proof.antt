@@ -11,24 +11,22 @@ use Rattle.matrix.proofs.columns.insert.Reads as reads
 use Rattle.matrix.proofs.columns.insert.Lts as lts
 
 abbrev Inv-loop : tie.InvT-loop
-Inv-loop o place class list₀ i₀ list i = (place ≤ i) × (i ≤ o .count) × (length list ≡ 192) × (list ≡ shifted (o .list) (o .count) i)
+Inv-loop list₀ count place class i₀ list i = (place ≤ i) × (i ≤ count) × (length list ≡ 192) × (list ≡ shifted list₀ count i)
 
 abbrev μ-loop : tie.MeasureT-loop
-μ-loop o place class list₀ i₀ list i = i
+μ-loop list₀ count place class i₀ list i = i
 
 loop-holds : tie.Need-loop-holds Inv-loop μ-loop
-loop-holds c =
-    let a = c .before .args in
-    (search needs, search needs, c .before .pre .0 .long, shifted-none (a .o .list) (a .o .count) (omega (arith, c .before .pre)))
+loop-holds c = (search needs, search needs, c .pre .0 .long, shifted-none (c .args .list .now) (c .args .count) (omega (arith, c .pre)))
 
 sub-list : tie.Need-sub-list Inv-loop μ-loop
 sub-list c = search needs
 
-array-read-list : tie.Need-array-read-list Inv-loop μ-loop
-array-read-list c = search needs
+element-copy-out-list : tie.Need-element-copy-out-list Inv-loop μ-loop
+element-copy-out-list c = search needs
 
-array-write-list : tie.Need-array-write-list Inv-loop μ-loop
-array-write-list c = search needs
+element-write-list : tie.Need-element-write-list Inv-loop μ-loop
+element-write-list c = search needs
 
 sub-i : tie.Need-sub-i Inv-loop μ-loop
 sub-i c = search needs
@@ -39,31 +37,31 @@ loop-less c = search needs
 loop-again : tie.Need-loop-again Inv-loop μ-loop
 loop-again c =
     let a = c .before .before .before .args in
-    let l = c .before .loop in (
+    let l = c .before .before .loop in (
       search needs,
       search needs,
       simp length-set (l .inv .2),
-      shift-on (l .list) (a .o .list) (a .o .count) (l .i) (l .inv .3) (omega (arith, c .before .before .before .pre)) (omega arith) (omega arith),
+      shift-on (l .list) (a .list .now) (a .count) (l .i) (l .inv .3) (omega (arith, c .before .before .before .pre)) (omega arith) (omega arith),
     )
 
 cast-list : tie.Need-cast-list Inv-loop μ-loop
 cast-list c = search needs
 
-array-write-list-2 : tie.Need-array-write-list-2 Inv-loop μ-loop
-array-write-list-2 c = search needs
+element-write-list-2 : tie.Need-element-write-list-2 Inv-loop μ-loop
+element-write-list-2 c = search needs
 
-add-t17 : tie.Need-add-t17 Inv-loop μ-loop
-add-t17 c = search needs
+add-result : tie.Need-add-result Inv-loop μ-loop
+add-result c = search needs
 
 returns : tie.Need-returns Inv-loop μ-loop
 returns c =
-    let a = c .before .before .before .before .args in
-    let s = c .before .before .before .before .pre in
-    let l = c .before .before .loop in
+    let a = c .before .before .args in
+    let s = c .before .before .pre in
+    let l = c .before .loop in
     record {
       long = simp length-set (l .inv .2);
       most = omega (arith, s);
-      are = shift-end (l .list) (a .o .list) (a .o .count) (l .i) (a .place) (a .class) (l .inv .3) (omega (arith, s)) (omega arith) (omega (arith, s));
+      are = shift-end (l .list) (a .list .now) (a .count) (l .i) (a .place) (a .class) (l .inv .3) (omega (arith, s)) (omega arith) (omega (arith, s));
     }
 
 pub insert-spec : {M : Type 1} → statement M
@@ -74,12 +72,12 @@ insert-spec =
     μ-loop
     loop-holds
     sub-list
-    array-read-list
-    array-write-list
+    element-copy-out-list
+    element-write-list
     sub-i
     loop-less
     loop-again
     cast-list
-    array-write-list-2
-    add-t17
+    element-write-list-2
+    add-result
     returns)

@@ -1,4 +1,4 @@
--- `columns::place_of`: those passed are others.
+-- `columns::place_of`: the place is as many as are passed and what is left to pass.
 use borrow.Author.Needs.{needs}
 use mathlib.Core.Path.{_≡_, sym, _∙_}
 use Prim.Native.Nat.{_+_, _-_, _≤_}
@@ -14,10 +14,10 @@ use Rattle.matrix.proofs.columns.place_of.Lts as lts
 use Rattle.matrix.proofs.wide.Reads as wide-reads
 
 abbrev Inv-loop : tie.InvT-loop
-Inv-loop class cs i₀ i = (i ≤ cs .count) × (firstPlace class (take (cs .count) (cs .list)) ≡ i + firstPlace class (slice i (cs .count) (cs .list)))
+Inv-loop cs n class i₀ i = (i ≤ n) × (firstPlace class (take n cs) ≡ i + firstPlace class (slice i n cs))
 
 abbrev μ-loop : tie.MeasureT-loop
-μ-loop class cs i₀ i = cs .count - i
+μ-loop cs n class i₀ i = n - i
 
 loop-holds : tie.Need-loop-holds Inv-loop μ-loop
 loop-holds c = (search needs, omega arith)
@@ -33,7 +33,7 @@ returns c =
     let s = c .before .before .before .before .before in
     let a = s .args in
     let l = c .before .before .before .before .loop in
-    sym (place-here (a .class) (a .t1 .list) (a .t1 .count) (l .i) (omega arith) (omega (arith, s .pre)) (sym (c .before .wide .ensures) ∙ c .if1 .taken) (l .inv .1))
+    sym (place-here (a .class) (a .cs .now) (a .n) (l .i) (omega arith) (omega (arith, s .pre)) (sym (c .before .wide .ensures) ∙ c .if1 .taken) (l .inv .1))
 
 add-i : tie.Need-add-i Inv-loop μ-loop
 add-i c = search needs
@@ -46,13 +46,13 @@ loop-again c =
     let s = c .before .before .before .before .before in
     let a = s .args in
     let l = c .before .before .before .before .loop in
-    (search needs, place-on (a .class) (a .t1 .list) (a .t1 .count) (l .i) (omega arith) (omega (arith, s .pre)) (λ e. c .if1 .left (c .before .wide .ensures ∙ e)) (l .inv .1))
+    (search needs, place-on (a .class) (a .cs .now) (a .n) (l .i) (omega arith) (omega (arith, s .pre)) (λ e. c .if1 .left (c .before .wide .ensures ∙ e)) (l .inv .1))
 
 returns-2 : tie.Need-returns-2 Inv-loop μ-loop
 returns-2 c =
     let a = c .before .before .args in
     let l = c .before .loop in
-    sym (place-end (a .class) (a .t1 .list) (a .t1 .count) (l .i) (omega arith) (l .inv .1))
+    sym (place-end (a .class) (a .cs .now) (a .n) (l .i) (omega arith) (l .inv .1))
 
 pub place-of-spec : {M : Type 1} → statement M
 place-of-spec =

@@ -9,14 +9,14 @@ use Rattle.matrix.proofs.columns.push.Lts as lts
 cast-list : tie.Need-cast-list
 cast-list c = search needs
 
-array-write-list : tie.Need-array-write-list
-array-write-list c = search needs
+element-write-list : tie.Need-element-write-list
+element-write-list c = search needs
 
-add-t9 : tie.Need-add-t9
-add-t9 c = search needs
+add-result : tie.Need-add-result
+add-result c = search needs
 
 returns : tie.Need-returns
-returns c = let a = c .before .args in holds-push (a .o .list) (a .o .count) (a .class) (c .before .pre .0 .long) (c .before .pre .1)
+returns c = let a = c .args in holds-push (a .list .now) (a .count) (a .class) (c .pre .0 .long) (c .pre .1)
 
 pub push-spec : {M : Type 1} → statement M
-push-spec = tie.close (tie.spec cast-list array-write-list add-t9 returns)
+push-spec = tie.close (tie.spec cast-list element-write-list add-result returns)

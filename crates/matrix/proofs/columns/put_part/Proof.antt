@@ -13,24 +13,24 @@ use Rattle.matrix.proofs.columns.put_part.Reads as reads
 use Rattle.matrix.proofs.columns.put_part.Lts as lts
 
 abbrev Inv-loop : tie.InvT-loop
-Inv-loop from to cs list₀ count₀ i₀ list count i =
-    (from ≤ i) × (i ≤ to) × (count ≡ count₀ + (i - from)) × (length list ≡ 192)
-    × (take count list ++ slice i to (cs .list) ≡ take count₀ list₀ ++ slice from to (cs .list))
+Inv-loop list₀ count cs from to n₀ i₀ list n i =
+    (from ≤ i) × (i ≤ to) × (n ≡ count + (i - from)) × (length list ≡ 192)
+    × (take n list ++ slice i to cs ≡ take count list₀ ++ slice from to cs)
 
 abbrev μ-loop : tie.MeasureT-loop
-μ-loop from to cs list₀ count₀ i₀ list count i = to - i
+μ-loop list₀ count cs from to n₀ i₀ list n i = to - i
 
 loop-holds : tie.Need-loop-holds Inv-loop μ-loop
-loop-holds c = (search needs, search needs, search needs, c .before .pre .0 .0 .long, refl)
+loop-holds c = (search needs, search needs, search needs, c .pre .0 .0 .long, refl)
 
 element-copy-out-list : tie.Need-element-copy-out-list Inv-loop μ-loop
 element-copy-out-list c = search needs
 
-array-write-list : tie.Need-array-write-list Inv-loop μ-loop
-array-write-list c = search needs
+element-write-list : tie.Need-element-write-list Inv-loop μ-loop
+element-write-list c = search needs
 
-add-count : tie.Need-add-count Inv-loop μ-loop
-add-count c = search needs
+add-n : tie.Need-add-n Inv-loop μ-loop
+add-n c = search needs
 
 add-i : tie.Need-add-i Inv-loop μ-loop
 add-i c = search needs
@@ -40,27 +40,27 @@ loop-less c = search needs
 
 loop-again : tie.Need-loop-again Inv-loop μ-loop
 loop-again c =
-    let s = c .before .before .before .before in
+    let s = c .before .before .before in
     let a = s .args in
     let l = c .before .before .loop in (
       search needs,
       search needs,
       omega (arith, l .inv .0, l .inv .2),
       simp length-set (l .inv .3),
-      part-more (l .list) (a .t2 .list) (take (a .o .count) (a .o .list) ++ slice (a .from) (a .to) (a .t2 .list)) (l .count) (l .i) (a .to)
+      part-more (l .list) (a .cs .now) (take (a .count) (a .list .now) ++ slice (a .from) (a .to) (a .cs .now)) (l .n) (l .i) (a .to)
           (omega (arith, s .pre, l .inv)) (omega arith) (omega (arith, s .pre)) (l .inv .4),
     )
 
 returns : tie.Need-returns Inv-loop μ-loop
 returns c =
-    let s = c .before .before .before in
+    let s = c .before .before in
     let a = s .args in
     let l = c .before .loop in
     record {
       long = l .inv .3;
       most = omega (arith, l .inv, s .pre);
       are =
-          part-all (l .list) (a .t2 .list) (take (a .o .count) (a .o .list) ++ slice (a .from) (a .to) (a .t2 .list)) (l .count) (l .i) (a .to)
+          part-all (l .list) (a .cs .now) (take (a .count) (a .list .now) ++ slice (a .from) (a .to) (a .cs .now)) (l .n) (l .i) (a .to)
           (omega (arith, l .inv)) (l .inv .4);
     }
 
@@ -72,8 +72,8 @@ put-part-spec =
     μ-loop
     loop-holds
     element-copy-out-list
-    array-write-list
-    add-count
+    element-write-list
+    add-n
     add-i
     loop-less
     loop-again

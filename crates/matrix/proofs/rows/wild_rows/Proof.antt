@@ -4,10 +4,10 @@ use mathlib.Core.Path.{_≡_, refl, sym, ap, _∙_}
 use mathlib.Core.List.{List, _++_}
 use Prim.Native.Nat.{ℕ, _+_, _-_, _<_, _≤_}
 use native.Mathlib.Omega.{arith}
-use lib.ListN.{getD, length-append}
+use lib.ListN.{getD, take, length-append}
 use lib.Seq.{slice}
 use Rattle.matrix.specs.HeldRows.{wildOf}
-use Rattle.matrix.specs.Lists.{numbersIn, WholeRows}
+use Rattle.matrix.specs.Lists.{asRows, numbersIn, WholeRows}
 use Rattle.matrix.specs.ListsLaws.{holds-rows-count, holds-rows-same, whole-rows}
 use Rattle.matrix.specs.Reading.{heldIn, InTable, kept}
 use Rattle.matrix.specs.ReadingLaws.{kept-most, wild-step, wild-end, all-at, slice-on, slice-end}
@@ -20,34 +20,34 @@ use Rattle.matrix.proofs.rows.test_at.Reads as test-at-reads
 use Rattle.matrix.proofs.wide.Reads as wide-reads
 
 abbrev Inv-loop : tie.InvT-loop
-Inv-loop t opened class rows out₀ i₀ out i =
-    (i ≤ rows .count) × (out .count ≤ i) × WholeRows out
-    × (numbersIn out ++ wildOf (heldIn t opened class) (slice i (rows .count) (rows .list)) ≡ wildOf (heldIn t opened class) (numbersIn rows))
+Inv-loop t rows n opened class list₀ count₀ i₀ list count i =
+    (i ≤ n) × (count ≤ i) × WholeRows (asRows list count)
+    × (take count list ++ wildOf (heldIn t opened class) (slice i n rows) ≡ wildOf (heldIn t opened class) (take n rows))
 
 abbrev μ-loop : tie.MeasureT-loop
-μ-loop t opened class rows out₀ i₀ out i = rows .count - i
+μ-loop t rows n opened class list₀ count₀ i₀ list count i = n - i
 
 loop-holds : tie.Need-loop-holds Inv-loop μ-loop
 loop-holds c = (search needs, search needs, record { long = refl; most = omega arith; are = refl }, refl)
 
 element-copy-out-c : tie.Need-element-copy-out-c Inv-loop μ-loop
-element-copy-out-c c = omega (arith, c .before .before .before .pre .0 .most)
+element-copy-out-c c = omega (arith, c .before .before .before .pre .0 .most, c .before .before .before .pre .0 .long, c .loop-test .taken)
 
 wide-requires : tie.Need-wide-requires Inv-loop μ-loop
 wide-requires c κs = search needs
 
 test-at-requires : tie.Need-test-at-requires Inv-loop μ-loop
 test-at-requires c κs =
-    let s = c .before .before .before .before .before in
+    let s = c .before .before .before .before .before .before in
     let a = s .args in
-    let l = c .before .before .before .loop in
-    rw (c .wide .ensures) (all-at (InTable (a .t .now) (a .class)) (a .t2 .list) (a .t2 .count) (l .i) (omega (arith, c .before .before .loop-test .taken)) (omega (arith, s .pre .0 .long, s .pre .0 .most)) (s .pre .1))
+    let l = c .before .before .before .before .loop in
+    rw (c .wide .ensures) (all-at (InTable (a .t .now) (a .class)) (a .rows .now) (a .n) (l .i) (omega (arith, c .before .before .before .loop-test .taken)) (omega (arith, s .pre .0 .long, s .pre .0 .most)) (s .pre .1))
 
 keep-wild-requires : tie.Need-keep-wild-requires Inv-loop μ-loop
 keep-wild-requires c κs =
-    let s = c .before .before .before .before .before .before in
-    let l = c .before .before .before .before .loop in
-    (l .inv .2, omega (arith, l .inv .1, c .before .before .before .loop-test .taken, s .pre .0 .most))
+    let s = c .before .before .before .before .before .before .before in
+    let l = c .before .before .before .before .before .loop in
+    (l .inv .2, omega (arith, l .inv .1, c .before .before .before .before .loop-test .taken, s .pre .0 .most))
 
 add-i : tie.Need-add-i Inv-loop μ-loop
 add-i c = search needs
@@ -57,28 +57,28 @@ loop-less c = search needs
 
 loop-again : tie.Need-loop-again Inv-loop μ-loop
 loop-again c =
-    let s = c .before .before .before .before .before .before .before in
+    let s = c .before .before .before .before .before .before .before .before in
     let a = s .args in
-    let l = c .before .before .before .before .before .loop in
+    let l = c .before .before .before .before .before .before .loop in
     let held = heldIn (a .t .now) (a .opened .now) (a .class) in
-    let row = getD (a .t2 .list) (l .i) 0 in
-    let i-in : l .i < a .t2 .count = c .before .before .before .before .loop-test .taken in
+    let row = getD (a .rows .now) (l .i) 0 in
+    let i-in : l .i < a .n = c .before .before .before .before .before .loop-test .taken in
     let one : held row ≡ c .before .test-at .result = sym (c .before .test-at .ensures ∙ ap held (c .before .before .wide .ensures)) in
+    let out = asRows (l .list) (l .count) in
     let next = c .keep-wild .ensures in (
       search needs,
-      omega (arith, holds-rows-count next, length-append (numbersIn (l .out)) (kept (c .before .test-at .result) row), kept-most (c .before .test-at .result) row, holds-rows-count (l .inv .2), l .inv .1),
+      omega (arith, holds-rows-count next, length-append (numbersIn out) (kept (c .before .test-at .result) row), kept-most (c .before .test-at .result) row, holds-rows-count (l .inv .2), l .inv .1),
       whole-rows next,
-      wild-step held (l .out) (c .keep-wild .result) row (c .before .test-at .result) (slice (l .i + 1) (a .t2 .count) (a .t2 .list)) one next
-          ∙ ap (λ (x : List ℕ). numbersIn (l .out) ++ wildOf held x) (sym (slice-on (a .t2 .list) (l .i) (a .t2 .count) i-in (omega (arith, s .pre .0 .long, s .pre .0 .most)))) ∙ l .inv .3,
+      wild-step held out (asRows (c .keep-wild .last .0) (c .keep-wild .result)) row (c .before .test-at .result) (slice (l .i + 1) (a .n) (a .rows .now)) one next
+          ∙ ap (λ (x : List ℕ). numbersIn out ++ wildOf held x) (sym (slice-on (a .rows .now) (l .i) (a .n) i-in (omega (arith, s .pre .0 .long, s .pre .0 .most)))) ∙ l .inv .3,
     )
 
 returns : tie.Need-returns Inv-loop μ-loop
 returns c =
-    let s = c .before .before .before in
-    let a = s .args in
+    let a = c .before .before .before .args in
     let l = c .before .loop in
     holds-rows-same (l .inv .2)
-    (wild-end (heldIn (a .t .now) (a .opened .now) (a .class)) (numbersIn (l .out)) (slice (l .i) (a .t2 .count) (a .t2 .list)) (slice-end (a .t2 .list) (l .i) (a .t2 .count) (omega arith)) ∙ l .inv .3)
+    (wild-end (heldIn (a .t .now) (a .opened .now) (a .class)) (take (l .count) (l .list)) (slice (l .i) (a .n) (a .rows .now)) (slice-end (a .rows .now) (l .i) (a .n) (omega (arith, l .inv .0, c .loop-test .left))) ∙ l .inv .3)
 
 pub wild-rows-spec : {M : Type 1} → statement M
 wild-rows-spec =

@@ -1,7 +1,8 @@
 -- `splitting::case_matrix`: its parts are those of the case by numbers; the case's own soundness gives the room.
+use mathlib.Core.Path.{refl}
 use native.Mathlib.Omega.{arith}
 use Rattle.rules.specs.SheetFile.{clauses}
-use Rattle.matrix.specs.Lists.{numbersIn}
+use Rattle.matrix.specs.Lists.{asClasses, numbersIn}
 use Rattle.matrix.specs.ListsLaws.{whole, whole-rows}
 use Rattle.matrix.specs.InNumbersLaws.{rising-below, splits}
 use Rattle.matrix.specs.Meant.{meant}
@@ -10,45 +11,59 @@ use Rattle.matrix.proofs.splitting.case_matrix.Statement.{statement}
 use Rattle.matrix.proofs.splitting.case_matrix.Tie as tie
 use Rattle.matrix.proofs.splitting.case_matrix.Reads as reads
 use Rattle.matrix.proofs.splitting.case_matrix.Lts as lts
+use Rattle.matrix.proofs.columns.push.Reads as push-reads
+use Rattle.matrix.proofs.columns.put_rest.Reads as put-rest-reads
+use Rattle.matrix.proofs.splitting.join_rows.Reads as join-rows-reads
+use Rattle.matrix.proofs.splitting.mark.Reads as mark-reads
+use Rattle.matrix.proofs.splitting.open_all.Reads as open-all-reads
 
 join-rows-requires : tie.Need-join-rows-requires
 join-rows-requires c κs =
     let s = c .before .before .before .before .before in
     let a = s .args in
-    (s .pre .0, s .pre .1 .whole-rows, rising-below (clauses (a .s .now)) 0 (numbersIn (a .x .rows)) (s .pre .2 .rising), (splits (s .pre .0) (a .x) (s .pre .1) (s .pre .2) (a .class) (s .pre .3)) .known, s .pre .4)
+    (s .pre .0, s .pre .1 .whole-rows, rising-below (clauses (a .s .now)) 0 (numbersIn (a .t4 .rows)) (s .pre .2 .rising), (splits (s .pre .0) (a .t4) (s .pre .1) (s .pre .2) (a .class) (s .pre .3)) .known, s .pre .4)
 
 open-all-requires : tie.Need-open-all-requires
 open-all-requires c κs =
-    let s = c .before .before .before .before .before .before .before .before in
+    let s = c .before .before .before .before .before .before .before .before .before .before in
     let a = s .args in
-    (s .pre .0, whole-rows (c .before .before .join-rows .ensures .has-opens), joined-there (s .pre .0) (a .x) (s .pre .1) (s .pre .2) (a .class) (s .pre .3) (meant (a .s .now) (a .test)) (c .before .before .join-rows .ensures), joined-room (s .pre .0) (a .x) (s .pre .1) (s .pre .2) (a .class) (s .pre .3) (meant (a .s .now) (a .test)) (c .before .before .join-rows .ensures))
+    let joined = c .before .before .before .before .join-rows .ensures in
+    ((s .pre .0, whole-rows (joined .has-opens), joined-there (s .pre .0) (a .t4) (s .pre .1) (s .pre .2) (a .class) (s .pre .3) (meant (a .s .now) (a .test)) joined, joined-room (s .pre .0) (a .t4) (s .pre .1) (s .pre .2) (a .class) (s .pre .3) (meant (a .s .now) (a .test)) joined), refl)
 
 put-rest-requires : tie.Need-put-rest-requires
 put-rest-requires c κs =
-    let s = c .before .before .before .before .before .before .before .before .before in
+    let s = c .before .before .before .before .before .before .before .before .before .before .before .before .before .before in
     let a = s .args in
-    (whole (c .open-all .ensures), s .pre .1 .whole-columns, s .pre .3, joined-rest (s .pre .0) (a .x) (s .pre .1) (s .pre .2) (a .class) (s .pre .3) (meant (a .s .now) (a .test)) (c .before .before .before .join-rows .ensures) (c .open-all .ensures))
+    let joined = c .before .before .before .before .before .before .before .before .join-rows .ensures in
+    let opened = c .before .before .before .open-all in
+    (whole (opened .ensures), s .pre .1 .whole-columns, s .pre .3, joined-rest (s .pre .0) (a .t4) (s .pre .1) (s .pre .2) (a .class) (s .pre .3) (meant (a .s .now) (a .test)) joined {o = asClasses (opened .last .1 .1 .1 .1 .1 .0) (opened .result)} (opened .ensures))
 
 add-mark : tie.Need-add-mark
-add-mark c = omega (arith, c .before .before .before .before .before .before .before .before .before .before .before .pre .1 .whole-tested .most)
+add-mark c = omega (arith, c .before .before .before .before .before .before .before .before .before .before .before .before .before .before .before .before .before .before .pre .1 .whole-tested .most)
 
 mark-requires : tie.Need-mark-requires
 mark-requires c κs =
-    let s = c .before .before .before .before .before .before .before .before .before .before .before in
+    let s = c .before .before .before .before .before .before .before .before .before .before .before .before .before .before .before .before .before .before in
     let a = s .args in
-    (s .pre .1 .long-opened, whole-rows (c .before .before .before .before .before .join-rows .ensures .has-opens), joined-low (s .pre .0) (a .x) (s .pre .1) (s .pre .2) (a .class) (s .pre .3) (meant (a .s .now) (a .test)) (c .before .before .before .before .before .join-rows .ensures), omega (arith, (splits (s .pre .0) (a .x) (s .pre .1) (s .pre .2) (a .class) (s .pre .3)) .room))
+    let joined = c .before .before .before .before .before .before .before .before .before .before .before .before .join-rows .ensures in
+    (s .pre .1 .long-opened, whole-rows (joined .has-opens), joined-low (s .pre .0) (a .t4) (s .pre .1) (s .pre .2) (a .class) (s .pre .3) (meant (a .s .now) (a .test)) joined, omega (arith, (splits (s .pre .0) (a .t4) (s .pre .1) (s .pre .2) (a .class) (s .pre .3)) .room))
 
 push-requires : tie.Need-push-requires
 push-requires c κs =
-    let s = c .before .before .before .before .before .before .before .before .before .before .before .before in
+    let s = c .before .before .before .before .before .before .before .before .before .before .before .before .before .before .before .before .before .before .before .before .before in
     let a = s .args in
-    (s .pre .1 .whole-tested, (splits (s .pre .0) (a .x) (s .pre .1) (s .pre .2) (a .class) (s .pre .3)) .room, (splits (s .pre .0) (a .x) (s .pre .1) (s .pre .2) (a .class) (s .pre .3)) .known)
+    (s .pre .1 .whole-tested, (splits (s .pre .0) (a .t4) (s .pre .1) (s .pre .2) (a .class) (s .pre .3)) .room, (splits (s .pre .0) (a .t4) (s .pre .1) (s .pre .2) (a .class) (s .pre .3)) .known)
 
 returns : tie.Need-returns
 returns c =
-    let s = c .before .before .before .before .before .before .before .before .before .before .before .before .before in
+    let s = c .before .before .before .before .before .before .before .before .before .before .before .before .before .before .before .before .before .before .before .before .before .before in
     let a = s .args in
-    case-stands (s .pre .0) (a .x) (s .pre .1) (s .pre .2) (a .class) (s .pre .3) (meant (a .s .now) (a .test)) (c .before .before .before .before .before .before .before .join-rows .ensures) (c .before .before .before .before .open-all .ensures) (c .before .before .before .put-rest .ensures) (c .push .ensures) (c .before .mark .ensures)
+    let joined = c .before .before .before .before .before .before .before .before .before .before .before .before .before .before .before .before .join-rows .ensures in
+    let opened = c .before .before .before .before .before .before .before .before .before .before .before .open-all in
+    let columns = c .before .before .before .before .before .before .before .put-rest in
+    let tested = c .push in
+    case-stands (s .pre .0) (a .t4) (s .pre .1) (s .pre .2) (a .class) (s .pre .3) (meant (a .s .now) (a .test)) joined {o = asClasses (opened .last .1 .1 .1 .1 .1 .0) (opened .result)} (opened .ensures)
+    {columns = asClasses (columns .last .0) (columns .result)} {tested = asClasses (tested .last .0) (tested .result)} (columns .ensures) (tested .ensures) (c .before .before .before .mark .ensures)
 
 pub case-matrix-spec : {M : Type 1} → statement M
 case-matrix-spec =

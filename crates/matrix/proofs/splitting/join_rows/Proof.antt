@@ -2,17 +2,17 @@
 use mathlib.Core.Path.{_≡_, refl, ap, _∙_}
 use Prim.Native.Nat.{_+_, _-_, _<_, _≤_}
 use native.Mathlib.Omega.{arith}
-use lib.ListN.{getD}
+use lib.ListN.{getD, take}
 use lib.Seq.{slice}
 use Rattle.rules.specs.SheetFile.{clauses}
 use Rattle.matrix.specs.Live.{liveIn}
 use Rattle.matrix.specs.HeldRows.{joinsCase}
-use Rattle.matrix.specs.Lists.{numbersIn, WholeRows}
+use Rattle.matrix.specs.Lists.{asRows, WholeRows}
 use Rattle.matrix.specs.ListsLaws.{whole-rows}
 use Rattle.matrix.specs.Reading.{heldIn}
 use Rattle.matrix.specs.ReadingLaws.{all-at, slice-on, slice-end}
 use Rattle.matrix.specs.InNumbersLaws.{in-table, held-read}
-use Rattle.matrix.specs.Meant.{meant}
+use Rattle.matrix.specs.Meant.{meant, asJoined}
 use Rattle.matrix.specs.SplitLaws.{Joining, joining-on, joining-few, joining-end, held-live}
 use Rattle.matrix.proofs.splitting.join_rows.Statement.{statement}
 use Rattle.matrix.proofs.splitting.join_rows.Tie as tie
@@ -23,12 +23,12 @@ use Rattle.matrix.proofs.splitting.join_row.Reads as join-row-reads
 use Rattle.matrix.proofs.wide.Reads as wide-reads
 
 abbrev Inv-loop : tie.InvT-loop
-Inv-loop s m t opened class test rows o₀ i₀ o i =
-    (i ≤ rows .count) × (o .rows .count ≤ i) × (o .opens .count ≤ i) × WholeRows (o .rows) × WholeRows (o .opens)
-    × Joining (joinsCase s (meant s test)) (liveIn s opened class) o (slice i (rows .count) (rows .list)) (numbersIn rows)
+Inv-loop s m t from n opened class test rows₀ opens₀ o₀ i₀ rows opens o i =
+    (i ≤ n) × (o .rows ≤ i) × (o .opens ≤ i) × WholeRows (asRows rows (o .rows)) × WholeRows (asRows opens (o .opens))
+    × Joining (joinsCase s (meant s test)) (liveIn s opened class) (asJoined rows opens o) (slice i n from) (take n from)
 
 abbrev μ-loop : tie.MeasureT-loop
-μ-loop s m t opened class test rows o₀ i₀ o i = rows .count - i
+μ-loop s m t from n opened class test rows₀ opens₀ o₀ i₀ rows opens o i = n - i
 
 loop-holds : tie.Need-loop-holds Inv-loop μ-loop
 loop-holds c = (
@@ -41,7 +41,7 @@ loop-holds c = (
 )
 
 element-copy-out-c : tie.Need-element-copy-out-c Inv-loop μ-loop
-element-copy-out-c c = omega (arith, c .before .before .before .before .pre .1 .most, c .loop-test .taken)
+element-copy-out-c c = let s = c .before .before .before .before in omega (arith, s .pre .1 .most, s .pre .1 .long, c .loop-test .taken)
 
 wide-requires : tie.Need-wide-requires Inv-loop μ-loop
 wide-requires c κs = tt
@@ -51,49 +51,55 @@ test-at-requires c κs =
     let s = c .before .before .before .before .before .before in
     let a = s .args in
     let l = c .before .before .before .loop in
-    let row = getD (a .t4 .list) (l .i) 0 in
-    let low = all-at (λ k. k < clauses (a .s .now)) (a .t4 .list) (a .t4 .count) (l .i) (c .before .before .loop-test .taken) (omega (arith, s .pre .1 .long, s .pre .1 .most)) (s .pre .2) in
+    let row = getD (a .from .now) (l .i) 0 in
+    let low = all-at (λ k. k < clauses (a .s .now)) (a .from .now) (a .n) (l .i) (c .before .before .loop-test .taken) (omega (arith, s .pre .1 .long, s .pre .1 .most)) (s .pre .2) in
     rw (c .wide .ensures) (in-table (s .pre .0) row (a .class) low (s .pre .3))
 
 join-row-requires : tie.Need-join-row-requires Inv-loop μ-loop
 join-row-requires c κs =
-    let s = c .before .before .before .before .before .before .before in
+    let s = c .before .before .before .before .before .before .before .before .before in
     let a = s .args in
-    let l = c .before .before .before .before .loop in
-    let row = getD (a .t4 .list) (l .i) 0 in
-    let low = all-at (λ k. k < clauses (a .s .now)) (a .t4 .list) (a .t4 .count) (l .i) (c .before .before .before .loop-test .taken) (omega (arith, s .pre .1 .long, s .pre .1 .most)) (s .pre .2) in
-    let held : c .test-at .result ≡ liveIn (a .s .now) (a .opened .now) (a .class) row =
-    c .test-at .ensures ∙ ap (heldIn (a .t .now) (a .opened .now) (a .class)) (c .before .wide .ensures) ∙ held-read (s .pre .0) row (a .class) low (s .pre .3) (a .opened .now)
+    let l = c .before .before .before .before .before .before .loop in
+    let row = getD (a .from .now) (l .i) 0 in
+    let low = all-at (λ k. k < clauses (a .s .now)) (a .from .now) (a .n) (l .i) (c .before .before .before .before .before .loop-test .taken) (omega (arith, s .pre .1 .long, s .pre .1 .most)) (s .pre .2) in
+    let read = c .before .before .test-at in
+    let held : read .result ≡ liveIn (a .s .now) (a .opened .now) (a .class) row =
+    read .ensures ∙ ap (heldIn (a .t .now) (a .opened .now) (a .class)) (c .before .before .before .wide .ensures) ∙ held-read (s .pre .0) row (a .class) low (s .pre .3) (a .opened .now)
     in (
-      (s .pre .0 .checked, held-live (a .s .now) (a .opened .now) (a .class) row (c .test-at .result) held, s .pre .4),
-      (l .inv .3, l .inv .4, omega (arith, l .inv .1, c .before .before .before .loop-test .taken, s .pre .1 .most), omega (arith, l .inv .2, c .before .before .before .loop-test .taken, s .pre .1 .most)),
+      (s .pre .0 .checked, held-live (a .s .now) (a .opened .now) (a .class) row (read .result) held, s .pre .4),
+      (l .inv .3, l .inv .4, omega (arith, l .inv .1, c .before .before .before .before .before .loop-test .taken, s .pre .1 .most), omega (arith, l .inv .2, c .before .before .before .before .before .loop-test .taken, s .pre .1 .most)),
     )
 
 add-i : tie.Need-add-i Inv-loop μ-loop
-add-i c = omega (arith, c .before .before .before .before .loop-test .taken, c .before .before .before .before .before .before .before .before .pre .1 .most)
+add-i c = omega (arith, c .before .before .before .before .before .before .loop-test .taken, c .before .before .before .before .before .before .before .before .before .before .pre .1 .most)
 
 loop-less : tie.Need-loop-less Inv-loop μ-loop
-loop-less c = omega (arith, c .before .before .before .before .loop-test .taken)
+loop-less c = omega (arith, c .before .before .before .before .before .before .loop-test .taken)
 
 loop-again : tie.Need-loop-again Inv-loop μ-loop
 loop-again c =
-    let s = c .before .before .before .before .before .before .before .before in
+    let s = c .before .before .before .before .before .before .before .before .before .before in
     let a = s .args in
-    let l = c .before .before .before .before .before .loop in
-    let row = getD (a .t4 .list) (l .i) 0 in
-    let low = all-at (λ k. k < clauses (a .s .now)) (a .t4 .list) (a .t4 .count) (l .i) (c .before .before .before .before .loop-test .taken) (omega (arith, s .pre .1 .long, s .pre .1 .most)) (s .pre .2) in
-    let h = c .before .test-at .result in
-    let held : h ≡ liveIn (a .s .now) (a .opened .now) (a .class) row =
-    c .before .test-at .ensures ∙ ap (heldIn (a .t .now) (a .opened .now) (a .class)) (c .before .before .wide .ensures) ∙ held-read (s .pre .0) row (a .class) low (s .pre .3) (a .opened .now)
+    let l = c .before .before .before .before .before .before .before .loop in
+    let row = getD (a .from .now) (l .i) 0 in
+    let low = all-at (λ k. k < clauses (a .s .now)) (a .from .now) (a .n) (l .i) (c .before .before .before .before .before .before .loop-test .taken) (omega (arith, s .pre .1 .long, s .pre .1 .most)) (s .pre .2) in
+    let read = c .before .before .before .test-at in
+    let held : read .result ≡ liveIn (a .s .now) (a .opened .now) (a .class) row =
+    read .ensures ∙ ap (heldIn (a .t .now) (a .opened .now) (a .class)) (c .before .before .before .before .wide .ensures) ∙ held-read (s .pre .0) row (a .class) low (s .pre .3) (a .opened .now)
     in
-    let few = joining-few (joinsCase (a .s .now) (meant (a .s .now) (a .test))) (liveIn (a .s .now) (a .opened .now) (a .class)) (l .o) (c .join-row .result) (numbersIn (a .t4)) h row held (c .join-row .ensures) (l .inv .3) (l .inv .4) in
-    let left = slice-on (a .t4 .list) (l .i) (a .t4 .count) (c .before .before .before .before .loop-test .taken) (omega (arith, s .pre .1 .long, s .pre .1 .most)) in (
-      omega (arith, c .before .before .before .before .loop-test .taken),
+    let joins = joinsCase (a .s .now) (meant (a .s .now) (a .test)) in
+    let live = liveIn (a .s .now) (a .opened .now) (a .class) in
+    let o = asJoined (l .rows) (l .opens) (l .o) in
+    let one = c .join-row in
+    let next = asJoined (one .last .1 .1 .0) (one .last .1 .1 .1 .0) (one .result) in
+    let few = joining-few joins live o next (take (a .n) (a .from .now)) (read .result) row held (one .ensures) (l .inv .3) (l .inv .4) in
+    let left = slice-on (a .from .now) (l .i) (a .n) (c .before .before .before .before .before .before .loop-test .taken) (omega (arith, s .pre .1 .long, s .pre .1 .most)) in (
+      omega (arith, c .before .before .before .before .before .before .loop-test .taken),
       omega (arith, few, l .inv .1),
       omega (arith, few, l .inv .2),
-      whole-rows (c .join-row .ensures .has-rows),
-      whole-rows (c .join-row .ensures .has-opens),
-      joining-on (joinsCase (a .s .now) (meant (a .s .now) (a .test))) (liveIn (a .s .now) (a .opened .now) (a .class)) (l .o) (c .join-row .result) (numbersIn (a .t4)) h row held (c .join-row .ensures) (slice (l .i + 1) (a .t4 .count) (a .t4 .list)) (rw left at (l .inv .5)),
+      whole-rows (one .ensures .has-rows),
+      whole-rows (one .ensures .has-opens),
+      joining-on joins live o next (take (a .n) (a .from .now)) (read .result) row held (one .ensures) (slice (l .i + 1) (a .n) (a .from .now)) (rw left at (l .inv .5)),
     )
 
 returns : tie.Need-returns Inv-loop μ-loop
@@ -101,8 +107,8 @@ returns c =
     let s = c .before .before .before .before in
     let a = s .args in
     let l = c .before .loop in
-    joining-end (joinsCase (a .s .now) (meant (a .s .now) (a .test))) (liveIn (a .s .now) (a .opened .now) (a .class)) (l .o) (slice (l .i) (a .t4 .count) (a .t4 .list)) (numbersIn (a .t4))
-    (slice-end (a .t4 .list) (l .i) (a .t4 .count) (omega (arith, l .inv .0, c .loop-test .left))) (l .inv .3) (l .inv .4) (l .inv .5)
+    joining-end (joinsCase (a .s .now) (meant (a .s .now) (a .test))) (liveIn (a .s .now) (a .opened .now) (a .class)) (asJoined (l .rows) (l .opens) (l .o)) (slice (l .i) (a .n) (a .from .now)) (take (a .n) (a .from .now))
+    (slice-end (a .from .now) (l .i) (a .n) (omega (arith, l .inv .0, c .loop-test .left))) (l .inv .3) (l .inv .4) (l .inv .5)
 
 pub join-rows-spec : {M : Type 1} → statement M
 join-rows-spec =

@@ -2,9 +2,8 @@
 use mathlib.Core.Path.{_≡_, refl}
 use Prim.Native.Nat.{_-_, _<_, _≤_}
 use native.Mathlib.Omega.{arith}
-use lib.ListN.{length, length-set}
+use lib.ListN.{length, take, length-set}
 use lib.Seq.{slice}
-use Rattle.matrix.specs.Lists.{numbersIn}
 use Rattle.matrix.specs.Matrices.{marked}
 use Rattle.matrix.specs.ReadingLaws.{all-at}
 use Rattle.matrix.specs.SplitLaws.{mark-on, mark-end}
@@ -15,30 +14,29 @@ use Rattle.matrix.proofs.splitting.mark.Lts as lts
 use Rattle.matrix.proofs.wide.Reads as wide-reads
 
 abbrev Inv-loop : tie.InvT-loop
-Inv-loop time opens out₀ i₀ out i =
-    (i ≤ opens .count) × (length out ≡ 192) × (marked time out (slice i (opens .count) (opens .list)) ≡ marked time out₀ (numbersIn opens))
+Inv-loop opened₀ opens n time i₀ opened i = (i ≤ n) × (length opened ≡ 192) × (marked time opened (slice i n opens) ≡ marked time opened₀ (take n opens))
 
 abbrev μ-loop : tie.MeasureT-loop
-μ-loop time opens out₀ i₀ out i = opens .count - i
+μ-loop opened₀ opens n time i₀ opened i = n - i
 
 loop-holds : tie.Need-loop-holds Inv-loop μ-loop
 loop-holds c = (omega arith, c .pre .0, refl)
 
 element-copy-out-wide : tie.Need-element-copy-out-wide Inv-loop μ-loop
-element-copy-out-wide c = omega (arith, c .before .before .pre .1 .most, c .loop-test .taken)
+element-copy-out-wide c = omega (arith, c .before .before .pre .1 .most, c .before .before .pre .1 .long, c .loop-test .taken)
 
 wide-requires : tie.Need-wide-requires Inv-loop μ-loop
 wide-requires c κs = tt
 
-cast-out : tie.Need-cast-out Inv-loop μ-loop
-cast-out c = omega (arith, c .before .before .before .before .pre .3)
+cast-opened : tie.Need-cast-opened Inv-loop μ-loop
+cast-opened c = omega (arith, c .before .before .before .before .pre .3)
 
-array-write-out : tie.Need-array-write-out Inv-loop μ-loop
-array-write-out c =
+element-write-opened : tie.Need-element-write-opened Inv-loop μ-loop
+element-write-opened c =
     let s = c .before .before .before .before in
     let a = s .args in
     let l = c .before .before .before .loop in
-    let low = all-at (λ p. p < 192) (a .t2 .list) (a .t2 .count) (l .i) (c .before .before .loop-test .taken) (omega (arith, s .pre .1 .long, s .pre .1 .most)) (s .pre .2) in
+    let low = all-at (λ p. p < 192) (a .opens .now) (a .n) (l .i) (c .before .before .loop-test .taken) (omega (arith, s .pre .1 .long, s .pre .1 .most)) (s .pre .2) in
     omega (arith, low, c .wide .ensures, l .inv .1)
 
 add-i : tie.Need-add-i Inv-loop μ-loop
@@ -55,7 +53,7 @@ loop-again c =
     let in-loop = c .before .before .loop-test .taken in (
       omega (arith, in-loop),
       simp length-set (l .inv .1),
-      mark-on (a .time) (l .out) (marked (a .time) (a .opened) (numbersIn (a .t2))) (a .t2 .list) (a .t2 .count) (l .i) (c .wide .result) in-loop (omega (arith, s .pre .1 .long, s .pre .1 .most)) (c .wide .ensures) (l .inv .2),
+      mark-on (a .time) (l .opened) (marked (a .time) (a .opened .now) (take (a .n) (a .opens .now))) (a .opens .now) (a .n) (l .i) (c .wide .result) in-loop (omega (arith, s .pre .1 .long, s .pre .1 .most)) (c .wide .ensures) (l .inv .2),
     )
 
 returns : tie.Need-returns Inv-loop μ-loop
@@ -63,7 +61,7 @@ returns c =
     let s = c .before .before in
     let a = s .args in
     let l = c .before .loop in
-    mark-end (a .time) (l .out) (marked (a .time) (a .opened) (numbersIn (a .t2))) (a .t2 .list) (a .t2 .count) (l .i) (omega (arith, l .inv .0, c .loop-test .left)) (l .inv .2)
+    mark-end (a .time) (l .opened) (marked (a .time) (a .opened .now) (take (a .n) (a .opens .now))) (a .opens .now) (a .n) (l .i) (omega (arith, l .inv .0, c .loop-test .left)) (l .inv .2)
 
 pub mark-spec : {M : Type 1} → statement M
 mark-spec =
@@ -74,8 +72,8 @@ mark-spec =
     loop-holds
     element-copy-out-wide
     wide-requires
-    cast-out
-    array-write-out
+    cast-opened
+    element-write-opened
     add-i
     loop-less
     loop-again

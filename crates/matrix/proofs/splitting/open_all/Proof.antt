@@ -1,8 +1,9 @@
 -- `splitting::open_all`: the columns that the tests from one on open to, the last first.
-use mathlib.Core.Path.{_≡_, sym, ap}
+use mathlib.Core.Path.{_≡_, refl, sym, ap}
+use mathlib.Core.List.{[]}
 use Prim.Native.Nat.{_≤_}
 use native.Mathlib.Omega.{arith}
-use Rattle.matrix.specs.Lists.{Holds}
+use Rattle.matrix.specs.Lists.{asClasses, Holds}
 use Rattle.matrix.specs.ListsLaws.{whole, holds-same}
 use Rattle.matrix.specs.Ready.{Listed}
 use Rattle.matrix.specs.SplitLaws.{opensFrom, opens-none, test-known, test-room, opened-listed, opened-columns}
@@ -10,31 +11,27 @@ use Rattle.matrix.proofs.splitting.open_all.Statement.{statement}
 use Rattle.matrix.proofs.splitting.open_all.Tie as tie
 use Rattle.matrix.proofs.splitting.open_all.Reads as reads
 use Rattle.matrix.proofs.splitting.open_all.Lts as lts
-use Rattle.matrix.proofs.columns.empty.Reads as empty-reads
 use Rattle.matrix.proofs.columns.open.Reads as open-reads
 use Rattle.matrix.proofs.wide.Reads as wide-reads
 
 abbrev Inv-loop : tie.InvT-loop
-Inv-loop s m t opens o₀ i₀ o i = (i ≤ opens .count) × Listed s o × Holds o (opensFrom s (opens .list) (opens .count) i)
+Inv-loop s m t opens n list₀ count₀ i₀ list count i = (i ≤ n) × Listed s (asClasses list count) × Holds (asClasses list count) (opensFrom s opens n i)
 
 abbrev μ-loop : tie.MeasureT-loop
-μ-loop s m t opens o₀ i₀ o i = i
-
-empty-requires : tie.Need-empty-requires Inv-loop μ-loop
-empty-requires c κs = tt
+μ-loop s m t opens n list₀ count₀ i₀ list count i = i
 
 loop-holds : tie.Need-loop-holds Inv-loop μ-loop
 loop-holds c =
-    let s = c .before .before .before in
+    let s = c .before .before in
     let a = s .args in
-    let h = c .empty .ensures in
-    (omega arith, record { whole = whole h; each = rw (h .are) tt }, holds-same h (sym (opens-none (a .s .now) (a .t4 .list) (a .t4 .count))))
+    let h : Holds (asClasses (a .list .now) 0) [] = record { long = s .pre .1; most = omega arith; are = refl } in
+    (omega arith, record { whole = whole h; each = tt }, holds-same h (sym (opens-none (a .s .now) (a .opens .now) (a .n))))
 
 sub-i : tie.Need-sub-i Inv-loop μ-loop
 sub-i c = omega (arith, c .loop-test .taken)
 
 element-copy-out-wide : tie.Need-element-copy-out-wide Inv-loop μ-loop
-element-copy-out-wide c = omega (arith, c .before .before .before .before .before .pre .1 .most, c .before .loop .inv .0, c .loop-test .taken)
+element-copy-out-wide c = let s = c .before .before .before .before .before in omega (arith, s .pre .0 .1 .most, s .pre .0 .1 .long, c .before .before .loop .inv .0, c .before .loop-test .taken)
 
 wide-requires : tie.Need-wide-requires Inv-loop μ-loop
 wide-requires c κs = tt
@@ -43,31 +40,31 @@ open-requires : tie.Need-open-requires Inv-loop μ-loop
 open-requires c κs =
     let s = c .before .before .before .before .before .before .before in
     let a = s .args in
-    let l = c .before .before .before .loop in
+    let l = c .before .before .before .before .loop in
     let p = c .wide in
-    (s .pre .0, l .inv .1, test-known (s .pre .0) (a .t4 .list) (a .t4 .count) (omega (arith, s .pre .1 .long, s .pre .1 .most)) (s .pre .2) (s .pre .3) (l .i) (c .before .before .loop-test .taken) (l .inv .0) (p .result) (p .ensures) (l .o) (l .inv .1) (l .inv .2), test-room (s .pre .0) (a .t4 .list) (a .t4 .count) (omega (arith, s .pre .1 .long, s .pre .1 .most)) (s .pre .2) (s .pre .3) (l .i) (c .before .before .loop-test .taken) (l .inv .0) (p .result) (p .ensures) (l .o) (l .inv .1) (l .inv .2))
+    (s .pre .0 .0, l .inv .1, test-known (s .pre .0 .0) (a .opens .now) (a .n) (omega (arith, s .pre .0 .1 .long, s .pre .0 .1 .most)) (s .pre .0 .2) (s .pre .0 .3) (l .i) (c .before .before .before .loop-test .taken) (l .inv .0) (p .result) (p .ensures) (asClasses (l .list) (l .count)) (l .inv .1) (l .inv .2), test-room (s .pre .0 .0) (a .opens .now) (a .n) (omega (arith, s .pre .0 .1 .long, s .pre .0 .1 .most)) (s .pre .0 .2) (s .pre .0 .3) (l .i) (c .before .before .before .loop-test .taken) (l .inv .0) (p .result) (p .ensures) (asClasses (l .list) (l .count)) (l .inv .1) (l .inv .2))
 
 loop-less : tie.Need-loop-less Inv-loop μ-loop
-loop-less c = omega (arith, c .before .before .before .loop-test .taken)
+loop-less c = omega (arith, c .before .before .before .before .loop-test .taken)
 
 loop-again : tie.Need-loop-again Inv-loop μ-loop
 loop-again c =
     let s = c .before .before .before .before .before .before .before .before in
     let a = s .args in
-    let l = c .before .before .before .before .loop in
+    let l = c .before .before .before .before .before .loop in
     let p = c .before .wide in (
       omega (arith, l .inv .0),
-      opened-listed (s .pre .0) (a .t4 .list) (a .t4 .count) (omega (arith, s .pre .1 .long, s .pre .1 .most)) (s .pre .2) (s .pre .3) (l .i) (c .before .before .before .loop-test .taken) (l .inv .0) (p .result) (p .ensures) (l .o) (l .inv .1) (l .inv .2) (c .«open» .ensures),
-      opened-columns (s .pre .0) (a .t4 .list) (a .t4 .count) (omega (arith, s .pre .1 .long, s .pre .1 .most)) (s .pre .2) (s .pre .3) (l .i) (c .before .before .before .loop-test .taken) (l .inv .0) (p .result) (p .ensures) (l .o) (l .inv .1) (l .inv .2) (c .«open» .ensures),
+      opened-listed (s .pre .0 .0) (a .opens .now) (a .n) (omega (arith, s .pre .0 .1 .long, s .pre .0 .1 .most)) (s .pre .0 .2) (s .pre .0 .3) (l .i) (c .before .before .before .before .loop-test .taken) (l .inv .0) (p .result) (p .ensures) (asClasses (l .list) (l .count)) (l .inv .1) (l .inv .2) (c .«open» .ensures),
+      opened-columns (s .pre .0 .0) (a .opens .now) (a .n) (omega (arith, s .pre .0 .1 .long, s .pre .0 .1 .most)) (s .pre .0 .2) (s .pre .0 .3) (l .i) (c .before .before .before .before .loop-test .taken) (l .inv .0) (p .result) (p .ensures) (asClasses (l .list) (l .count)) (l .inv .1) (l .inv .2) (c .«open» .ensures),
     )
 
 returns : tie.Need-returns Inv-loop μ-loop
 returns c =
-    let s = c .before .before .before .before .before in
+    let s = c .before .before .before .before in
     let a = s .args in
     let l = c .before .loop in
     let e : l .i ≡ 0 = omega (arith, c .loop-test .left) in
-    holds-same (l .inv .2) (ap (opensFrom (a .s .now) (a .t4 .list) (a .t4 .count)) e)
+    holds-same (l .inv .2) (ap (opensFrom (a .s .now) (a .opens .now) (a .n)) e)
 
 pub open-all-spec : {M : Type 1} → statement M
 open-all-spec =
@@ -75,7 +72,6 @@ open-all-spec =
     (tie.spec
     Inv-loop
     μ-loop
-    empty-requires
     loop-holds
     sub-i
     element-copy-out-wide
