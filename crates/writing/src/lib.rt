@@ -20,7 +20,7 @@ pub mod nodes;
 pub mod uses;
 
 // The three sections from 0 on, of the tree with so many nodes and cases before it is hoisted. The answer is how many nodes, cases
-// and bindings are written, and the classes of the paths used, in the order of their numbers.
+// and bindings are written and how many paths they use; `classes` has the classes of those paths, in the order of their numbers.
 pub fn write_nodes(
     w: &[u8],
     nodes: usize,

@@ -5,8 +5,8 @@ ghost use Prim.Native.Nat.{_<_};
 ghost use Rattle.rules.specs.Limits.{patternsMost};
 ghost use Rattle.writing.specs.Uses.{usesOf, Counted, withClass};
 
-// The path of the class used once more, where `count` paths have a number; how many have one then.
-// By class, one more than the number of its path, or 0 where it has none; and the classes in the order of their numbers.
+// The path of the class used once more, where `count` paths have a number; how many have one then. `number` has by class one more
+// than the number of its path, or 0 where it has none; `list` has the classes in the order of their numbers.
 pub fn used(number: &mut [u8; 192], list: &mut [u8; 192], count: usize, class: usize) -> usize
     requires { ⌜ Counted (usesOf (now number) (now list) count) × (class < patternsMost) ⌝ }
     ensures { λ r. ⌜ usesOf (now (number .exit)) (now (list .exit)) r ≡ withClass (usesOf (now (number .entry)) (now (list .entry)) count) class ⌝ }
