@@ -14,6 +14,7 @@ use table::at;
 use table::is_test;
 ghost use mathlib.Core.Path.{_≡_};
 ghost use Prim.Native.Nat.{_<_};
+ghost use lib.ListN.{getD};
 ghost use Rattle.rules.specs.Limits.{patternsMost};
 ghost use Rattle.rules.specs.SheetFile.{patterns, clauses};
 ghost use Rattle.table.specs.Seen.{bindsOf, bindsOfEach};
@@ -111,29 +112,27 @@ fn put_opened(
     put_all_bindings(s, m, t, p, run.first, run.count, work, top)
 }
 
+// The class at a place of a list.
+fn class_at(list: &[u8; 192], i: usize) -> usize
+    requires { ⌜ i < patternsMost ⌝ }
+    ensures { λ r. ⌜ r ≡ getD (now (list .entry)) i 0 ⌝ }
+{
+    wide(list[i])
+}
+
 // The bindings of the first row's clause, behind the `top` bindings there are; the number of all of them.
 pub fn leaf_bindings(s: &[u8], m: Map, t: &[u8], x: Matrix, work: &mut [u8], top: usize) -> usize
     requires { ⌜ Ready (now s) m (now t) × WithRow (now s) x × Room (now work) top ⌝ }
     ensures { λ r. ⌜ bound (now (work .exit)) r ≡ boundAll (now (s .entry)) (bound (now (work .entry)) top) (boundNumbers (now (s .entry)) (inNumbers x) (firstClause x)) ⌝ }
 {
     let rows = x.rows;
-    let tested = x.tested;
-    let opened = x.opened;
     let c = wide(rows.list[0]);
+    let n = x.tested.count;
     let mut next = put_bindings(s, m, t, root_at(s, m, c), work, top);
     let mut time: usize = 0;
-    while time < tested.count {
-        next = put_opened(
-            s,
-            m,
-            t,
-            &opened,
-            c,
-            time,
-            wide(tested.list[time]),
-            work,
-            next,
-        );
+    while time < n {
+        let class = class_at(&x.tested.list, time);
+        next = put_opened(s, m, t, &x.opened, c, time, class, work, next);
         time += 1;
     }
     next

@@ -16,7 +16,7 @@ ghost use Rattle.rules.specs.SplittingLaws.{All};
 ghost use Rattle.matrix.specs.declared.Choice.the-variants.{Leaf};
 ghost use Rattle.matrix.specs.HeldRows.{countOf, bestOf, wildOf};
 ghost use Rattle.matrix.specs.InNumbers.{inNumbers, Readable, chosenRead};
-ghost use Rattle.matrix.specs.Lists.{numbersIn, asClasses, asRows, Whole, WholeRows, HoldsRows};
+ghost use Rattle.matrix.specs.Lists.{asClasses, asRows, Whole, WholeRows, HoldsRows};
 ghost use Rattle.matrix.specs.Reading.{heldIn, InTable, hasTest, bettered, kept};
 
 // What clause c's row has in the column of this class: its test there, if it is not opened and the test that it is inside of is.
@@ -121,17 +121,6 @@ pub fn highest_occurrence(t: &[u8], x: Matrix) -> Choice
 }
 
 // One more number.
-pub fn push_row(r: PerRow, x: u8) -> PerRow
-    requires { ⌜ WholeRows r × (r .count < 32) ⌝ }
-    ensures { λ out. ⌜ HoldsRows out (numbersIn r ++ x ∷ []) ⌝ }
-{
-    let mut list = r.list;
-    let n = r.count;
-    list[n] = x;
-    PerRow { list, count: n + 1 }
-}
-
-// One more number, in a lent array.
 pub fn put_row(list: &mut [u8; 32], count: usize, x: u8) -> usize
     requires { ⌜ WholeRows (asRows (now list) count) × (count < 32) ⌝ }
     ensures { λ r. ⌜ HoldsRows (asRows (now (list .exit)) r) (take count (now (list .entry)) ++ x ∷ []) ⌝ }

@@ -4,7 +4,7 @@ use crate::tests::Longest;
 use crate::tests::longer_of;
 use matrix::Held;
 use matrix::PerRow;
-use matrix::rows::push_row;
+use matrix::rows::put_row;
 use matrix::rows::test_at;
 use matrix::wide;
 use sheet::Map;
@@ -12,40 +12,45 @@ use sheet::records::pattern_at;
 ghost use mathlib.Core.Path.{_≡_};
 ghost use mathlib.Core.List.{_++_};
 ghost use Prim.Native.Nat.{_<_};
+ghost use lib.ListN.{take};
 ghost use Rattle.rules.specs.SplittingLaws.{All};
 ghost use Rattle.table.specs.Tabled.{Checked};
 ghost use Rattle.matrix.specs.HeldRows.{heldTests};
-ghost use Rattle.matrix.specs.Lists.{numbersIn, WholeRows, HoldsRows};
+ghost use Rattle.matrix.specs.Lists.{numbersIn, asRows, WholeRows, HoldsRows};
 ghost use Rattle.matrix.specs.Reading.{heldIn, InTable};
 ghost use Rattle.matrix.specs.Ready.{TestKnown};
 ghost use Rattle.meeting.specs.Rows.{heldTest, TestSmall, longestOf};
 
 // One test more, if the row has one.
-fn keep_test(r: PerRow, held: Held) -> PerRow
-    requires { ⌜ WholeRows r × (r .count < 32) × TestSmall held ⌝ }
-    ensures { λ out. ⌜ HoldsRows out (numbersIn r ++ heldTest held) ⌝ }
+fn keep_test(list: &mut [u8; 32], count: usize, held: Held) -> usize
+    requires { ⌜ WholeRows (asRows (now list) count) × (count < 32) × TestSmall held ⌝ }
+    ensures { λ r. ⌜ HoldsRows (asRows (now (list .exit)) r) (take count (now (list .entry)) ++ heldTest held) ⌝ }
 {
     match held {
-        Held::Test(p) => push_row(r, p as u8),
-        Held::Wildcard => r,
+        Held::Test(p) => put_row(list, count, p as u8),
+        Held::Wildcard => count,
     }
 }
 
-// The tests of the column of a class, top down.
-pub fn column_tests(t: &[u8], rows: PerRow, opened: &[u8; 192], class: usize) -> PerRow
-    requires { ⌜ WholeRows rows × All (InTable (now t) class) (numbersIn rows) ⌝ }
-    ensures { λ r. ⌜ HoldsRows r (heldTests (heldIn (now (t .entry)) (now (opened .entry)) class) (numbersIn rows)) ⌝ }
+// The tests of the first n of these rows in the column of a class, top down.
+pub fn column_tests<'a>(
+    t: &[u8],
+    rows: &'a [u8; 32],
+    n: usize,
+    opened: &'a [u8; 192],
+    class: usize,
+) -> PerRow
+    requires { ⌜ WholeRows (asRows (now rows) n) × All (InTable (now t) class) (take n (now rows)) ⌝ }
+    ensures { λ r. ⌜ HoldsRows r (heldTests (heldIn (now (t .entry)) (now (opened .entry)) class) (take n (now (rows .entry)))) ⌝ }
 {
-    let mut out = PerRow {
-        list: [0; 32],
-        count: 0,
-    };
+    let mut list = [0u8; 32];
+    let mut count: usize = 0;
     let mut i: usize = 0;
-    while i < rows.count {
-        out = keep_test(out, test_at(t, opened, wide(rows.list[i]), class));
+    while i < n {
+        count = keep_test(&mut list, count, test_at(t, opened, wide(rows[i]), class));
         i += 1;
     }
-    out
+    PerRow { list, count }
 }
 
 // The longest lengths of the lists among these tests.

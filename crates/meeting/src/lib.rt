@@ -75,7 +75,7 @@ pub fn meet_cases(
     requires { ⌜ (arenaEnd ≤ length (now work)) × (first ≤ casesMost) ⌝ }
     ensures { λ r. ⌜ MeetsTo (now (s .entry)) (columnOf (now (s .entry)) (testsIn (now (s .entry)) class (inNumbers x))) first (now (work .entry)) (now (work .exit)) r ⌝ }
 {
-    let opened = x.opened;
-    let tests = column_tests(t, x.rows, &opened, class);
+    let n = x.rows.count;
+    let tests = column_tests(t, &x.rows.list, n, &x.opened, class);
     meet_both(s, m, tests, work, first)
 }

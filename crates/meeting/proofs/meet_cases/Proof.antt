@@ -4,29 +4,34 @@ use Rattle.meeting.specs.MadeLaws.{column-cells, column-known, column-me
 use Rattle.matrix.specs.ListsLaws.{whole-rows}
 use Rattle.meeting.proofs.meet_cases.Statement.{statement}
 use Rattle.meeting.proofs.meet_cases.Tie as tie
+use Rattle.meeting.proofs.meet_cases.Reads as reads
+use Rattle.meeting.proofs.meet_cases.Lts as lts
+use Rattle.meeting.proofs.column.column_tests.Reads as column-tests-reads
+use Rattle.meeting.proofs.meet_both.Reads as meet-both-reads
 
 column-tests-requires : tie.Need-column-tests-requires
 column-tests-requires c κs =
-    let s = c .before .before .before .before .before in
+    let s = c .before .before .before .before .before .before in
     let a = s .args in
-    (s .pre .0 .1 .whole-rows, column-cells (s .pre .0 .0) (a .x) (s .pre .0 .2) (a .class) (s .pre .0 .3))
+    (s .pre .0 .1 .whole-rows, column-cells (s .pre .0 .0) (a .t4) (s .pre .0 .2) (a .class) (s .pre .0 .3))
 
 meet-both-requires : tie.Need-meet-both-requires
 meet-both-requires c κs =
-    let s = c .before .before .before .before .before .before .before in
+    let s = c .before .before .before .before .before .before .before .before in
     let a = s .args in
     let t = c .before .column-tests in
-    ((s .pre .0 .0 .checked, whole-rows (t .ensures), column-known (s .pre .0 .0) (a .x) (s .pre .0 .2) (a .class) (s .pre .0 .3) (t .result) (t .ensures)), s .pre .1)
+    ((s .pre .0 .0 .checked, whole-rows (t .ensures), column-known (s .pre .0 .0) (a .t4) (s .pre .0 .2) (a .class) (s .pre .0 .3) (t .result) (t .ensures)), s .pre .1)
 
 same-length : tie.Need-same-length
 same-length c = search needs
 
 returns : tie.Need-returns
 returns c =
-    let s = c .before .before .before .before .before .before .before .before .before .before in
+    let s = c .before .before .before .before .before .before .before .before .before .before .before in
     let a = s .args in
     let t = c .before .before .before .before .column-tests in
-    column-meets (s .pre .0 .0) (a .x) (s .pre .0 .2) (a .class) (s .pre .0 .3) (t .result) (t .ensures) (a .first) (a .work .now) _ (c .before .before .meet-both .result) (c .before .before .meet-both .ensures)
+    let met = c .before .before .meet-both in
+    column-meets (s .pre .0 .0) (a .t4) (s .pre .0 .2) (a .class) (s .pre .0 .3) (t .result) (t .ensures) (a .first) (a .work .now) _ (met .result) (met .ensures)
 
 pub meet-cases-spec : {M : Type 1} → statement M
 meet-cases-spec = tie.close (tie.spec column-tests-requires meet-both-requires same-length returns)
