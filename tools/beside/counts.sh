@@ -1,6 +1,6 @@
 #!/usr/bin/env bash
 # Instruction counts: counts.sh FOLDER [SHEETS [SEED]] has valgrind's callgrind count the library's instructions on so many sheets a family, 100
-# where it is not said: of a build by function, and of a walk. What else runs on the machine changes none of them. FOLDER is that of the Rust
+# where it is not said: of a build by function, and of a walk. What else runs on the machine does not change them. FOLDER is that of the Rust
 # sources, as for build.sh. For x86-64 only.
 set -eu
 
