@@ -1,9 +1,8 @@
 // What the walk answers, written as a line. The buffer is filled beforehand; a word after the bindings that is not zero is said.
-use crate::trees::digits;
-use crate::trees::listing;
+use crate::rows::number;
 use walk::Walked;
 
-fn number(x: u16) {
+fn say_number(x: u16) {
     io::print_decimal(1, x as u64);
 }
 
@@ -16,11 +15,11 @@ fn say_binding(bound: &[u16], k: usize) {
         return;
     }
     io::write_all(1, b" (");
-    number(bound[k]);
+    say_number(bound[k]);
     io::write_all(1, b", ");
-    number(bound[k + 1]);
+    say_number(bound[k + 1]);
     io::write_all(1, b", ");
-    number(bound[k + 2]);
+    say_number(bound[k + 2]);
     io::write_all(1, b")");
 }
 
@@ -63,7 +62,7 @@ fn say(name: &[u8], answer: Walked, bound: &[u16]) {
     match answer {
         Walked::Leaf { clause, count } => {
             io::write_all(1, b": leaf ");
-            number(clause);
+            say_number(clause);
             say_bindings(bound, count);
             say_rest(bound, 3 * count as usize);
         }
@@ -76,42 +75,29 @@ fn say(name: &[u8], answer: Walked, bound: &[u16]) {
             place,
         } => {
             io::write_all(1, b": refused ");
-            number(refusal);
+            say_number(refusal);
             io::write_all(1, b" ");
-            number(place);
+            say_number(place);
             say_rest(bound, 0);
         }
     }
 }
 
-pub fn walked(name: &[u8], t: &[u8], v: &[u8]) {
-    let mut bound = [7u16; 576];
-    let answer = walk::walk(t, v, &mut bound);
-    say(name, answer, &bound);
-}
+// The name of a walk stands behind its letter and two numbers: how many bytes of the tree there are, and how many of the panel.
+const NAME_AT: usize = 11;
 
-// On the first n bytes of a panel.
-pub fn walked_first(name: &[u8], t: &[u8], v: &[u8], n: usize) {
-    if n <= v.len() {
-        walked(name, t, &v[..n]);
+pub fn walked(line: &[u8], t: &[u8], v: &[u8], bound: &mut [u16]) {
+    let tree = number(line, 1);
+    let panel = number(line, 6);
+    if t.len() < tree {
+        return;
     }
-}
-
-// By the first n bytes of a tree, on the empty list.
-pub fn walked_by(name: &[u8], t: &[u8], n: usize) {
-    let mut v = [0u8; 16];
-    digits(&mut v, b"");
-    if n <= t.len() {
-        walked(name, &t[..n], &v);
+    if v.len() < panel {
+        return;
     }
-}
-
-// 01's listing on [1,2], into a buffer of the caller.
-pub fn with_room(name: &[u8], bound: &mut [u16]) {
-    let mut t = [0u8; 322];
-    listing(&mut t);
-    let mut v = [0u8; 38];
-    digits(&mut v, b"12");
-    let answer = walk::walk(&t, &v, bound);
-    say(name, answer, bound);
+    if line.len() < NAME_AT {
+        return;
+    }
+    let answer = walk::walk(&t[..tree], &v[..panel], bound);
+    say(&line[NAME_AT..], answer, bound);
 }
