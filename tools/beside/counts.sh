@@ -44,16 +44,16 @@ for family in small medium large; do
 done
 echo
 echo "Walks, instructions a walk; the columns are those of bench.sh."
-echo "family     walks    whole     tree    panel   bare  itself   plain  ratio  indexed  ratio"
+echo "family     walks    whole     tree    panel   bare  itself   plain  ratio  indexed  ratio  trusting  ratio"
 for family in small medium large; do
     sums=""
-    for call in walk:dewmycel_walk tree:dewmycel_walk panel:dewmycel_text bare:dewmycel_text plain:'*plain::unchecked*' indexed:'*plain::indexed*'; do
+    for call in walk:dewmycel_walk tree:dewmycel_walk panel:dewmycel_text bare:dewmycel_text plain:'*plain::asking*' indexed:'*plain::indexed*' trusting:'*plain::trusting*'; do
         count "${call%%:*}" "${call#*:}" "$family"
         sums="$sums $(total)"
     done
     echo "$family $calls $sums" | awk '{
-        for (i = 3; i <= 8; i++) $i /= $2
+        for (i = 3; i <= 9; i++) $i /= $2
         itself = $3 - $4 - $5 + $6
-        printf "%-8s %7d %8.0f %8.0f %8.0f %6.1f %7.1f %7.1f %6.2f %8.1f %6.2f\n", $1, $2, $3, $4, $5, $6, itself, $7, itself / $7, $8, itself / $8
+        printf "%-8s %7d %8.0f %8.0f %8.0f %6.1f %7.1f %7.1f %6.2f %8.1f %6.2f %9.1f %6.2f\n", $1, $2, $3, $4, $5, $6, itself, $7, itself / $7, $8, itself / $8, $9, itself / $9
     }'
 done

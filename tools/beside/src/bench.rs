@@ -114,9 +114,10 @@ const PANEL: usize = 2;
 const BARE: usize = 3;
 const PLAIN: usize = 4;
 const INDEXED: usize = 5;
+const TRUSTING: usize = 6;
 
 /// Their names, as `once` is asked for them.
-const WALK_CALLS: [&str; 6] = ["walk", "tree", "panel", "bare", "plain", "indexed"];
+const WALK_CALLS: [&str; 7] = ["walk", "tree", "panel", "bare", "plain", "indexed", "trusting"];
 
 /// Makes one of these calls. The files passed their checks and the walk ends.
 #[inline(always)]
@@ -127,8 +128,10 @@ fn walk_call(call: usize, tree: &[u8], panel: &[u8], bound: &mut [u16; 576]) -> 
         PANEL => library::text(panel, NO_RECORD, 0),
         BARE => library::text(&[], NO_RECORD, 0),
         // SAFETY: the panel fits the sheet of the tree: the library checked both and walked to an end.
-        PLAIN => unsafe { plain::unchecked(tree, panel, bound) },
-        _ => plain::indexed(tree, panel, bound),
+        PLAIN => unsafe { plain::asking(tree, panel, bound) },
+        INDEXED => plain::indexed(tree, panel, bound),
+        // SAFETY: as above.
+        _ => unsafe { plain::trusting(tree, panel, bound) },
     }
 }
 
@@ -144,13 +147,13 @@ fn batch<const CALL: usize>(calls: u32, tree: &[u8], panel: &[u8]) -> f64 {
 
 /// Times of a walk, in nanoseconds: of each call the median of its batches and the least, and the walk itself.
 struct Walk {
-    of: [f64; 6],
-    least: [f64; 6],
+    of: [f64; 7],
+    least: [f64; 7],
     itself: f64,
 }
 
 /// The part of a walk that is neither clearing nor reading: see WALK_HEAD.
-fn itself(times: &[f64; 6]) -> f64 {
+fn itself(times: &[f64; 7]) -> f64 {
     times[WHOLE] - times[TREE] - times[PANEL] + times[BARE]
 }
 
@@ -159,7 +162,7 @@ fn walk(tree: &[u8], panel: &[u8]) -> Walk {
     let answer = library::walk(tree, panel, &mut bound);
     assert_eq!(library::refusal(answer), 0, "a fitting panel is walked");
     library::same_plain(tree, panel, answer, &bound).expect("the plain walkers answer alike");
-    let many: [u32; 6] = std::array::from_fn(|call| {
+    let many: [u32; 7] = std::array::from_fn(|call| {
         calls(|| {
             black_box(walk_call(call, tree, panel, &mut bound));
         })
@@ -172,9 +175,10 @@ fn walk(tree: &[u8], panel: &[u8]) -> Walk {
             batch::<BARE>(many[BARE], tree, panel),
             batch::<PLAIN>(many[PLAIN], tree, panel),
             batch::<INDEXED>(many[INDEXED], tree, panel),
+            batch::<TRUSTING>(many[TRUSTING], tree, panel),
         ]
     };
-    let turns: Vec<[f64; 6]> = (0..WALK_BATCHES).map(turn).collect();
+    let turns: Vec<[f64; 7]> = (0..WALK_BATCHES).map(turn).collect();
     Walk {
         of: std::array::from_fn(|call| median(turns.iter().map(|turn| turn[call]).collect())),
         least: std::array::from_fn(|call| {
@@ -205,10 +209,11 @@ Walks, nanoseconds a walk; each column has its own median over a family's walks.
 buffer, reads the tree file and the panel file with every check, and walks. Tree: the call on an empty panel, refused 21 after the
 clearing and the tree's pass. Panel: the text call of a record that is not there, refused 33 after the panel's pass. Bare: the text call
 of an empty panel. The walk itself is whole - tree - panel + bare (the last, since each of the two passes has a call of its own in it),
-the median over turns in which each call is timed once. Plain: a walker in Rust over the same bytes that checks nothing and clears
-nothing; indexed: the same with Rust's checks of indexes. Ratio: the walk itself by plain, then by indexed. The last three columns are
-another way to reckon: the walk itself and plain from the least batch of each call, the mean over all walks, and their ratio.
-family     walks    whole     tree    panel  bare  itself  plain  ratio  goal  indexed  ratio  l.itself l.plain  ratio";
+the median over turns in which each call is timed once. Plain: a walker in Rust over the same bytes that gives the same answer, 32 where
+it is stuck, and checks nothing else; indexed: the same as safe Rust, with its checks of indexes; trusting: one that does not ask either
+whether a part is there and of its kind. Ratio: the walk itself by plain, by indexed, by trusting. The last three columns are another
+way to reckon: the walk itself and plain from the least batch of each call, the mean over all walks, and their ratio.
+family     walks    whole     tree    panel  bare  itself  plain  ratio  goal  indexed  ratio  trusting  ratio  l.itself l.plain  ratio";
 
 fn show_builds(name: &str, goal: f64, members: &[Member]) {
     let times: Vec<Build> = members.iter().map(build).collect();
@@ -229,17 +234,18 @@ fn show_walks(name: &str, members: &[Member]) {
     let files = members.iter().flat_map(|m| m.panels.iter().map(|panel| (&m.tree, panel)));
     let times: Vec<Walk> = files.map(|(tree, panel)| walk(tree, panel)).collect();
     let of = |part: &dyn Fn(&Walk) -> f64| median(times.iter().map(part).collect());
-    let [whole, tree, panel, bare, plain, indexed] =
+    let [whole, tree, panel, bare, plain, indexed, trusting] =
         std::array::from_fn(|call| of(&|time| time.of[call]));
-    let least: [f64; 6] = std::array::from_fn(|call| {
+    let least: [f64; 7] = std::array::from_fn(|call| {
         mean(&times.iter().map(|time| time.least[call]).collect::<Vec<_>>())
     });
     println!(
-        "{name:<8} {:>7} {whole:>8.0} {tree:>8.0} {panel:>8.0} {bare:>5.1} {:>7.1} {plain:>6.1} {:>6.2} {WALK_GOAL:>5} {indexed:>8.1} {:>6.2} {:>8.1} {:>6.1} {:>6.2}",
+        "{name:<8} {:>7} {whole:>8.0} {tree:>8.0} {panel:>8.0} {bare:>5.1} {:>7.1} {plain:>6.1} {:>6.2} {WALK_GOAL:>5} {indexed:>8.1} {:>6.2} {trusting:>9.1} {:>6.2} {:>9.1} {:>7.1} {:>6.2}",
         times.len(),
         of(&|time| time.itself),
         of(&|time| time.itself / time.of[PLAIN]),
         of(&|time| time.itself / time.of[INDEXED]),
+        of(&|time| time.itself / time.of[TRUSTING]),
         itself(&least),
         least[PLAIN],
         itself(&least) / least[PLAIN],

@@ -1,32 +1,45 @@
-//! A plain walker, to be timed beside the library's walk: it takes the same bytes of a tree and a panel and gives
-//! the same answer, but trusts them. It checks neither file, nor that a part is there. It writes the words of the
-//! bindings only: the caller has cleared the rest of the buffer.
+//! Plain walkers, to be timed beside the library's walk: they take the same bytes of a tree and a panel and give the
+//! same answer, but trust that both files passed their checks. They write the words of the bindings only: the caller
+//! has cleared the rest of the buffer.
 //!
-//! It is made twice from one text: as safe Rust is, where each index is held against its slice, and without even that.
+//! They are made three times from one text: one that asks of each part that it is there and of its kind, as the walk's
+//! answer 32 has it; that one as safe Rust is, where each index is held against its slice; and one that asks nothing.
 
-use crate::files::V_CONSTR;
+use crate::files::{V_BYTES, V_CONSTR, V_INT, V_LIST, V_PAIR, V_TUPLE};
 use crate::library::packed;
-use crate::tree::S_LISTTAIL;
+use crate::tree::{S_CONSTR, S_LIST, S_LISTTAIL, S_PAIR};
 
 type Walker = unsafe fn(&[u8], &[u8], &mut [u16]) -> u64;
 
-/// Both walkers, by name.
-pub const BOTH: [(&str, Walker); 2] =
-    [("the plain walker", unchecked), ("the plain walker with indexes checked", indexed)];
+/// Those that answer 32 where the walk is stuck, by name.
+pub const ASKING: [(&str, Walker); 2] =
+    [("the plain walker", asking), ("the plain walker with indexes checked", indexed)];
+
+/// The one that must not be given a stuck walk, by name.
+pub const TRUSTING: (&str, Walker) = ("the plain walker that asks nothing", trusting);
+
+/// The walk with no check but those that its answer asks for.
+///
+/// # Safety
+/// The tree and the panel pass their checks, and `bound` has three words for each binding.
+#[inline(never)]
+pub unsafe fn asking(tree: &[u8], panel: &[u8], bound: &mut [u16]) -> u64 {
+    Walk::<true, false>::of(tree, panel).answer(bound)
+}
+
+/// The same as safe Rust has it.
+#[inline(never)]
+pub fn indexed(tree: &[u8], panel: &[u8], bound: &mut [u16]) -> u64 {
+    Walk::<true, true>::of(tree, panel).answer(bound)
+}
 
 /// The walk without any check.
 ///
 /// # Safety
 /// The tree and the panel pass their checks, the walk is not stuck, and `bound` has three words for each binding.
 #[inline(never)]
-pub unsafe fn unchecked(tree: &[u8], panel: &[u8], bound: &mut [u16]) -> u64 {
-    Walk::<false>::of(tree, panel).answer(bound)
-}
-
-/// The walk as safe Rust has it.
-#[inline(never)]
-pub fn indexed(tree: &[u8], panel: &[u8], bound: &mut [u16]) -> u64 {
-    Walk::<true>::of(tree, panel).answer(bound)
+pub unsafe fn trusting(tree: &[u8], panel: &[u8], bound: &mut [u16]) -> u64 {
+    Walk::<false, false>::of(tree, panel).answer(bound)
 }
 
 /// Bytes that are read with their indexes checked, or not.
@@ -60,7 +73,7 @@ struct At {
 }
 
 /// A tree and a panel, with the starts of their sections.
-struct Walk<'a, const CHECKED: bool> {
+struct Walk<'a, const ASKS: bool, const CHECKED: bool> {
     tree: Bytes<'a, CHECKED>,
     cases: usize,
     bindings: usize,
@@ -72,7 +85,10 @@ struct Walk<'a, const CHECKED: bool> {
     panel_texts: usize,
 }
 
-impl<'a, const CHECKED: bool> Walk<'a, CHECKED> {
+/// The walk is stuck: a part is not there, or is of another kind.
+struct Stuck;
+
+impl<'a, const ASKS: bool, const CHECKED: bool> Walk<'a, ASKS, CHECKED> {
     fn of(tree: &'a [u8], panel: &'a [u8]) -> Self {
         let (t, p) = (Bytes(tree), Bytes(panel));
         let (of_tree, of_panel) = (tree.len() - 14, panel.len() - 8);
@@ -91,50 +107,67 @@ impl<'a, const CHECKED: bool> Walk<'a, CHECKED> {
 
     /// The clause and the number of its bindings, packed as the library packs them; 0 for no leaf.
     fn answer(&self, bound: &mut [u16]) -> u64 {
+        self.leaf(bound).unwrap_or_else(|Stuck| packed(32, 0, 0, 0))
+    }
+
+    /// Stuck, where it is asked and what is asked does not hold.
+    fn ask(&self, holds: impl FnOnce() -> bool) -> Result<(), Stuck> {
+        if ASKS && !holds() { Err(Stuck) } else { Ok(()) }
+    }
+
+    fn leaf(&self, bound: &mut [u16]) -> Result<u64, Stuck> {
         let mut node = 0;
         loop {
             let at = 12 * node;
             let field = |i: usize| self.tree.word(at + 2 + 2 * i);
             let next = match self.tree.byte(at) {
-                0 => self.switch(field(0), field(1), field(2)),
-                1 => self.list_switch(field(0), field(1), field(2), field(3)),
+                0 => self.switch(field(0), field(1), field(2))?,
+                1 => self.list_switch(field(0), field(1), field(2), field(3))?,
                 2 => {
-                    self.bind(field(1), field(2), bound);
-                    return packed(0, field(0) as u64, field(2) as u64, 1);
+                    self.bind(field(1), field(2), bound)?;
+                    return Ok(packed(0, field(0) as u64, field(2) as u64, 1));
                 }
                 _ => Some(field(3)),
             };
             node = match next {
                 Some(child) => child,
                 None if field(4) > 0 => field(4) - 1,
-                None => return 0,
+                None => return Ok(0),
             };
         }
     }
 
-    fn follow(&self, path: usize) -> At {
+    fn follow(&self, path: usize) -> Result<At, Stuck> {
         let path = self.paths + 4 * path;
         let (first, count) = (self.tree.word(path), self.tree.word(path + 2));
         let mut at = At { record: 0, dropped: 0 };
         for step in first..first + count {
             let step = self.steps + 6 * step;
-            let index = self.tree.word(step + 2);
-            if self.tree.byte(step) == S_LISTTAIL {
-                at.dropped += index;
+            let (kind, index) = (self.tree.byte(step), self.tree.word(step + 2));
+            let record = 8 * at.record;
+            let parts = || self.panel.word(record + 6);
+            self.ask(|| self.panel.byte(record) == stepped_from(kind))?;
+            let part = if kind >= S_LIST { at.dropped + index } else { index };
+            if kind == S_LISTTAIL {
+                self.ask(|| part <= parts())?;
+                at.dropped = part;
             } else {
-                let child = self.panel.word(8 * at.record + 4) + at.dropped + index;
+                self.ask(|| part < parts())?;
+                let child = self.panel.word(record + 4) + part;
                 at = At { record: self.panel.word(self.children + 2 * child), dropped: 0 };
             }
         }
-        at
+        Ok(at)
     }
 
     /// The child of the first case that holds.
-    fn switch(&self, path: usize, first: usize, cases: usize) -> Option<usize> {
-        let record = 8 * self.follow(path).record;
+    fn switch(&self, path: usize, first: usize, cases: usize) -> Result<Option<usize>, Stuck> {
+        let record = 8 * self.follow(path)?.record;
         let field = |i: usize| self.panel.word(record + 2 + 2 * i);
+        let kind = self.panel.byte(record);
+        self.ask(|| kind == asked_by(self.tree.byte(self.cases + 8 * first)))?;
         let mut all = (first..first + cases).map(|case| self.cases + 8 * case);
-        let found = if self.panel.byte(record) == V_CONSTR {
+        let found = if kind == V_CONSTR {
             all.find(|case| self.tree.word(case + 2) == field(0))
         } else {
             let text = self.panel.part(self.panel_texts + field(1), field(2));
@@ -143,12 +176,19 @@ impl<'a, const CHECKED: bool> Walk<'a, CHECKED> {
                 text == self.tree.part(self.texts + start, length)
             })
         };
-        found.map(|case| self.tree.word(case + 6))
+        Ok(found.map(|case| self.tree.word(case + 6)))
     }
 
     /// The child of the first case of the exact length, else of the first of the largest tail number not above it.
-    fn list_switch(&self, path: usize, first: usize, cases: usize, tails: usize) -> Option<usize> {
-        let at = self.follow(path);
+    fn list_switch(
+        &self,
+        path: usize,
+        first: usize,
+        cases: usize,
+        tails: usize,
+    ) -> Result<Option<usize>, Stuck> {
+        let at = self.follow(path)?;
+        self.ask(|| self.panel.byte(8 * at.record) == V_LIST)?;
         let length = self.panel.word(8 * at.record + 6) - at.dropped;
         let mut best = None;
         for case in first..first + cases + tails {
@@ -156,25 +196,45 @@ impl<'a, const CHECKED: bool> Walk<'a, CHECKED> {
             let number = self.tree.word(case_at + 2);
             if case < first + cases {
                 if number == length {
-                    return Some(self.tree.word(case_at + 6));
+                    return Ok(Some(self.tree.word(case_at + 6)));
                 }
             } else if number <= length && best.is_none_or(|(most, _)| number > most) {
                 best = Some((number, case_at));
             }
         }
-        best.map(|(_, case_at)| self.tree.word(case_at + 6))
+        Ok(best.map(|(_, case_at)| self.tree.word(case_at + 6)))
     }
 
     /// Name, record and dropped elements of each binding.
-    fn bind(&self, first: usize, count: usize, bound: &mut [u16]) {
+    fn bind(&self, first: usize, count: usize, bound: &mut [u16]) -> Result<(), Stuck> {
         for (i, words) in bound.chunks_exact_mut(3).take(count).enumerate() {
             let binding = self.bindings + 4 * (first + i);
-            let at = self.follow(self.tree.word(binding + 2));
+            let at = self.follow(self.tree.word(binding + 2))?;
             words.copy_from_slice(&[
                 self.tree.word(binding) as u16,
                 at.record as u16,
                 at.dropped as u16,
             ]);
         }
+        Ok(())
+    }
+}
+
+/// The kind of record that a step of this kind leaves.
+fn stepped_from(step: u8) -> u8 {
+    match step {
+        S_PAIR => V_PAIR,
+        S_CONSTR => V_CONSTR,
+        S_LIST | S_LISTTAIL => V_LIST,
+        _ => V_TUPLE,
+    }
+}
+
+/// The kind of record that a case of this kind asks for.
+fn asked_by(case: u8) -> u8 {
+    match case {
+        0 => V_CONSTR,
+        1 => V_INT,
+        _ => V_BYTES,
     }
 }
