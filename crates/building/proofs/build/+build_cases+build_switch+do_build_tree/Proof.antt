@@ -158,7 +158,7 @@ build-cases-case-at-requires : (t : ℕ) → build-cases-lts.Need-case-at-requir
 ) (build-cases-at t) build-cases.Post build-cases-Inv-loop build-cases-μ-loop
 build-cases-case-at-requires t c κs = ((turn-room (turn-at t (c .before))) .2, (turn-room (turn-at t (c .before))) .0)
 
--- src/build.rt:131:13
+-- src/build.rt:130:17
 build-cases-case-matrix-requires : (t : ℕ) → build-cases-lts.Need-case-matrix-requires (
   case-at-reads.Asked,
   case-at-reads.Learnt,
@@ -389,7 +389,7 @@ build-switch-returns : (t : ℕ) → build-switch-lts.Need-returns (
 ) (build-switch-at t) build-switch.Post
 build-switch-returns t c = no-room (c .before .before .before .before .before .before .before .before .before .pre .1 .0) (c .before .before .before .before .before .before .before .before .before .args .work .now) (c .before .before .before .before .meet-cases .last .1 .1 .1 .1 .1 .0) (record { fits = false; tops = (c .before .before .before .before .before .before .before .before .before .args .tops) }) ((subst (λ z. MeetsTo (c .before .before .before .before .before .before .before .before .before .args .s .now) (chosenColumn (c .before .before .before .before .before .before .before .before .before .args .s .now) (c .before .before .before .before .before .before .before .before .before .args .class) (inNumbers (c .before .before .before .before .before .before .before .before .before .args .t4))) ((c .before .before .before .before .before .before .before .before .before .args .tops) .cases) (c .before .before .before .before .before .before .before .before .before .args .work .now) (c .before .before .before .before .meet-cases .last .1 .1 .1 .1 .1 .0) z) (c .enum-told .given .1) (c .before .before .before .before .meet-cases .ensures)) .more) refl
 
--- src/build.rt:162:16
+-- src/build.rt:161:5
 build-switch-add-from : (t : ℕ) → build-switch-lts.Need-add-from (
   meet-cases-reads.Asked,
   meet-cases-reads.Learnt,
@@ -449,7 +449,7 @@ build-switch-returns-2 : (t : ℕ) → build-switch-lts.Need-returns-2 (
 ) (build-switch-at t) build-switch.Post
 build-switch-returns-2 t c = switch-cases-over (opened-at t (c .before .before .before .before .before .before .before)) (c .before .before .before .before .build-cases .last .1 .1 .1 .1 .1 .0) (c .before .before .before .before .build-cases .result) (not-true (c .before .before .before .before .build-cases .result .fits) (c .if1 .taken)) (c .before .before .before .before .build-cases .ensures)
 
--- src/build.rt:169:9
+-- src/build.rt:174:13
 build-switch-default-matrix-requires : (t : ℕ) → build-switch-lts.Need-default-matrix-requires (
   meet-cases-reads.Asked,
   meet-cases-reads.Learnt,
