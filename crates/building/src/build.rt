@@ -123,12 +123,12 @@ fn build_cases(
     while i < count {
         let case = case_at(work, first + i);
         let test = case.test;
+        put_child(work, first + i, tops.nodes as u16);
         let rows = &x.rows.list;
         let columns = &x.columns.list;
         let tested = &x.tested.list;
         let opened = &x.opened;
         let y = case_matrix(s, m, t, rows, n, columns, k, tested, j, opened, class, test);
-        put_child(work, first + i, tops.nodes as u16);
         let built = do_build_tree(s, m, t, y, work, tops);
         if !built.fits {
             return built;
@@ -188,7 +188,9 @@ pub fn do_build_tree(s: &[u8], m: Map, t: &[u8], x: Matrix, work: &mut [u8], top
     if tops.nodes == NODES_MOST {
         return Built { fits: false, tops };
     }
-    let choice = highest_occurrence(t, x);
+    let n = x.rows.count;
+    let k = x.columns.count;
+    let choice = highest_occurrence(t, &x.rows.list, n, &x.columns.list, k, &x.opened);
     let Choice::Column(class) = choice else {
         let next = put_leaf(s, m, t, x, work, tops);
         return Built {

@@ -86,7 +86,7 @@ abbrev build-cases-μ-loop : build-cases-lts.MeasureT-loop
 build-cases-μ-loop s m t class work₀ first x count n k j tops₀ i₀ work tops i = count - i
 
 -- what is known in a turn of the loop
-turn-at : (t : ℕ) (c : build-cases-lts.In-loop (case-at-reads.Asked, case-at-reads.Learnt, case-matrix-reads.Asked, case-matrix-reads.Learnt, put-child-reads.Asked, put-child-reads.Learnt, do-build-tree-below t, do-build-tree.Post) (build-cases-at t) build-cases.Post build-cases-Inv-loop build-cases-μ-loop)
+turn-at : (t : ℕ) (c : build-cases-lts.In-loop (case-at-reads.Asked, case-at-reads.Learnt, put-child-reads.Asked, put-child-reads.Learnt, case-matrix-reads.Asked, case-matrix-reads.Learnt, do-build-tree-below t, do-build-tree.Post) (build-cases-at t) build-cases.Post build-cases-Inv-loop build-cases-μ-loop)
     → Turn (c .before .before .before .before .before .before .args .s .now) (c .before .before .before .before .before .before .args .m) (c .before .before .before .before .before .before .args .t .now) (c .before .before .before .before .before .before .args .t4) (c .before .before .before .before .before .before .args .class) (c .before .before .before .before .before .before .args .first) (c .before .before .before .before .before .before .args .work .now) (c .before .before .before .before .before .before .args .from) (c .before .loop .i) (c .before .loop .work) (c .before .loop .tops)
 turn-at t c = record { col = (c .before .before .before .before .before .before .pre .1 .0); asked = (c .before .before .before .before .before .before .pre .1 .1); part = (c .before .loop .inv .2); inside = c .loop-test .taken }
 
@@ -110,10 +110,10 @@ cased-at t c =
 build-cases-sub-count : (t : ℕ) → build-cases-lts.Need-sub-count (
   case-at-reads.Asked,
   case-at-reads.Learnt,
-  case-matrix-reads.Asked,
-  case-matrix-reads.Learnt,
   put-child-reads.Asked,
   put-child-reads.Learnt,
+  case-matrix-reads.Asked,
+  case-matrix-reads.Learnt,
   do-build-tree-below t,
   do-build-tree.Post,
 ) (build-cases-at t) build-cases.Post build-cases-Inv-loop build-cases-μ-loop
@@ -123,10 +123,10 @@ build-cases-sub-count t c = omega (arith, (c .before .before .before .before .pr
 build-cases-loop-holds : (t : ℕ) → build-cases-lts.Need-loop-holds (
   case-at-reads.Asked,
   case-at-reads.Learnt,
-  case-matrix-reads.Asked,
-  case-matrix-reads.Learnt,
   put-child-reads.Asked,
   put-child-reads.Learnt,
+  case-matrix-reads.Asked,
+  case-matrix-reads.Learnt,
   do-build-tree-below t,
   do-build-tree.Post,
 ) (build-cases-at t) build-cases.Post build-cases-Inv-loop build-cases-μ-loop
@@ -136,10 +136,10 @@ build-cases-loop-holds t c = (omega arith, refl, loop-begin (c .before .before .
 build-cases-add-case-at : (t : ℕ) → build-cases-lts.Need-add-case-at (
   case-at-reads.Asked,
   case-at-reads.Learnt,
-  case-matrix-reads.Asked,
-  case-matrix-reads.Learnt,
   put-child-reads.Asked,
   put-child-reads.Learnt,
+  case-matrix-reads.Asked,
+  case-matrix-reads.Learnt,
   do-build-tree-below t,
   do-build-tree.Post,
 ) (build-cases-at t) build-cases.Post build-cases-Inv-loop build-cases-μ-loop
@@ -149,114 +149,114 @@ build-cases-add-case-at t c = omega (arith, turn-room (turn-at t (c .before)))
 build-cases-case-at-requires : (t : ℕ) → build-cases-lts.Need-case-at-requires (
   case-at-reads.Asked,
   case-at-reads.Learnt,
-  case-matrix-reads.Asked,
-  case-matrix-reads.Learnt,
   put-child-reads.Asked,
   put-child-reads.Learnt,
+  case-matrix-reads.Asked,
+  case-matrix-reads.Learnt,
   do-build-tree-below t,
   do-build-tree.Post,
 ) (build-cases-at t) build-cases.Post build-cases-Inv-loop build-cases-μ-loop
 build-cases-case-at-requires t c κs = ((turn-room (turn-at t (c .before))) .2, (turn-room (turn-at t (c .before))) .0)
 
--- src/build.rt:130:17
-build-cases-case-matrix-requires : (t : ℕ) → build-cases-lts.Need-case-matrix-requires (
-  case-at-reads.Asked,
-  case-at-reads.Learnt,
-  case-matrix-reads.Asked,
-  case-matrix-reads.Learnt,
-  put-child-reads.Asked,
-  put-child-reads.Learnt,
-  do-build-tree-below t,
-  do-build-tree.Post,
-) (build-cases-at t) build-cases.Post build-cases-Inv-loop build-cases-μ-loop
-build-cases-case-matrix-requires t c κs = ((c .before .before .before .before .before .before .before .before .before .before .before .before .before .pre .1 .0) .ready, (c .before .before .before .before .before .before .before .before .before .before .before .before .before .pre .1 .0) .there .whole, (c .before .before .before .before .before .before .before .before .before .before .before .before .before .pre .1 .0) .there .sound, column-in (c .before .before .before .before .before .before .before .before .before .before .before .before .before .pre .1 .0), turn-in-pool (turn-at t (c .before .before .before .before .before .before .before)) (c .before .before .before .before .before .case-at .result .test) (ap (λ (z : Case). z .test) (c .before .before .before .before .before .case-at .ensures)))
-
 -- src/build.rt:132:25
 build-cases-add-put-child : (t : ℕ) → build-cases-lts.Need-add-put-child (
   case-at-reads.Asked,
   case-at-reads.Learnt,
-  case-matrix-reads.Asked,
-  case-matrix-reads.Learnt,
   put-child-reads.Asked,
   put-child-reads.Learnt,
+  case-matrix-reads.Asked,
+  case-matrix-reads.Learnt,
   do-build-tree-below t,
   do-build-tree.Post,
 ) (build-cases-at t) build-cases.Post build-cases-Inv-loop build-cases-μ-loop
-build-cases-add-put-child t c = omega (arith, turn-room (turn-at t (c .before .before .before .before .before .before .before .before .before)))
+build-cases-add-put-child t c = omega (arith, turn-room (turn-at t (c .before .before .before)))
 
 -- src/build.rt:132:36
 build-cases-cast-put-child : (t : ℕ) → build-cases-lts.Need-cast-put-child (
   case-at-reads.Asked,
   case-at-reads.Learnt,
-  case-matrix-reads.Asked,
-  case-matrix-reads.Learnt,
   put-child-reads.Asked,
   put-child-reads.Learnt,
+  case-matrix-reads.Asked,
+  case-matrix-reads.Learnt,
   do-build-tree-below t,
   do-build-tree.Post,
 ) (build-cases-at t) build-cases.Post build-cases-Inv-loop build-cases-μ-loop
-build-cases-cast-put-child t c = omega (arith, turn-room (turn-at t (c .before .before .before .before .before .before .before .before .before .before)))
+build-cases-cast-put-child t c = omega (arith, turn-room (turn-at t (c .before .before .before .before)))
 
 -- src/build.rt:132:9
 build-cases-put-child-requires : (t : ℕ) → build-cases-lts.Need-put-child-requires (
   case-at-reads.Asked,
   case-at-reads.Learnt,
-  case-matrix-reads.Asked,
-  case-matrix-reads.Learnt,
   put-child-reads.Asked,
   put-child-reads.Learnt,
+  case-matrix-reads.Asked,
+  case-matrix-reads.Learnt,
   do-build-tree-below t,
   do-build-tree.Post,
 ) (build-cases-at t) build-cases.Post build-cases-Inv-loop build-cases-μ-loop
-build-cases-put-child-requires t c κs = ((turn-room (turn-at t (c .before .before .before .before .before .before .before .before .before .before))) .2, (turn-room (turn-at t (c .before .before .before .before .before .before .before .before .before .before))) .0)
+build-cases-put-child-requires t c κs = ((turn-room (turn-at t (c .before .before .before .before))) .2, (turn-room (turn-at t (c .before .before .before .before))) .0)
+
+-- src/build.rt:131:17
+build-cases-case-matrix-requires : (t : ℕ) → build-cases-lts.Need-case-matrix-requires (
+  case-at-reads.Asked,
+  case-at-reads.Learnt,
+  put-child-reads.Asked,
+  put-child-reads.Learnt,
+  case-matrix-reads.Asked,
+  case-matrix-reads.Learnt,
+  do-build-tree-below t,
+  do-build-tree.Post,
+) (build-cases-at t) build-cases.Post build-cases-Inv-loop build-cases-μ-loop
+build-cases-case-matrix-requires t c κs = ((c .before .before .before .before .before .before .before .before .before .before .before .before .before .before .before .before .before .before .pre .1 .0) .ready, (c .before .before .before .before .before .before .before .before .before .before .before .before .before .before .before .before .before .before .pre .1 .0) .there .whole, (c .before .before .before .before .before .before .before .before .before .before .before .before .before .before .before .before .before .before .pre .1 .0) .there .sound, column-in (c .before .before .before .before .before .before .before .before .before .before .before .before .before .before .before .before .before .before .pre .1 .0), turn-in-pool (turn-at t (c .before .before .before .before .before .before .before .before .before .before .before .before)) (c .before .before .before .before .before .before .before .before .before .before .case-at .result .test) (ap (λ (z : Case). z .test) (c .before .before .before .before .before .before .before .before .before .before .case-at .ensures)))
 
 -- src/build.rt:133:13
 build-cases-do-build-tree-requires : (t : ℕ) → build-cases-lts.Need-do-build-tree-requires (
   case-at-reads.Asked,
   case-at-reads.Learnt,
-  case-matrix-reads.Asked,
-  case-matrix-reads.Learnt,
   put-child-reads.Asked,
   put-child-reads.Learnt,
+  case-matrix-reads.Asked,
+  case-matrix-reads.Learnt,
   do-build-tree-below t,
   do-build-tree.Post,
 ) (build-cases-at t) build-cases.Post build-cases-Inv-loop build-cases-μ-loop
-build-cases-do-build-tree-requires t c κs = (omega (arith, (c .before .before .before .before .before .before .before .before .before .before .before .before .before .before .before .before .before .before .before .before .pre .0), turn-deeper (turn-at t (c .before .before .before .before .before .before .before .before .before .before .before .before .before .before)) (c .before .before .before .before .before .before .before .before .before .before .before .before .case-at .result .test) (ap (λ (z : Case). z .test) (c .before .before .before .before .before .before .before .before .before .before .before .before .case-at .ensures)) (c .before .before .before .before .before .before .case-matrix .result) (c .before .before .before .before .before .before .case-matrix .ensures), tested-room (c .before .before .before .before .before .before .before .before .before .before .before .before .before .before .before .before .before .before .before .before .pre .1 .0)), turn-asked (turn-at t (c .before .before .before .before .before .before .before .before .before .before .before .before .before .before)) (c .before .before .before .before .before .before .before .before .before .before .before .before .case-at .result .test) (ap (λ (z : Case). z .test) (c .before .before .before .before .before .before .before .before .before .before .before .before .case-at .ensures)) (c .before .before .before .before .before .before .case-matrix .result) (c .before .before .before .before .before .before .case-matrix .ensures) (c .before .before .before .put-child .last .0) (c .before .before .before .put-child .ensures))
+build-cases-do-build-tree-requires t c κs = (omega (arith, (c .before .before .before .before .before .before .before .before .before .before .before .before .before .before .before .before .before .before .before .before .pre .0), turn-deeper (turn-at t (c .before .before .before .before .before .before .before .before .before .before .before .before .before .before)) (c .before .before .before .before .before .before .before .before .before .before .before .before .case-at .result .test) (ap (λ (z : Case). z .test) (c .before .before .before .before .before .before .before .before .before .before .before .before .case-at .ensures)) (c .before .case-matrix .result) (c .before .case-matrix .ensures), tested-room (c .before .before .before .before .before .before .before .before .before .before .before .before .before .before .before .before .before .before .before .before .pre .1 .0)), turn-asked (turn-at t (c .before .before .before .before .before .before .before .before .before .before .before .before .before .before)) (c .before .before .before .before .before .before .before .before .before .before .before .before .case-at .result .test) (ap (λ (z : Case). z .test) (c .before .before .before .before .before .before .before .before .before .before .before .before .case-at .ensures)) (c .before .case-matrix .result) (c .before .case-matrix .ensures) (c .before .before .before .before .before .before .before .before .before .put-child .last .0) (c .before .before .before .before .before .before .before .before .before .put-child .ensures))
 
 -- src/build.rt:135:13
 build-cases-same-length : (t : ℕ) → build-cases-lts.Need-same-length (
   case-at-reads.Asked,
   case-at-reads.Learnt,
-  case-matrix-reads.Asked,
-  case-matrix-reads.Learnt,
   put-child-reads.Asked,
   put-child-reads.Learnt,
+  case-matrix-reads.Asked,
+  case-matrix-reads.Learnt,
   do-build-tree-below t,
   do-build-tree.Post,
 ) (build-cases-at t) build-cases.Post build-cases-Inv-loop build-cases-μ-loop
-build-cases-same-length t c = (c .before .before .before .before .do-build-tree .kept .1 .1 .1 .1 .0) ∙ (c .before .before .before .before .before .before .before .before .put-child .kept .0) ∙ (c .before .before .before .before .before .before .before .before .before .before .before .before .before .before .before .before .before .before .before .before .loop .inv .1)
+build-cases-same-length t c = (c .before .before .before .before .do-build-tree .kept .1 .1 .1 .1 .0) ∙ (c .before .before .before .before .before .before .before .before .before .before .before .before .before .before .put-child .kept .0) ∙ (c .before .before .before .before .before .before .before .before .before .before .before .before .before .before .before .before .before .before .before .before .loop .inv .1)
 
 -- src/build.rt:135:13
 build-cases-returns : (t : ℕ) → build-cases-lts.Need-returns (
   case-at-reads.Asked,
   case-at-reads.Learnt,
-  case-matrix-reads.Asked,
-  case-matrix-reads.Learnt,
   put-child-reads.Asked,
   put-child-reads.Learnt,
+  case-matrix-reads.Asked,
+  case-matrix-reads.Learnt,
   do-build-tree-below t,
   do-build-tree.Post,
 ) (build-cases-at t) build-cases.Post build-cases-Inv-loop build-cases-μ-loop
-build-cases-returns t c = turn-over (turn-at t (c .before .before .before .before .before .before .before .before .before .before .before .before .before .before .before .before .before .before .before)) (c .before .before .before .before .before .before .before .before .before .before .before .before .before .before .before .before .before .case-at .result .test) (ap (λ (z : Case). z .test) (c .before .before .before .before .before .before .before .before .before .before .before .before .before .before .before .before .before .case-at .ensures)) (c .before .before .before .before .before .before .before .before .before .before .before .case-matrix .result) (c .before .before .before .before .before .before .before .before .before .before .before .case-matrix .ensures) (c .before .before .before .before .before .before .before .before .put-child .last .0) (c .before .before .before .before .before .before .before .before .put-child .ensures) (c .before .before .before .before .do-build-tree .last .1 .1 .1 .1 .0) (c .before .before .before .before .do-build-tree .result) (c .before .before .before .before .do-build-tree .ensures) (not-true (c .before .before .before .before .do-build-tree .result .fits) (c .if1 .taken))
+build-cases-returns t c = turn-over (turn-at t (c .before .before .before .before .before .before .before .before .before .before .before .before .before .before .before .before .before .before .before)) (c .before .before .before .before .before .before .before .before .before .before .before .before .before .before .before .before .before .case-at .result .test) (ap (λ (z : Case). z .test) (c .before .before .before .before .before .before .before .before .before .before .before .before .before .before .before .before .before .case-at .ensures)) (c .before .before .before .before .before .before .case-matrix .result) (c .before .before .before .before .before .before .case-matrix .ensures) (c .before .before .before .before .before .before .before .before .before .before .before .before .before .before .put-child .last .0) (c .before .before .before .before .before .before .before .before .before .before .before .before .before .before .put-child .ensures) (c .before .before .before .before .do-build-tree .last .1 .1 .1 .1 .0) (c .before .before .before .before .do-build-tree .result) (c .before .before .before .before .do-build-tree .ensures) (not-true (c .before .before .before .before .do-build-tree .result .fits) (c .if1 .taken))
 
 -- src/build.rt:138:9
 build-cases-add-i : (t : ℕ) → build-cases-lts.Need-add-i (
   case-at-reads.Asked,
   case-at-reads.Learnt,
-  case-matrix-reads.Asked,
-  case-matrix-reads.Learnt,
   put-child-reads.Asked,
   put-child-reads.Learnt,
+  case-matrix-reads.Asked,
+  case-matrix-reads.Learnt,
   do-build-tree-below t,
   do-build-tree.Post,
 ) (build-cases-at t) build-cases.Post build-cases-Inv-loop build-cases-μ-loop
@@ -266,10 +266,10 @@ build-cases-add-i t c = omega (arith, turn-room (turn-at t (c .before .before .b
 build-cases-loop-less : (t : ℕ) → build-cases-lts.Need-loop-less (
   case-at-reads.Asked,
   case-at-reads.Learnt,
-  case-matrix-reads.Asked,
-  case-matrix-reads.Learnt,
   put-child-reads.Asked,
   put-child-reads.Learnt,
+  case-matrix-reads.Asked,
+  case-matrix-reads.Learnt,
   do-build-tree-below t,
   do-build-tree.Post,
 ) (build-cases-at t) build-cases.Post build-cases-Inv-loop build-cases-μ-loop
@@ -279,23 +279,23 @@ build-cases-loop-less t c = omega (arith, c .before .before .before .before .bef
 build-cases-loop-again : (t : ℕ) → build-cases-lts.Need-loop-again (
   case-at-reads.Asked,
   case-at-reads.Learnt,
-  case-matrix-reads.Asked,
-  case-matrix-reads.Learnt,
   put-child-reads.Asked,
   put-child-reads.Learnt,
+  case-matrix-reads.Asked,
+  case-matrix-reads.Learnt,
   do-build-tree-below t,
   do-build-tree.Post,
 ) (build-cases-at t) build-cases.Post build-cases-Inv-loop build-cases-μ-loop
-build-cases-loop-again t c = (omega (arith, c .before .before .before .before .before .before .before .before .before .before .before .before .before .before .before .before .before .before .before .before .loop-test .taken), (c .before .before .before .before .before .do-build-tree .kept .1 .1 .1 .1 .0) ∙ (c .before .before .before .before .before .before .before .before .before .put-child .kept .0) ∙ (c .before .before .before .before .before .before .before .before .before .before .before .before .before .before .before .before .before .before .before .before .before .loop .inv .1), turn-done (turn-at t (c .before .before .before .before .before .before .before .before .before .before .before .before .before .before .before .before .before .before .before .before)) (c .before .before .before .before .before .before .before .before .before .before .before .before .before .before .before .before .before .before .case-at .result .test) (ap (λ (z : Case). z .test) (c .before .before .before .before .before .before .before .before .before .before .before .before .before .before .before .before .before .before .case-at .ensures)) (c .before .before .before .before .before .before .before .before .before .before .before .before .case-matrix .result) (c .before .before .before .before .before .before .before .before .before .before .before .before .case-matrix .ensures) (c .before .before .before .before .before .before .before .before .before .put-child .last .0) (c .before .before .before .before .before .before .before .before .before .put-child .ensures) (c .before .before .before .before .before .do-build-tree .last .1 .1 .1 .1 .0) (c .before .before .before .before .before .do-build-tree .result) (c .before .before .before .before .before .do-build-tree .ensures) (not-false (c .before .before .before .before .before .do-build-tree .result .fits) (c .before .if1 .left)))
+build-cases-loop-again t c = (omega (arith, c .before .before .before .before .before .before .before .before .before .before .before .before .before .before .before .before .before .before .before .before .loop-test .taken), (c .before .before .before .before .before .do-build-tree .kept .1 .1 .1 .1 .0) ∙ (c .before .before .before .before .before .before .before .before .before .before .before .before .before .before .before .put-child .kept .0) ∙ (c .before .before .before .before .before .before .before .before .before .before .before .before .before .before .before .before .before .before .before .before .before .loop .inv .1), turn-done (turn-at t (c .before .before .before .before .before .before .before .before .before .before .before .before .before .before .before .before .before .before .before .before)) (c .before .before .before .before .before .before .before .before .before .before .before .before .before .before .before .before .before .before .case-at .result .test) (ap (λ (z : Case). z .test) (c .before .before .before .before .before .before .before .before .before .before .before .before .before .before .before .before .before .before .case-at .ensures)) (c .before .before .before .before .before .before .before .case-matrix .result) (c .before .before .before .before .before .before .before .case-matrix .ensures) (c .before .before .before .before .before .before .before .before .before .before .before .before .before .before .before .put-child .last .0) (c .before .before .before .before .before .before .before .before .before .before .before .before .before .before .before .put-child .ensures) (c .before .before .before .before .before .do-build-tree .last .1 .1 .1 .1 .0) (c .before .before .before .before .before .do-build-tree .result) (c .before .before .before .before .before .do-build-tree .ensures) (not-false (c .before .before .before .before .before .do-build-tree .result .fits) (c .before .if1 .left)))
 
 -- src/build.rt:104:1
 build-cases-same-length-2 : (t : ℕ) → build-cases-lts.Need-same-length-2 (
   case-at-reads.Asked,
   case-at-reads.Learnt,
-  case-matrix-reads.Asked,
-  case-matrix-reads.Learnt,
   put-child-reads.Asked,
   put-child-reads.Learnt,
+  case-matrix-reads.Asked,
+  case-matrix-reads.Learnt,
   do-build-tree-below t,
   do-build-tree.Post,
 ) (build-cases-at t) build-cases.Post build-cases-Inv-loop build-cases-μ-loop
@@ -305,10 +305,10 @@ build-cases-same-length-2 t c = search needs
 build-cases-returns-2 : (t : ℕ) → build-cases-lts.Need-returns-2 (
   case-at-reads.Asked,
   case-at-reads.Learnt,
-  case-matrix-reads.Asked,
-  case-matrix-reads.Learnt,
   put-child-reads.Asked,
   put-child-reads.Learnt,
+  case-matrix-reads.Asked,
+  case-matrix-reads.Learnt,
   do-build-tree-below t,
   do-build-tree.Post,
 ) (build-cases-at t) build-cases.Post build-cases-Inv-loop build-cases-μ-loop
@@ -595,7 +595,7 @@ do-build-tree-returns : (t : ℕ) → do-build-tree-lts.Need-returns (
 ) (do-build-tree-at t) do-build-tree.Post
 do-build-tree-returns t c = full-builds ((c .before .before .before .before .before .pre .1) .ready .checked .ok) ((c .before .before .before .before .before .pre .1) .there) (c .before .before .before .before .before .args .work .now) (c .before .before .before .before .before .args .work .now) (c .before .before .before .before .before .args .tops) (record { fits = false; tops = (c .before .before .before .before .before .args .tops) }) (c .if1 .taken) refl
 
--- src/build.rt:192:9
+-- src/build.rt:194:9
 do-build-tree-highest-occurrence-requires :
     (t : ℕ) → do-build-tree-lts.Need-highest-occurrence-requires (
       highest-occurrence-reads.Asked,
@@ -605,9 +605,9 @@ do-build-tree-highest-occurrence-requires :
       build-switch-below t,
       build-switch.Post,
     ) (do-build-tree-at t) do-build-tree.Post
-do-build-tree-highest-occurrence-requires t c κs = asked-readable (c .before .before .before .before .before .pre .1)
+do-build-tree-highest-occurrence-requires t c κs = let r = asked-readable (c .before .before .before .before .before .before .before .before .before .pre .1) in (r .whole .whole-rows, r .whole .whole-columns, r .cells)
 
--- src/build.rt:193:24
+-- src/build.rt:195:24
 do-build-tree-enum-known-choice : (t : ℕ) → do-build-tree-lts.Need-enum-known-choice (
   highest-occurrence-reads.Asked,
   highest-occurrence-reads.Learnt,
@@ -618,7 +618,7 @@ do-build-tree-enum-known-choice : (t : ℕ) → do-build-tree-lts.Need-enum-know
 ) (do-build-tree-at t) do-build-tree.Post
 do-build-tree-enum-known-choice t c = search needs
 
--- src/build.rt:194:41
+-- src/build.rt:196:41
 do-build-tree-enum-told : (t : ℕ) → do-build-tree-lts.Need-enum-told (
   highest-occurrence-reads.Asked,
   highest-occurrence-reads.Learnt,
@@ -629,7 +629,7 @@ do-build-tree-enum-told : (t : ℕ) → do-build-tree-lts.Need-enum-told (
 ) (do-build-tree-at t) do-build-tree.Post
 do-build-tree-enum-told t c = search needs
 
--- src/build.rt:194:13
+-- src/build.rt:196:13
 do-build-tree-put-leaf-requires : (t : ℕ) → do-build-tree-lts.Need-put-leaf-requires (
   highest-occurrence-reads.Asked,
   highest-occurrence-reads.Learnt,
@@ -638,9 +638,9 @@ do-build-tree-put-leaf-requires : (t : ℕ) → do-build-tree-lts.Need-put-leaf-
   build-switch-below t,
   build-switch.Post,
 ) (do-build-tree-at t) do-build-tree.Post
-do-build-tree-put-leaf-requires t c κs = ((c .before .before .before .before .before .before .before .before .before .pre .1), node-left ((c .before .before .before .before .before .before .before .before .before .pre .1) .room .nodes-most) (c .before .before .before .before .if1 .left), (asked-chosen (c .before .before .before .before .before .before .before .before .before .pre .1) (c .before .before .before .highest-occurrence .result) (c .before .before .before .highest-occurrence .ensures) (c .before .enum-told .given .1)))
+do-build-tree-put-leaf-requires t c κs = ((c .before .before .before .before .before .before .before .before .before .before .before .before .before .pre .1), node-left ((c .before .before .before .before .before .before .before .before .before .before .before .before .before .pre .1) .room .nodes-most) (c .before .before .before .before .before .before .before .before .if1 .left), (asked-chosen (c .before .before .before .before .before .before .before .before .before .before .before .before .before .pre .1) (c .before .before .before .highest-occurrence .result) (c .before .before .before .highest-occurrence .ensures) (c .before .enum-told .given .1)))
 
--- src/build.rt:195:9
+-- src/build.rt:197:9
 do-build-tree-same-length : (t : ℕ) → do-build-tree-lts.Need-same-length (
   highest-occurrence-reads.Asked,
   highest-occurrence-reads.Learnt,
@@ -651,7 +651,7 @@ do-build-tree-same-length : (t : ℕ) → do-build-tree-lts.Need-same-length (
 ) (do-build-tree-at t) do-build-tree.Post
 do-build-tree-same-length t c = (c .before .before .put-leaf .kept .1 .1 .1 .1 .0)
 
--- src/build.rt:195:9
+-- src/build.rt:197:9
 do-build-tree-returns-2 : (t : ℕ) → do-build-tree-lts.Need-returns-2 (
   highest-occurrence-reads.Asked,
   highest-occurrence-reads.Learnt,
@@ -660,9 +660,9 @@ do-build-tree-returns-2 : (t : ℕ) → do-build-tree-lts.Need-returns-2 (
   build-switch-below t,
   build-switch.Post,
 ) (do-build-tree-at t) do-build-tree.Post
-do-build-tree-returns-2 t c = leaf-builds ((c .before .before .before .before .before .before .before .before .before .before .before .before .pre .1) .ready .checked .ok) ((c .before .before .before .before .before .before .before .before .before .before .before .before .pre .1) .there) (c .before .before .before .before .before .before .before .before .before .before .before .before .args .work .now) (c .before .before .put-leaf .last .1 .1 .1 .1 .0) (c .before .before .before .before .before .before .before .before .before .before .before .before .args .tops) (c .before .before .put-leaf .result) (record { fits = true; tops = (c .before .before .put-leaf .result) }) (asked-chosen (c .before .before .before .before .before .before .before .before .before .before .before .before .pre .1) (c .before .before .before .before .before .before .highest-occurrence .result) (c .before .before .before .before .before .before .highest-occurrence .ensures) (c .before .before .before .before .enum-told .given .1)) refl (c .before .before .put-leaf .ensures)
+do-build-tree-returns-2 t c = leaf-builds ((c .before .before .before .before .before .before .before .before .before .before .before .before .before .before .before .before .pre .1) .ready .checked .ok) ((c .before .before .before .before .before .before .before .before .before .before .before .before .before .before .before .before .pre .1) .there) (c .before .before .before .before .before .before .before .before .before .before .before .before .before .before .before .before .args .work .now) (c .before .before .put-leaf .last .1 .1 .1 .1 .0) (c .before .before .before .before .before .before .before .before .before .before .before .before .before .before .before .before .args .tops) (c .before .before .put-leaf .result) (record { fits = true; tops = (c .before .before .put-leaf .result) }) (asked-chosen (c .before .before .before .before .before .before .before .before .before .before .before .before .before .before .before .before .pre .1) (c .before .before .before .before .before .before .highest-occurrence .result) (c .before .before .before .before .before .before .highest-occurrence .ensures) (c .before .before .before .before .enum-told .given .1)) refl (c .before .before .put-leaf .ensures)
 
--- src/build.rt:200:5
+-- src/build.rt:202:5
 do-build-tree-build-switch-requires : (t : ℕ) → do-build-tree-lts.Need-build-switch-requires (
   highest-occurrence-reads.Asked,
   highest-occurrence-reads.Learnt,
@@ -671,7 +671,7 @@ do-build-tree-build-switch-requires : (t : ℕ) → do-build-tree-lts.Need-build
   build-switch-below t,
   build-switch.Post,
 ) (do-build-tree-at t) do-build-tree.Post
-do-build-tree-build-switch-requires t c κs = (omega (arith, (c .before .before .before .before .before .before .before .before .before .before .pre .0)), (record { ready = (c .before .before .before .before .before .before .before .before .before .before .pre .1) .ready; there = (c .before .before .before .before .before .before .before .before .before .before .pre .1) .there; chosen = asked-chosen (c .before .before .before .before .before .before .before .before .before .before .pre .1) (c .before .before .before .before .highest-occurrence .result) (c .before .before .before .before .highest-occurrence .ensures) (c .before .before .choice .given .1) }, (c .before .before .before .before .before .before .before .before .before .before .pre .1) .room, node-left ((c .before .before .before .before .before .before .before .before .before .before .pre .1) .room .nodes-most) (c .before .before .before .before .before .if1 .left)))
+do-build-tree-build-switch-requires t c κs = (omega (arith, (c .before .before .before .before .before .before .before .before .before .before .before .before .before .before .pre .0)), (record { ready = (c .before .before .before .before .before .before .before .before .before .before .before .before .before .before .pre .1) .ready; there = (c .before .before .before .before .before .before .before .before .before .before .before .before .before .before .pre .1) .there; chosen = asked-chosen (c .before .before .before .before .before .before .before .before .before .before .before .before .before .before .pre .1) (c .before .before .before .before .highest-occurrence .result) (c .before .before .before .before .highest-occurrence .ensures) (c .before .before .choice .given .1) }, (c .before .before .before .before .before .before .before .before .before .before .before .before .before .before .pre .1) .room, node-left ((c .before .before .before .before .before .before .before .before .before .before .before .before .before .before .pre .1) .room .nodes-most) (c .before .before .before .before .before .before .before .before .before .if1 .left)))
 
 -- src/build.rt:185:1
 do-build-tree-same-length-2 : (t : ℕ) → do-build-tree-lts.Need-same-length-2 (
@@ -700,10 +700,10 @@ pub +build-cases+build-switch+do-build-tree-spec : {M : Type 1} → statement M
     close μ-build-cases μ-build-switch μ-do-build-tree (λ t. build-cases-lts.spec (
       case-at-reads.Asked,
       case-at-reads.Learnt,
-      case-matrix-reads.Asked,
-      case-matrix-reads.Learnt,
       put-child-reads.Asked,
       put-child-reads.Learnt,
+      case-matrix-reads.Asked,
+      case-matrix-reads.Learnt,
       do-build-tree-below t,
       do-build-tree.Post,
     )
@@ -715,10 +715,10 @@ pub +build-cases+build-switch+do-build-tree-spec : {M : Type 1} → statement M
     (build-cases-loop-holds t)
     (build-cases-add-case-at t)
     (build-cases-case-at-requires t)
-    (build-cases-case-matrix-requires t)
     (build-cases-add-put-child t)
     (build-cases-cast-put-child t)
     (build-cases-put-child-requires t)
+    (build-cases-case-matrix-requires t)
     (build-cases-do-build-tree-requires t)
     (build-cases-same-length t)
     (build-cases-returns t)
