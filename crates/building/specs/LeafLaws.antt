@@ -18,6 +18,9 @@ use Rattle.table.specs.Standing.{sheetPaths}
 use Rattle.matrix.specs.declared.Matrix.{Matrix}
 use Rattle.matrix.specs.declared.Choice.{Choice}
 use Rattle.matrix.specs.declared.Choice.the-variants.{Leaf}
+use Rattle.matrix.specs.HeldRows.{countOf, bestOf}
+use Rattle.matrix.specs.Lists.{classesIn, numbersIn}
+use Rattle.matrix.specs.Reading.{heldIn}
 use Rattle.matrix.specs.Numbered.{chosenIn, treeAt}
 use Rattle.matrix.specs.Bound.{boundNumbers}
 use Rattle.matrix.specs.InNumbers.{inNumbers, Readable, chosenRead}
@@ -125,7 +128,9 @@ module _ {s : List ℕ} {m : Map} {t : List ℕ} {x : Matrix} {w : List ℕ} {to
   pub asked-readable : Readable t x
   asked-readable = readable (asked .ready) x (asked .there .whole) (asked .there .sound)
 
-  pub asked-chosen : (r : Choice) → r ≡ chosenRead t (inNumbers x) → {o : Choice} → r ≡ o → chosenIn s (inNumbers x) ≡ o
+  pub asked-chosen : (r : Choice) → r ≡ bestOf (λ k. countOf (heldIn t (x .opened) k) (numbersIn (x .rows))) Leaf 0 (classesIn (x .columns)) → {o : Choice} → r ≡ o
+      → chosenIn s (inNumbers x) ≡ o
+  unfolding chosenRead
   asked-chosen r e f = sym (chosen-read (asked .ready) (inNumbers x) (asked .there .sound)) ∙ sym e ∙ f
 
 pub node-left : {n : ℕ} → n ≤ nodesMost → (n ≡ nodesMost → ⊥) → n < nodesMost

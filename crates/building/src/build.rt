@@ -115,13 +115,20 @@ fn build_cases(
     ensures { λ r. ⌜ BuildsCases (sheetPaths (now (s .entry))) (caseTree (now (s .entry)) class (inNumbers x)) (caseList (now (s .entry)) class (inNumbers x)) first (now (work .entry)) (now (work .exit)) from r ⌝ }
 {
     let count = from.cases - first;
+    let n = x.rows.count;
+    let k = x.columns.count;
+    let j = x.tested.count;
     let mut tops = from;
     let mut i: usize = 0;
     while i < count {
         let case = case_at(work, first + i);
         let test = case.test;
-        let y = case_matrix(s, m, t, x, class, test);
         put_child(work, first + i, tops.nodes as u16);
+        let rows = &x.rows.list;
+        let columns = &x.columns.list;
+        let tested = &x.tested.list;
+        let opened = &x.opened;
+        let y = case_matrix(s, m, t, rows, n, columns, k, tested, j, opened, class, test);
         let built = do_build_tree(s, m, t, y, work, tops);
         if !built.fits {
             return built;
@@ -150,21 +157,22 @@ fn build_switch(
     let Meeting::Met(met) = meeting else {
         return Built { fits: false, tops };
     };
-    let leaves = tops.leaves;
-    let from = Tops {
-        nodes: tops.nodes + 1,
-        cases: met.end,
-        bindings: tops.bindings,
-        leaves,
-    };
+    let mut from = tops;
+    from.nodes += 1;
+    from.cases = met.end;
     let built = build_cases(s, m, t, x, class, work, first, from);
     if !built.fits {
         return built;
     }
     let next = built.tops;
-    let d = default_matrix(t, x, class);
-    let rows = d.rows;
-    if rows.count == 0 {
+    let rows = &x.rows.list;
+    let columns = &x.columns.list;
+    let tested = &x.tested.list;
+    let opened = &x.opened;
+    let k = x.columns.count;
+    let j = x.tested.count;
+    let d = default_matrix(t, rows, x.rows.count, columns, k, tested, j, opened, class);
+    if d.rows.count == 0 {
         put_switch(work, tops.nodes, class, first, met, 0);
         return built;
     }
@@ -180,7 +188,9 @@ pub fn do_build_tree(s: &[u8], m: Map, t: &[u8], x: Matrix, work: &mut [u8], top
     if tops.nodes == NODES_MOST {
         return Built { fits: false, tops };
     }
-    let choice = highest_occurrence(t, x);
+    let n = x.rows.count;
+    let k = x.columns.count;
+    let choice = highest_occurrence(t, &x.rows.list, n, &x.columns.list, k, &x.opened);
     let Choice::Column(class) = choice else {
         let next = put_leaf(s, m, t, x, work, tops);
         return Built {

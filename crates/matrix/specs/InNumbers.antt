@@ -12,10 +12,14 @@ use Rattle.matrix.specs.declared.Matrix.{Matrix}
 use Rattle.matrix.specs.declared.Choice.{Choice}
 use Rattle.matrix.specs.declared.Choice.the-variants.{Leaf}
 use Rattle.matrix.specs.HeldRows.{countOf, bestOf, wildOf}
-use Rattle.matrix.specs.Lists.{classesIn, numbersIn, Whole, WholeRows}
+use Rattle.matrix.specs.Lists.{classesIn, numbersIn, asClasses, asRows, Whole, WholeRows}
 use Rattle.matrix.specs.Numbered.{Numbered}
 use Rattle.matrix.specs.Ordered.{withoutClass}
 use Rattle.matrix.specs.Reading.{heldIn, InTable}
+
+-- the matrix of parts that are lent: rows, columns and columns tested up to their counts, and what is opened
+abbrev pub matrixOf : List ℕ → ℕ → List ℕ → ℕ → List ℕ → ℕ → List ℕ → Matrix
+matrixOf rows n columns k tested time opened = record { rows = asRows rows n; columns = asClasses columns k; tested = asClasses tested time; opened = opened }
 
 abbrev pub inNumbers : Matrix → Numbered
 inNumbers x = record { rows = numbersIn (x .rows); columns = classesIn (x .columns); tested = classesIn (x .tested); opened = x .opened }

@@ -2,7 +2,6 @@
 // The rows with a wildcard are the default's.
 use crate::Choice;
 use crate::Held;
-use crate::Matrix;
 use crate::PerRow;
 use crate::wide;
 use table::CELL;
@@ -15,7 +14,6 @@ ghost use lib.ListN.{take};
 ghost use Rattle.rules.specs.SplittingLaws.{All};
 ghost use Rattle.matrix.specs.declared.Choice.the-variants.{Leaf};
 ghost use Rattle.matrix.specs.HeldRows.{countOf, bestOf, wildOf};
-ghost use Rattle.matrix.specs.InNumbers.{inNumbers, Readable, chosenRead};
 ghost use Rattle.matrix.specs.Lists.{asClasses, asRows, Whole, WholeRows, HoldsRows};
 ghost use Rattle.matrix.specs.Reading.{heldIn, InTable, hasTest, bettered, kept};
 
@@ -85,8 +83,8 @@ fn better_of(best: Best, class: usize, amount: usize) -> Best
     best
 }
 
-// Of the first k columns the one with the most of the first n rows before its first wildcard.
-fn best_column<'a>(
+// The column to test: of the first k columns the one with the most of the first n rows before its first wildcard.
+pub fn highest_occurrence<'a>(
     t: &[u8],
     rows: &'a [u8; 32],
     n: usize,
@@ -108,16 +106,6 @@ fn best_column<'a>(
         i += 1;
     }
     best.choice
-}
-
-// The column to test.
-pub fn highest_occurrence(t: &[u8], x: Matrix) -> Choice
-    requires { ⌜ Readable (now t) x ⌝ }
-    ensures { λ r. ⌜ r ≡ chosenRead (now (t .entry)) (inNumbers x) ⌝ }
-{
-    let n = x.rows.count;
-    let k = x.columns.count;
-    best_column(t, &x.rows.list, n, &x.columns.list, k, &x.opened)
 }
 
 // One more number.

@@ -37,7 +37,7 @@ ghost use Rattle.matrix.specs.Numbered.{SoundOf, firstNumbered, caseNumb
 ghost use Rattle.matrix.specs.Lists.{classesIn, asClasses, asRows, Holds, HoldsRows, WholeRows};
 ghost use Rattle.matrix.specs.Ready.{Ready, putTests, TestKnown};
 ghost use Rattle.matrix.specs.Meant.{meant, joinsTest, InPool, HeldKnown, joinRow, openRow, asJoined, JoinsTo};
-ghost use Rattle.matrix.specs.InNumbers.{inNumbers, WholeMatrix, StandsFor, Splits, defaultRead};
+ghost use Rattle.matrix.specs.InNumbers.{inNumbers, matrixOf, WholeMatrix, StandsFor, Splits, defaultRead};
 
 // A row for each of n clauses.
 fn all_rows(n: usize) -> PerRow
@@ -84,27 +84,35 @@ pub fn first_matrix(s: &[u8], m: Map, t: &[u8]) -> Matrix
 }
 
 // The default of the column of a class: the rows with a wildcard there, the other columns, and this one tested.
-pub fn default_matrix(t: &[u8], x: Matrix, class: usize) -> Matrix
-    requires { ⌜ Splits (now t) x class ⌝ }
-    ensures { λ r. ⌜ StandsFor r (defaultRead (now (t .entry)) class (inNumbers x)) ⌝ }
+pub fn default_matrix<'a>(
+    t: &[u8],
+    rows: &'a [u8; 32],
+    n: usize,
+    columns: &'a [u8; 192],
+    k: usize,
+    tested: &'a [u8; 192],
+    time: usize,
+    opened: &'a [u8; 192],
+    class: usize,
+) -> Matrix
+    requires { ⌜ Splits (now t) (matrixOf (now rows) n (now columns) k (now tested) time (now opened)) class ⌝ }
+    ensures { λ r. ⌜ StandsFor r (defaultRead (now (t .entry)) class (inNumbers (matrixOf (now (rows .entry)) n (now (columns .entry)) k (now (tested .entry)) time (now (opened .entry))))) ⌝ }
 {
-    let n = x.rows.count;
-    let k = x.columns.count;
-    let rows = wild_rows(t, &x.rows.list, n, &x.opened, class);
-    let mut list = [0u8; 192];
-    let count = put_rest(&mut list, 0, &x.columns.list, k, class);
-    let columns = Classes { list, count };
-    let time = x.tested.count;
-    let mut list = x.tested.list;
-    let count = push(&mut list, time, class);
-    let tested = Classes { list, count };
-    let opened = x.opened;
-    Matrix {
-        rows,
-        columns,
-        tested,
-        opened,
-    }
+    let mut y = Matrix {
+        rows: wild_rows(t, rows, n, opened, class),
+        columns: Classes {
+            list: [0; 192],
+            count: 0,
+        },
+        tested: Classes {
+            list: *tested,
+            count: time,
+        },
+        opened: *opened,
+    };
+    y.columns.count = put_rest(&mut y.columns.list, 0, columns, k, class);
+    y.tested.count = push(&mut y.tested.list, time, class);
+    y
 }
 
 // The rows of a case, and the tests that they open.
@@ -220,30 +228,40 @@ fn open_all(s: &[u8], m: Map, t: &[u8], opens: &[u8; 32], n: usize, list: &mut [
 
 // A case of the column of a class: the rows with a wildcard there and those whose tests belong to it, what these open to before the
 // other columns, and this one tested.
-pub fn case_matrix(s: &[u8], m: Map, t: &[u8], x: Matrix, class: usize, test: Test) -> Matrix
-    requires { ⌜ Ready (now s) m (now t) × WholeMatrix x × SoundOf (now s) (inNumbers x) × (isIn class (classesIn (x .columns)) ≡ true) × InPool (now s) test ⌝ }
-    ensures { λ r. ⌜ StandsFor r (caseNumbered (now (s .entry)) class (meant (now (s .entry)) test) (inNumbers x)) ⌝ }
+pub fn case_matrix<'a>(
+    s: &[u8],
+    m: Map,
+    t: &[u8],
+    rows: &'a [u8; 32],
+    n: usize,
+    columns: &'a [u8; 192],
+    k: usize,
+    tested: &'a [u8; 192],
+    time: usize,
+    opened: &'a [u8; 192],
+    class: usize,
+    test: Test,
+) -> Matrix
+    requires { ⌜ Ready (now s) m (now t) × WholeMatrix (matrixOf (now rows) n (now columns) k (now tested) time (now opened)) × SoundOf (now s) (inNumbers (matrixOf (now rows) n (now columns) k (now tested) time (now opened))) × (isIn class (take k (now columns)) ≡ true) × InPool (now s) test ⌝ }
+    ensures { λ r. ⌜ StandsFor r (caseNumbered (now (s .entry)) class (meant (now (s .entry)) test) (inNumbers (matrixOf (now (rows .entry)) n (now (columns .entry)) k (now (tested .entry)) time (now (opened .entry))))) ⌝ }
 {
-    let n = x.rows.count;
-    let k = x.columns.count;
-    let time = x.tested.count;
-    let joined = join_rows(s, m, t, &x.rows.list, n, &x.opened, class, test);
-    let rows = joined.rows;
-    let opens = joined.opens.list;
+    let joined = join_rows(s, m, t, rows, n, opened, class, test);
     let some = joined.opens.count;
-    let mut list = [0u8; 192];
-    let front = open_all(s, m, t, &opens, some, &mut list);
-    let count = put_rest(&mut list, front, &x.columns.list, k, class);
-    let columns = Classes { list, count };
-    let mut opened = x.opened;
-    mark(&mut opened, &opens, some, time + 1);
-    let mut list = x.tested.list;
-    let count = push(&mut list, time, class);
-    let tested = Classes { list, count };
-    Matrix {
-        rows,
-        columns,
-        tested,
-        opened,
-    }
+    let mut y = Matrix {
+        rows: joined.rows,
+        columns: Classes {
+            list: [0; 192],
+            count: 0,
+        },
+        tested: Classes {
+            list: *tested,
+            count: time,
+        },
+        opened: *opened,
+    };
+    let front = open_all(s, m, t, &joined.opens.list, some, &mut y.columns.list);
+    y.columns.count = put_rest(&mut y.columns.list, front, columns, k, class);
+    y.tested.count = push(&mut y.tested.list, time, class);
+    mark(&mut y.opened, &joined.opens.list, some, time + 1);
+    y
 }

@@ -4,6 +4,7 @@ use native.Mathlib.Omega.{arith}
 use Rattle.rules.specs.SheetFile.{clauses}
 use Rattle.matrix.specs.Lists.{asClasses, numbersIn}
 use Rattle.matrix.specs.ListsLaws.{whole, whole-rows}
+use Rattle.matrix.specs.InNumbers.{matrixOf}
 use Rattle.matrix.specs.InNumbersLaws.{rising-below, splits}
 use Rattle.matrix.specs.Meant.{meant}
 use Rattle.matrix.specs.SplitLaws.{joined-there, joined-low, joined-room, joined-rest, case-stands}
@@ -19,51 +20,57 @@ use Rattle.matrix.proofs.splitting.open_all.Reads as open-all-reads
 
 join-rows-requires : tie.Need-join-rows-requires
 join-rows-requires c κs =
-    let s = c .before .before .before .before .before in
+    let s = c .before .before in
     let a = s .args in
-    (s .pre .0, s .pre .1 .whole-rows, rising-below (clauses (a .s .now)) 0 (numbersIn (a .t4 .rows)) (s .pre .2 .rising), (splits (s .pre .0) (a .t4) (s .pre .1) (s .pre .2) (a .class) (s .pre .3)) .known, s .pre .4)
+    let x = matrixOf (a .rows .now) (a .n) (a .columns .now) (a .k) (a .tested .now) (a .time) (a .opened .now) in
+    (s .pre .0, s .pre .1 .whole-rows, rising-below (clauses (a .s .now)) 0 (numbersIn (x .rows)) (s .pre .2 .rising), (splits (s .pre .0) x (s .pre .1) (s .pre .2) (a .class) (s .pre .3)) .known, s .pre .4)
 
 open-all-requires : tie.Need-open-all-requires
 open-all-requires c κs =
-    let s = c .before .before .before .before .before .before .before .before .before .before in
+    let s = c .before .before .before .before .before .before .before .before .before in
     let a = s .args in
-    let joined = c .before .before .before .before .join-rows .ensures in
-    ((s .pre .0, whole-rows (joined .has-opens), joined-there (s .pre .0) (a .t4) (s .pre .1) (s .pre .2) (a .class) (s .pre .3) (meant (a .s .now) (a .test)) joined, joined-room (s .pre .0) (a .t4) (s .pre .1) (s .pre .2) (a .class) (s .pre .3) (meant (a .s .now) (a .test)) joined), refl)
+    let x = matrixOf (a .rows .now) (a .n) (a .columns .now) (a .k) (a .tested .now) (a .time) (a .opened .now) in
+    let joined = c .before .before .before .before .before .before .join-rows .ensures in
+    ((s .pre .0, whole-rows (joined .has-opens), joined-there (s .pre .0) x (s .pre .1) (s .pre .2) (a .class) (s .pre .3) (meant (a .s .now) (a .test)) joined, joined-room (s .pre .0) x (s .pre .1) (s .pre .2) (a .class) (s .pre .3) (meant (a .s .now) (a .test)) joined), refl)
 
 put-rest-requires : tie.Need-put-rest-requires
 put-rest-requires c κs =
-    let s = c .before .before .before .before .before .before .before .before .before .before .before .before .before .before in
+    let s = c .before .before .before .before .before .before .before .before .before .before .before in
     let a = s .args in
+    let x = matrixOf (a .rows .now) (a .n) (a .columns .now) (a .k) (a .tested .now) (a .time) (a .opened .now) in
     let joined = c .before .before .before .before .before .before .before .before .join-rows .ensures in
-    let opened = c .before .before .before .open-all in
-    (whole (opened .ensures), s .pre .1 .whole-columns, s .pre .3, joined-rest (s .pre .0) (a .t4) (s .pre .1) (s .pre .2) (a .class) (s .pre .3) (meant (a .s .now) (a .test)) joined {o = asClasses (opened .last .1 .1 .1 .1 .1 .0) (opened .result)} (opened .ensures))
-
-add-mark : tie.Need-add-mark
-add-mark c = omega (arith, c .before .before .before .before .before .before .before .before .before .before .before .before .before .before .before .before .before .before .pre .1 .whole-tested .most)
-
-mark-requires : tie.Need-mark-requires
-mark-requires c κs =
-    let s = c .before .before .before .before .before .before .before .before .before .before .before .before .before .before .before .before .before .before in
-    let a = s .args in
-    let joined = c .before .before .before .before .before .before .before .before .before .before .before .before .join-rows .ensures in
-    (s .pre .1 .long-opened, whole-rows (joined .has-opens), joined-low (s .pre .0) (a .t4) (s .pre .1) (s .pre .2) (a .class) (s .pre .3) (meant (a .s .now) (a .test)) joined, omega (arith, (splits (s .pre .0) (a .t4) (s .pre .1) (s .pre .2) (a .class) (s .pre .3)) .room))
+    let opened = c .before .open-all in
+    (whole (opened .ensures), s .pre .1 .whole-columns, s .pre .3, joined-rest (s .pre .0) x (s .pre .1) (s .pre .2) (a .class) (s .pre .3) (meant (a .s .now) (a .test)) joined {o = asClasses (opened .last .1 .1 .1 .1 .1 .0) (opened .result)} (opened .ensures))
 
 push-requires : tie.Need-push-requires
 push-requires c κs =
-    let s = c .before .before .before .before .before .before .before .before .before .before .before .before .before .before .before .before .before .before .before .before .before in
+    let s = c .before .before .before .before .before .before .before .before .before .before .before .before .before .before in
     let a = s .args in
-    (s .pre .1 .whole-tested, (splits (s .pre .0) (a .t4) (s .pre .1) (s .pre .2) (a .class) (s .pre .3)) .room, (splits (s .pre .0) (a .t4) (s .pre .1) (s .pre .2) (a .class) (s .pre .3)) .known)
+    let x = matrixOf (a .rows .now) (a .n) (a .columns .now) (a .k) (a .tested .now) (a .time) (a .opened .now) in
+    (s .pre .1 .whole-tested, (splits (s .pre .0) x (s .pre .1) (s .pre .2) (a .class) (s .pre .3)) .room, (splits (s .pre .0) x (s .pre .1) (s .pre .2) (a .class) (s .pre .3)) .known)
+
+add-mark : tie.Need-add-mark
+add-mark c = omega (arith, c .before .before .before .before .before .before .before .before .before .before .before .before .before .before .before .before .before .before .before .pre .1 .whole-tested .most)
+
+mark-requires : tie.Need-mark-requires
+mark-requires c κs =
+    let s = c .before .before .before .before .before .before .before .before .before .before .before .before .before .before .before .before .before .before .before in
+    let a = s .args in
+    let x = matrixOf (a .rows .now) (a .n) (a .columns .now) (a .k) (a .tested .now) (a .time) (a .opened .now) in
+    let joined = c .before .before .before .before .before .before .before .before .before .before .before .before .before .before .before .before .join-rows .ensures in
+    (s .pre .1 .long-opened, whole-rows (joined .has-opens), joined-low (s .pre .0) x (s .pre .1) (s .pre .2) (a .class) (s .pre .3) (meant (a .s .now) (a .test)) joined, omega (arith, (splits (s .pre .0) x (s .pre .1) (s .pre .2) (a .class) (s .pre .3)) .room))
 
 returns : tie.Need-returns
 returns c =
-    let s = c .before .before .before .before .before .before .before .before .before .before .before .before .before .before .before .before .before .before .before .before .before .before in
+    let s = c .before .before .before .before .before .before .before .before .before .before .before .before .before .before .before .before .before .before .before .before in
     let a = s .args in
-    let joined = c .before .before .before .before .before .before .before .before .before .before .before .before .before .before .before .before .join-rows .ensures in
-    let opened = c .before .before .before .before .before .before .before .before .before .before .before .open-all in
-    let columns = c .before .before .before .before .before .before .before .put-rest in
-    let tested = c .push in
-    case-stands (s .pre .0) (a .t4) (s .pre .1) (s .pre .2) (a .class) (s .pre .3) (meant (a .s .now) (a .test)) joined {o = asClasses (opened .last .1 .1 .1 .1 .1 .0) (opened .result)} (opened .ensures)
-    {columns = asClasses (columns .last .0) (columns .result)} {tested = asClasses (tested .last .0) (tested .result)} (columns .ensures) (tested .ensures) (c .before .before .before .mark .ensures)
+    let x = matrixOf (a .rows .now) (a .n) (a .columns .now) (a .k) (a .tested .now) (a .time) (a .opened .now) in
+    let joined = c .before .before .before .before .before .before .before .before .before .before .before .before .before .before .before .before .before .join-rows .ensures in
+    let opened = c .before .before .before .before .before .before .before .before .before .before .open-all in
+    let columns = c .before .before .before .before .before .before .before .before .put-rest in
+    let tested = c .before .before .before .before .before .push in
+    case-stands (s .pre .0) x (s .pre .1) (s .pre .2) (a .class) (s .pre .3) (meant (a .s .now) (a .test)) joined {o = asClasses (opened .last .1 .1 .1 .1 .1 .0) (opened .result)} (opened .ensures)
+    {columns = asClasses (columns .last .0) (columns .result)} {tested = asClasses (tested .last .0) (tested .result)} (columns .ensures) (tested .ensures) (c .mark .ensures)
 
 pub case-matrix-spec : {M : Type 1} → statement M
 case-matrix-spec =
@@ -72,7 +79,7 @@ case-matrix-spec =
     join-rows-requires
     open-all-requires
     put-rest-requires
+    push-requires
     add-mark
     mark-requires
-    push-requires
     returns)
