@@ -56,7 +56,7 @@ fn from_switch(
     requires { ⌜ Ready (now t) m (now v) n × (path < m .paths .count) × (1 ≤ cases) × (first + cases ≤ m .cases .count) × (caseKind (now t) first ≤ 2) × (test ≡ testOf (now t) first) ⌝ }
     ensures { λ r. ⌜ Turns (now (t .entry)) (now (v .entry)) (caseChildren (now (t .entry)) first cases ++ defaultChild default) (switchWalk (now (t .entry)) (now (v .entry)) path first cases default) r ⌝ }
 {
-    let Found::At(p) = follow(t, m, v, n, path as usize) else {
+    let Found::At(p) = follow(t, m.paths.start, m.steps.start, v, n, path as usize) else {
         return Next::End(Reached::Stuck);
     };
     let s = shown_at(v, n, p);
@@ -125,7 +125,7 @@ fn from_list_switch(
     requires { ⌜ Ready (now t) m (now v) n × (path < m .paths .count) × (first + (cases + tails) ≤ m .cases .count) ⌝ }
     ensures { λ r. ⌜ Turns (now (t .entry)) (now (v .entry)) (caseChildren (now (t .entry)) first (cases + tails) ++ defaultChild default) (listWalk (now (t .entry)) (now (v .entry)) path first cases tails default) r ⌝ }
 {
-    let Found::At(p) = follow(t, m, v, n, path as usize) else {
+    let Found::At(p) = follow(t, m.paths.start, m.steps.start, v, n, path as usize) else {
         return Next::End(Reached::Stuck);
     };
     let r = p.record;
