@@ -63,7 +63,15 @@ fn from_switch(
     if !of_kind(s, test) {
         return Next::End(Reached::Stuck);
     }
-    let Chosen::Child(c) = first_case(t, m, v, first as usize, cases as usize, s) else {
+    let Chosen::Child(c) = first_case(
+        t,
+        m.cases.start,
+        m.pool.start,
+        v,
+        first as usize,
+        cases as usize,
+        s,
+    ) else {
         return default_of(default);
     };
     Next::Node(c)
@@ -86,7 +94,15 @@ fn from_tails(
     if k == 0 {
         return default_of(default);
     }
-    let Chosen::Child(c) = first_case(t, m, v, first, tails, Part::Tailed(k - 1)) else {
+    let Chosen::Child(c) = first_case(
+        t,
+        m.cases.start,
+        m.pool.start,
+        v,
+        first,
+        tails,
+        Part::Tailed(k - 1),
+    ) else {
         return default_of(default);
     };
     Next::Node(c)
@@ -105,7 +121,15 @@ fn from_length(
     requires { ⌜ Ruled (now t) m × (first + (cases + tails) ≤ m .cases .count) ⌝ }
     ensures { λ r. ⌜ Turns (now (t .entry)) (now (v .entry)) (caseChildren (now (t .entry)) first (cases + tails) ++ defaultChild default) (lengthWalk (now (t .entry)) (now (v .entry)) length first cases tails default) r ⌝ }
 {
-    let Chosen::Child(c) = first_case(t, m, v, first, cases, Part::List(length)) else {
+    let Chosen::Child(c) = first_case(
+        t,
+        m.cases.start,
+        m.pool.start,
+        v,
+        first,
+        cases,
+        Part::List(length),
+    ) else {
         return from_tails(t, m, v, length, first + cases, tails, default);
     };
     Next::Node(c)
