@@ -1,6 +1,6 @@
 -- A file's fields as the code reads them, from the map's starts on; and that a file with a true length and rising starts is mapped.
 -- Rests on Reading and the rules' definitions of the tree file.
-use mathlib.Core.Path.{_≡_, refl, sym, ap, _∙_}
+use mathlib.Core.Path.{_≡_, refl, sym, ap, subst, _∙_}
 use mathlib.Core.Bool.{Bool, true}
 use mathlib.Core.List.{List}
 use Prim.Native.Nat.{ℕ, _+_, _-_, _*_}
@@ -53,6 +53,10 @@ module _ {t : List ℕ} {m : Map} (w : Mapped t m) where
 
   pub pool-count : treePoolSize t ≡ m .pool .count
   pool-count = sym (ap (λ (n : Map). n .pool .count) (w .is))
+
+  -- the map that was given is the file's own
+  pub mapped-own : Mapped t (mapOf t)
+  mapped-own = subst (Mapped t) (w .is) w
 
   -- ---- fields
   pub node-kind-is : (k : ℕ) → getD t (12 * k) 0 ≡ nodeKind t k

@@ -10,8 +10,9 @@ use crate::layout::STEP_SIZE;
 use words::word_at;
 ghost use mathlib.Core.Path.{_≡_};
 ghost use Prim.Native.Nat.{_+_, _<_, _≤_};
+ghost use Rattle.rules.specs.TreeReader.{casesAt, pathsAt, stepsAt, cases, paths, steps};
 ghost use Rattle.rules.specs.TreeReader.{nodeKind, nodeZero, nodeWord, caseKind, caseZero, caseNumber, caseLength, caseChild, stepKind, stepFlag};
-ghost use Rattle.tree.specs.Reading.{Mapped, Ruled, nodeOf, testOf, caseOf, bindingOf, pathOf, stepOf};
+ghost use Rattle.tree.specs.Reading.{mapOf, Mapped, Ruled, nodeOf, testOf, caseOf, bindingOf, pathOf, stepOf};
 
 // A node with its fields. A default is one more than its node's number, and 0 where there is none.
 // The cases of a switch are of one kind, so that the test of its first case says what it asks of a part.
@@ -137,14 +138,15 @@ pub fn case_child(t: &[u8], m: Map, i: usize) -> u16
     word_at(t, m.cases.start + CASE_SIZE * i + 6)
 }
 
-// What case i asks; its kind is known.
-pub fn test_at(t: &[u8], m: Map, i: usize) -> Test
-    requires { ⌜ Mapped (now t) m × (i < m .cases .count) × (caseKind (now t) i ≤ 4) ⌝ }
+// What case i asks, by the start of the cases alone; its kind is known.
+pub fn test_from(t: &[u8], start: usize, i: usize) -> Test
+    requires { ⌜ Mapped (now t) (mapOf (now t)) × (start ≡ casesAt (now t)) × (i < cases (now t)) × (caseKind (now t) i ≤ 4) ⌝ }
     ensures { λ r. ⌜ r ≡ testOf (now (t .entry)) i ⌝ }
 {
-    let kind = case_kind(t, m, i);
-    let a = case_number(t, m, i);
-    let b = case_length(t, m, i);
+    let at = start + CASE_SIZE * i;
+    let kind = t[at];
+    let a = word_at(t, at + 2);
+    let b = word_at(t, at + 4);
     match kind {
         0 => Test::Constr(a),
         1 => Test::Text {
@@ -162,14 +164,30 @@ pub fn test_at(t: &[u8], m: Map, i: usize) -> Test
     }
 }
 
+// What case i asks; its kind is known.
+pub fn test_at(t: &[u8], m: Map, i: usize) -> Test
+    requires { ⌜ Mapped (now t) m × (i < m .cases .count) × (caseKind (now t) i ≤ 4) ⌝ }
+    ensures { λ r. ⌜ r ≡ testOf (now (t .entry)) i ⌝ }
+{
+    test_from(t, m.cases.start, i)
+}
+
+// Case i, of a known kind, by the start of the cases alone.
+pub fn case_from(t: &[u8], start: usize, i: usize) -> Case
+    requires { ⌜ Mapped (now t) (mapOf (now t)) × (start ≡ casesAt (now t)) × (i < cases (now t)) × (caseKind (now t) i ≤ 4) ⌝ }
+    ensures { λ r. ⌜ r ≡ caseOf (now (t .entry)) i ⌝ }
+{
+    let test = test_from(t, start, i);
+    let child = word_at(t, start + CASE_SIZE * i + 6);
+    Case { test, child }
+}
+
 // Case i, of a known kind.
 pub fn case_at(t: &[u8], m: Map, i: usize) -> Case
     requires { ⌜ Mapped (now t) m × (i < m .cases .count) × (caseKind (now t) i ≤ 4) ⌝ }
     ensures { λ r. ⌜ r ≡ caseOf (now (t .entry)) i ⌝ }
 {
-    let test = test_at(t, m, i);
-    let child = case_child(t, m, i);
-    Case { test, child }
+    case_from(t, m.cases.start, i)
 }
 
 pub fn node_at(t: &[u8], m: Map, k: usize) -> Node
@@ -221,14 +239,22 @@ pub fn binding_at(t: &[u8], m: Map, b: usize) -> Binding
     Binding { name, path }
 }
 
+// Path p, by the start of the paths alone: a caller who hands on no more of the map stores no more of it.
+pub fn path_from(t: &[u8], start: usize, p: usize) -> Path
+    requires { ⌜ Mapped (now t) (mapOf (now t)) × (start ≡ pathsAt (now t)) × (p < paths (now t)) ⌝ }
+    ensures { λ r. ⌜ r ≡ pathOf (now (t .entry)) p ⌝ }
+{
+    let at = start + PATH_SIZE * p;
+    let first = word_at(t, at);
+    let count = word_at(t, at + 2);
+    Path { first, count }
+}
+
 pub fn path_at(t: &[u8], m: Map, p: usize) -> Path
     requires { ⌜ Mapped (now t) m × (p < m .paths .count) ⌝ }
     ensures { λ r. ⌜ r ≡ pathOf (now (t .entry)) p ⌝ }
 {
-    let at = m.paths.start + PATH_SIZE * p;
-    let first = word_at(t, at);
-    let count = word_at(t, at + 2);
-    Path { first, count }
+    path_from(t, m.paths.start, p)
 }
 
 pub fn step_kind(t: &[u8], m: Map, i: usize) -> u8
@@ -247,13 +273,14 @@ pub fn step_flag(t: &[u8], m: Map, i: usize) -> u8
     t[at]
 }
 
-pub fn step_at(t: &[u8], m: Map, i: usize) -> Step
-    requires { ⌜ Mapped (now t) m × (i < m .steps .count) ⌝ }
+// Step i, by the start of the steps alone.
+pub fn step_from(t: &[u8], start: usize, i: usize) -> Step
+    requires { ⌜ Mapped (now t) (mapOf (now t)) × (start ≡ stepsAt (now t)) × (i < steps (now t)) ⌝ }
     ensures { λ r. ⌜ r ≡ stepOf (now (t .entry)) i ⌝ }
 {
-    let at = m.steps.start + STEP_SIZE * i;
-    let kind = step_kind(t, m, i);
-    let flag = step_flag(t, m, i);
+    let at = start + STEP_SIZE * i;
+    let kind = t[at];
+    let flag = t[at + 1];
     let index = word_at(t, at + 2);
     let of = word_at(t, at + 4);
     Step {
@@ -262,4 +289,11 @@ pub fn step_at(t: &[u8], m: Map, i: usize) -> Step
         index,
         of,
     }
+}
+
+pub fn step_at(t: &[u8], m: Map, i: usize) -> Step
+    requires { ⌜ Mapped (now t) m × (i < m .steps .count) ⌝ }
+    ensures { λ r. ⌜ r ≡ stepOf (now (t .entry)) i ⌝ }
+{
+    step_from(t, m.steps.start, i)
 }

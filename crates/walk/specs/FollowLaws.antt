@@ -13,7 +13,7 @@ use Rattle.words.specs.Words.{both}
 use Rattle.words.specs.WordsLaws.{both-true}
 use Rattle.rules.specs.PanelFile.{records, parts, recordKind, recordFirst, recordCount, part}
 use Rattle.rules.specs.Rows.{Step, pair, tuple, constr, list, listtail, Path}
-use Rattle.rules.specs.TreeReader.{stepAt, stepsFrom, stepOfFields, pathFirst, pathCount, pathAt}
+use Rattle.rules.specs.TreeReader.{casesAt, pathsAt, stepsAt, treePoolAt, cases, paths, stepAt, stepsFrom, stepOfFields, pathFirst, pathCount, pathAt}
 use Rattle.rules.specs.Walking.{Position as Place, panelRoot, partOf, tailOf, takeStep, follow}
 use Rattle.facts.specs.TreeFacts.{TreeRuled}
 use Rattle.facts.specs.PanelFacts.{PanelLaid, PanelShaped}
@@ -24,8 +24,8 @@ use Rattle.tree.specs.declared.reading.Step.{Step as StepRead}
 use Rattle.tree.specs.declared.reading.Path.{Path as PathRead}
 use Rattle.tree.specs.declared.reading.Binding.{Binding as BindingRead}
 use Rattle.tree.specs.declared.layout.Map.{Map}
-use Rattle.tree.specs.Reading.{Mapped, Ruled, stepOf, pathOf, bindingOf}
-use Rattle.tree.specs.ReadingLaws.{paths-count, steps-count, bindings-count}
+use Rattle.tree.specs.Reading.{mapOf, Mapped, Ruled, stepOf, pathOf, bindingOf}
+use Rattle.tree.specs.ReadingLaws.{mapped-own, cases-start, paths-start, steps-start, pool-start, cases-count, paths-count, steps-count, bindings-count}
 use Rattle.walk.specs.declared.follow.Position.{Position}
 use Rattle.walk.specs.declared.follow.Found.the-variants.{At, Stuck}
 use Rattle.walk.specs.Positions.{placed, foundOf, Within, Ready}
@@ -242,10 +242,31 @@ binding-path-in w rules b x h e =
     let p = ap (λ (y : BindingRead). y .path) e in
     omega (arith, rules .binding-path b (omega arith), paths-count w)
 
+-- what the cases of a file are searched with, by the starts of the map that was given
+module _ {t : List ℕ} {m : Map} (ruled : Ruled t m) where
+  pub ruled-own : Ruled t (mapOf t)
+  ruled-own = record { mapped = mapped-own (ruled .mapped); rules = ruled .rules }
+
+  pub cases-own : m .cases .start ≡ casesAt t
+  cases-own = sym (cases-start (ruled .mapped))
+
+  pub pool-own : m .pool .start ≡ treePoolAt t
+  pool-own = sym (pool-start (ruled .mapped))
+
+  pub run-own : (i n : ℕ) → i + n ≤ m .cases .count → i + n ≤ cases t
+  run-own i n h = omega (arith, h, cases-count (ruled .mapped))
+
 -- ---- where a path was followed to
 module _ {t : List ℕ} {m : Map} {v : List ℕ} {n : PanelMap} (ready : Ready t m v n) where
   pub ready-ruled : Ruled t m
   ready-ruled = record { mapped = ready .mapped; rules = ready .sound .is-ruled }
+
+  -- the same with the tree's own map, and what a path is followed with
+  pub ready-own : Ready t (mapOf t) v n
+  ready-own = record { mapped = mapped-own (ready .mapped); sound = ready .sound; opened = ready .opened; panel = ready .panel }
+
+  pub ready-path : (p : ℕ) → p < m .paths .count → Ready t (mapOf t) v n × (m .paths .start ≡ pathsAt t) × (m .steps .start ≡ stepsAt t) × (p < paths t)
+  ready-path p h = (ready-own, sym (paths-start (ready .mapped)), sym (steps-start (ready .mapped)), omega (arith, h, paths-count (ready .mapped)))
 
   pub found-within : (p : ℕ) (x : Position) → follow v (pathAt t p) panelRoot ≡ some (placed x) → Within v (placed x)
   found-within p x e =

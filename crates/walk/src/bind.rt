@@ -40,7 +40,7 @@ pub fn bind(
     let mut i: usize = 0;
     while i < count {
         let b = binding_at(t, m, first + i);
-        let Found::At(p) = follow(t, m, v, n, b.path as usize) else {
+        let Found::At(p) = follow(t, m.paths.start, m.steps.start, v, n, b.path as usize) else {
             zero_words(bound);
             return false;
         };

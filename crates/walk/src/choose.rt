@@ -6,6 +6,7 @@ use panel::records::record_at;
 use tree::layout::Map;
 use tree::reading::Test;
 use tree::reading::case_at;
+use tree::reading::case_from;
 use words::same_text;
 ghost use mathlib.Core.Path.{_≡_};
 ghost use Prim.Native.Nat.{ℕ, _+_, _<_, _≤_, max};
@@ -15,11 +16,11 @@ ghost use Rattle.words.specs.Words.{textAt, sameText};
 ghost use Rattle.rules.specs.Building.{Tree};
 ghost use Rattle.rules.specs.PanelFile.{records};
 ghost use Rattle.rules.specs.Splitting.{sameTest};
-ghost use Rattle.rules.specs.TreeReader.{casesFor};
+ghost use Rattle.rules.specs.TreeReader.{cases, casesAt, treePoolAt, casesFor};
 ghost use Rattle.rules.specs.Walking.{largestTail};
 ghost use Rattle.facts.specs.PanelFacts.{PanelShaped};
 ghost use Rattle.panel.specs.Opened.{Opened};
-ghost use Rattle.tree.specs.Reading.{Mapped, Ruled};
+ghost use Rattle.tree.specs.Reading.{mapOf, Mapped, Ruled};
 ghost use Rattle.walk.specs.Positions.{placed};
 ghost use Rattle.walk.specs.Choices.{alike as Choices·alike};
 ghost use Rattle.walk.specs.Choices.{textTest, testMeans, InPool, partMeans, Inside, Shows, isConstr, isList, isTailed, tailNumberOf, showsConstr, showsText, isOfKind, same, firstCase, chosenOf};
@@ -177,8 +178,8 @@ fn texts_same(t: &[u8], v: &[u8], i: usize, count: usize, j: usize, len: usize) 
     same_text(v, i, t, j, count)
 }
 
-fn is_text(t: &[u8], m: Map, v: &[u8], test: Test, int: bool, i: usize, n: usize) -> bool
-    requires { ⌜ Mapped (now t) m × (i + n ≤ length (now v)) × InPool (now t) test ⌝ }
+fn is_text(t: &[u8], pool_at: usize, v: &[u8], test: Test, int: bool, i: usize, n: usize) -> bool
+    requires { ⌜ Mapped (now t) (mapOf (now t)) × («pool_at» ≡ treePoolAt (now t)) × (i + n ≤ length (now v)) × InPool (now t) test ⌝ }
     ensures { λ r. ⌜ r ≡ sameTest (textTest int (textAt (now (v .entry)) i n)) (testMeans (now (t .entry)) test) ⌝ }
 {
     match test {
@@ -191,15 +192,15 @@ fn is_text(t: &[u8], m: Map, v: &[u8], test: Test, int: bool, i: usize, n: usize
             if !alike(int, integer) {
                 return false;
             }
-            texts_same(t, v, i, n, m.pool.start + start as usize, count as usize)
+            texts_same(t, v, i, n, pool_at + start as usize, count as usize)
         }
         Test::List(_) => false,
         Test::Tailed(_) => false,
     }
 }
 
-fn holds(t: &[u8], m: Map, v: &[u8], s: Part, test: Test) -> bool
-    requires { ⌜ Mapped (now t) m × Inside (now v) s × InPool (now t) test ⌝ }
+fn holds(t: &[u8], pool_at: usize, v: &[u8], s: Part, test: Test) -> bool
+    requires { ⌜ Mapped (now t) (mapOf (now t)) × («pool_at» ≡ treePoolAt (now t)) × Inside (now v) s × InPool (now t) test ⌝ }
     ensures { λ r. ⌜ r ≡ same (partMeans (now (v .entry)) s) (testMeans (now (t .entry)) test) ⌝ }
 {
     match s {
@@ -208,23 +209,32 @@ fn holds(t: &[u8], m: Map, v: &[u8], s: Part, test: Test) -> bool
             integer,
             start,
             count,
-        } => is_text(t, m, v, test, integer, start, count),
+        } => is_text(t, pool_at, v, test, integer, start, count),
         Part::List(k) => is_list(test, k),
         Part::Tailed(k) => is_tailed(test, k),
         Part::Other => false,
     }
 }
 
-// The child of the first of the n cases from i on that holds of the part.
-pub fn first_case(t: &[u8], m: Map, v: &[u8], i: usize, n: usize, s: Part) -> Chosen
-    requires { ⌜ Ruled (now t) m × Inside (now v) s × (i + n ≤ m .cases .count) ⌝ }
+// The child of the first of the n cases from i on that holds of the part. Of the tree's map it takes the two starts that it
+// reads from: a call stores what it hands on.
+pub fn first_case(
+    t: &[u8],
+    cases_at: usize,
+    pool_at: usize,
+    v: &[u8],
+    i: usize,
+    n: usize,
+    s: Part,
+) -> Chosen
+    requires { ⌜ Ruled (now t) (mapOf (now t)) × («cases_at» ≡ casesAt (now t)) × («pool_at» ≡ treePoolAt (now t)) × Inside (now v) s × (i + n ≤ cases (now t)) ⌝ }
     ensures { λ r. ⌜ r ≡ chosenOf (now (t .entry)) (firstCase (now (t .entry)) (now (v .entry)) s i n) ⌝ }
 {
     let mut j: usize = 0;
     while j < n {
-        let case = case_at(t, m, i + j);
+        let case = case_from(t, cases_at, i + j);
         let test = case.test;
-        if holds(t, m, v, s, test) {
+        if holds(t, pool_at, v, s, test) {
             return Chosen::Child(case.child as usize);
         }
         j += 1;

@@ -3,18 +3,18 @@
 use panel::Map as PanelMap;
 use panel::records::part_at;
 use panel::records::record_at;
-use tree::layout::Map;
 use tree::reading::Step;
-use tree::reading::path_at;
-use tree::reading::step_at;
+use tree::reading::path_from;
+use tree::reading::step_from;
 ghost use mathlib.Core.Path.{_≡_};
 ghost use Prim.Native.Nat.{_+_, _<_, _≤_};
 ghost use Rattle.rules.specs.PanelFile.{records};
-ghost use Rattle.rules.specs.TreeReader.{stepOfFields, pathAt};
+ghost use Rattle.rules.specs.TreeReader.{paths, pathsAt, stepsAt, stepOfFields, pathAt};
 ghost use Rattle.rules.specs.Walking.{panelRoot, partOf, tailOf, takeStep};
 ghost use Rattle.rules.specs.Walking.{follow as Walking·follow};
 ghost use Rattle.facts.specs.PanelFacts.{PanelLaid, PanelShaped};
 ghost use Rattle.panel.specs.Opened.{Opened};
+ghost use Rattle.tree.specs.Reading.{mapOf};
 ghost use Rattle.walk.specs.Positions.{placed, foundOf, Ready, Within};
 
 pub struct Position {
@@ -79,12 +79,13 @@ fn take_step(v: &[u8], n: PanelMap, s: Step, p: Position) -> Found
     }
 }
 
-// Where path p of the tree leads from the panel's root.
-pub fn follow(t: &[u8], m: Map, v: &[u8], n: PanelMap, p: usize) -> Found
-    requires { ⌜ Ready (now t) m (now v) n × (p < m .paths .count) ⌝ }
+// Where path p of the tree leads from the panel's root. Of the tree's map it takes the two starts that it reads from:
+// a call stores what it hands on, and there is one for each switch and each binding.
+pub fn follow(t: &[u8], paths_at: usize, steps_at: usize, v: &[u8], n: PanelMap, p: usize) -> Found
+    requires { ⌜ Ready (now t) (mapOf (now t)) (now v) n × («paths_at» ≡ pathsAt (now t)) × («steps_at» ≡ stepsAt (now t)) × (p < paths (now t)) ⌝ }
     ensures { λ r. ⌜ r ≡ foundOf (Walking·follow (now (v .entry)) (pathAt (now (t .entry)) p) panelRoot) ⌝ }
 {
-    let path = path_at(t, m, p);
+    let path = path_from(t, paths_at, p);
     let first = path.first as usize;
     let count = path.count as usize;
     let mut at = Position {
@@ -93,7 +94,7 @@ pub fn follow(t: &[u8], m: Map, v: &[u8], n: PanelMap, p: usize) -> Found
     };
     let mut k: usize = 0;
     while k < count {
-        let step = step_at(t, m, first + k);
+        let step = step_from(t, steps_at, first + k);
         let Found::At(next) = take_step(v, n, step, at) else {
             return Found::Stuck;
         };

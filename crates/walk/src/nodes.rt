@@ -56,14 +56,22 @@ fn from_switch(
     requires { ⌜ Ready (now t) m (now v) n × (path < m .paths .count) × (1 ≤ cases) × (first + cases ≤ m .cases .count) × (caseKind (now t) first ≤ 2) × (test ≡ testOf (now t) first) ⌝ }
     ensures { λ r. ⌜ Turns (now (t .entry)) (now (v .entry)) (caseChildren (now (t .entry)) first cases ++ defaultChild default) (switchWalk (now (t .entry)) (now (v .entry)) path first cases default) r ⌝ }
 {
-    let Found::At(p) = follow(t, m, v, n, path as usize) else {
+    let Found::At(p) = follow(t, m.paths.start, m.steps.start, v, n, path as usize) else {
         return Next::End(Reached::Stuck);
     };
     let s = shown_at(v, n, p);
     if !of_kind(s, test) {
         return Next::End(Reached::Stuck);
     }
-    let Chosen::Child(c) = first_case(t, m, v, first as usize, cases as usize, s) else {
+    let Chosen::Child(c) = first_case(
+        t,
+        m.cases.start,
+        m.pool.start,
+        v,
+        first as usize,
+        cases as usize,
+        s,
+    ) else {
         return default_of(default);
     };
     Next::Node(c)
@@ -86,7 +94,15 @@ fn from_tails(
     if k == 0 {
         return default_of(default);
     }
-    let Chosen::Child(c) = first_case(t, m, v, first, tails, Part::Tailed(k - 1)) else {
+    let Chosen::Child(c) = first_case(
+        t,
+        m.cases.start,
+        m.pool.start,
+        v,
+        first,
+        tails,
+        Part::Tailed(k - 1),
+    ) else {
         return default_of(default);
     };
     Next::Node(c)
@@ -105,7 +121,15 @@ fn from_length(
     requires { ⌜ Ruled (now t) m × (first + (cases + tails) ≤ m .cases .count) ⌝ }
     ensures { λ r. ⌜ Turns (now (t .entry)) (now (v .entry)) (caseChildren (now (t .entry)) first (cases + tails) ++ defaultChild default) (lengthWalk (now (t .entry)) (now (v .entry)) length first cases tails default) r ⌝ }
 {
-    let Chosen::Child(c) = first_case(t, m, v, first, cases, Part::List(length)) else {
+    let Chosen::Child(c) = first_case(
+        t,
+        m.cases.start,
+        m.pool.start,
+        v,
+        first,
+        cases,
+        Part::List(length),
+    ) else {
         return from_tails(t, m, v, length, first + cases, tails, default);
     };
     Next::Node(c)
@@ -125,7 +149,7 @@ fn from_list_switch(
     requires { ⌜ Ready (now t) m (now v) n × (path < m .paths .count) × (first + (cases + tails) ≤ m .cases .count) ⌝ }
     ensures { λ r. ⌜ Turns (now (t .entry)) (now (v .entry)) (caseChildren (now (t .entry)) first (cases + tails) ++ defaultChild default) (listWalk (now (t .entry)) (now (v .entry)) path first cases tails default) r ⌝ }
 {
-    let Found::At(p) = follow(t, m, v, n, path as usize) else {
+    let Found::At(p) = follow(t, m.paths.start, m.steps.start, v, n, path as usize) else {
         return Next::End(Reached::Stuck);
     };
     let r = p.record;

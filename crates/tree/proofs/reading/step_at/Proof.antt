@@ -1,53 +1,18 @@
--- `tree::reading::step_at` meets its contract: what it reads, from the map's start on, are the rules' fields.
-use borrow.Author.Needs.{needs}
-use mathlib.Core.Path.{_∙_}
-use Rattle.tree.specs.ReadingLaws.{step-index-is, step-type-is}
+-- `tree::reading::step_at` meets its contract: the map's start of the steps is the file's.
+use native.Mathlib.Omega.{arith}
+use mathlib.Core.Path.{sym}
+use Rattle.tree.specs.ReadingLaws.{mapped-own, steps-start, steps-count}
 use Rattle.tree.proofs.reading.step_at.Statement.{statement}
 use Rattle.tree.proofs.reading.step_at.Tie as tie
 
-mul-at : tie.Need-mul-at
-mul-at c = search needs
-
-add-at : tie.Need-add-at
-add-at c = search needs
-
-step-kind-requires : tie.Need-step-kind-requires
-step-kind-requires c κs = search needs
-
-step-flag-requires : tie.Need-step-flag-requires
-step-flag-requires c κs = search needs
-
-add-word-at : tie.Need-add-word-at
-add-word-at c = search needs
-
-word-at-requires : tie.Need-word-at-requires
-word-at-requires c κs = search needs
-
-add-word-at-2 : tie.Need-add-word-at-2
-add-word-at-2 c = search needs
-
-word-at-requires-2 : tie.Need-word-at-requires-2
-word-at-requires-2 c κs = search needs
+step-from-requires : tie.Need-step-from-requires
+step-from-requires c κs =
+    let w = c .before .pre .0 in
+    let h = c .before .pre .1 in
+    (mapped-own w, sym (steps-start w), omega (arith, h, steps-count w))
 
 returns : tie.Need-returns
-returns c =
-    let back3 = c .before .before .before in
-    let back6 = back3 .before .before .before in
-    let a = back6 in
-    let e = c .before .word-at .ensures ∙ step-index-is (a .pre .0) (a .args .i) in
-    let f = c .word-at2 .ensures ∙ step-type-is (a .pre .0) (a .args .i) in
-    simp (back3 .step-kind .ensures, c .before .before .step-flag .ensures, e, f)
+returns c = c .step-from .ensures
 
 pub step-at-spec : {M : Type 1} → statement M
-step-at-spec =
-    tie.close
-    (tie.spec
-    mul-at
-    add-at
-    step-kind-requires
-    step-flag-requires
-    add-word-at
-    word-at-requires
-    add-word-at-2
-    word-at-requires-2
-    returns)
+step-at-spec = tie.close (tie.spec step-from-requires returns)

@@ -5,7 +5,7 @@ use mathlib.Core.List.{List}
 use Rattle.tree.specs.declared.reading.Binding.{Binding}
 use Rattle.walk.specs.declared.follow.Found.the-variants.{At}
 use Rattle.walk.specs.BindingsLaws.{left, bindings-start, binding-stuck, there-on, words-on, there-end, words-end}
-use Rattle.walk.specs.FollowLaws.{found-some, found-none, found-within, binding-path-in, dropped-small}
+use Rattle.walk.specs.FollowLaws.{found-some, found-none, found-within, ready-path, binding-path-in, dropped-small}
 use Rattle.walk.specs.Bindings.{isThere, wordsAfter}
 use Rattle.walk.specs.Positions.{placed}
 use Rattle.rules.specs.Walking.{panelRoot, follow, bound as boundAll}
@@ -49,7 +49,7 @@ follow-requires c κs =
     let back3 = c .before .before .before in
     let back7 = back3 .before .before .before .before in
     let ready = back7 .pre .0 in
-    (ready, binding-path-in (ready .mapped) (ready .sound .is-ruled) (back7 .args .first + back3 .loop .i) (c .before .binding-at .result) (omega (arith, back7 .pre .1, c .before .before .loop-test .taken)) (c .before .binding-at .ensures))
+    ready-path ready (c .before .binding-at .result .path) (binding-path-in (ready .mapped) (ready .sound .is-ruled) (back7 .args .first + back3 .loop .i) (c .before .binding-at .result) (omega (arith, back7 .pre .1, c .before .before .loop-test .taken)) (c .before .binding-at .ensures))
 
 enum-known-p : tie.Need-enum-known-p Inv-loop μ-loop
 enum-known-p c = search needs

@@ -22,8 +22,8 @@ is-text-requires c κs =
     let a = back5 .args in
     let g = c .before .s2 .given .0 in
     let e : a .s ≡ Part.Text (g .0) (g .1 .0) (g .1 .1 .0) = c .before .s2 .given .1 in
-    let inside : Inside (a .v .now) (Part.Text (g .0) (g .1 .0) (g .1 .1 .0)) = rw e at (back5 .pre .1) in
-    (back5 .pre .0, inside, back5 .pre .2)
+    let inside : Inside (a .v .now) (Part.Text (g .0) (g .1 .0) (g .1 .1 .0)) = rw e at (back5 .pre .2) in
+    (back5 .pre .0, back5 .pre .1, inside, back5 .pre .3)
 
 enum-known-s-3 : tie.Need-enum-known-s-3
 enum-known-s-3 c = search needs

@@ -1,6 +1,5 @@
 -- `walk::choose::is_text` meets its contract: by the variants of a test; a text lies in its pool.
 use borrow.Author.Needs.{needs}
-use Rattle.tree.specs.ReadingLaws.{pool-start, pool-count}
 use Rattle.walk.specs.ChoicesLaws.{alike-true, alike-false, text-constr, text-list, text-tailed, text-text, text-other}
 use Rattle.walk.specs.Choices.{textTest, testMeans, InPool}
 use Rattle.tree.specs.declared.reading.Test.{Test}
@@ -43,22 +42,22 @@ cast-texts-same c = search needs
 
 add-texts-same : tie.Need-add-texts-same
 add-texts-same c =
-    let back8 = c .before .before .before .before .before .before .before .before in
-    omega (arith, back8 .pre .0)
+    let back7 = c .before .before .before .before .before .before .before in
+    omega (arith, back7 .pre .0, back7 .pre .1)
 
 cast-texts-same-2 : tie.Need-cast-texts-same-2
 cast-texts-same-2 c = search needs
 
 texts-same-requires : tie.Need-texts-same-requires
 texts-same-requires c κs =
-    let back4 = c .before .before .before .before in
-    let back8 = back4 .before .before .before .before in
-    let a = back8 .args in
-    let g = back4 .test .given .0 in
-    let e : a .test ≡ Test.Text (g .0) (g .1 .0) (g .1 .1 .0) = back4 .test .given .1 in
-    let m = back8 .pre .0 in
-    let inside : InPool (a .t .now) (Test.Text (g .0) (g .1 .0) (g .1 .1 .0)) = rw e at (back8 .pre .2) in
-    (back8 .pre .1, omega (arith, inside, pool-count m, m .pool-end))
+    let back3 = c .before .before .before in
+    let back7 = back3 .before .before .before .before in
+    let a = back7 .args in
+    let g = back3 .test .given .0 in
+    let e : a .test ≡ Test.Text (g .0) (g .1 .0) (g .1 .1 .0) = back3 .test .given .1 in
+    let m = back7 .pre .0 in
+    let inside : InPool (a .t .now) (Test.Text (g .0) (g .1 .0) (g .1 .1 .0)) = rw e at (back7 .pre .3) in
+    (back7 .pre .2, omega (arith, inside, back7 .pre .1, m .pool-end))
 
 enum-told-2 : tie.Need-enum-told-2
 enum-told-2 c = search needs
@@ -77,18 +76,16 @@ returns-2 c =
 
 returns-3 : tie.Need-returns-3
 returns-3 c =
-    let back3 = c .before .before .before in
-    let back5 = back3 .before .before in
-    let back9 = back5 .before .before .before .before in
-    let a = back9 .args in
-    let g = back5 .test .given .0 in
-    let e : a .test ≡ Test.Text (g .0) (g .1 .0) (g .1 .1 .0) = back5 .test .given .1 in
-    let m = back9 .pre .0 in
+    let back4 = c .before .before .before .before in
+    let back8 = back4 .before .before .before .before in
+    let a = back8 .args in
+    let g = back4 .test .given .0 in
+    let e : a .test ≡ Test.Text (g .0) (g .1 .0) (g .1 .1 .0) = back4 .test .given .1 in
     let mine = textAt (a .v .now) (a .i) (a .n) in
     let its = textAt (a .t .now) (treePoolAt (a .t .now) + g .1 .0) (g .1 .1 .0) in
-    let kinds = alike-true (a .int) (g .0) (sym (back3 .alike .ensures) ∙ not-false _ (c .before .before .if1 .left)) in
+    let kinds = alike-true (a .int) (g .0) (sym (c .before .before .alike .ensures) ∙ not-false _ (c .before .if1 .left)) in
     c .texts-same .ensures
-    ∙ ap (λ (k : ℕ). sameText mine (textAt (a .t .now) (k + g .1 .0) (g .1 .1 .0))) (sym (pool-start m))
+    ∙ ap (λ (k : ℕ). sameText mine (textAt (a .t .now) (k + g .1 .0) (g .1 .1 .0))) (back8 .pre .1)
     ∙ text-text (a .t .now) (a .int) mine its
     ∙ ap (λ (b : Bool). sameTest (textTest (a .int) mine) (textTest b its)) kinds
     ∙ ap (λ (u : Test). sameTest (textTest (a .int) mine) (testMeans (a .t .now) u)) (sym e)

@@ -14,13 +14,15 @@ use Rattle.walk.proofs.follow.follow.Statement.{statement}
 use Rattle.walk.proofs.follow.follow.Tie as tie
 
 abbrev Inv-loop : tie.InvT-loop
-Inv-loop t m v n p first count at₀ k₀ at k = (k ≤ count) × Within v (placed at) × (follow v (stepsFrom t (first + k) (count - k)) (placed at) ≡ follow v (pathAt t p) panelRoot)
+Inv-loop t paths-at steps-at v n p first count at₀ k₀ at k = (k ≤ count) × Within v (placed at) × (follow v (stepsFrom t (first + k) (count - k)) (placed at) ≡ follow v (pathAt t p) panelRoot)
 
 abbrev μ-loop : tie.MeasureT-loop
-μ-loop t m v n p first count at₀ k₀ at k = count - k
+μ-loop t paths-at steps-at v n p first count at₀ k₀ at k = count - k
 
-path-at-requires : tie.Need-path-at-requires Inv-loop μ-loop
-path-at-requires c κs = (c .before .before .pre .0 .mapped, c .before .before .pre .1)
+path-from-requires : tie.Need-path-from-requires Inv-loop μ-loop
+path-from-requires c κs =
+    let q = c .before .before .pre in
+    (q .0 .mapped, q .1, q .3)
 
 cast-first : tie.Need-cast-first Inv-loop μ-loop
 cast-first c = search needs
@@ -33,31 +35,31 @@ loop-holds c =
     let back5 = c .before .before .before .before .before in
     let a = back5 .args in
     let w = back5 .pre .0 in
-    let x = c .before .before .path-at .result in (
+    let x = c .before .before .path-from .result in (
       search needs,
       root-within (w .opened .laid) (w .panel .is-shaped),
       path-start (a .v .now) (a .t .now) (x .first) (x .count) (a .p) panelRoot
-          (ap (λ (y : Path). y .first) (c .before .before .path-at .ensures))
-          (ap (λ (y : Path). y .count) (c .before .before .path-at .ensures)),
+          (ap (λ (y : Path). y .first) (c .before .before .path-from .ensures))
+          (ap (λ (y : Path). y .count) (c .before .before .path-from .ensures)),
     )
 
-add-step-at : tie.Need-add-step-at Inv-loop μ-loop
-add-step-at c =
+add-step-from : tie.Need-add-step-from Inv-loop μ-loop
+add-step-from c =
     let back4 = c .before .before .before .before in
     let back7 = back4 .before .before .before in
     let a = back7 .args in
     let w = back7 .pre .0 in
-    let x = back4 .path-at .result in
-    omega (arith, path-run (w .mapped) (w .sound .is-ruled) (a .p) x (back7 .pre .1) (back4 .path-at .ensures), w .mapped)
+    let x = back4 .path-from .result in
+    omega (arith, path-run (w .mapped) (w .sound .is-ruled) (a .p) x (back7 .pre .3) (back4 .path-from .ensures), w .mapped)
 
-step-at-requires : tie.Need-step-at-requires Inv-loop μ-loop
-step-at-requires c κs =
+step-from-requires : tie.Need-step-from-requires Inv-loop μ-loop
+step-from-requires c κs =
     let back4 = c .before .before .before .before in
     let back7 = back4 .before .before .before in
     let a = back7 .args in
     let w = back7 .pre .0 in
-    let x = back4 .path-at .result in
-    (w .mapped, omega (arith, path-run (w .mapped) (w .sound .is-ruled) (a .p) x (back7 .pre .1) (back4 .path-at .ensures)))
+    let x = back4 .path-from .result in
+    (w .mapped, back7 .pre .2, omega (arith, path-run (w .mapped) (w .sound .is-ruled) (a .p) x (back7 .pre .3) (back4 .path-from .ensures)))
 
 take-step-requires : tie.Need-take-step-requires Inv-loop μ-loop
 take-step-requires c κs =
@@ -80,10 +82,10 @@ returns c =
     let back11 = back8 .before .before .before in
     let a = back11 .args in
     let w = back11 .pre .0 in
-    let x = back8 .path-at .result in
+    let x = back8 .path-from .result in
     let l = back5 .loop in
-    let s = back3 .step-at .result in
-    let u = step-taken (a .v .now) (a .t .now) (x .first + l .k) s (l .at) (back3 .step-at .ensures) in
+    let s = back3 .step-from .result in
+    let u = step-taken (a .v .now) (a .t .now) (x .first + l .k) s (l .at) (back3 .step-from .ensures) in
     let q = takeStep (a .v .now) (stepOfFields (s .kind) (s .flag) (s .index) (s .of)) (placed (l .at)) in
     let e = found-none q (sym (c .before .before .take-step .ensures) ∙ c .enum-told .given .1) in
     ap foundOf (path-stuck (a .v .now) (a .t .now) (x .first) (x .count) (l .k) (placed (l .at)) (back4 .loop-test .taken) (sym u ∙ e) ∙ l .inv .2)
@@ -104,10 +106,10 @@ loop-again c =
     let back12 = back9 .before .before .before in
     let a = back12 .args in
     let w = back12 .pre .0 in
-    let x = back9 .path-at .result in
+    let x = back9 .path-from .result in
     let l = back6 .loop in
-    let s = back4 .step-at .result in
-    let u = step-taken (a .v .now) (a .t .now) (x .first + l .k) s (l .at) (back4 .step-at .ensures) in
+    let s = back4 .step-from .result in
+    let u = step-taken (a .v .now) (a .t .now) (x .first + l .k) s (l .at) (back4 .step-from .ensures) in
     let q = takeStep (a .v .now) (stepOfFields (s .kind) (s .flag) (s .index) (s .of)) (placed (l .at)) in
     let y = c .before .next .given .0 .0 in
     let r : back3 .take-step .result ≡ At y = c .before .next .given .1 in
@@ -123,7 +125,7 @@ returns-2 c =
     let back7 = back4 .before .before .before in
     let a = back7 .args in
     let w = back7 .pre .0 in
-    let x = back4 .path-at .result in
+    let x = back4 .path-from .result in
     let l = c .before .loop in
     ap foundOf (path-end (a .v .now) (a .t .now) (x .first) (x .count) (l .k) (placed (l .at)) (c .loop-test .left) ∙ l .inv .2)
 
@@ -133,12 +135,12 @@ follow-spec =
     (tie.spec
     Inv-loop
     μ-loop
-    path-at-requires
+    path-from-requires
     cast-first
     cast-count
     loop-holds
-    add-step-at
-    step-at-requires
+    add-step-from
+    step-from-requires
     take-step-requires
     enum-known-next
     enum-told

@@ -1,5 +1,6 @@
 -- `walk::nodes::from_length` meets its contract: one law of the walk at a length for each way out.
 use borrow.Author.Needs.{needs}
+use Rattle.walk.specs.FollowLaws.{ruled-own, cases-own, pool-own, run-own}
 use Rattle.walk.specs.TurnsLaws.{turns-length, turns-no-length}
 use Rattle.walk.specs.declared.choose.Chosen.the-variants.{Child}
 use native.Mathlib.Omega.{arith}
@@ -8,7 +9,10 @@ use Rattle.walk.proofs.nodes.from_length.Statement.{statement}
 use Rattle.walk.proofs.nodes.from_length.Tie as tie
 
 first-case-requires : tie.Need-first-case-requires
-first-case-requires c κs = (c .before .before .pre .0, tt, omega (arith, c .before .before .pre .1))
+first-case-requires c κs =
+    let a = c .before .before .args in
+    let ruled = c .before .before .pre .0 in
+    (ruled-own ruled, cases-own ruled, pool-own ruled, tt, run-own ruled (a .first) (a .cases) (omega (arith, c .before .before .pre .1)))
 
 enum-known-c : tie.Need-enum-known-c
 enum-known-c c = search needs

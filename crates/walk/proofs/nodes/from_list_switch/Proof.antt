@@ -2,7 +2,7 @@
 use borrow.Author.Needs.{needs}
 use Rattle.panel.specs.declared.records.Record.{Record}
 use Rattle.walk.specs.TurnsLaws.{list-no-part, list-wrong-kind, list-turns}
-use Rattle.walk.specs.FollowLaws.{found-some, found-none, found-within, ready-ruled}
+use Rattle.walk.specs.FollowLaws.{found-some, found-none, found-within, ready-path, ready-ruled}
 use Rattle.walk.specs.Positions.{placed}
 use Rattle.rules.specs.TreeReader.{pathAt}
 use Rattle.rules.specs.Walking.{panelRoot, follow}
@@ -13,7 +13,7 @@ use Rattle.walk.proofs.nodes.from_list_switch.Statement.{statement}
 use Rattle.walk.proofs.nodes.from_list_switch.Tie as tie
 
 follow-requires : tie.Need-follow-requires
-follow-requires c κs = (c .before .before .pre .0, c .before .before .pre .1)
+follow-requires c κs = ready-path (c .before .before .pre .0) _ (c .before .before .pre .1)
 
 enum-known-p : tie.Need-enum-known-p
 enum-known-p c = search needs

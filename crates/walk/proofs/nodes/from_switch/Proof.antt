@@ -3,7 +3,7 @@ use borrow.Author.Needs.{needs}
 use Rattle.walk.specs.declared.nodes.Next.{Next}
 use Rattle.walk.specs.TurnsLaws.{turns-case, turns-past, switch-no-part, switch-wrong-kind, switch-turns}
 use Rattle.walk.specs.Turns.{defaultWalk}
-use Rattle.walk.specs.FollowLaws.{found-some, found-none, found-within, ready-ruled}
+use Rattle.walk.specs.FollowLaws.{found-some, found-none, found-within, ready-path, ready-ruled, ruled-own, cases-own, pool-own, run-own}
 use Rattle.walk.specs.Choices.{isOfKind}
 use Rattle.walk.specs.Positions.{placed}
 use Rattle.rules.specs.TreeReader.{pathAt, defaultChild}
@@ -16,7 +16,7 @@ use Rattle.walk.proofs.nodes.from_switch.Statement.{statement}
 use Rattle.walk.proofs.nodes.from_switch.Tie as tie
 
 follow-requires : tie.Need-follow-requires
-follow-requires c κs = (c .before .before .pre .0, c .before .before .pre .1)
+follow-requires c κs = ready-path (c .before .before .pre .0) _ (c .before .before .pre .1)
 
 enum-known-p : tie.Need-enum-known-p
 enum-known-p c = search needs
@@ -64,7 +64,8 @@ returns-2 c =
 first-case-requires : tie.Need-first-case-requires
 first-case-requires c κs =
     let back9 = c .before .before .before .before .before .before .before .before .before in
-    (ready-ruled (back9 .pre .0), c .before .before .shown-at .ensures .inside, back9 .pre .3)
+    let ruled = ready-ruled (back9 .pre .0) in
+    (ruled-own ruled, cases-own ruled, pool-own ruled, c .before .before .shown-at .ensures .inside, run-own ruled _ _ (back9 .pre .3))
 
 enum-known-c : tie.Need-enum-known-c
 enum-known-c c = search needs

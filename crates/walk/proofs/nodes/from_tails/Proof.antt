@@ -2,6 +2,7 @@
 use borrow.Author.Needs.{needs}
 use Rattle.walk.specs.declared.nodes.Next.{Next}
 use Rattle.walk.specs.TurnsLaws.{turns-case, turns-past, turns-no-tail, turns-tail}
+use Rattle.walk.specs.FollowLaws.{ruled-own, cases-own, pool-own, run-own}
 use Rattle.walk.specs.Turns.{defaultWalk}
 use Rattle.rules.specs.TreeReader.{defaultChild}
 use Rattle.rules.specs.Splitting.{ListWithTail}
@@ -32,7 +33,8 @@ sub-t12 c = search needs
 first-case-requires : tie.Need-first-case-requires
 first-case-requires c κs =
     let back4 = c .before .before .before .before in
-    (back4 .pre .0, tt, back4 .pre .1)
+    let ruled = back4 .pre .0 in
+    (ruled-own ruled, cases-own ruled, pool-own ruled, tt, run-own ruled _ _ (back4 .pre .1))
 
 enum-known-c : tie.Need-enum-known-c
 enum-known-c c = search needs
