@@ -1,6 +1,6 @@
 // Rules 2 and 4: the matrix of the clauses, of a default and of a case of a column.
-// A matrix is made once, of its parts, each filled in an array of its own; its rows are found going down, its columns put from the last
-// row up.
+// The matrix of a default or of a case reads its parent's parts where they are, and is filled where it is made; its rows are found going
+// down, its columns put from the last row up.
 use crate::Classes;
 use crate::Held;
 use crate::Matrix;
