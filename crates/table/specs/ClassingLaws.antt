@@ -4,7 +4,7 @@ use mathlib.Core.Path.{_≡_, refl, sym, ap, ap₂, _∙_}
 use mathlib.Core.Bool.{Bool, true, false, not}
 use mathlib.Core.List.{List, [], _∷_, _++_}
 use mathlib.Core.Option.{Option, none, some}
-use Prim.Native.Nat.{ℕ, suc, _+_, _-_, _*_, _≤_, _<_}
+use Prim.Native.Nat.{ℕ, zero, suc, _+_, _-_, _*_, _≤_, _<_}
 use native.Mathlib.Omega.{arith}
 use native.Mathlib.Nat.{add-zero, sub-zero, le-antisymm}
 use native.Mathlib.Numerals.{add-one}
@@ -59,8 +59,12 @@ module _ (t : List ℕ) (p : ℕ) where
   abbrev pub LowestFrom : ℕ → Type 0
   LowestFrom q = lowest (λ k. sameStepIn t k p) q (p - q) ≡ lowest (λ k. sameStepIn t k p) 0 p
 
-  pub class-begins : LowestFrom 0
-  class-begins = ap (lowest (λ k. sameStepIn t k p) 0) (sub-zero p)
+  -- none before the n-th
+  pub class-begins : (n : ℕ) → n ≤ p → ((q : ℕ) → q < n → sameStepIn t q p ≡ false) → LowestFrom n
+  class-begins zero l none-before = ap (lowest (λ k. sameStepIn t k p) 0) (sub-zero p)
+  class-begins (suc n) l none-before =
+      let on : LowestFrom (n + 1) = lowest-on (λ k. sameStepIn t k p) n p (omega arith) (none-before n (omega arith)) ∙ class-begins n (omega arith) (λ q below. none-before q (omega arith)) in
+      ap (λ (k : ℕ). lowest (λ k. sameStepIn t k p) k (p - k)) (sym (add-one n)) ∙ on
 
   module _ (q : ℕ) (left : LowestFrom q) where
     pub class-found : (r : Bool) → q < p → r ≡ sameStepIn t q p → r ≡ true → q ≡ classIn t p

@@ -28,7 +28,7 @@ use Rattle.table.specs.StandingLaws.{only-lowest, parent-below, above-be
 use Rattle.table.specs.PathsLaws.{length-into, length-follows, path-short, above-short}
 use Rattle.table.specs.ClassLaws.{class-below, class-above, class-by-step, step-steps}
 use Rattle.table.specs.ApartLaws.{same-test}
-use Rattle.table.specs.Table.{classAt, typeAt, stepAt, depthAt, clauseAt, indicesAt, cellsAt, sameNumber, aboveIn, sameStepIn, classIn, classed, indexed, tested}
+use Rattle.table.specs.Table.{classAt, typeAt, stepAt, indexAt, depthAt, clauseAt, indicesAt, cellsAt, sameNumber, aboveIn, sameStepIn, classIn, classed, indexed, tested}
 use Rattle.table.specs.Tabled.{Placed, Classed, Indexed, Tabled, Filled, Ranged, RowBelow}
 use Rattle.table.specs.FieldsLaws.{FieldAt, Fields, kept-fields}
 
@@ -138,12 +138,36 @@ module _ {s : List ℕ} (ok : Accepted s) {p : ℕ} (h : p < patterns s) where
     above-depth : getD t (depthAt + aboveIn t p) 0 ≡ length (pathOf s (aboveOf s p))
     above-depth = ap (λ (k : ℕ). getD t (depthAt + k) 0) (above-is p (omega arith)) ∙ above-classed p (omega arith) .depth
 
+    -- the class of the pattern above q is not above q; so the same step as to p leads to no pattern below the class of the one above p
+    above-class-below : (q : ℕ) → q ≤ p → getD t (classAt + aboveIn t q) 0 ≤ q
+    above-class-below q l =
+        let lower = above-below (ok .is-shaped) q (omega arith) in
+        omega (arith, above-class q l, class-below s (aboveOf s q) (omega arith))
+
+    same-class-above : (q : ℕ) → sameStepIn t q p ≡ true → getD t (classAt + aboveIn t q) 0 ≡ getD t (classAt + aboveIn t p) 0
+    unfolding sameStepIn
+    same-class-above q e =
+        let from-index = both-true (eqb (getD t (stepAt + q) 0) (getD t (stepAt + p) 0)) _ e .1 in
+        let from-class = both-true (eqb (getD t (indexAt + q) 0) (getD t (indexAt + p) 0)) _ from-index .1 in
+        eqb-true _ _ (both-true (eqb (getD t (classAt + aboveIn t q) 0) (getD t (classAt + aboveIn t p) 0)) _ from-class .0)
+
+    none-same-below : (q : ℕ) → q < getD t (classAt + aboveIn t p) 0 → sameStepIn t q p ≡ false
+    none-same-below q l = go (sameStepIn t q p) refl
+      where
+        go : (b : Bool) → sameStepIn t q p ≡ b → sameStepIn t q p ≡ false
+        go false e = e
+        go true e =
+            let up-to : q ≤ p = omega (arith, above-class-below p (omega arith)) in
+            absurd (omega (arith, above-class-below q up-to, same-class-above q e))
+
     pub ranged : Ranged t p
     ranged = record {
       long = filled .long;
       known = small;
       above = λ q l. omega (arith, above-is q l, above-below (ok .is-shaped) q (omega arith), small);
       depth = omega (arith, above-depth, above-short (ok .is-shaped) (ok .is-counted) (ok .root-depth) p h);
+      class-below = above-class-below p (omega arith);
+      none-below = none-same-below;
     }
 
     pub row-below : RowBelow t p

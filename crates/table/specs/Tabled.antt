@@ -1,6 +1,7 @@
 -- What the table says: each field of each pattern is the definition of Standing, and each cell the test of its clause there.
 -- And what holds while it is filled, from the first pattern on.
 use mathlib.Core.Path.{_≡_}
+use mathlib.Core.Bool.{false}
 use mathlib.Core.Logic.{_⊎_}
 use mathlib.Core.List.{List, map}
 use Prim.Native.Nat.{ℕ, _+_, _*_, _≤_, _<_}
@@ -17,7 +18,7 @@ use Rattle.sheet.specs.declared.records.TypeRecord.{TypeRecord}
 use Rattle.sheet.specs.Sections.{mapOf}
 use Rattle.sheet.specs.Records.{patternOf, typeOf as typeOfRecord}
 use Rattle.table.specs.Standing.{clauseOf, pathOf, typeOf, ownerOf, parentOf, aboveOf, indexOf, stepOf, stepNumber, classOf, isCell, oneMore, cellOf}
-use Rattle.table.specs.Table.{classAt, ownerAt, aboveAt, typeAt, stepAt, indexAt, depthAt, clauseAt, indicesAt, cellsAt, tableSize, aboveIn}
+use Rattle.table.specs.Table.{classAt, ownerAt, aboveAt, typeAt, stepAt, indexAt, depthAt, clauseAt, indicesAt, cellsAt, tableSize, aboveIn, sameStepIn}
 
 -- an accepted sheet, and its map
 pub record Checked (s : List ℕ) (m : Map) : Type 0 where
@@ -76,12 +77,15 @@ pub record Reading (s : List ℕ) (m : Map) (t : List ℕ) (p : ℕ) (r : Patter
   pub is-type : ty ≡ typeOfRecord s (typeOf s p)
   pub is-owner : owner ≡ ownerOf s p
 
--- the patterns above those up to p are patterns, and the one above p has a path with room for a step more
+-- the patterns above those up to p are patterns, and the one above p has a path with room for a step more; the same step as to p leads to
+-- no pattern below the class of the one above p
 pub record Ranged (t : List ℕ) (p : ℕ) : Type 0 where
   pub long : length t ≡ tableSize
   pub known : p < patternsMost
   pub above : (q : ℕ) → q ≤ p → aboveIn t q < patternsMost
   pub depth : getD t (depthAt + aboveIn t p) 0 + 1 < depthMost
+  pub class-below : getD t (classAt + aboveIn t p) 0 ≤ p
+  pub none-below : (q : ℕ) → q < getD t (classAt + aboveIn t p) 0 → sameStepIn t q p ≡ false
 
 -- the pattern above p has a lower row of indices
 pub record RowBelow (t : List ℕ) (p : ℕ) : Type 0 where

@@ -11,6 +11,7 @@ use sheet::records::root_at;
 use sheet::records::type_at;
 use words::zero_all;
 ghost use mathlib.Core.Path.{_≡_};
+ghost use mathlib.Core.Bool.{false};
 ghost use Prim.Native.Nat.{ℕ, _+_, _<_, _≤_};
 ghost use lib.Dec.{eqb};
 ghost use lib.ListN.{length, getD};
@@ -193,12 +194,13 @@ fn same_step(t: &[u8], a: usize, b: usize) -> bool
     t[TYPE + x] == t[TYPE + y]
 }
 
-// The lowest pattern that the same step leads to.
-fn class_of(t: &[u8], p: usize) -> usize
+// The lowest pattern that the same step leads to; none is below `from`.
+fn class_of(t: &[u8], p: usize, from: usize) -> usize
     requires { ⌜ (length (now t) ≡ tableSize) × (p < patternsMost) × ((q : ℕ) → q ≤ p → aboveIn (now t) q < patternsMost) ⌝ }
+    requires { ⌜ (from ≤ p) × ((q : ℕ) → q < from → sameStepIn (now t) q p ≡ false) ⌝ }
     ensures { λ r. ⌜ r ≡ classIn (now (t .entry)) p ⌝ }
 {
-    let mut q: usize = 0;
+    let mut q = from;
     while q < p {
         if same_step(t, q, p) {
             return q;
@@ -208,7 +210,7 @@ fn class_of(t: &[u8], p: usize) -> usize
     p
 }
 
-// The class of p, and how many steps its path has.
+// The class of p, and how many steps its path has. What a step from a path leads to comes after the lowest pattern with that path.
 fn put_class(t: &mut [u8], p: usize)
     requires { ⌜ Ranged (now t) p ⌝ }
     ensures { λ _. ⌜ now (t .exit) ≡ classed (now (t .entry)) p ⌝ }
@@ -221,7 +223,7 @@ fn put_class(t: &mut [u8], p: usize)
         t[DEPTH + p] = depth;
         return;
     }
-    let first = class_of(t, p);
+    let first = class_of(t, p, class as usize);
     t[CLASS + p] = first as u8;
     t[DEPTH + p] = depth + 1;
 }

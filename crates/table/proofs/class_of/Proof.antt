@@ -9,21 +9,21 @@ use Rattle.table.proofs.class_of.Lts as lts
 use Rattle.table.proofs.same_step.Reads as same-step-reads
 
 abbrev Inv-loop : tie.InvT-loop
-Inv-loop t p q₀ q = (q ≤ p) × LowestFrom t p q
+Inv-loop t p from q₀ q = (q ≤ p) × LowestFrom t p q
 
 abbrev μ-loop : tie.MeasureT-loop
-μ-loop t p q₀ q = p - q
+μ-loop t p from q₀ q = p - q
 
 -- src/lib.rt:201:5
 loop-holds : tie.Need-loop-holds Inv-loop μ-loop
-loop-holds c = (omega arith, class-begins (c .before .args .t .now) (c .before .args .p))
+loop-holds c = let start = c .before in (start .pre .1 .0, class-begins (start .args .t .now) (start .args .p) (start .args .from) (start .pre .1 .0) (start .pre .1 .1))
 
 -- src/lib.rt:202:12
 same-step-requires : tie.Need-same-step-requires Inv-loop μ-loop
 same-step-requires c κs =
     let start = c .before .before .before in
     let q = c .before .loop .q in
-    (start .pre .0, omega arith, start .pre .1, start .pre .2 q (omega arith), start .pre .2 (start .args .p) (omega arith))
+    (start .pre .0 .0, omega arith, start .pre .0 .1, start .pre .0 .2 q (omega arith), start .pre .0 .2 (start .args .p) (omega arith))
 
 -- src/lib.rt:203:13
 returns : tie.Need-returns Inv-loop μ-loop

@@ -1,8 +1,9 @@
-use Prim.Native.Nat.{ℕ, _+_, _<_}
+use Prim.Native.Nat.{ℕ, _+_, _<_, _≤_}
+use mathlib.Core.Bool.{false}
 use mathlib.Core.Path.{_≡_}
 use native.Mathlib.Omega.{arith}
 use lib.ListN.{getD, length-set}
-use Rattle.table.specs.Table.{depthAt, aboveIn}
+use Rattle.table.specs.Table.{classAt, depthAt, aboveIn, sameStepIn}
 use Rattle.table.specs.ClassingLaws.{classIn-most, classed-same, classed-step}
 use borrow.Author.Needs.{needs}
 use Rattle.table.proofs.put_class.Statement.{statement}
@@ -15,6 +16,12 @@ use Rattle.table.proofs.class_of.Reads as class-of-reads
 -- the path of the pattern above has room for a step more
 deep : (c : tie.Start) (above : ℕ) → above ≡ aboveIn (c .args .t .now) (c .args .p) → getD (c .args .t .now) (depthAt + above) 0 + 1 < 12
 deep c above e = rw e (c .pre .depth)
+
+-- the search for the class may begin at the class above
+low : (c : tie.Start) (above : ℕ) → above ≡ aboveIn (c .args .t .now) (c .args .p)
+    → (getD (c .args .t .now) (classAt + above) 0 ≤ c .args .p)
+    × ((q : ℕ) → q < getD (c .args .t .now) (classAt + above) 0 → sameStepIn (c .args .t .now) q (c .args .p) ≡ false)
+low c above e = rw e (c .pre .class-below, c .pre .none-below)
 
 -- src/lib.rt:215:23
 add-at : tie.Need-add-at
@@ -72,9 +79,13 @@ same-length c = simp length-set
 returns : tie.Need-returns
 returns c = let start = c .before .before .before .before .before .before .before in classed-same (start .args .t .now) (start .args .p) (c .before .before .before .before .at .result) (c .before .before .before .before .at .ensures) (c .if1 .taken)
 
+-- src/lib.rt:226:33
+cast-class-of : tie.Need-cast-class-of
+cast-class-of c = let start = c .before .before .before .before .before .before .before .before in omega (arith, low start (c .before .before .before .before .before .at .result) (c .before .before .before .before .before .at .ensures) .0, start .pre .known)
+
 -- src/lib.rt:223:9
 class-of-requires : tie.Need-class-of-requires
-class-of-requires c κs = let start = c .before .before .before .before .before .before .before .before in (start .pre .long, start .pre .known, start .pre .above)
+class-of-requires c κs = let start = c .before .before .before .before .before .before .before .before in ((start .pre .long, start .pre .known, start .pre .above), low start (c .before .before .before .before .before .at .result) (c .before .before .before .before .before .at .ensures))
 
 -- src/lib.rt:224:20
 cast-t : tie.Need-cast-t
@@ -126,6 +137,7 @@ put-class-spec =
     slice-write-t-2
     same-length
     returns
+    cast-class-of
     class-of-requires
     cast-t
     add-t-3
