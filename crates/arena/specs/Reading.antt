@@ -1,4 +1,4 @@
--- The arena's records as the code has them: a node, a case with its test, a binding; and the record that a case is written as.
+-- The arena's records as the code has them: a case with its test, a binding; and the record that a case is written as.
 -- Each is made of the fields of the same name.
 use Prim.Native.Nat.{ℕ}
 use mathlib.Core.List.{List}
@@ -6,18 +6,11 @@ use lib.ListN.{length}
 use lib.Dec.{eqb}
 use Rattle.words.specs.Words.{pick}
 use Rattle.rules.specs.Splitting as splitting
-use Rattle.arena.specs.declared.reading.Node.{Node}
 use Rattle.arena.specs.declared.reading.Test.{Test}
 use Rattle.arena.specs.declared.reading.Case.{Case}
 use Rattle.arena.specs.declared.reading.Binding.{Binding}
-use Rattle.arena.specs.Arena.{nodeKind, nodeWord, caseKind, caseNumber, caseLength, caseChild, bindingName, bindingPath}
+use Rattle.arena.specs.Arena.{caseKind, caseNumber, caseLength, caseChild, bindingName, bindingPath}
 use Rattle.arena.specs.RecordsLaws.{caseFields}
-
-unfoldable pub nodeOf : List ℕ → ℕ → Node
-nodeOf w k =
-    pick (eqb (nodeKind w k) 0) (Node.Switch (nodeWord w k 0) (nodeWord w k 1) (nodeWord w k 2) (nodeWord w k 4))
-    (pick (eqb (nodeKind w k) 1) (Node.ListSwitch (nodeWord w k 0) (nodeWord w k 1) (nodeWord w k 2) (nodeWord w k 3) (nodeWord w k 4))
-    (Node.Leaf (nodeWord w k 0) (nodeWord w k 1) (nodeWord w k 2)))
 
 -- the test of a case from its kind, number and length
 unfoldable pub testOf : ℕ → ℕ → ℕ → Test

@@ -1,4 +1,4 @@
-// Reading one record of the arena: a node, a case with its test, a binding.
+// Reading the arena: a node's kind and words, a case with its test or one of its fields, a binding.
 // Rests on the words of the buffer; a number in the room of its section is all that is asked, and a read costs the record's fields.
 use crate::BINDING_SIZE;
 use crate::BINDINGS_START;
@@ -11,29 +11,7 @@ ghost use Prim.Native.Nat.{_<_, _≤_};
 ghost use lib.ListN.{length};
 ghost use Rattle.rules.specs.Limits.{nodesMost, bindingsMost};
 ghost use Rattle.arena.specs.Arena.{casesMost, arenaEnd, nodeKind, nodeWord, caseKind, caseNumber, caseLength, caseChild};
-ghost use Rattle.arena.specs.Reading.{nodeOf, caseOf, bindingOf};
-
-// A node with its fields. A default is one more than its node's number, and 0 where there is none.
-pub enum Node {
-    Switch {
-        path: u16,
-        first: u16,
-        cases: u16,
-        default: u16,
-    },
-    ListSwitch {
-        path: u16,
-        first: u16,
-        cases: u16,
-        tails: u16,
-        default: u16,
-    },
-    Leaf {
-        clause: u16,
-        first: u16,
-        count: u16,
-    },
-}
+ghost use Rattle.arena.specs.Reading.{caseOf, bindingOf};
 
 // What a case asks. A text is Int's where its kind is 1 and Bytes' where it is 2; it starts so far into the pool.
 pub enum Test {
@@ -66,39 +44,6 @@ pub fn node_word(w: &[u8], k: usize, i: usize) -> u16
     ensures { λ r. ⌜ r ≡ nodeWord (now (w .entry)) k i ⌝ }
 {
     word_at(w, NODE_SIZE * k + 2 + 2 * i)
-}
-
-// Node k, of a tree that is not hoisted.
-pub fn node_at(w: &[u8], k: usize) -> Node
-    requires { ⌜ (arenaEnd ≤ length (now w)) × (k < nodesMost) ⌝ }
-    ensures { λ r. ⌜ r ≡ nodeOf (now (w .entry)) k ⌝ }
-{
-    let kind = node_kind(w, k);
-    let a = node_word(w, k, 0);
-    let b = node_word(w, k, 1);
-    let c = node_word(w, k, 2);
-    let d = node_word(w, k, 3);
-    let e = node_word(w, k, 4);
-    match kind {
-        0 => Node::Switch {
-            path: a,
-            first: b,
-            cases: c,
-            default: e,
-        },
-        1 => Node::ListSwitch {
-            path: a,
-            first: b,
-            cases: c,
-            tails: d,
-            default: e,
-        },
-        _ => Node::Leaf {
-            clause: a,
-            first: b,
-            count: c,
-        },
-    }
 }
 
 pub fn case_kind(w: &[u8], i: usize) -> u8
