@@ -5,6 +5,7 @@ pub mod NumbersLaws
 pub mod FirstLeafLaws
 pub mod Marks
 pub mod MarksLaws
+pub mod SetsLaws
 pub mod ReadyLaws
 pub mod WayLaws
 pub mod Scoped

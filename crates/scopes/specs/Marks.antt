@@ -1,12 +1,14 @@
 -- What the search for scopes knows of each node: whether its subtree has a leaf of a clause, and the clause of the last leaf in it.
--- Both are tables of bytes by node number; what is read of the arena at one node is said over its bytes alone.
+-- The clauses with a leaf at a node are a set, a bit by clause; both tables are by node number. What is read of the arena at one node is
+-- said over its bytes alone.
 use mathlib.Core.Path.{_≡_}
 use mathlib.Core.Bool.{Bool, true, false}
-use mathlib.Core.List.{List}
+use mathlib.Core.List.{List, [], _∷_}
 use mathlib.Core.Option.{Option, none, some}
-use Prim.Native.Nat.{ℕ, zero, suc, _+_, _-_, _≤_, _<_}
+use Prim.Native.Nat.{ℕ, zero, suc, _+_, _-_, _/_, _%_, _^_, _≤_, _<_}
 use lib.ListN.{length, getD}
 use lib.Dec.{eqb, leb, ltb}
+use lib.Bits.{bitOr}
 use Rattle.words.specs.Words.{either, pick}
 use Rattle.rules.specs.Limits.{clausesMost, nodesMost}
 use Rattle.rules.specs.Rows.{Path, Binding, bit}
@@ -51,25 +53,40 @@ pub record SwitchThere (w : List ℕ) (a : Tree) (k : ℕ) : Type 0 where
   pub some-case : 0 < howMany (casesUnder (subtreeAt a k))
 
 -- ---- marks
+-- whether clause c is in a set of clauses: its bit, 1 or 0
+unfoldable pub bitAt : ℕ → ℕ → ℕ
+bitAt c set = set / 2 ^ c % 2
+
+-- the bits of clause c in a table of sets
+unfoldable pub column : ℕ → List ℕ → List ℕ
+unfolding bitAt
+column c [] = []
+column c (set ∷ sets) = bitAt c set ∷ column c sets
+
 -- from node `from` on, `has` is 1 where the subtree has a leaf of clause c, and 0 elsewhere
 pub record Marked (a : Tree) (c from : ℕ) (has : List ℕ) : Type 0 where
   pub mark : (j : ℕ) → from ≤ j → j < nodesIn a → getD has j 0 ≡ bit (hasLeaf c (subtreeAt a j))
+
+-- from node `from` on, `sets` has the clauses with a leaf in the subtree
+pub record SetsMarked (a : Tree) (from : ℕ) (sets : List ℕ) : Type 0 where
+  pub clause : (c : ℕ) → Marked a c from (column c sets)
 
 -- from node `from` on, `last` is the clause of the leaf visited last
 pub record LastMarked (a : Tree) (from : ℕ) (last : List ℕ) : Type 0 where
   pub last-leaf : (j : ℕ) → from ≤ j → j < nodesIn a → lastLeaf (subtreeAt a j) ≡ some (getD last j 0)
 
 -- a tree with the marks of one of its clauses
-pub record ClauseMarks (w : List ℕ) (c : ℕ) (has : List ℕ) : Type 0 where
+pub record ClauseMarks (w : List ℕ) (c : ℕ) (sets : List ℕ) : Type 0 where
   pub tree : Tree
   pub ready : Ready w tree
-  pub marked : Marked tree c 0 has
-  pub long : nodesIn tree ≤ length has
+  pub small : c < clausesMost
+  pub marked : Marked tree c 0 (column c sets)
+  pub long : nodesIn tree ≤ length sets
   pub leaf-there : hasLeaf c tree ≡ true
 
 -- and with the last leaves
-pub record ScopeMarks (w : List ℕ) (c : ℕ) (last has : List ℕ) : Type 0 where
-  pub marks : ClauseMarks w c has
+pub record ScopeMarks (w : List ℕ) (c : ℕ) (last sets : List ℕ) : Type 0 where
+  pub marks : ClauseMarks w c sets
   pub last-marked : LastMarked (marks .tree) 0 last
   pub last-long : nodesIn (marks .tree) ≤ length last
 
@@ -94,9 +111,10 @@ pub record NodeInside (w : List ℕ) (k m : ℕ) : Type 0 where
   pub switch : (nodeKind w k ≡ 2 → ⊥) → SwitchInside w k m
 
 -- a node at which a clause has a leaf: where that is not visited last, the node is a switch
-pub record ScopeInside (w last has : List ℕ) (c k : ℕ) : Type 0 where
+pub record ScopeInside (w last sets : List ℕ) (c k : ℕ) : Type 0 where
+  pub small : c < clausesMost
   pub node : k < length last
-  pub switch : (c ≡ getD last k 0 → ⊥) → SwitchInside w k (length has)
+  pub switch : (c ≡ getD last k 0 → ⊥) → SwitchInside w k (length sets)
 
 -- where a switch's cases begin, how many it has with the tail cases, and its default, one more than the node or 0
 abbrev pub childrenOf : List ℕ → ℕ → Children
@@ -129,9 +147,25 @@ firstChild w has k = pick (ltb 0 (markedDefault has (nodeWord w k 4))) (nodeWord
 unfoldable pub lastChild : List ℕ → ℕ → ℕ
 lastChild w k = pick (eqb (nodeWord w k 4) 0) (caseChild w (nodeWord w k 1 + (nodeWord w k 2 + nodeWord w k 3) - 1)) (nodeWord w k 4 - 1)
 
+-- whether the subtree of node k has a leaf of clause c
 unfoldable pub nodeMarked : List ℕ → List ℕ → ℕ → ℕ → ℕ
 unfolding bit markedChildren
 nodeMarked w has c k = pick (eqb (nodeKind w k) 2) (bit (eqb c (nodeWord w k 0))) (bit (ltb 0 (markedChildren w has k)))
+
+-- the clauses of `all` and those of the n cases from i on
+unfoldable pub unionCases : List ℕ → List ℕ → ℕ → ℕ → ℕ → ℕ
+unionCases w sets i zero all = all
+unionCases w sets i (suc n) all = unionCases w sets (i + 1) n (bitOr all (getD sets (caseChild w i) 0))
+
+unfoldable pub defaultSet : List ℕ → ℕ → ℕ
+defaultSet sets default = pick (eqb default 0) 0 (getD sets (default - 1) 0)
+
+-- the clauses with a leaf at or below node k
+unfoldable pub nodeSet : List ℕ → List ℕ → ℕ → ℕ
+unfolding unionCases defaultSet
+nodeSet w sets k =
+    pick (eqb (nodeKind w k) 2) (2 ^ nodeWord w k 0)
+    (unionCases w sets (nodeWord w k 1) (nodeWord w k 2 + nodeWord w k 3) (defaultSet sets (nodeWord w k 4)))
 
 unfoldable pub lastOf : List ℕ → List ℕ → ℕ → ℕ
 unfolding lastChild

@@ -3,44 +3,43 @@
 use mathlib.Core.Path.{_≡_, refl, sym, ap, ap₂, _∙_, subst}
 use mathlib.Core.Bool.{Bool, true, false}
 use mathlib.Core.List.{List}
-use Prim.Native.Nat.{ℕ, zero, suc, _+_, _-_, _*_, _≤_, _<_}
+use Prim.Native.Nat.{ℕ, zero, suc, _+_, _-_, _≤_, _<_}
 use native.Mathlib.Omega.{arith}
 use native.Mathlib.Nat.{add-zero, sub-zero}
 use lib.ListN.{getD}
 use lib.Dec.{eqb, leb, ltb}
 use borrow.Author.Tests.{eq-eqb, ne-eqb, lt-ltb, le-ltb}
-use Rattle.words.specs.Words.{Bytes, pick}
+use Rattle.words.specs.Words.{pick}
 use Rattle.words.specs.WordsLaws.{pick-true, pick-false}
 use Rattle.rules.specs.Limits.{nodesMost}
-use Rattle.rules.specs.Rows.{bit}
 use Rattle.arena.specs.Arena.{casesMost, nodeKind, nodeWord, caseChild}
 use Rattle.scopes.specs.declared.marks.Children.{Children}
-use Rattle.scopes.specs.Marks.{CasesInside, SwitchInside, childrenOf, markedCases, firstMarked, markedDefault, markedChildren, firstChild, lastChild, nodeMarked, lastOf, scopeHere}
+use Rattle.scopes.specs.Marks.{CasesInside, SwitchInside, childrenOf, markedCases, firstMarked, markedDefault, markedChildren, firstChild, lastChild, lastOf, scopeHere}
 
 module _ (w has : List ℕ) (i n : ℕ) where
   -- ---- the sum of the marks
   pub markedCases-start : markedCases w has (i + 0) (n - 0) ≡ markedCases w has i n
   markedCases-start = rw (add-zero, sub-zero)
 
-  pub markedCases-next : (j child count total : ℕ) → j < n → child ≡ caseChild w (i + j) → count + markedCases w has (i + j) (n - j) ≡ total
-      → count + getD has child 0 + markedCases w has (i + (j + 1)) (n - (j + 1)) ≡ total
+  pub markedCases-next : (j child mark count total : ℕ) → j < n → child ≡ caseChild w (i + j) → mark ≡ getD has child 0
+      → count + markedCases w has (i + j) (n - j) ≡ total → count + mark + markedCases w has (i + (j + 1)) (n - (j + 1)) ≡ total
   unfolding markedCases
-  markedCases-next j child count total l e h =
+  markedCases-next j child mark count total l e m h =
       let d : n - j ≡ suc (n - (j + 1)) = omega arith in
       let f : i + j + 1 ≡ i + (j + 1) = omega arith in
-      rw e (omega (arith, rw (d, f) at h))
+      rw (m, e) (omega (arith, rw (d, f) at h))
 
   pub markedCases-end : (j count total : ℕ) → n ≤ j → count + markedCases w has (i + j) (n - j) ≡ total → count ≡ total
   unfolding markedCases
   markedCases-end j count total l h = let d : n - j ≡ 0 = omega arith in omega (arith, rw d at h)
 
-  pub markedCases-most : Bytes has → markedCases w has i n ≤ 255 * n
+  markedCases-most : ((j : ℕ) → getD has j 0 ≤ 1) → markedCases w has i n ≤ n
   unfolding markedCases
-  markedCases-most bytes = go i n
+  markedCases-most most = go i n
     where
-      go : (i n : ℕ) → markedCases w has i n ≤ 255 * n
+      go : (i n : ℕ) → markedCases w has i n ≤ n
       go i zero = omega arith
-      go i (suc n) = omega (arith, bytes .byte (caseChild w i), go (i + 1) n)
+      go i (suc n) = omega (arith, most (caseChild w i), go (i + 1) n)
 
   -- ---- the first marked child
   pub firstMarked-start : firstMarked w has (i + 0) (n - 0) ≡ firstMarked w has i n
@@ -67,25 +66,17 @@ module _ (w has : List ℕ) (i n : ℕ) where
   firstMarked-end j l = let d : n - j ≡ 0 = omega arith in rw d
 
 -- ---- the default
-pub markedDefault-none : (has : List ℕ) (default : ℕ) → default ≡ 0 → 0 ≡ markedDefault has default
-unfolding markedDefault
-markedDefault-none has default e = rw (eq-eqb default 0 e)
-
-pub markedDefault-some : (has : List ℕ) (default : ℕ) → (default ≡ 0 → ⊥) → getD has (default - 1) 0 ≡ markedDefault has default
-unfolding markedDefault
-markedDefault-some has default h = rw (ne-eqb default 0 h)
-
 markedDefault-zero : (has : List ℕ) → markedDefault has 0 ≡ 0
 unfolding markedDefault
 markedDefault-zero has = refl
 
-pub markedDefault-most : (has : List ℕ) (default : ℕ) → Bytes has → markedDefault has default ≤ 255
+markedDefault-most : (has : List ℕ) (default : ℕ) → ((j : ℕ) → getD has j 0 ≤ 1) → markedDefault has default ≤ 1
 unfolding markedDefault
-markedDefault-most has default bytes = go (eqb default 0)
+markedDefault-most has default most = go (eqb default 0)
   where
-    go : (b : Bool) → pick b 0 (getD has (default - 1) 0) ≤ 255
+    go : (b : Bool) → pick b 0 (getD has (default - 1) 0) ≤ 1
     go true = omega arith
-    go false = omega (arith, bytes .byte (default - 1))
+    go false = most (default - 1)
 
 -- ---- the children of a switch, as they were read
 module _ (w : List ℕ) (k m : ℕ) (x : Children) (e : x ≡ childrenOf w k) where
@@ -123,11 +114,11 @@ module _ (w : List ℕ) (k m : ℕ) (x : Children) (e : x ≡ childrenOf w k) wh
     markedChildren-is cases default f g =
         ap₂ _+_ (f ∙ ap (λ (z : Children). markedCases w has (z .first) (z .count)) e) (g ∙ ap (λ (z : Children). markedDefault has (z .default)) e)
 
-    pub markedChildren-small : (cases default : ℕ) → SwitchInside w k m → Bytes has → cases ≡ markedCases w has (x .first) (x .count) → default ≡ markedDefault has (x .default)
-        → cases + default ≤ 261375
-    markedChildren-small cases default h bytes f g =
+    pub markedChildren-small : (cases default : ℕ) → SwitchInside w k m → ((j : ℕ) → getD has j 0 ≤ 1) → cases ≡ markedCases w has (x .first) (x .count)
+        → default ≡ markedDefault has (x .default) → cases + default ≤ casesMost + 1
+    markedChildren-small cases default h most f g =
         let i = cases-asked h .inside in
-        omega (arith, f, g, markedCases-most w has (x .first) (x .count) bytes, markedDefault-most has (x .default) bytes)
+        omega (arith, f, g, markedCases-most w has (x .first) (x .count) most, markedDefault-most has (x .default) most)
 
     firstChild-of : firstChild w has k ≡ pick (ltb 0 (markedDefault has (x .default))) (x .default - 1) (firstMarked w has (x .first) (x .count))
     unfolding firstChild
@@ -161,20 +152,6 @@ lastChild-inside w k m h = go (nodeWord w k 4) refl
 
 -- ---- a node, as a leaf and as a switch
 module _ (w : List ℕ) (k kind : ℕ) (e : kind ≡ nodeKind w k) where
-  pub nodeMarked-leaf : (has : List ℕ) (c word r : ℕ) → kind ≡ 2 → word ≡ nodeWord w k 0 → r ≡ bit (eqb c word) → r ≡ nodeMarked w has c k
-  unfolding nodeMarked
-  nodeMarked-leaf has c word r h f g =
-      g
-      ∙ ap (λ z. bit (eqb c z)) f
-      ∙ sym (pick-true (eqb (nodeKind w k) 2) (bit (eqb c (nodeWord w k 0))) (bit (ltb 0 (markedChildren w has k))) (eq-eqb (nodeKind w k) 2 (sym e ∙ h)))
-
-  pub nodeMarked-switch : (has : List ℕ) (c n r : ℕ) → (kind ≡ 2 → ⊥) → n ≡ markedChildren w has k → r ≡ bit (ltb 0 n) → r ≡ nodeMarked w has c k
-  unfolding nodeMarked
-  nodeMarked-switch has c n r h f g =
-      g
-      ∙ ap (λ z. bit (ltb 0 z)) f
-      ∙ sym (pick-false (eqb (nodeKind w k) 2) (bit (eqb c (nodeWord w k 0))) (bit (ltb 0 (markedChildren w has k))) (ne-eqb (nodeKind w k) 2 (λ z. h (e ∙ z))))
-
   pub lastOf-leaf : (last : List ℕ) (r : ℕ) → kind ≡ 2 → r ≡ nodeWord w k 0 → r ≡ lastOf w last k
   unfolding lastOf
   lastOf-leaf last r h g = g ∙ sym (pick-true (eqb (nodeKind w k) 2) (nodeWord w k 0) (getD last (lastChild w k) 0) (eq-eqb (nodeKind w k) 2 (sym e ∙ h)))

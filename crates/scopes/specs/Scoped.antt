@@ -13,15 +13,16 @@ use Rattle.rules.specs.Hoisting.{nodesIn, hasLeaf}
 use Rattle.rules.specs.Calls.{lowestIdle}
 use Rattle.scopes.specs.declared.Scopes.{Scopes}
 use Rattle.scopes.specs.Numbers.{scopeNumber, firstNumber, scopeNode, leafNode, idleNumber}
-use Rattle.scopes.specs.Marks.{Ready, LastMarked}
+use Rattle.scopes.specs.Marks.{Ready, LastMarked, SetsMarked}
 
--- the tree in the arena, of so many nodes, with the clause of the last leaf of each
-pub record LastReady (w : List ℕ) (nodes : ℕ) (last : List ℕ) : Type 0 where
+-- the tree in the arena, with the clause of the last leaf of each node and the clauses with a leaf there
+pub record Surveyed (w last sets : List ℕ) : Type 0 where
   pub tree : Tree
   pub ready : Ready w tree
-  pub count : nodesIn tree ≡ nodes
   pub last-marked : LastMarked tree 0 last
-  pub last-long : nodes ≤ length last
+  pub last-long : nodesIn tree ≤ length last
+  pub sets-marked : SetsMarked tree 0 sets
+  pub sets-long : nodesIn tree ≤ length sets
 
 -- x with the scope of clause c, or with c for its lowest idle clause
 unfoldable pub withClause : Tree → ℕ → Scopes → Scopes

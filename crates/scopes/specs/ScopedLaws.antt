@@ -23,62 +23,62 @@ use Rattle.scopes.specs.declared.Scopes.{Scopes}
 use Rattle.scopes.specs.Numbers.{scopeNumber, firstNumber, scopeNode, leafNode, idleNumber}
 use Rattle.scopes.specs.SwitchLaws.{present-nodes}
 use Rattle.scopes.specs.NumbersLaws.{descent-in}
-use Rattle.scopes.specs.Marks.{Ready, ReadyWith, Marked, LastMarked, ClauseMarks, ScopeMarks}
-use Rattle.scopes.specs.Scoped.{LastReady, withClause, Scoped}
+use Rattle.scopes.specs.Marks.{ReadyWith, SetsMarked, LastMarked, ClauseMarks, ScopeMarks, bitAt}
+use Rattle.scopes.specs.SetsLaws.{column-read}
+use Rattle.scopes.specs.Scoped.{Surveyed, withClause, Scoped}
 
 -- ---- one clause
-module _ (w : List ℕ) (nodes : ℕ) (last : List ℕ) (h : LastReady w nodes last) where
-  abbrev pub ready-with : ReadyWith w nodes
-  ready-with = record { tree = h .tree; ready = h .ready; count = h .count }
+pub root-there : (w last sets : List ℕ) → Surveyed w last sets → 0 < length sets
+root-there w last sets h = omega (arith, h .sets-long, present-nodes (h .tree) (h .ready .there))
 
-  pub nodes-small : nodes ≤ nodesMost
-  nodes-small = omega (arith, h .count, h .ready .nodes .nodes-most)
+module _ (w last sets : List ℕ) (h : Surveyed w last sets) (c mark : ℕ) (e : mark ≡ bitAt c (getD sets 0 0)) where
+  root-mark : mark ≡ bit (hasLeaf c (h .tree))
+  root-mark =
+      column-read c sets 0 mark e
+      ∙ h .sets-marked .clause c .mark 0 (omega arith) (present-nodes (h .tree) (h .ready .there))
+      ∙ ap (λ z. bit (hasLeaf c z)) (subtreeAt-root (h .tree))
 
-  module _ (c : ℕ) (has : List ℕ) (m : Marked (h .tree) c 0 has) where
-    root-mark : getD has 0 0 ≡ bit (hasLeaf c (h .tree))
-    root-mark = m .mark 0 (omega arith) (present-nodes (h .tree) (h .ready .there)) ∙ ap (λ z. bit (hasLeaf c z)) (subtreeAt-root (h .tree))
+  no-leaf : mark ≡ 0 → hasLeaf c (h .tree) ≡ false
+  unfolding bit
+  no-leaf f = go (hasLeaf c (h .tree)) refl
+    where
+      go : (b : Bool) → hasLeaf c (h .tree) ≡ b → hasLeaf c (h .tree) ≡ false
+      go true x = absurd (omega (arith, root-mark ∙ ap bit x))
+      go false x = x
 
-    no-leaf : getD has 0 0 ≡ 0 → hasLeaf c (h .tree) ≡ false
-    unfolding bit
-    no-leaf e = go (hasLeaf c (h .tree)) refl
-      where
-        go : (b : Bool) → hasLeaf c (h .tree) ≡ b → hasLeaf c (h .tree) ≡ false
-        go true x = absurd (omega (arith, root-mark ∙ ap bit x))
-        go false x = x
+  pub some-leaf : (mark ≡ 0 → ⊥) → hasLeaf c (h .tree) ≡ true
+  unfolding bit
+  some-leaf n = go (hasLeaf c (h .tree)) refl
+    where
+      go : (b : Bool) → hasLeaf c (h .tree) ≡ b → hasLeaf c (h .tree) ≡ true
+      go true x = x
+      go false x = absurd (n (root-mark ∙ ap bit x))
 
-    pub some-leaf : (getD has 0 0 ≡ 0 → ⊥) → hasLeaf c (h .tree) ≡ true
-    unfolding bit
-    some-leaf n = go (hasLeaf c (h .tree)) refl
-      where
-        go : (b : Bool) → hasLeaf c (h .tree) ≡ b → hasLeaf c (h .tree) ≡ true
-        go true x = x
-        go false x = absurd (n (root-mark ∙ ap bit x))
+  abbrev pub clause-marks : c < clausesMost → (mark ≡ 0 → ⊥) → ClauseMarks w c sets
+  clause-marks l n =
+      record { tree = h .tree; ready = h .ready; small = l; marked = h .sets-marked .clause c; long = h .sets-long; leaf-there = some-leaf n }
 
-    abbrev pub clause-marks : nodesMost ≤ length has → (getD has 0 0 ≡ 0 → ⊥) → ClauseMarks w c has
-    clause-marks l n =
-        record { tree = h .tree; ready = h .ready; marked = m; long = omega (arith, h .ready .nodes .nodes-most); leaf-there = some-leaf n }
+  abbrev pub scope-marks : c < clausesMost → (mark ≡ 0 → ⊥) → ScopeMarks w c last sets
+  scope-marks l n = record { marks = clause-marks l n; last-marked = h .last-marked; last-long = h .last-long }
 
-    abbrev pub scope-marks : nodesMost ≤ length has → (getD has 0 0 ≡ 0 → ⊥) → ScopeMarks w c last has
-    scope-marks l n = record { marks = clause-marks l n; last-marked = h .last-marked; last-long = omega (arith, h .last-long, h .count) }
+  pub idle-clause : (x : Scopes) → mark ≡ 0 → record { node = x .node; leaf = x .leaf; hoists = x .hoists; idle = c } ≡ withClause (h .tree) c x
+  unfolding withClause
+  idle-clause x f = rw (no-leaf f)
 
-    pub idle-clause : (x : Scopes) → getD has 0 0 ≡ 0 → record { node = x .node; leaf = x .leaf; hoists = x .hoists; idle = c } ≡ withClause (h .tree) c x
-    unfolding withClause
-    idle-clause x e = rw (no-leaf e)
+  pub busy-clause : (x : Scopes) (node leaf : ℕ) → (mark ≡ 0 → ⊥) → node ≡ scopeNumber c 0 (h .tree) → leaf ≡ firstNumber c 0 (h .tree)
+      → record { node = set (x .node) c node; leaf = set (x .leaf) c leaf; hoists = x .hoists + 1; idle = x .idle } ≡ withClause (h .tree) c x
+  unfolding withClause
+  busy-clause x node leaf n f g = rw (some-leaf n, f, g)
 
-    pub busy-clause : (x : Scopes) (node leaf : ℕ) → (getD has 0 0 ≡ 0 → ⊥) → node ≡ scopeNumber c 0 (h .tree) → leaf ≡ firstNumber c 0 (h .tree)
-        → record { node = set (x .node) c node; leaf = set (x .leaf) c leaf; hoists = x .hoists + 1; idle = x .idle } ≡ withClause (h .tree) c x
-    unfolding withClause
-    busy-clause x node leaf n e f = rw (some-leaf n, e, f)
+  pub scope-small : (mark ≡ 0 → ⊥) → (node : ℕ) → node ≡ scopeNumber c 0 (h .tree) → node < nodesMost
+  unfolding scopeNumber
+  scope-small n node f =
+      omega (arith, f, descent-in (Rattle.hoisting.specs.Descent.isScope c) c 0 (h .tree) (some-leaf n) (h .ready .plain) .1, h .ready .nodes .nodes-most)
 
-    pub scope-small : (getD has 0 0 ≡ 0 → ⊥) → (node : ℕ) → node ≡ scopeNumber c 0 (h .tree) → node < nodesMost
-    unfolding scopeNumber
-    scope-small n node e =
-        omega (arith, e, descent-in (Rattle.hoisting.specs.Descent.isScope c) c 0 (h .tree) (some-leaf n) (h .ready .plain) .1, h .ready .nodes .nodes-most)
-
-    pub leaf-small : (getD has 0 0 ≡ 0 → ⊥) → (leaf : ℕ) → leaf ≡ firstNumber c 0 (h .tree) → leaf < nodesMost
-    unfolding firstNumber
-    leaf-small n leaf e =
-        omega (arith, e, descent-in Rattle.scopes.specs.Numbers.never c 0 (h .tree) (some-leaf n) (h .ready .plain) .1, h .ready .nodes .nodes-most)
+  pub leaf-small : (mark ≡ 0 → ⊥) → (leaf : ℕ) → leaf ≡ firstNumber c 0 (h .tree) → leaf < nodesMost
+  unfolding firstNumber
+  leaf-small n leaf f =
+      omega (arith, f, descent-in Rattle.scopes.specs.Numbers.never c 0 (h .tree) (some-leaf n) (h .ready .plain) .1, h .ready .nodes .nodes-most)
 
 -- ---- the clauses from c on
 pub record ScopedFrom (a : Tree) (clauses c : ℕ) (x : Scopes) : Type 0 where
@@ -184,9 +184,18 @@ scoped-end a clauses c x e s =
       idle = s .idle ∙ ap idleNumber (ap₂ (lowest (λ d. not (hasLeaf d a))) e all);
     }
 
--- the last leaves of every tree that is there
-abbrev pub last-ready : (w : List ℕ) (nodes : ℕ) (last : List ℕ) → ((h : ReadyWith w nodes) → LastMarked (h .tree) 0 last) → nodes ≤ length last → ReadyWith w nodes → LastReady w nodes last
-last-ready w nodes last m l h = record { tree = h .tree; ready = h .ready; count = h .count; last-marked = m h; last-long = l }
+-- what the two passes over the nodes find, of every tree that is there
+abbrev pub surveyed : (w : List ℕ) (nodes : ℕ) (last sets : List ℕ) → ((h : ReadyWith w nodes) → LastMarked (h .tree) 0 last) → nodes ≤ length last
+    → ((h : ReadyWith w nodes) → SetsMarked (h .tree) 0 sets) → nodes ≤ length sets → ReadyWith w nodes → Surveyed w last sets
+surveyed w nodes last sets m l n k h =
+    record {
+      tree = h .tree;
+      ready = h .ready;
+      last-marked = m h;
+      last-long = omega (arith, h .count);
+      sets-marked = n h;
+      sets-long = omega (arith, h .count);
+    }
 
 pub nodes-few : (w : List ℕ) (nodes : ℕ) → ReadyWith w nodes → nodes ≤ nodesMost
 nodes-few w nodes h = omega (arith, h .count, h .ready .nodes .nodes-most)

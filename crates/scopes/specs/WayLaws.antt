@@ -13,7 +13,7 @@ use lib.Dec.{eqb, leb}
 use borrow.Author.Tests.{eq-eqb, ne-eqb, eqb-true}
 use Rattle.words.specs.Words.{either, pick}
 use Rattle.words.specs.WordsLaws.{pick-true, pick-false}
-use Rattle.rules.specs.Limits.{nodesMost}
+use Rattle.rules.specs.Limits.{clausesMost, nodesMost}
 use Rattle.rules.specs.Rows.{bit}
 use Rattle.rules.specs.Building.{Tree, absent, leaf, hoist, switch, listswitch}
 use Rattle.rules.specs.Hoisting.{nodesIn, nodesInOf, hasLeaf}
@@ -25,7 +25,8 @@ use Rattle.arena.specs.Numbered.{subtreeAt, casesUnder, defaultUnder}
 use Rattle.arena.specs.NumberedLaws.{subtreeAt-root}
 use Rattle.scopes.specs.Numbers.{descent, descentOf, never, scopeNumber, firstNumber}
 use Rattle.scopes.specs.SwitchLaws.{descent-switch, present-nodes}
-use Rattle.scopes.specs.Marks.{Ready, LeafThere, SwitchThere, Marked, LastMarked, ClauseMarks, ScopeMarks, SwitchInside, NodeInside, ScopeInside, markedChildren, firstChild, nodeMarked, lastOf, scopeHere}
+use Rattle.scopes.specs.Marks.{Ready, LeafThere, SwitchThere, Marked, SetsMarked, LastMarked, ClauseMarks, ScopeMarks, SwitchInside, NodeInside, ScopeInside, bitAt, column, markedChildren, firstChild, nodeMarked, nodeSet, lastOf, scopeHere}
+use Rattle.scopes.specs.SetsLaws.{length-column, column-set, nodeSet-marked}
 use Rattle.scopes.specs.ReadyLaws.{node-there, node-inside, Led, marked-children, node-marked, first-led, last-of}
 
 -- ---- the passes from the last node to the first
@@ -38,13 +39,21 @@ first-or-more k j l = go (eqb j k) refl
 
 module _ (w : List ℕ) (a : Tree) (r : Ready w a) (k : ℕ) (l : k < nodesIn a) where
   -- one more node marked
-  pub mark-more : (c : ℕ) (has : List ℕ) (one : ℕ) → k < length has → one ≡ nodeMarked w has c k → Marked a c (k + 1) has → Marked a c k (set has k one)
+  mark-more : (c : ℕ) (has : List ℕ) (one : ℕ) → k < length has → one ≡ nodeMarked w has c k → Marked a c (k + 1) has → Marked a c k (set has k one)
   mark-more c has one h e m = record { mark = each }
     where
       each : (j : ℕ) → k ≤ j → j < nodesIn a → getD (set has k one) j 0 ≡ bit (hasLeaf c (subtreeAt a j))
       each j f g =
           ⊎-elim (λ x. rw x (getD-set-same has k one 0 h ∙ e ∙ node-marked w a c has r k l m))
           (λ x. getD-set-other has k j one 0 (λ y. omega arith) ∙ m .mark j x g) (first-or-more k j f)
+
+  pub sets-more : (sets : List ℕ) (one : ℕ) → k < length sets → one ≡ nodeSet w sets k → SetsMarked a (k + 1) sets → SetsMarked a k (set sets k one)
+  sets-more sets one h e m =
+      record {
+        clause = λ c.
+            subst (Marked a c k) (sym (column-set c sets k one))
+            (mark-more c (column c sets) (bitAt c one) (omega (arith, length-column c sets)) (ap (bitAt c) e ∙ nodeSet-marked w sets c k) (m .clause c));
+      }
 
   pub last-more : (last : List ℕ) (clause : ℕ) → k < length last → clause ≡ lastOf w last k → LastMarked a (k + 1) last → LastMarked a k (set last k clause)
   last-more last clause h e m = record { last-leaf = each }
@@ -55,14 +64,14 @@ module _ (w : List ℕ) (a : Tree) (r : Ready w a) (k : ℕ) (l : k < nodesIn a)
           (λ x. m .last-leaf j x g ∙ ap some (sym (getD-set-other last k j clause 0 (λ y. omega arith)))) (first-or-more k j f)
 
 -- none yet
-pub mark-none : (a : Tree) (c k : ℕ) (has : List ℕ) → nodesIn a ≤ k → Marked a c k has
-mark-none a c k has l = record { mark = λ j f g. absurd (omega arith) }
+pub sets-none : (a : Tree) (k : ℕ) (sets : List ℕ) → nodesIn a ≤ k → SetsMarked a k sets
+sets-none a k sets l = record { clause = λ c. record { mark = λ j f g. absurd (omega arith) } }
 
 pub last-none : (a : Tree) (k : ℕ) (last : List ℕ) → nodesIn a ≤ k → LastMarked a k last
 last-none a k last l = record { last-leaf = λ j f g. absurd (omega arith) }
 
 -- marks from a lower node on are marks from a higher one on
-pub mark-from : (a : Tree) (c k : ℕ) (has : List ℕ) → Marked a c 0 has → Marked a c k has
+mark-from : (a : Tree) (c k : ℕ) (has : List ℕ) → Marked a c 0 has → Marked a c k has
 mark-from a c k has m = record { mark = λ j f g. m .mark j (omega arith) g }
 
 -- ---- the ways down
@@ -147,17 +156,22 @@ module _ (w : List ℕ) (a : Tree) (c k : ℕ) (last has : List ℕ) (r : Ready 
           rw (last-clause, e)
           (ap (leb 2) (marked-children w a c has r k l (mark-from a c (k + 1) has m) (scope-switch (λ x. true≢false (sym (eq-eqb c (getD last k 0) x) ∙ e)))))
 
-  pub scope-inside : nodesIn a ≤ length last → nodesIn a ≤ length has → ScopeInside w last has c k
-  scope-inside x y =
+  pub scope-inside : (sets : List ℕ) → c < clausesMost → nodesIn a ≤ length last → nodesIn a ≤ length sets → ScopeInside w last sets c k
+  scope-inside sets small x y =
       record {
+        small = small;
         node = omega arith;
-        switch = λ n. node-inside w a r k l (length has) y .switch (λ e. omega (arith, scope-switch n .shown .kind-is));
+        switch = λ n. node-inside w a r k l (length sets) y .switch (λ e. omega (arith, scope-switch n .shown .kind-is));
       }
 
-module _ (w : List ℕ) (c : ℕ) (last has : List ℕ) (h : ScopeMarks w c last has) (k : ℕ) (o : OnWay (isScope c) (h .marks .tree) c k) where
-  pub scope-asked : ScopeInside w last has c k
+module _ (w : List ℕ) (c : ℕ) (last sets : List ℕ) (h : ScopeMarks w c last sets) (k : ℕ) (o : OnWay (isScope c) (h .marks .tree) c k) where
+  abbrev has : List ℕ
+  has = column c sets
+
+  pub scope-asked : ScopeInside w last sets c k
   scope-asked =
-      scope-inside w (h .marks .tree) c k last has (h .marks .ready) (h .marks .marked) (h .last-marked) (o .inside) (o .leaf-there) (h .last-long) (h .marks .long)
+      scope-inside w (h .marks .tree) c k last has (h .marks .ready) (h .marks .marked) (h .last-marked) (o .inside) (o .leaf-there) sets
+      (h .marks .small) (h .last-long) (h .marks .long)
 
   here-is : (b : Bool) → b ≡ scopeHere w last has c k → isScope c (subtreeAt (h .marks .tree) k) ≡ b
   here-is b e =
@@ -171,7 +185,7 @@ module _ (w : List ℕ) (c : ℕ) (last has : List ℕ) (h : ScopeMarks w c last
   unfolding scopeHere
   not-last e x = true≢false (sym (e ∙ ap (λ b. either b (leb 2 (markedChildren w has k))) (eq-eqb c (getD last k 0) x)))
 
-  pub scope-child : false ≡ scopeHere w last has c k → SwitchInside w k (length has)
+  pub scope-child : false ≡ scopeHere w last has c k → SwitchInside w k (length sets)
   scope-child e = scope-asked .switch (not-last e)
 
   pub scope-on : false ≡ scopeHere w last has c k → NextOnWay (isScope c) (h .marks .tree) c k (firstChild w has k)
@@ -180,15 +194,15 @@ module _ (w : List ℕ) (c : ℕ) (last has : List ℕ) (h : ScopeMarks w c last
       (scope-switch w (h .marks .tree) c k last has (h .marks .ready) (h .marks .marked) (h .last-marked) (o .inside) (o .leaf-there) (not-last e)) (here-is false e)
 
 -- ---- the first leaf
-module _ (w : List ℕ) (c : ℕ) (has : List ℕ) (h : ClauseMarks w c has) (k : ℕ) (o : OnWay never (h .tree) c k) where
+module _ (w : List ℕ) (c : ℕ) (sets : List ℕ) (h : ClauseMarks w c sets) (k : ℕ) (o : OnWay never (h .tree) c k) where
   pub leaf-found : nodeKind w k ≡ 2 → k ≡ firstNumber c 0 (h .tree)
   unfolding firstNumber descent
   leaf-found e =
       ⊎-elim (λ t. sym (ap (descent never c k) (t .is)) ∙ o .same) (λ t. absurd (omega (arith, t .shown .kind-is))) (node-there w (h .tree) (h .ready) k (o .inside))
 
-  pub leaf-child : (nodeKind w k ≡ 2 → ⊥) → SwitchInside w k (length has)
-  leaf-child n = node-inside w (h .tree) (h .ready) k (o .inside) (length has) (h .long) .switch n
+  pub leaf-child : (nodeKind w k ≡ 2 → ⊥) → SwitchInside w k (length sets)
+  leaf-child n = node-inside w (h .tree) (h .ready) k (o .inside) (length sets) (h .long) .switch n
 
-  pub leaf-on : (nodeKind w k ≡ 2 → ⊥) → NextOnWay never (h .tree) c k (firstChild w has k)
+  pub leaf-on : (nodeKind w k ≡ 2 → ⊥) → NextOnWay never (h .tree) c k (firstChild w (column c sets) k)
   leaf-on n =
-      ⊎-elim (λ t. absurd (n (t .kind-is))) (λ t. way-next never w (h .tree) c k has (h .ready) (h .marked) o t refl) (node-there w (h .tree) (h .ready) k (o .inside))
+      ⊎-elim (λ t. absurd (n (t .kind-is))) (λ t. way-next never w (h .tree) c k (column c sets) (h .ready) (h .marked) o t refl) (node-there w (h .tree) (h .ready) k (o .inside))

@@ -1,16 +1,17 @@
 // Where each clause is hoisted, and its first leaf in building order: rules 5 to 7 of the scope document over the tree in the arena.
-// Scopes are found from the root down, with no places written out. For each clause one pass over the nodes and the cases marks where it
-// has a leaf, so the cost is that of nodes times clauses, and the memory two bytes a node.
+// Scopes are found from the root down, with no places written out. Two passes over the nodes find at each its last leaf and the set of the
+// clauses with a leaf there; then each clause costs two ways down the tree. The memory is five bytes a node.
 use arena::NODES_MOST;
 use descent::first_leaf;
 use descent::get_hoist_path;
 use last::mark_last;
 use marks::mark;
+use marks::mark_of;
 ghost use mathlib.Core.Path.{_≡_};
 ghost use Prim.Native.Nat.{_<_, _≤_};
 ghost use Rattle.rules.specs.Limits.{clausesMost};
 ghost use Rattle.scopes.specs.Marks.{ReadyWith};
-ghost use Rattle.scopes.specs.Scoped.{LastReady, withClause, Scoped};
+ghost use Rattle.scopes.specs.Scoped.{Surveyed, withClause, Scoped};
 
 pub mod descent;
 pub mod last;
@@ -28,19 +29,17 @@ pub struct Scopes {
 }
 
 // The scopes with those of clause c, the clauses after c being done.
-fn with_clause(w: &[u8], nodes: usize, c: usize, last: &[u8], x: Scopes) -> Scopes
-    requires { ⌜ LastReady (now w) nodes (now last) × (c < clausesMost) × (x .hoists < clausesMost) ⌝ }
-    ensures { λ r. ⌜ ((h : LastReady (now (w .entry)) nodes (now (last .entry))) → r ≡ withClause (h .tree) c x) ⌝ }
+fn with_clause(w: &[u8], c: usize, last: &[u8], sets: &[u32], x: Scopes) -> Scopes
+    requires { ⌜ Surveyed (now w) (now last) (now sets) × (c < clausesMost) × (x .hoists < clausesMost) ⌝ }
+    ensures { λ r. ⌜ ((h : Surveyed (now (w .entry)) (now (last .entry)) (now (sets .entry))) → r ≡ withClause (h .tree) c x) ⌝ }
 {
-    let mut has = [0u8; 1024];
-    mark(w, nodes, c, &mut has);
     let mut y = x;
-    if has[0] == 0 {
+    if mark_of(sets[0], c) == 0 {
         y.idle = c;
         return y;
     }
-    let node = get_hoist_path(w, c, last, &has);
-    let leaf = first_leaf(w, c, &has);
+    let node = get_hoist_path(w, c, last, sets);
+    let leaf = first_leaf(w, c, sets);
     y.node[c] = node as u16;
     y.leaf[c] = leaf as u16;
     y.hoists = x.hoists + 1;
@@ -53,6 +52,8 @@ pub fn get_hoist_paths(w: &[u8], nodes: usize, clauses: usize) -> Scopes
 {
     let mut last = [0u8; 1024];
     mark_last(w, nodes, &mut last);
+    let mut sets = [0u32; 1024];
+    mark(w, nodes, &mut sets);
     let none = NODES_MOST as u16;
     let mut x = Scopes {
         node: [none; 32],
@@ -63,7 +64,7 @@ pub fn get_hoist_paths(w: &[u8], nodes: usize, clauses: usize) -> Scopes
     let mut c = clauses;
     while 0 < c {
         c -= 1;
-        x = with_clause(w, nodes, c, &last, x);
+        x = with_clause(w, c, &last, &sets, x);
     }
     x
 }

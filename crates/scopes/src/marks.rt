@@ -1,6 +1,6 @@
-// For one clause, which nodes have a leaf of it at or below them: a byte by node, 1 or 0.
-// A child has a larger number than its parent, so one pass over the nodes from the last to the first marks them all; it reads each
-// node and each case once.
+// For each node the clauses that have a leaf at or below it, as a set with a bit by clause, and what its bits say of one clause.
+// A child has a larger number than its parent, so one pass over the nodes from the last to the first finds the sets of them all; it reads
+// each node and each case once.
 use arena::NODES_MOST;
 use arena::reading::case_child;
 use arena::reading::node_kind;
@@ -8,10 +8,9 @@ use arena::reading::node_word;
 ghost use mathlib.Core.Path.{_≡_};
 ghost use Prim.Native.Nat.{_<_, _≤_};
 ghost use lib.ListN.{length};
-ghost use Rattle.rules.specs.Limits.{nodesMost};
-ghost use Rattle.rules.specs.Rows.{bit};
+ghost use Rattle.rules.specs.Limits.{clausesMost, nodesMost};
 ghost use Rattle.arena.specs.Arena.{arenaEnd};
-ghost use Rattle.scopes.specs.Marks.{ReadyWith, Marked, CasesInside, SwitchInside, NodeInside, childrenOf, markedCases, firstMarked, markedDefault, markedChildren, firstChild, nodeMarked};
+ghost use Rattle.scopes.specs.Marks.{ReadyWith, SetsMarked, CasesInside, SwitchInside, NodeInside, bitAt, column, childrenOf, unionCases, defaultSet, nodeSet, markedCases, firstMarked, markedDefault, markedChildren, firstChild};
 
 // Where a switch's cases begin, how many it has with the tail cases, and its default, one more than the node or 0.
 pub struct Children {
@@ -35,30 +34,87 @@ pub fn children_of(w: &[u8], k: usize) -> Children
     }
 }
 
-// How many of the n cases from i on have a marked child.
-fn marked_cases(w: &[u8], i: usize, n: usize, has: &[u8]) -> usize
-    requires { ⌜ CasesInside (now w) i n (length (now has)) ⌝ }
-    ensures { λ r. ⌜ r ≡ markedCases (now (w .entry)) (now (has .entry)) i n ⌝ }
+// The clauses of `all` and those with a leaf below the n cases from i on.
+fn union_cases(w: &[u8], i: usize, n: usize, all: u32, sets: &[u32]) -> u32
+    requires { ⌜ CasesInside (now w) i n (length (now sets)) ⌝ }
+    ensures { λ r. ⌜ r ≡ unionCases (now (w .entry)) (now (sets .entry)) i n all ⌝ }
+{
+    let mut set = all;
+    let mut j = 0;
+    while j < n {
+        let child = case_child(w, i + j) as usize;
+        set = set | sets[child];
+        j += 1;
+    }
+    set
+}
+
+fn default_set(sets: &[u32], default: usize) -> u32
+    requires { ⌜ default ≤ length (now sets) ⌝ }
+    ensures { λ r. ⌜ r ≡ defaultSet (now (sets .entry)) default ⌝ }
+{
+    if default == 0 {
+        return 0;
+    }
+    sets[default - 1]
+}
+
+// The clauses with a leaf at or below node k; the sets of the nodes after k are known.
+fn node_set(w: &[u8], k: usize, sets: &[u32]) -> u32
+    requires { ⌜ NodeInside (now w) k (length (now sets)) ⌝ }
+    ensures { λ r. ⌜ r ≡ nodeSet (now (w .entry)) (now (sets .entry)) k ⌝ }
+{
+    if node_kind(w, k) == 2 {
+        return 1 << node_word(w, k, 0);
+    }
+    let at = children_of(w, k);
+    union_cases(w, at.first, at.count, default_set(sets, at.default), sets)
+}
+
+pub fn mark(w: &[u8], nodes: usize, sets: &mut [u32])
+    requires { ⌜ ReadyWith (now w) nodes × (nodes ≤ length (now sets)) ⌝ }
+    ensures { λ _. ⌜ ((h : ReadyWith (now (w .entry)) nodes) → SetsMarked (h .tree) 0 (now (sets .exit))) ⌝ }
+{
+    let mut k = nodes;
+    while 0 < k {
+        k -= 1;
+        let one = node_set(w, k, sets);
+        sets[k] = one;
+    }
+}
+
+// The mark of clause c in a set: 1 where it is in it, or 0.
+pub fn mark_of(set: u32, c: usize) -> usize
+    requires { ⌜ c < clausesMost ⌝ }
+    ensures { λ r. ⌜ r ≡ bitAt c set ⌝ }
+{
+    ((set >> c) & 1) as usize
+}
+
+// How many of the n cases from i on have a child that is marked for clause c.
+fn marked_cases(w: &[u8], i: usize, n: usize, c: usize, sets: &[u32]) -> usize
+    requires { ⌜ CasesInside (now w) i n (length (now sets)) × (c < clausesMost) ⌝ }
+    ensures { λ r. ⌜ r ≡ markedCases (now (w .entry)) (column c (now (sets .entry))) i n ⌝ }
 {
     let mut count: usize = 0;
     let mut j = 0;
     while j < n {
         let child = case_child(w, i + j) as usize;
-        count += has[child] as usize;
+        count += mark_of(sets[child], c);
         j += 1;
     }
     count
 }
 
 // The child of the first of them that is marked, or 1,024.
-fn first_marked(w: &[u8], i: usize, n: usize, has: &[u8]) -> usize
-    requires { ⌜ CasesInside (now w) i n (length (now has)) ⌝ }
-    ensures { λ r. ⌜ r ≡ firstMarked (now (w .entry)) (now (has .entry)) i n ⌝ }
+fn first_marked(w: &[u8], i: usize, n: usize, c: usize, sets: &[u32]) -> usize
+    requires { ⌜ CasesInside (now w) i n (length (now sets)) × (c < clausesMost) ⌝ }
+    ensures { λ r. ⌜ r ≡ firstMarked (now (w .entry)) (column c (now (sets .entry))) i n ⌝ }
 {
     let mut j = 0;
     while j < n {
         let child = case_child(w, i + j) as usize;
-        if has[child] == 1 {
+        if mark_of(sets[child], c) == 1 {
             return child;
         }
         j += 1;
@@ -66,66 +122,31 @@ fn first_marked(w: &[u8], i: usize, n: usize, has: &[u8]) -> usize
     NODES_MOST
 }
 
-fn marked_default(has: &[u8], default: usize) -> usize
-    requires { ⌜ default ≤ length (now has) ⌝ }
-    ensures { λ r. ⌜ r ≡ markedDefault (now (has .entry)) default ⌝ }
+fn marked_default(sets: &[u32], c: usize, default: usize) -> usize
+    requires { ⌜ (default ≤ length (now sets)) × (c < clausesMost) ⌝ }
+    ensures { λ r. ⌜ r ≡ markedDefault (column c (now (sets .entry))) default ⌝ }
 {
-    if default == 0 {
-        return 0;
-    }
-    has[default - 1] as usize
+    mark_of(default_set(sets, default), c)
 }
 
-// How many children of switch k are marked.
-pub fn marked_children(w: &[u8], k: usize, has: &[u8]) -> usize
-    requires { ⌜ SwitchInside (now w) k (length (now has)) ⌝ }
-    ensures { λ r. ⌜ r ≡ markedChildren (now (w .entry)) (now (has .entry)) k ⌝ }
+// How many children of switch k are marked for clause c.
+pub fn marked_children(w: &[u8], k: usize, c: usize, sets: &[u32]) -> usize
+    requires { ⌜ SwitchInside (now w) k (length (now sets)) × (c < clausesMost) ⌝ }
+    ensures { λ r. ⌜ r ≡ markedChildren (now (w .entry)) (column c (now (sets .entry))) k ⌝ }
 {
     let at = children_of(w, k);
-    let cases = marked_cases(w, at.first, at.count, has);
-    cases + marked_default(has, at.default)
+    let cases = marked_cases(w, at.first, at.count, c, sets);
+    cases + marked_default(sets, c, at.default)
 }
 
-// The marked child of switch k that was built first: the default, then the cases in order.
-pub fn first_child(w: &[u8], k: usize, has: &[u8]) -> usize
-    requires { ⌜ SwitchInside (now w) k (length (now has)) ⌝ }
-    ensures { λ r. ⌜ r ≡ firstChild (now (w .entry)) (now (has .entry)) k ⌝ }
+// The child of switch k marked for clause c that was built first: the default, then the cases in order.
+pub fn first_child(w: &[u8], k: usize, c: usize, sets: &[u32]) -> usize
+    requires { ⌜ SwitchInside (now w) k (length (now sets)) × (c < clausesMost) ⌝ }
+    ensures { λ r. ⌜ r ≡ firstChild (now (w .entry)) (column c (now (sets .entry))) k ⌝ }
 {
     let at = children_of(w, k);
-    if 0 < marked_default(has, at.default) {
+    if 0 < marked_default(sets, c, at.default) {
         return at.default - 1;
     }
-    first_marked(w, at.first, at.count, has)
-}
-
-// 1 where the subtree of node k has a leaf of clause c; the nodes after k are marked.
-fn node_marked(w: &[u8], k: usize, c: usize, has: &[u8]) -> u8
-    requires { ⌜ NodeInside (now w) k (length (now has)) ⌝ }
-    ensures { λ r. ⌜ r ≡ nodeMarked (now (w .entry)) (now (has .entry)) c k ⌝ }
-{
-    if node_kind(w, k) == 2 {
-        return one_if(c == node_word(w, k, 0) as usize);
-    }
-    one_if(0 < marked_children(w, k, has))
-}
-
-fn one_if(test: bool) -> u8
-    ensures { λ r. ⌜ r ≡ bit test ⌝ }
-{
-    if test {
-        return 1;
-    }
-    0
-}
-
-pub fn mark(w: &[u8], nodes: usize, c: usize, has: &mut [u8])
-    requires { ⌜ ReadyWith (now w) nodes × (nodes ≤ length (now has)) ⌝ }
-    ensures { λ _. ⌜ ((h : ReadyWith (now (w .entry)) nodes) → Marked (h .tree) c 0 (now (has .exit))) ⌝ }
-{
-    let mut k = nodes;
-    while 0 < k {
-        k -= 1;
-        let one = node_marked(w, k, c, has);
-        has[k] = one;
-    }
+    first_marked(w, at.first, at.count, c, sets)
 }

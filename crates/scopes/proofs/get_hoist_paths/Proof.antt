@@ -1,6 +1,6 @@
 -- `scopes::get_hoist_paths` meets its contract. The loop's invariant: the answer is right for the clauses from c on, for every tree that is there.
 use borrow.Author.Needs.{needs}
-use Rattle.scopes.specs.ScopedLaws.{ScopedFrom, scoped-start, hoists-few, scoped-more, scoped-end, last-ready, nodes-few}
+use Rattle.scopes.specs.ScopedLaws.{ScopedFrom, scoped-start, hoists-few, scoped-more, scoped-end, surveyed, nodes-few}
 use Rattle.scopes.specs.Marks.{ReadyWith}
 use Prim.Native.Nat.{_+_, _-_, _≤_}
 use mathlib.Core.Path.{_≡_, subst}
@@ -9,10 +9,10 @@ use Rattle.scopes.proofs.get_hoist_paths.Statement.{statement}
 use Rattle.scopes.proofs.get_hoist_paths.Tie as tie
 
 abbrev Inv-loop : tie.InvT-loop
-Inv-loop w nodes clauses last none x₀ c₀ x c = (c ≤ clauses) × ((h : ReadyWith w nodes) → ScopedFrom (h .tree) clauses c x)
+Inv-loop w nodes clauses last sets none x₀ c₀ x c = (c ≤ clauses) × ((h : ReadyWith w nodes) → ScopedFrom (h .tree) clauses c x)
 
 abbrev μ-loop : tie.MeasureT-loop
-μ-loop w nodes clauses last none x₀ c₀ x c = c
+μ-loop w nodes clauses last sets none x₀ c₀ x c = c
 
 slice-aggregate-mark-last : tie.Need-slice-aggregate-mark-last Inv-loop μ-loop
 slice-aggregate-mark-last c = search needs
@@ -23,12 +23,21 @@ mark-last-requires c κs =
     let a = s .args in
     (s .pre .0, nodes-few (a .w .now) (a .nodes) (s .pre .0))
 
+slice-aggregate-mark : tie.Need-slice-aggregate-mark Inv-loop μ-loop
+slice-aggregate-mark c = search needs
+
+mark-requires : tie.Need-mark-requires Inv-loop μ-loop
+mark-requires c κs =
+    let s = c .before .before .before .before .before in
+    let a = s .args in
+    (s .pre .0, nodes-few (a .w .now) (a .nodes) (s .pre .0))
+
 cast-none : tie.Need-cast-none Inv-loop μ-loop
 cast-none c = search needs
 
 loop-holds : tie.Need-loop-holds Inv-loop μ-loop
 loop-holds c =
-    let s = c .before .before .before .before in
+    let s = c .before .before .before .before .before .before .before in
     let a = s .args in
     (omega arith, λ h. scoped-start (h .tree) (a .clauses) (s .pre .1))
 
@@ -38,34 +47,44 @@ sub-c c = search needs
 slice-aggregate-with-clause : tie.Need-slice-aggregate-with-clause Inv-loop μ-loop
 slice-aggregate-with-clause c = search needs
 
+slice-aggregate-with-clause-2 : tie.Need-slice-aggregate-with-clause-2 Inv-loop μ-loop
+slice-aggregate-with-clause-2 c = search needs
+
 with-clause-requires : tie.Need-with-clause-requires Inv-loop μ-loop
 with-clause-requires c κs =
-    let s = c .before .before .before .before .before .before .before in
+    let s = c .before .before .before .before .before .before .before .before .before .before .before in
     let a = s .args in
-    let m = c .before .before .before .before .mark-last in
-    let l = c .before .before .loop in
-    let t = c .before .loop-test .taken in
-    ((last-ready (a .w .now) (a .nodes) (m .last .1 .1 .0) (m .ensures) (omega (arith, m .kept .1 .1 .0, nodes-few (a .w .now) (a .nodes) (s .pre .0))) (s .pre .0)), omega (arith, s .pre .1, l .inv .0, t), hoists-few (s .pre .0 .tree) (a .clauses) (l .c) (l .x) t (s .pre .1) (l .inv .0) (l .inv .1 (s .pre .0)))
+    let q = c .before .before .before .before .before .before .before .before .mark-last in
+    let m = c .before .before .before .before .before .mark in
+    let l = c .before .before .before .loop in
+    let t = c .before .before .loop-test .taken in
+    let h = s .pre .0 in (
+      surveyed (a .w .now) (a .nodes) (q .last .1 .1 .0) (m .last .1 .1 .0) (q .ensures) (omega (arith, q .kept .1 .1 .0, nodes-few (a .w .now) (a .nodes) h)) (m .ensures) (omega (arith, m .kept .1 .1 .0, nodes-few (a .w .now) (a .nodes) h)) h,
+      omega (arith, s .pre .1, l .inv .0, t),
+      hoists-few (h .tree) (a .clauses) (l .c) (l .x) t (s .pre .1) (l .inv .0) (l .inv .1 h),
+    )
 
 loop-less : tie.Need-loop-less Inv-loop μ-loop
-loop-less c = omega (arith, c .before .before .loop-test .taken)
+loop-less c = omega (arith, c .before .before .before .loop-test .taken)
 
 loop-again : tie.Need-loop-again Inv-loop μ-loop
 loop-again c =
-    let s = c .before .before .before .before .before .before .before .before in
+    let s = c .before .before .before .before .before .before .before .before .before .before .before .before in
     let a = s .args in
-    let m = c .before .before .before .before .before .mark-last in
-    let l = c .before .before .before .loop in
-    let t = c .before .before .loop-test .taken in
+    let q = c .before .before .before .before .before .before .before .before .before .mark-last in
+    let m = c .before .before .before .before .before .before .mark in
+    let l = c .before .before .before .before .loop in
+    let t = c .before .before .before .loop-test .taken in
     let down : l .c ≡ l .c - 1 + 1 = omega arith in (
       omega (arith, l .inv .0),
       λ h.
-          scoped-more (h .tree) (a .clauses) (l .c - 1) (l .x) (omega (arith, l .inv .0, t)) (s .pre .1) (subst (λ z. ScopedFrom (h .tree) (a .clauses) z (l .x)) down (l .inv .1 h)) (c .with-clause .result) (c .with-clause .ensures (last-ready (a .w .now) (a .nodes) (m .last .1 .1 .0) (m .ensures) (omega (arith, m .kept .1 .1 .0, nodes-few (a .w .now) (a .nodes) h)) h)),
+          scoped-more (h .tree) (a .clauses) (l .c - 1) (l .x) (omega (arith, l .inv .0, t)) (s .pre .1) (subst (λ z. ScopedFrom (h .tree) (a .clauses) z (l .x)) down (l .inv .1 h)) (c .with-clause .result)
+          (c .with-clause .ensures (surveyed (a .w .now) (a .nodes) (q .last .1 .1 .0) (m .last .1 .1 .0) (q .ensures) (omega (arith, q .kept .1 .1 .0, nodes-few (a .w .now) (a .nodes) h)) (m .ensures) (omega (arith, m .kept .1 .1 .0, nodes-few (a .w .now) (a .nodes) h)) h)),
     )
 
 returns : tie.Need-returns Inv-loop μ-loop
 returns c =
-    let s = c .before .before .before .before .before .before in
+    let s = c .before .before .before .before .before .before .before .before .before in
     let a = s .args in
     let l = c .before .loop in
     λ h. scoped-end (h .tree) (a .clauses) (l .c) (l .x) (omega (arith, c .loop-test .left)) (l .inv .1 h)
@@ -78,10 +97,13 @@ get-hoist-paths-spec =
     μ-loop
     slice-aggregate-mark-last
     mark-last-requires
+    slice-aggregate-mark
+    mark-requires
     cast-none
     loop-holds
     sub-c
     slice-aggregate-with-clause
+    slice-aggregate-with-clause-2
     with-clause-requires
     loop-less
     loop-again

@@ -1,55 +1,48 @@
--- `scopes::with_clause` meets its contract: a root without a mark is an idle clause, else the two ways down give its numbers.
+-- `scopes::with_clause` meets its contract: a clause without a mark at the root is idle, else the two ways down give its numbers.
 use borrow.Author.Needs.{needs}
-use Rattle.scopes.specs.ScopedLaws.{ready-with, nodes-small, clause-marks, scope-marks, idle-clause, busy-clause, scope-small, leaf-small}
+use Rattle.scopes.specs.ScopedLaws.{root-there, clause-marks, scope-marks, idle-clause, busy-clause, scope-small, leaf-small}
 use native.Mathlib.Omega.{arith}
 use Rattle.scopes.proofs.with_clause.Statement.{statement}
 use Rattle.scopes.proofs.with_clause.Tie as tie
 
-slice-aggregate-mark : tie.Need-slice-aggregate-mark
-slice-aggregate-mark c = search needs
-
-mark-requires : tie.Need-mark-requires
-mark-requires c κs =
-    let s = c .before .before .before in
+shared-slice-read-mark-of : tie.Need-shared-slice-read-mark-of
+shared-slice-read-mark-of c =
+    let s = c .before .before .before .before in
     let a = s .args in
-    (ready-with (a .w .now) (a .nodes) (a .last .now) (s .pre .0), nodes-small (a .w .now) (a .nodes) (a .last .now) (s .pre .0))
+    root-there (a .w .now) (a .last .now) (a .sets .now) (s .pre .0)
 
-array-read-if1 : tie.Need-array-read-if1
-array-read-if1 c = search needs
+mark-of-requires : tie.Need-mark-of-requires
+mark-of-requires c κs = search needs
 
 returns : tie.Need-returns
 returns c =
     let s = c .before .before .before .before .before .before in
     let a = s .args in
-    let m = c .before .before .mark in
-    λ h. idle-clause (a .w .now) (a .nodes) (a .last .now) h (a .c) (m .last .1 .1 .1 .0) (m .ensures (ready-with (a .w .now) (a .nodes) (a .last .now) h)) (a .x) (c .if1 .taken)
-
-slice-aggregate-get-hoist-path : tie.Need-slice-aggregate-get-hoist-path
-slice-aggregate-get-hoist-path c = search needs
+    let m = c .before .mark-of in
+    λ h. idle-clause (a .w .now) (a .last .now) (a .sets .now) h (a .c) (m .result) (m .ensures) (a .x) (c .if1 .taken)
 
 get-hoist-path-requires : tie.Need-get-hoist-path-requires
 get-hoist-path-requires c κs =
-    let s = c .before .before .before .before .before .before .before in
+    let s = c .before .before .before .before .before .before in
     let a = s .args in
-    let m = c .before .before .before .mark in
-    scope-marks (a .w .now) (a .nodes) (a .last .now) (s .pre .0) (a .c) (m .last .1 .1 .1 .0) (m .ensures (ready-with (a .w .now) (a .nodes) (a .last .now) (s .pre .0))) (omega (arith, m .kept .1 .1 .1 .0)) (c .before .if1 .left)
-
-slice-aggregate-first-leaf : tie.Need-slice-aggregate-first-leaf
-slice-aggregate-first-leaf c = search needs
+    let m = c .before .mark-of in
+    scope-marks (a .w .now) (a .last .now) (a .sets .now) (s .pre .0) (a .c) (m .result) (m .ensures) (s .pre .1) (c .if1 .left)
 
 first-leaf-requires : tie.Need-first-leaf-requires
 first-leaf-requires c κs =
-    let s = c .before .before .before .before .before .before .before .before .before in
+    let s = c .before .before .before .before .before .before .before in
     let a = s .args in
-    let m = c .before .before .before .before .before .mark in
-    clause-marks (a .w .now) (a .nodes) (a .last .now) (s .pre .0) (a .c) (m .last .1 .1 .1 .0) (m .ensures (ready-with (a .w .now) (a .nodes) (a .last .now) (s .pre .0))) (omega (arith, m .kept .1 .1 .1 .0)) (c .before .before .before .if1 .left)
+    let m = c .before .before .mark-of in
+    clause-marks (a .w .now) (a .last .now) (a .sets .now) (s .pre .0) (a .c) (m .result) (m .ensures) (s .pre .1) (c .before .if1 .left)
 
 cast-y : tie.Need-cast-y
 cast-y c =
-    let s = c .before .before .before .before .before .before .before .before .before .before in
+    let s = c .before .before .before .before .before .before .before .before in
     let a = s .args in
-    let m = c .before .before .before .before .before .before .mark in
-    let n = scope-small (a .w .now) (a .nodes) (a .last .now) (s .pre .0) (a .c) (m .last .1 .1 .1 .0) (m .ensures (ready-with (a .w .now) (a .nodes) (a .last .now) (s .pre .0))) (c .before .before .before .before .if1 .left) (c .before .before .get-hoist-path .result) (c .before .before .get-hoist-path .ensures (scope-marks (a .w .now) (a .nodes) (a .last .now) (s .pre .0) (a .c) (m .last .1 .1 .1 .0) (m .ensures (ready-with (a .w .now) (a .nodes) (a .last .now) (s .pre .0))) (omega (arith, m .kept .1 .1 .1 .0)) (c .before .before .before .before .if1 .left))) in
+    let m = c .before .before .before .mark-of in
+    let n = c .before .before .if1 .left in
+    let g = c .before .get-hoist-path in
+    let small = scope-small (a .w .now) (a .last .now) (a .sets .now) (s .pre .0) (a .c) (m .result) (m .ensures) n (g .result) (g .ensures (scope-marks (a .w .now) (a .last .now) (a .sets .now) (s .pre .0) (a .c) (m .result) (m .ensures) (s .pre .1) n)) in
     omega arith
 
 mul-y : tie.Need-mul-y
@@ -60,10 +53,12 @@ element-write-y c = search needs
 
 cast-y-2 : tie.Need-cast-y-2
 cast-y-2 c =
-    let s = c .before .before .before .before .before .before .before .before .before .before in
+    let s = c .before .before .before .before .before .before .before .before in
     let a = s .args in
-    let m = c .before .before .before .before .before .before .mark in
-    let n = leaf-small (a .w .now) (a .nodes) (a .last .now) (s .pre .0) (a .c) (m .last .1 .1 .1 .0) (m .ensures (ready-with (a .w .now) (a .nodes) (a .last .now) (s .pre .0))) (c .before .before .before .before .if1 .left) (c .first-leaf .result) (c .first-leaf .ensures (clause-marks (a .w .now) (a .nodes) (a .last .now) (s .pre .0) (a .c) (m .last .1 .1 .1 .0) (m .ensures (ready-with (a .w .now) (a .nodes) (a .last .now) (s .pre .0))) (omega (arith, m .kept .1 .1 .1 .0)) (c .before .before .before .before .if1 .left))) in
+    let m = c .before .before .before .mark-of in
+    let n = c .before .before .if1 .left in
+    let f = c .first-leaf in
+    let small = leaf-small (a .w .now) (a .last .now) (a .sets .now) (s .pre .0) (a .c) (m .result) (m .ensures) n (f .result) (f .ensures (clause-marks (a .w .now) (a .last .now) (a .sets .now) (s .pre .0) (a .c) (m .result) (m .ensures) (s .pre .1) n)) in
     omega arith
 
 mul-y-2 : tie.Need-mul-y-2
@@ -77,24 +72,23 @@ add-y c = search needs
 
 returns-2 : tie.Need-returns-2
 returns-2 c =
-    let s = c .before .before .before .before .before .before .before .before .before .before .before in
+    let s = c .before .before .before .before .before .before .before .before .before in
     let a = s .args in
-    let m = c .before .before .before .before .before .before .before .mark in
+    let m = c .before .before .before .before .mark-of in
+    let n = c .before .before .before .if1 .left in
+    let g = c .before .before .get-hoist-path in
+    let f = c .before .first-leaf in
     λ h.
-    busy-clause (a .w .now) (a .nodes) (a .last .now) h (a .c) (m .last .1 .1 .1 .0) (m .ensures (ready-with (a .w .now) (a .nodes) (a .last .now) h)) (a .x) (c .before .before .before .get-hoist-path .result) (c .before .first-leaf .result) (c .before .before .before .before .before .if1 .left)
-    (c .before .before .before .get-hoist-path .ensures (scope-marks (a .w .now) (a .nodes) (a .last .now) h (a .c) (m .last .1 .1 .1 .0) (m .ensures (ready-with (a .w .now) (a .nodes) (a .last .now) h)) (omega (arith, m .kept .1 .1 .1 .0)) (c .before .before .before .before .before .if1 .left))) (c .before .first-leaf .ensures (clause-marks (a .w .now) (a .nodes) (a .last .now) h (a .c) (m .last .1 .1 .1 .0) (m .ensures (ready-with (a .w .now) (a .nodes) (a .last .now) h)) (omega (arith, m .kept .1 .1 .1 .0)) (c .before .before .before .before .before .if1 .left)))
+    busy-clause (a .w .now) (a .last .now) (a .sets .now) h (a .c) (m .result) (m .ensures) (a .x) (g .result) (f .result) n (g .ensures (scope-marks (a .w .now) (a .last .now) (a .sets .now) h (a .c) (m .result) (m .ensures) (s .pre .1) n)) (f .ensures (clause-marks (a .w .now) (a .last .now) (a .sets .now) h (a .c) (m .result) (m .ensures) (s .pre .1) n))
 
 pub with-clause-spec : {M : Type 1} → statement M
 with-clause-spec =
     tie.close
     (tie.spec
-    slice-aggregate-mark
-    mark-requires
-    array-read-if1
+    shared-slice-read-mark-of
+    mark-of-requires
     returns
-    slice-aggregate-get-hoist-path
     get-hoist-path-requires
-    slice-aggregate-first-leaf
     first-leaf-requires
     cast-y
     mul-y

@@ -11,10 +11,10 @@ use Rattle.scopes.proofs.descent.first_leaf.Statement.{statement}
 use Rattle.scopes.proofs.descent.first_leaf.Tie as tie
 
 abbrev Inv-loop : tie.InvT-loop
-Inv-loop w c has k₀ k = (h : ClauseMarks w c has) → OnWay never (h .tree) c k
+Inv-loop w c sets k₀ k = (h : ClauseMarks w c sets) → OnWay never (h .tree) c k
 
 abbrev μ-loop : tie.MeasureT-loop
-μ-loop w c has k₀ k = nodesMost - k
+μ-loop w c sets k₀ k = nodesMost - k
 
 loop-holds : tie.Need-loop-holds Inv-loop μ-loop
 loop-holds c =
@@ -34,21 +34,21 @@ returns c =
     let s = c .before .before .before .before .before in
     let a = s .args in
     let l = c .before .before .loop in
-    λ h. leaf-found (a .w .now) (a .c) (a .has .now) h (l .k) (l .inv h) (sym (c .before .node-kind .ensures) ∙ c .if1 .taken)
+    λ h. leaf-found (a .w .now) (a .c) (a .sets .now) h (l .k) (l .inv h) (sym (c .before .node-kind .ensures) ∙ c .if1 .taken)
 
 first-child-requires : tie.Need-first-child-requires Inv-loop μ-loop
 first-child-requires c κs =
     let s = c .before .before .before .before .before in
     let a = s .args in
     let l = c .before .before .loop in
-    leaf-child (a .w .now) (a .c) (a .has .now) (s .pre) (l .k) (l .inv (s .pre)) (λ x. c .if1 .left (c .before .node-kind .ensures ∙ x))
+    (leaf-child (a .w .now) (a .c) (a .sets .now) (s .pre) (l .k) (l .inv (s .pre)) (λ x. c .if1 .left (c .before .node-kind .ensures ∙ x)), s .pre .small)
 
 loop-less : tie.Need-loop-less Inv-loop μ-loop
 loop-less c =
     let s = c .before .before .before .before .before .before in
     let a = s .args in
     let l = c .before .before .before .loop in
-    let n = leaf-on (a .w .now) (a .c) (a .has .now) (s .pre) (l .k) (l .inv (s .pre)) (λ x. c .before .if1 .left (c .before .before .node-kind .ensures ∙ x)) in
+    let n = leaf-on (a .w .now) (a .c) (a .sets .now) (s .pre) (l .k) (l .inv (s .pre)) (λ x. c .before .if1 .left (c .before .before .node-kind .ensures ∙ x)) in
     omega (arith, n .above, way-inside never (a .w .now) (s .pre .tree) (a .c) (l .k) (s .pre .ready) (l .inv (s .pre)), c .first-child .ensures)
 
 loop-again : tie.Need-loop-again Inv-loop μ-loop
@@ -56,7 +56,7 @@ loop-again c =
     let s = c .before .before .before .before .before .before in
     let a = s .args in
     let l = c .before .before .before .loop in
-    λ h. subst (λ z. OnWay never (h .tree) (a .c) z) (sym (c .first-child .ensures)) (leaf-on (a .w .now) (a .c) (a .has .now) h (l .k) (l .inv h) (λ x. c .before .if1 .left (c .before .before .node-kind .ensures ∙ x)) .next)
+    λ h. subst (λ z. OnWay never (h .tree) (a .c) z) (sym (c .first-child .ensures)) (leaf-on (a .w .now) (a .c) (a .sets .now) h (l .k) (l .inv h) (λ x. c .before .if1 .left (c .before .before .node-kind .ensures ∙ x)) .next)
 
 pub first-leaf-spec : {M : Type 1} → statement M
 first-leaf-spec =

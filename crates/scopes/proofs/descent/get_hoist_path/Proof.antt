@@ -11,10 +11,10 @@ use Rattle.scopes.proofs.descent.get_hoist_path.Statement.{statement}
 use Rattle.scopes.proofs.descent.get_hoist_path.Tie as tie
 
 abbrev Inv-loop : tie.InvT-loop
-Inv-loop w c last has k₀ k = (h : ScopeMarks w c last has) → OnWay (isScope c) (h .marks .tree) c k
+Inv-loop w c last sets k₀ k = (h : ScopeMarks w c last sets) → OnWay (isScope c) (h .marks .tree) c k
 
 abbrev μ-loop : tie.MeasureT-loop
-μ-loop w c last has k₀ k = nodesMost - k
+μ-loop w c last sets k₀ k = nodesMost - k
 
 loop-holds : tie.Need-loop-holds Inv-loop μ-loop
 loop-holds c =
@@ -27,28 +27,28 @@ is-scope-requires c κs =
     let s = c .before .before .before .before in
     let a = s .args in
     let l = c .loop in
-    scope-asked (a .w .now) (a .c) (a .last .now) (a .has .now) (s .pre) (l .k) (l .inv (s .pre))
+    scope-asked (a .w .now) (a .c) (a .last .now) (a .sets .now) (s .pre) (l .k) (l .inv (s .pre))
 
 returns : tie.Need-returns Inv-loop μ-loop
 returns c =
     let s = c .before .before .before .before .before .before in
     let a = s .args in
     let l = c .before .before .loop in
-    λ h. scope-found (a .w .now) (a .c) (a .last .now) (a .has .now) h (l .k) (l .inv h) (sym (c .if1 .taken) ∙ c .before .is-scope .ensures)
+    λ h. scope-found (a .w .now) (a .c) (a .last .now) (a .sets .now) h (l .k) (l .inv h) (sym (c .if1 .taken) ∙ c .before .is-scope .ensures)
 
 first-child-requires : tie.Need-first-child-requires Inv-loop μ-loop
 first-child-requires c κs =
     let s = c .before .before .before .before .before .before in
     let a = s .args in
     let l = c .before .before .loop in
-    scope-child (a .w .now) (a .c) (a .last .now) (a .has .now) (s .pre) (l .k) (l .inv (s .pre)) (sym (c .if1 .left) ∙ c .before .is-scope .ensures)
+    (scope-child (a .w .now) (a .c) (a .last .now) (a .sets .now) (s .pre) (l .k) (l .inv (s .pre)) (sym (c .if1 .left) ∙ c .before .is-scope .ensures), s .pre .marks .small)
 
 loop-less : tie.Need-loop-less Inv-loop μ-loop
 loop-less c =
     let s = c .before .before .before .before .before .before .before in
     let a = s .args in
     let l = c .before .before .before .loop in
-    let n = scope-on (a .w .now) (a .c) (a .last .now) (a .has .now) (s .pre) (l .k) (l .inv (s .pre)) (sym (c .before .if1 .left) ∙ c .before .before .is-scope .ensures) in
+    let n = scope-on (a .w .now) (a .c) (a .last .now) (a .sets .now) (s .pre) (l .k) (l .inv (s .pre)) (sym (c .before .if1 .left) ∙ c .before .before .is-scope .ensures) in
     omega (arith, n .above, way-inside (isScope (a .c)) (a .w .now) (s .pre .marks .tree) (a .c) (l .k) (s .pre .marks .ready) (l .inv (s .pre)), c .first-child .ensures)
 
 loop-again : tie.Need-loop-again Inv-loop μ-loop
@@ -56,7 +56,7 @@ loop-again c =
     let s = c .before .before .before .before .before .before .before in
     let a = s .args in
     let l = c .before .before .before .loop in
-    λ h. subst (λ z. OnWay (isScope (a .c)) (h .marks .tree) (a .c) z) (sym (c .first-child .ensures)) (scope-on (a .w .now) (a .c) (a .last .now) (a .has .now) h (l .k) (l .inv h) (sym (c .before .if1 .left) ∙ c .before .before .is-scope .ensures) .next)
+    λ h. subst (λ z. OnWay (isScope (a .c)) (h .marks .tree) (a .c) z) (sym (c .first-child .ensures)) (scope-on (a .w .now) (a .c) (a .last .now) (a .sets .now) h (l .k) (l .inv h) (sym (c .before .if1 .left) ∙ c .before .before .is-scope .ensures) .next)
 
 pub get-hoist-path-spec : {M : Type 1} → statement M
 get-hoist-path-spec =

@@ -1,8 +1,8 @@
--- `scopes::marks::mark` meets its contract. The loop's invariant: the nodes from k on are marked right, for every tree that is there.
+-- `scopes::marks::mark` meets its contract. The loop's invariant: the nodes from k on have the right sets, for every tree that is there.
 use borrow.Author.Needs.{needs}
-use Rattle.scopes.specs.WayLaws.{mark-none, mark-more}
+use Rattle.scopes.specs.WayLaws.{sets-none, sets-more}
 use Rattle.scopes.specs.ReadyLaws.{node-inside}
-use Rattle.scopes.specs.Marks.{ReadyWith, Marked}
+use Rattle.scopes.specs.Marks.{ReadyWith, SetsMarked}
 use lib.ListN.{length, length-set}
 use Prim.Native.Nat.{_+_, _-_, _≤_}
 use mathlib.Core.Path.{_≡_, refl, sym, subst}
@@ -11,28 +11,31 @@ use Rattle.scopes.proofs.marks.mark.Statement.{statement}
 use Rattle.scopes.proofs.marks.mark.Tie as tie
 
 abbrev Inv-loop : tie.InvT-loop
-Inv-loop w nodes c has₀ k₀ has k = (k ≤ nodes) × (length has ≡ length has₀) × ((h : ReadyWith w nodes) → Marked (h .tree) c k has)
+Inv-loop w nodes sets₀ k₀ sets k = (k ≤ nodes) × (length sets ≡ length sets₀) × ((h : ReadyWith w nodes) → SetsMarked (h .tree) k sets)
 
 abbrev μ-loop : tie.MeasureT-loop
-μ-loop w nodes c has₀ k₀ has k = k
+μ-loop w nodes sets₀ k₀ sets k = k
 
 loop-holds : tie.Need-loop-holds Inv-loop μ-loop
 loop-holds c =
     let a = c .before .before .args in
-    (omega arith, refl, λ h. mark-none (h .tree) (a .c) (a .nodes) (a .has .now) (omega (arith, h .count)))
+    (omega arith, refl, λ h. sets-none (h .tree) (a .nodes) (a .sets .now) (omega (arith, h .count)))
 
 sub-k : tie.Need-sub-k Inv-loop μ-loop
 sub-k c = search needs
 
-node-marked-requires : tie.Need-node-marked-requires Inv-loop μ-loop
-node-marked-requires c κs =
+node-set-requires : tie.Need-node-set-requires Inv-loop μ-loop
+node-set-requires c κs =
     let s = c .before .before .before .before .before in
     let l = c .before .before .loop in
     let h = s .pre .0 in
-    node-inside (s .args .w .now) (h .tree) (h .ready) (l .k - 1) (omega (arith, h .count, l .inv .0, c .before .loop-test .taken)) (length (l .has)) (omega (arith, h .count, l .inv .1, s .pre .1))
+    node-inside (s .args .w .now) (h .tree) (h .ready) (l .k - 1) (omega (arith, h .count, l .inv .0, c .before .loop-test .taken)) (length (l .sets)) (omega (arith, h .count, l .inv .1, s .pre .1))
 
-slice-write-has : tie.Need-slice-write-has Inv-loop μ-loop
-slice-write-has c = omega (arith, c .before .before .before .loop .inv .0, c .before .before .before .loop .inv .1, c .before .before .before .before .before .before .pre .1, c .before .before .loop-test .taken)
+mul-sets : tie.Need-mul-sets Inv-loop μ-loop
+mul-sets c = search needs
+
+slice-write-sets : tie.Need-slice-write-sets Inv-loop μ-loop
+slice-write-sets c = omega (arith, c .before .before .before .loop .inv .0, c .before .before .before .loop .inv .1, c .before .before .before .before .before .before .pre .1, c .before .before .loop-test .taken)
 
 loop-less : tie.Need-loop-less Inv-loop μ-loop
 loop-less c = search needs
@@ -45,7 +48,7 @@ loop-again c =
       omega (arith, l .inv .0),
       simp length-set (l .inv .1),
       λ h.
-          mark-more (s .args .w .now) (h .tree) (h .ready) (l .k - 1) (omega (arith, h .count, l .inv .0, c .before .before .loop-test .taken)) (s .args .c) (l .has) (c .node-marked .result) (omega (arith, l .inv .0, l .inv .1, s .pre .1, c .before .before .loop-test .taken)) (c .node-marked .ensures) (subst (λ z. Marked (h .tree) (s .args .c) z (l .has)) (sym down) (l .inv .2 h)),
+          sets-more (s .args .w .now) (h .tree) (h .ready) (l .k - 1) (omega (arith, h .count, l .inv .0, c .before .before .loop-test .taken)) (l .sets) (c .node-set .result) (omega (arith, l .inv .0, l .inv .1, s .pre .1, c .before .before .loop-test .taken)) (c .node-set .ensures) (subst (λ z. SetsMarked (h .tree) z (l .sets)) (sym down) (l .inv .2 h)),
     )
 
 same-length : tie.Need-same-length Inv-loop μ-loop
@@ -55,7 +58,7 @@ returns : tie.Need-returns Inv-loop μ-loop
 returns c =
     let l = c .before .loop in
     let e : l .k ≡ 0 = omega (arith, c .loop-test .left) in
-    λ h. subst (λ z. Marked (h .tree) (c .before .before .before .before .args .c) z (l .has)) e (l .inv .2 h)
+    λ h. subst (λ z. SetsMarked (h .tree) z (l .sets)) e (l .inv .2 h)
 
 pub mark-spec : {M : Type 1} → statement M
 mark-spec =
@@ -65,8 +68,9 @@ mark-spec =
     μ-loop
     loop-holds
     sub-k
-    node-marked-requires
-    slice-write-has
+    node-set-requires
+    mul-sets
+    slice-write-sets
     loop-less
     loop-again
     same-length

@@ -1,7 +1,8 @@
 -- `scopes::marks::marked_children` meets its contract: the marks of the cases and of the default, added.
 use borrow.Author.Needs.{needs}
 use Rattle.scopes.specs.MarksLaws.{cases-asked, default-asked, markedChildren-small, markedChildren-is}
-use Rattle.words.specs.WordsLaws.{bytes-of-fits}
+use Rattle.scopes.specs.SetsLaws.{column-most}
+use Rattle.scopes.specs.Marks.{column}
 use lib.ListN.{length}
 use native.Mathlib.Omega.{arith}
 use Rattle.scopes.proofs.marks.marked_children.Statement.{statement}
@@ -15,21 +16,21 @@ marked-cases-requires c κs =
     let a = c .before .before .before .args in
     let x = c .children-of .result in
     let e = c .children-of .ensures in
-    cases-asked (a .w .now) (a .k) (length (a .has .now)) x e (c .before .before .before .pre)
+    (cases-asked (a .w .now) (a .k) (length (a .sets .now)) x e (c .before .before .before .pre .0), c .before .before .before .pre .1)
 
 marked-default-requires : tie.Need-marked-default-requires
 marked-default-requires c κs =
     let a = c .before .before .before .before .args in
     let x = c .before .children-of .result in
     let e = c .before .children-of .ensures in
-    default-asked (a .w .now) (a .k) (length (a .has .now)) x e (c .before .before .before .before .pre)
+    (default-asked (a .w .now) (a .k) (length (a .sets .now)) x e (c .before .before .before .before .pre .0), c .before .before .before .before .pre .1)
 
 add-result : tie.Need-add-result
 add-result c =
     let a = c .before .before .before .before .before .args in
     let x = c .before .before .children-of .result in
     let e = c .before .before .children-of .ensures in
-    let n = markedChildren-small (a .w .now) (a .k) (length (a .has .now)) x e (a .has .now) (c .before .marked-cases .result) (c .marked-default .result) (c .before .before .before .before .before .pre) (bytes-of-fits (a .has .now) (c .before .before .before .shared-slice-known2 .given)) (c .before .marked-cases .ensures) (c .marked-default .ensures) in
+    let n = markedChildren-small (a .w .now) (a .k) (length (a .sets .now)) x e (column (a .c) (a .sets .now)) (c .before .marked-cases .result) (c .marked-default .result) (c .before .before .before .before .before .pre .0) (column-most (a .c) (a .sets .now)) (c .before .marked-cases .ensures) (c .marked-default .ensures) in
     omega arith
 
 returns : tie.Need-returns
@@ -37,7 +38,7 @@ returns c =
     let a = c .before .before .before .before .before .args in
     let x = c .before .before .children-of .result in
     let e = c .before .before .children-of .ensures in
-    markedChildren-is (a .w .now) (a .k) (length (a .has .now)) x e (a .has .now) (c .before .marked-cases .result) (c .marked-default .result) (c .before .marked-cases .ensures) (c .marked-default .ensures)
+    markedChildren-is (a .w .now) (a .k) (length (a .sets .now)) x e (column (a .c) (a .sets .now)) (c .before .marked-cases .result) (c .marked-default .result) (c .before .marked-cases .ensures) (c .marked-default .ensures)
 
 pub marked-children-spec : {M : Type 1} → statement M
 marked-children-spec =

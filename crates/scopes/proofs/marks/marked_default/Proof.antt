@@ -1,26 +1,20 @@
--- `scopes::marks::marked_default` meets its contract: with no default there is no mark, else it is the one before the field.
-use borrow.Author.Needs.{needs}
-use Rattle.scopes.specs.MarksLaws.{markedDefault-none, markedDefault-some}
-use Prim.Native.Nat.{_-_}
-use native.Mathlib.Omega.{arith}
+-- `scopes::marks::marked_default` meets its contract: the clause's bit of the default's set.
+use Rattle.scopes.specs.SetsLaws.{markedDefault-column}
+use Rattle.scopes.specs.Marks.{bitAt}
+use mathlib.Core.Path.{ap, _∙_}
 use Rattle.scopes.proofs.marks.marked_default.Statement.{statement}
 use Rattle.scopes.proofs.marks.marked_default.Tie as tie
 
+default-set-requires : tie.Need-default-set-requires
+default-set-requires c κs = c .before .pre .0
+
+mark-of-requires : tie.Need-mark-of-requires
+mark-of-requires c κs = c .before .before .pre .1
+
 returns : tie.Need-returns
-returns c = markedDefault-none (c .before .args .has .now) (c .before .args .default) (c .if1 .taken)
-
-sub-result : tie.Need-sub-result
-sub-result c = search needs
-
-shared-slice-read-result : tie.Need-shared-slice-read-result
-shared-slice-read-result c = search needs
-
-cast-result : tie.Need-cast-result
-cast-result c = omega (arith, c .shared-slice-known .given (c .before .before .args .default - 1))
-
-returns-2 : tie.Need-returns-2
-returns-2 c = markedDefault-some (c .before .before .args .has .now) (c .before .before .args .default) (c .before .if1 .left)
+returns c =
+    let a = c .before .before .before .args in
+    c .mark-of .ensures ∙ ap (bitAt (a .c)) (c .before .default-set .ensures) ∙ markedDefault-column (a .c) (a .sets .now) (a .default)
 
 pub marked-default-spec : {M : Type 1} → statement M
-marked-default-spec =
-    tie.close (tie.spec returns sub-result shared-slice-read-result cast-result returns-2)
+marked-default-spec = tie.close (tie.spec default-set-requires mark-of-requires returns)
