@@ -1,4 +1,4 @@
--- Laws of a matrix by value: a matrix is what its parts hold; and where the table is the sheet's and the matrix is sound, what the table
+-- Laws of a matrix in arrays: a matrix is what its parts hold; and where the table is the sheet's and the matrix is sound, what the table
 -- tells is what the sheet says: the column chosen, and the matrix of the default.
 use mathlib.Core.Path.{_≡_, refl, ap, ap₂, _∙_}
 use mathlib.Core.Bool.{true}
