@@ -1,6 +1,5 @@
 -- `walk::follow::tail_in` meets its contract: its test is that of the definition.
 use Rattle.walk.specs.FollowLaws.{tail-missing, tail-there}
-use borrow.Author.Needs.{needs}
 use Rattle.walk.proofs.follow.tail_in.Statement.{statement}
 use Rattle.walk.proofs.follow.tail_in.Tie as tie
 

@@ -3,7 +3,7 @@
 use Rattle.walk.specs.FollowLaws.{dropped-small, left-has-parts, parts-in, step-wrong-kind, step-part, step-list, step-listtail}
 use Rattle.walk.specs.Positions.{placed, foundOf}
 use native.Mathlib.Omega.{arith}
-use mathlib.Core.Path.{_≡_, sym, ap, _∙_}
+use mathlib.Core.Path.{sym, ap, _∙_}
 use borrow.Author.Needs.{needs}
 use Rattle.walk.proofs.follow.take_step.Statement.{statement}
 use Rattle.walk.proofs.follow.take_step.Tie as tie
