@@ -106,6 +106,12 @@ module _ {t : List ℕ} (rules : TreeRuled t) (k : ℕ) (h : k < nodes t) where
   pub switch-node-kind : (p f n d : ℕ) (x : Test) → SwitchNode t k p f n d x → caseKind t f ≤ 2
   switch-node-kind p f n d x w = rw (w .first-is) (rules .switch-kinds k h (w .kind))
 
+  pub switch-node-alike : (p f n d : ℕ) (x : Test) → SwitchNode t k p f n d x → (j : ℕ) → f ≤ j → j < f + n → caseKind t j ≡ caseKind t f
+  switch-node-alike p f n d x w j low high =
+      let f-is = w .first-is in
+      let n-is = w .cases-is in
+      rules .switch-alike k j h (w .kind) (omega arith) (omega arith) ∙ ap (caseKind t) (sym f-is)
+
   pub switch-first-case : (f : ℕ) → nodeKind t k ≡ 0 → f ≡ nodeWord t k 1 → (f < cases t) × (caseKind t f ≤ 4)
   unfolding nodeFirstCase
   switch-first-case f e x =
@@ -133,6 +139,19 @@ module _ {t : List ℕ} (rules : TreeRuled t) (k : ℕ) (h : k < nodes t) where
       let kind = w .kind in
       let run = rules .switch-run k h (omega arith) in
       (omega (arith, rules .list-switch-some k h kind), omega (arith, run .inside))
+
+  pub list-switch-node-cases : (p f n u d : ℕ) → ListSwitchNode t k p f n u d → (j : ℕ) → f ≤ j → j < f + n → caseKind t j ≡ 3
+  list-switch-node-cases p f n u d w j low high =
+      let f-is = w .first-is in
+      let n-is = w .cases-is in
+      rules .list-switch-cases k j h (w .kind) (omega arith) (omega arith)
+
+  pub list-switch-node-tails : (p f n u d : ℕ) → ListSwitchNode t k p f n u d → (j : ℕ) → f + n ≤ j → j < f + n + u → caseKind t j ≡ 4
+  list-switch-node-tails p f n u d w j low high =
+      let f-is = w .first-is in
+      let n-is = w .cases-is in
+      let u-is = w .tails-is in
+      rules .list-switch-tails k j h (w .kind) (omega arith) (omega arith)
 
   pub list-switch-node-path : (p f n u d : ℕ) → ListSwitchNode t k p f n u d → p < paths t
   list-switch-node-path p f n u d w =

@@ -10,7 +10,7 @@ use crate::layout::STEP_SIZE;
 use words::word_at;
 ghost use mathlib.Core.Path.{_≡_};
 ghost use Prim.Native.Nat.{_+_, _<_, _≤_};
-ghost use Rattle.rules.specs.TreeReader.{casesAt, pathsAt, stepsAt, cases, paths, steps};
+ghost use Rattle.rules.specs.TreeReader.{pathsAt, stepsAt, paths, steps};
 ghost use Rattle.rules.specs.TreeReader.{nodeKind, nodeZero, nodeWord, caseKind, caseZero, caseNumber, caseLength, caseChild, stepKind, stepFlag};
 ghost use Rattle.tree.specs.Reading.{mapOf, Mapped, Ruled, nodeOf, testOf, caseOf, bindingOf, pathOf, stepOf};
 
@@ -138,15 +138,14 @@ pub fn case_child(t: &[u8], m: Map, i: usize) -> u16
     word_at(t, m.cases.start + CASE_SIZE * i + 6)
 }
 
-// What case i asks, by the start of the cases alone; its kind is known.
-pub fn test_from(t: &[u8], start: usize, i: usize) -> Test
-    requires { ⌜ Mapped (now t) (mapOf (now t)) × (start ≡ casesAt (now t)) × (i < cases (now t)) × (caseKind (now t) i ≤ 4) ⌝ }
+// What case i asks; its kind is known.
+pub fn test_at(t: &[u8], m: Map, i: usize) -> Test
+    requires { ⌜ Mapped (now t) m × (i < m .cases .count) × (caseKind (now t) i ≤ 4) ⌝ }
     ensures { λ r. ⌜ r ≡ testOf (now (t .entry)) i ⌝ }
 {
-    let at = start + CASE_SIZE * i;
-    let kind = t[at];
-    let a = word_at(t, at + 2);
-    let b = word_at(t, at + 4);
+    let kind = case_kind(t, m, i);
+    let a = case_number(t, m, i);
+    let b = case_length(t, m, i);
     match kind {
         0 => Test::Constr(a),
         1 => Test::Text {
@@ -164,67 +163,55 @@ pub fn test_from(t: &[u8], start: usize, i: usize) -> Test
     }
 }
 
-// What case i asks; its kind is known.
-pub fn test_at(t: &[u8], m: Map, i: usize) -> Test
-    requires { ⌜ Mapped (now t) m × (i < m .cases .count) × (caseKind (now t) i ≤ 4) ⌝ }
-    ensures { λ r. ⌜ r ≡ testOf (now (t .entry)) i ⌝ }
-{
-    test_from(t, m.cases.start, i)
-}
-
-// Case i, of a known kind, by the start of the cases alone.
-pub fn case_from(t: &[u8], start: usize, i: usize) -> Case
-    requires { ⌜ Mapped (now t) (mapOf (now t)) × (start ≡ casesAt (now t)) × (i < cases (now t)) × (caseKind (now t) i ≤ 4) ⌝ }
-    ensures { λ r. ⌜ r ≡ caseOf (now (t .entry)) i ⌝ }
-{
-    let test = test_from(t, start, i);
-    let child = word_at(t, start + CASE_SIZE * i + 6);
-    Case { test, child }
-}
-
 // Case i, of a known kind.
 pub fn case_at(t: &[u8], m: Map, i: usize) -> Case
     requires { ⌜ Mapped (now t) m × (i < m .cases .count) × (caseKind (now t) i ≤ 4) ⌝ }
     ensures { λ r. ⌜ r ≡ caseOf (now (t .entry)) i ⌝ }
 {
-    case_from(t, m.cases.start, i)
+    let test = test_at(t, m, i);
+    let child = case_child(t, m, i);
+    Case { test, child }
 }
 
+fn switch_at(t: &[u8], m: Map, k: usize) -> Node
+    requires { ⌜ Ruled (now t) m × (k < m .nodes .count) × (nodeKind (now t) k ≡ 0) ⌝ }
+    ensures { λ r. ⌜ r ≡ nodeOf (now (t .entry)) k ⌝ }
+{
+    let first = node_word(t, m, k, 1);
+    Node::Switch {
+        path: node_word(t, m, k, 0),
+        first,
+        cases: node_word(t, m, k, 2),
+        default: node_word(t, m, k, 4),
+        test: test_at(t, m, first as usize),
+    }
+}
+
+// Each kind reads its own words: a walk passes most nodes for one of them.
 pub fn node_at(t: &[u8], m: Map, k: usize) -> Node
     requires { ⌜ Ruled (now t) m × (k < m .nodes .count) ⌝ }
     ensures { λ r. ⌜ r ≡ nodeOf (now (t .entry)) k ⌝ }
 {
     let kind = node_kind(t, m, k);
-    let a = node_word(t, m, k, 0);
-    let b = node_word(t, m, k, 1);
-    let c = node_word(t, m, k, 2);
-    let d = node_word(t, m, k, 3);
-    let e = node_word(t, m, k, 4);
     match kind {
-        0 => Node::Switch {
-            path: a,
-            first: b,
-            cases: c,
-            default: e,
-            test: test_at(t, m, b as usize),
-        },
+        0 => switch_at(t, m, k),
         1 => Node::ListSwitch {
-            path: a,
-            first: b,
-            cases: c,
-            tails: d,
-            default: e,
+            path: node_word(t, m, k, 0),
+            first: node_word(t, m, k, 1),
+            cases: node_word(t, m, k, 2),
+            tails: node_word(t, m, k, 3),
+            default: node_word(t, m, k, 4),
         },
         2 => Node::Leaf {
-            clause: a,
-            first: b,
-            count: c,
+            clause: node_word(t, m, k, 0),
+            first: node_word(t, m, k, 1),
+            count: node_word(t, m, k, 2),
         },
         _ => Node::Hoist {
-            clause: a,
-            first: b,
-            count: c,
-            child: d,
+            clause: node_word(t, m, k, 0),
+            first: node_word(t, m, k, 1),
+            count: node_word(t, m, k, 2),
+            child: node_word(t, m, k, 3),
         },
     }
 }

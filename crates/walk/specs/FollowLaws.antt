@@ -13,7 +13,7 @@ use Rattle.words.specs.Words.{both}
 use Rattle.words.specs.WordsLaws.{both-true}
 use Rattle.rules.specs.PanelFile.{records, parts, recordKind, recordFirst, recordCount, part}
 use Rattle.rules.specs.Rows.{Step, pair, tuple, constr, list, listtail, Path}
-use Rattle.rules.specs.TreeReader.{casesAt, pathsAt, stepsAt, treePoolAt, cases, paths, stepAt, stepsFrom, stepOfFields, pathFirst, pathCount, pathAt}
+use Rattle.rules.specs.TreeReader.{pathsAt, stepsAt, paths, stepAt, stepsFrom, stepOfFields, pathFirst, pathCount, pathAt}
 use Rattle.rules.specs.Walking.{Position as Place, panelRoot, partOf, tailOf, takeStep, follow}
 use Rattle.facts.specs.TreeFacts.{TreeRuled}
 use Rattle.facts.specs.PanelFacts.{PanelLaid, PanelShaped}
@@ -25,10 +25,10 @@ use Rattle.tree.specs.declared.reading.Path.{Path as PathRead}
 use Rattle.tree.specs.declared.reading.Binding.{Binding as BindingRead}
 use Rattle.tree.specs.declared.layout.Map.{Map}
 use Rattle.tree.specs.Reading.{mapOf, Mapped, Ruled, stepOf, pathOf, bindingOf}
-use Rattle.tree.specs.ReadingLaws.{mapped-own, cases-start, paths-start, steps-start, pool-start, cases-count, paths-count, steps-count, bindings-count}
+use Rattle.tree.specs.ReadingLaws.{mapped-own, paths-start, steps-start, paths-count, steps-count, bindings-count}
 use Rattle.walk.specs.declared.follow.Position.{Position}
 use Rattle.walk.specs.declared.follow.Found.the-variants.{At, Stuck}
-use Rattle.walk.specs.Positions.{placed, foundOf, Within, Ready}
+use Rattle.walk.specs.Positions.{placed, foundOf, leftBy, partIn, tailIn, Within, Ready}
 
 -- ---- what was found
 pub found-some : (o : Option Place) (p : Position) → foundOf o ≡ At p → o ≡ some (placed p)
@@ -41,7 +41,7 @@ pub found-none : (o : Option Place) → foundOf o ≡ Stuck → o ≡ none
 found-none none e = refl
 found-none (some x) e = let z : _≡_ {A = ℕ} 0 1 = cc in absurd (omega arith)
 
--- ---- a part of record r, which was read as x
+-- ---- a record that was read as x
 module _ (v : List ℕ) (r : ℕ) (x : Record) (is : x ≡ recordOf v r) where
   kind-is : recordKind v r ≡ x .kind
   kind-is = sym (ap (λ (y : Record). y .kind) is)
@@ -52,38 +52,42 @@ module _ (v : List ℕ) (r : ℕ) (x : Record) (is : x ≡ recordOf v r) where
   first-is : recordFirst v r ≡ x .first
   first-is = sym (ap (λ (y : Record). y .first) is)
 
-  pub part-wrong-kind : (kind i : ℕ) → (x .kind ≡ kind → ⊥) → Stuck ≡ foundOf (partOf v kind r i)
+  part-other : (kind i : ℕ) → (x .kind ≡ kind → ⊥) → partOf v kind r i ≡ none
   unfolding partOf
-  part-wrong-kind kind i h = rw (kind-is, ne-eqb (x .kind) kind h)
+  part-other kind i h = rw (kind-is, ne-eqb (x .kind) kind h)
 
-  pub part-missing : (kind i : ℕ) → x .kind ≡ kind → x .count ≤ i → Stuck ≡ foundOf (partOf v kind r i)
+  part-same : (kind i : ℕ) → x .kind ≡ kind → partIn v x i ≡ partOf v kind r i
   unfolding partOf
-  part-missing kind i h l = rw (kind-is, eq-eqb (x .kind) kind h, count-is, le-ltb i (x .count) l)
+  part-same kind i h = rw (kind-is, eq-eqb (x .kind) kind h, count-is, first-is)
 
-  pub part-there : (kind i p : ℕ) → x .kind ≡ kind → i < x .count → p ≡ part v (x .first + i)
-      → At (record { «record» = p; dropped = 0 }) ≡ foundOf (partOf v kind r i)
-  unfolding partOf
-  part-there kind i p h l e = rw (kind-is, eq-eqb (x .kind) kind h, count-is, lt-ltb i (x .count) l, first-is, e)
+  tail-other : (i : ℕ) → (x .kind ≡ 2 → ⊥) → tailOf v r i ≡ none
+  unfolding tailOf
+  tail-other i h = rw (kind-is, ne-eqb (x .kind) 2 h)
 
-  -- entry i is one of the child list
-  pub part-entry : PanelShaped v → r < records v → (kind i : ℕ) → 2 ≤ kind → x .kind ≡ kind → i < x .count → x .first + i < parts v
-  part-entry shaped h kind i low e l =
+  tail-same : (i : ℕ) → x .kind ≡ 2 → tailIn x r i ≡ tailOf v r i
+  unfolding tailOf
+  tail-same i h = rw (kind-is, eq-eqb (x .kind) 2 h, count-is)
+
+  -- the parts of a record that has them are entries of the child list
+  pub parts-in : PanelShaped v → r < records v → 2 ≤ x .kind → x .first + x .count ≤ parts v
+  parts-in shaped h low =
       let k = kind-is in
       let c = count-is in
       let f = first-is in
       omega (arith, shaped .parts-run r h (omega arith) .inside)
 
-  pub tail-wrong-kind : (i : ℕ) → (x .kind ≡ 2 → ⊥) → Stuck ≡ foundOf (tailOf v r i)
-  unfolding tailOf
-  tail-wrong-kind i h = rw (kind-is, ne-eqb (x .kind) 2 h)
+pub part-missing : (v : List ℕ) (x : Record) (i : ℕ) → x .count ≤ i → Stuck ≡ foundOf (partIn v x i)
+part-missing v x i l = rw (le-ltb i (x .count) l)
 
-  pub tail-missing : (i : ℕ) → x .kind ≡ 2 → x .count < i → Stuck ≡ foundOf (tailOf v r i)
-  unfolding tailOf
-  tail-missing i h l = rw (kind-is, eq-eqb (x .kind) 2 h, count-is, lt-leb i (x .count) l)
+pub part-there : (v : List ℕ) (x : Record) (i p : ℕ) → i < x .count → p ≡ part v (x .first + i)
+    → At (record { «record» = p; dropped = 0 }) ≡ foundOf (partIn v x i)
+part-there v x i p l e = rw (lt-ltb i (x .count) l, e)
 
-  pub tail-there : (i : ℕ) → x .kind ≡ 2 → i ≤ x .count → At (record { «record» = r; dropped = i }) ≡ foundOf (tailOf v r i)
-  unfolding tailOf
-  tail-there i h l = rw (kind-is, eq-eqb (x .kind) 2 h, count-is, le-leb i (x .count) l)
+pub tail-missing : (x : Record) (r i : ℕ) → x .count < i → Stuck ≡ foundOf (tailIn x r i)
+tail-missing x r i l = rw (lt-leb i (x .count) l)
+
+pub tail-there : (x : Record) (r i : ℕ) → i ≤ x .count → At (record { «record» = r; dropped = i }) ≡ foundOf (tailIn x r i)
+tail-there x r i l = rw (le-leb i (x .count) l)
 
 -- ---- positions stay within the panel
 module _ {v : List ℕ} (laid : PanelLaid v) (shaped : PanelShaped v) where
@@ -164,30 +168,68 @@ module _ {v : List ℕ} (laid : PanelLaid v) (shaped : PanelShaped v) where
       go none q ih = let f : none ≡ some y = rw (q, follow) at e in let z : _≡_ {A = ℕ} 0 1 = cc in absurd (omega arith)
       go (some z) q ih = ih z (step-within s x z w q) (rw (q, follow) at e)
 
--- ---- one step, by the fields of its record
+-- ---- one step, by the fields of its record, from a position whose record was read as x
+pub left-has-parts : (kind : ℕ) → 2 ≤ leftBy kind
+left-has-parts kind = go (ltb kind 3) refl
+  where
+    go : (b : Bool) → ltb kind 3 ≡ b → 2 ≤ leftBy kind
+    go true e = rw e (omega arith)
+    go false e = rw e (omega arith)
+
 module _ (v : List ℕ) (s : StepRead) (p : Position) where
   abbrev stepped : Option Place
   stepped = takeStep v (stepOfFields (s .kind) (s .flag) (s .index) (s .of)) (placed p)
 
-  pub step-pair : s .kind ≡ 0 → partOf v 3 (p .«record») (s .index) ≡ stepped
+  -- a step to a part is taken from the kind of its number and 3, one into a list from kind 2
+  part-step : s .kind < 3 → partOf v (leftBy (s .kind)) (p .«record») (s .index) ≡ stepped
   unfolding stepOfFields takeStep
-  step-pair e = rw e
+  part-step h = go (s .kind) h refl
+    where
+      go : (k : ℕ) → k < 3 → s .kind ≡ k → partOf v (leftBy (s .kind)) (p .«record») (s .index) ≡ stepped
+      go zero l e = rw e
+      go (suc zero) l e = rw e
+      go (suc (suc zero)) l e = rw e
+      go (suc (suc (suc k))) l e = absurd (omega arith)
 
-  pub step-tuple : s .kind ≡ 1 → partOf v 4 (p .«record») (s .index) ≡ stepped
+  list-step : s .kind ≡ 3 → partOf v 2 (p .«record») (p .dropped + s .index) ≡ stepped
   unfolding stepOfFields takeStep
-  step-tuple e = rw e
+  list-step e = rw e
 
-  pub step-constr : s .kind ≡ 2 → partOf v 5 (p .«record») (s .index) ≡ stepped
+  tail-step : 3 < s .kind → tailOf v (p .«record») (p .dropped + s .index) ≡ stepped
   unfolding stepOfFields takeStep
-  step-constr e = rw e
+  tail-step h =
+      rw (ne-eqb (s .kind) 0 (λ e. omega arith), ne-eqb (s .kind) 1 (λ e. omega arith), ne-eqb (s .kind) 2 (λ e. omega arith), ne-eqb (s .kind) 3 (λ e. omega arith))
 
-  pub step-list : s .kind ≡ 3 → partOf v 2 (p .«record») (p .dropped + s .index) ≡ stepped
-  unfolding stepOfFields takeStep
-  step-list e = rw e
+  module _ (x : Record) (is : x ≡ recordOf v (p .«record»)) where
+    left-list : 3 ≤ s .kind → leftBy (s .kind) ≡ 2
+    left-list l = rw (le-ltb (s .kind) 3 l)
 
-  pub step-listtail : (s .kind ≡ 0 → ⊥) → (s .kind ≡ 1 → ⊥) → (s .kind ≡ 2 → ⊥) → (s .kind ≡ 3 → ⊥) → tailOf v (p .«record») (p .dropped + s .index) ≡ stepped
-  unfolding stepOfFields takeStep
-  step-listtail a b c d = rw (ne-eqb (s .kind) 0 a, ne-eqb (s .kind) 1 b, ne-eqb (s .kind) 2 c, ne-eqb (s .kind) 3 d)
+    pub step-wrong-kind : (x .kind ≡ leftBy (s .kind) → ⊥) → none ≡ stepped
+    step-wrong-kind h = ⊎-elim small others (three (s .kind))
+      where
+        three : (k : ℕ) → (k < 3) ⊎ ((k ≡ 3) ⊎ (3 < k))
+        three zero = inl (omega arith)
+        three (suc zero) = inl (omega arith)
+        three (suc (suc zero)) = inl (omega arith)
+        three (suc (suc (suc zero))) = inr (inl refl)
+        three (suc (suc (suc (suc k)))) = inr (inr (omega arith))
+
+        small : s .kind < 3 → none ≡ stepped
+        small l = sym (part-other v (p .«record») x is (leftBy (s .kind)) (s .index) h) ∙ part-step l
+
+        others : (s .kind ≡ 3) ⊎ (3 < s .kind) → none ≡ stepped
+        others (inl e) = sym (part-other v (p .«record») x is 2 (p .dropped + s .index) (λ q. h (q ∙ sym (left-list (omega arith))))) ∙ list-step e
+        others (inr l) = sym (tail-other v (p .«record») x is (p .dropped + s .index) (λ q. h (q ∙ sym (left-list (omega arith))))) ∙ tail-step l
+
+    module _ (from : x .kind ≡ leftBy (s .kind)) where
+      pub step-part : s .kind < 3 → partIn v x (s .index) ≡ stepped
+      step-part l = part-same v (p .«record») x is (leftBy (s .kind)) (s .index) from ∙ part-step l
+
+      pub step-list : s .kind ≡ 3 → partIn v x (p .dropped + s .index) ≡ stepped
+      step-list e = part-same v (p .«record») x is 2 (p .dropped + s .index) (from ∙ left-list (omega arith)) ∙ list-step e
+
+      pub step-listtail : 3 < s .kind → tailIn x (p .«record») (p .dropped + s .index) ≡ stepped
+      step-listtail l = tail-same v (p .«record») x is (p .dropped + s .index) (from ∙ left-list (omega arith)) ∙ tail-step l
 
 -- the step that was read is the tree's
 step-read : (t : List ℕ) (i : ℕ) (s : StepRead) → s ≡ stepOf t i → stepOfFields (s .kind) (s .flag) (s .index) (s .of) ≡ stepAt t i
@@ -241,20 +283,6 @@ binding-path-in w rules b x h e =
     let n = bindings-count w in
     let p = ap (λ (y : BindingRead). y .path) e in
     omega (arith, rules .binding-path b (omega arith), paths-count w)
-
--- what the cases of a file are searched with, by the starts of the map that was given
-module _ {t : List ℕ} {m : Map} (ruled : Ruled t m) where
-  pub ruled-own : Ruled t (mapOf t)
-  ruled-own = record { mapped = mapped-own (ruled .mapped); rules = ruled .rules }
-
-  pub cases-own : m .cases .start ≡ casesAt t
-  cases-own = sym (cases-start (ruled .mapped))
-
-  pub pool-own : m .pool .start ≡ treePoolAt t
-  pool-own = sym (pool-start (ruled .mapped))
-
-  pub run-own : (i n : ℕ) → i + n ≤ m .cases .count → i + n ≤ cases t
-  run-own i n h = omega (arith, h, cases-count (ruled .mapped))
 
 -- ---- where a path was followed to
 module _ {t : List ℕ} {m : Map} {v : List ℕ} {n : PanelMap} (ready : Ready t m v n) where

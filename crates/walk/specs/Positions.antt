@@ -2,13 +2,16 @@
 -- Rests on the rules' walk, and on what the two checks give.
 use mathlib.Core.List.{List}
 use mathlib.Core.Option.{Option, none, some}
-use Prim.Native.Nat.{ℕ, _≤_, _<_}
-use Rattle.rules.specs.PanelFile.{records, recordCount}
+use Prim.Native.Nat.{ℕ, _+_, _≤_, _<_}
+use lib.Dec.{ltb, leb}
+use Rattle.words.specs.Words.{pick}
+use Rattle.rules.specs.PanelFile.{records, recordCount, part}
 use Rattle.rules.specs.Walking.{Position as Place}
 use Rattle.facts.specs.TreeFacts.{TreeSound}
 use Rattle.facts.specs.PanelFacts.{PanelAccepted}
 use Rattle.panel.specs.Opened.{Opened}
 use Rattle.panel.specs.declared.Map.{Map as PanelMap}
+use Rattle.panel.specs.declared.records.Record.{Record}
 use Rattle.tree.specs.declared.layout.Map.{Map}
 use Rattle.tree.specs.Reading.{Mapped}
 use Rattle.walk.specs.declared.follow.Position.{Position}
@@ -21,6 +24,16 @@ placed p = record { place = p .«record»; dropped = p .dropped }
 abbrev pub foundOf : Option Place → Found
 foundOf none = Stuck
 foundOf (some x) = At (record { «record» = x .place; dropped = x .dropped })
+
+-- ---- one step: the kind of record that it is taken from, and the part or the tail of a record that was read
+abbrev pub leftBy : ℕ → ℕ
+leftBy kind = pick (ltb kind 3) (kind + 3) 2
+
+abbrev pub partIn : List ℕ → Record → ℕ → Option Place
+partIn v x i = pick (ltb i (x .count)) (some (record { place = part v (x .first + i); dropped = 0 })) none
+
+abbrev pub tailIn : Record → ℕ → ℕ → Option Place
+tailIn x r i = pick (leb i (x .count)) (some (record { place = r; dropped = i })) none
 
 -- a record of the panel, and no more dropped than it has
 pub record Within (v : List ℕ) (x : Place) : Type 0 where

@@ -2,16 +2,18 @@
 -- children stand for, and for a node of a tree file. Rests on the rules' walk.
 use mathlib.Core.Path.{_≡_}
 use mathlib.Core.Bool.{true}
-use mathlib.Core.List.{List}
+use mathlib.Core.List.{List, _++_}
 use Prim.Native.Nat.{ℕ, _+_, _≤_, _<_}
 use Rattle.rules.specs.Limits.{nodeBindingsMost}
 use Rattle.rules.specs.SheetRefusals.{isIn}
-use Rattle.rules.specs.Splitting.{ListOf, ListWithTail}
+use Rattle.rules.specs.Splitting.{Test, ListOf, ListWithTail}
 use Rattle.rules.specs.Building.{Tree, switch, listswitch}
-use Rattle.rules.specs.TreeReader.{nodes, bindings, pathAt, bindingsFrom, casesFor, defaultFor, treeBelow, treeOf}
+use Rattle.rules.specs.TreeReader.{nodes, bindings, caseChildren, defaultChild, pathAt, bindingsFrom, casesFor, defaultFor, treeBelow, treeOf}
 use Rattle.rules.specs.Walking.{bound, Walked, noLeaf, stuck, atLeaf, atTail, largestTail, walk, walkCases}
+use Rattle.walk.specs.declared.choose.Chosen.{Chosen}
 use Rattle.walk.specs.declared.nodes.Reached.{Reached}
 use Rattle.walk.specs.declared.nodes.Next.{Next}
+use Rattle.walk.specs.Choices.{firstCase, chosenOf}
 
 abbrev pub reachedMeans : List ℕ → List ℕ → Reached → Walked
 reachedMeans t v (Reached.Leaf clause first count) = atLeaf clause (bound v (bindingsFrom t first count))
@@ -38,6 +40,16 @@ pub record Turns (t v cs : List ℕ) (w : (ℕ → Tree) → Walked) (r : Next) 
 abbrev pub defaultWalk : List ℕ → ℕ → (ℕ → Tree) → Walked
 defaultWalk v default f = walk (defaultFor f default) v
 
+-- the cases of a run, else the default
+abbrev pub casesWalk : List ℕ → List ℕ → Test → ℕ → ℕ → ℕ → (ℕ → Tree) → Walked
+casesWalk t v x first cases default f = walkCases (casesFor f t first cases) x v (λ u. walk (defaultFor f default) v)
+
+-- where a choice leads, of whatever run of cases and whatever test it was made
+abbrev pub TurnsBy : Chosen → ℕ → Next → Type 0
+TurnsBy chosen default r =
+    (t v : List ℕ) (x : Test) (first cases : ℕ) → chosen ≡ chosenOf t (firstCase t x first cases)
+    → Turns t v (caseChildren t first cases ++ defaultChild default) (casesWalk t v x first cases default) r
+
 abbrev pub switchWalk : List ℕ → List ℕ → ℕ → ℕ → ℕ → ℕ → (ℕ → Tree) → Walked
 switchWalk t v path first cases default f = walk (switch (pathAt t path) (casesFor f t first cases) (defaultFor f default)) v
 
@@ -48,8 +60,7 @@ listWalk t v path first cases tails default f =
 -- past the cases of the exact length
 abbrev pub tailsWalk : List ℕ → List ℕ → ℕ → ℕ → ℕ → ℕ → (ℕ → Tree) → Walked
 tailsWalk t v long first tails default f =
-    atTail (largestTail long (casesFor f t first tails))
-    (λ k. walkCases (casesFor f t first tails) (ListWithTail k) v (λ u. walk (defaultFor f default) v)) (λ u. walk (defaultFor f default) v)
+    atTail (largestTail long (casesFor f t first tails)) (λ k. casesWalk t v (ListWithTail k) first tails default f) (λ u. walk (defaultFor f default) v)
 
 abbrev pub lengthWalk : List ℕ → List ℕ → ℕ → ℕ → ℕ → ℕ → ℕ → (ℕ → Tree) → Walked
 lengthWalk t v long first cases tails default f =

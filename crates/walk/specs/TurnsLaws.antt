@@ -7,29 +7,30 @@ use mathlib.Core.Option.{Option, none, some}
 use Prim.Native.Nat.{ℕ, zero, suc, _+_, _-_, _≤_, _<_}
 use native.Mathlib.Omega.{arith}
 use borrow.Author.Tests.{eq-eqb, ne-eqb}
-use Rattle.words.specs.Words.{pick}
+use Rattle.words.specs.Words.{pick, textAt}
 use Rattle.rules.specs.Searching.{lowest}
 use Rattle.rules.specs.SearchingLaws.{lowest-some}
 use Rattle.rules.specs.SheetRefusals.{isIn}
-use Rattle.rules.specs.Splitting.{Test, ListOf, ListWithTail, sameTest}
+use Rattle.rules.specs.Splitting.{Test, Constr, ListOf, ListWithTail, sameTest}
 use Rattle.rules.specs.Building.{Tree, Cases, switch, ccons}
 use Rattle.rules.specs.PanelFile.{recordKind, recordCount}
 use Rattle.rules.specs.TreeReader.{nodes, cases, nodeKind, Switch, List-switch, Leaf, Hoist-node, caseKind, caseNumber, caseChild, caseTest, startOfTest, caseChildren, defaultChild, nodeChildren, pathAt, casesFor, defaultFor, nodeFor, treeBelow, treeOf}
-use Rattle.rules.specs.Walking.{Position as Place, panelRoot, follow, Walked, stuck, lengthAt, firstKind, ofThisKind, atPart, ofLength, atList, largestTail, atTail, ifSame, walk, walkCases}
+use Rattle.rules.specs.Walking.{Position as Place, panelRoot, follow, Walked, stuck, shownAt, lengthAt, testKind, firstKind, ofThisKind, atPart, ofLength, atList, largestTail, atTail, ifSame, walk, walkCases}
 use Rattle.facts.specs.KindsLaws.{byte-node}
 use Rattle.facts.specs.TreeFacts.{TreeSound, case-listed, default-listed, only-listed, isIn-left, isIn-right, casesFor-some, treeBelow-of-kind}
+use Rattle.panel.specs.declared.Map.{Map as PanelMap}
 use Rattle.panel.specs.declared.records.Record.{Record}
-use Rattle.panel.specs.Opened.{recordOf}
+use Rattle.panel.specs.Opened.{recordOf, Opened}
 use Rattle.tree.specs.declared.reading.Test.{Test as TestRead}
 use Rattle.tree.specs.Reading.{testOf}
 use Rattle.tree.specs.NodesLaws.{SwitchNode, ListSwitchNode, LeafNode, HoistNode, switch-node-children, list-switch-node-children, hoist-node-children}
-use Rattle.walk.specs.declared.choose.Part.{Part}
 use Rattle.walk.specs.declared.nodes.Reached.{Reached}
 use Rattle.walk.specs.declared.nodes.Next.{Next}
+use Rattle.walk.specs.declared.choose.Chosen.{Chosen}
 use Rattle.walk.specs.declared.choose.Chosen.the-variants.{Child, Nothing}
-use Rattle.walk.specs.Choices.{partMeans, Shows, same, firstCase, chosenOf, isOfKind}
-use Rattle.walk.specs.ChoicesLaws.{ofKind, of-kind-means, test-kind}
-use Rattle.walk.specs.Turns.{Leads, Turns, defaultWalk, switchWalk, listWalk, tailsWalk, lengthWalk, GoesOn, Steps, Arrives}
+use Rattle.walk.specs.Choices.{askedBy, AllKind, firstCase, firstNumbered, firstText, chosenOf, textTest}
+use Rattle.walk.specs.ChoicesLaws.{asked-is, constr-asked, text-asked, ofKind, shown-constr, shown-other, shown-text, test-kind, numbered-constr, text-first}
+use Rattle.walk.specs.Turns.{Leads, Turns, TurnsBy, casesWalk, defaultWalk, switchWalk, listWalk, tailsWalk, lengthWalk, GoesOn, Steps, Arrives}
 
 -- ---- the cases of a run
 abbrev chosenWalk : (ℕ → Tree) → List ℕ → List ℕ → Option ℕ → Walked → Walked
@@ -58,17 +59,10 @@ walk-run f t v x o i (suc n) = go (sameTest x (caseTest t i)) refl (walk-run f t
     go true e ih = walk-cons (caseTest t i) (startOfTest (caseNumber t i) (caseTest t i)) (f (caseChild t i)) (casesFor f t (i + 1) n) x v o ∙ rw (e, lowest)
     go false e ih = walk-cons (caseTest t i) (startOfTest (caseNumber t i) (caseTest t i)) (f (caseChild t i)) (casesFor f t (i + 1) n) x v o ∙ rw (e, lowest) ih
 
--- the same of what a part shows
-walk-first : (f : ℕ → Tree) (t v : List ℕ) (s : Part) (x : Test) (o : Walked) (i n : ℕ) → partMeans v s ≡ some x
-    → walkCases (casesFor f t i n) x v (λ u. o) ≡ chosenWalk f t v (firstCase t v s i n) o
-unfolding firstCase
-walk-first f t v s x o i n e = walk-run f t v x o i n ∙ rw e
-
 -- the case that was found is one of the run
-first-listed : (t v : List ℕ) (s : Part) (i n j : ℕ) → firstCase t v s i n ≡ some j → isIn (caseChild t j) (caseChildren t i n) ≡ true
-unfolding firstCase
-first-listed t v s i n j e =
-    let l = lowest-some (λ k. same (partMeans v s) (caseTest t k)) i n j e in
+first-listed : (t : List ℕ) (x : Test) (i n j : ℕ) → firstCase t x i n ≡ some j → isIn (caseChild t j) (caseChildren t i n) ≡ true
+first-listed t x i n j e =
+    let l = lowest-some (λ k. sameTest x (caseTest t k)) i n j e in
     case-listed t i n j (l .from) (l .to)
 
 -- ---- the default
@@ -91,28 +85,28 @@ leads-right cs ds (Next.End Reached.NoLeaf) h = tt
 leads-right cs ds (Next.End Reached.Stuck) h = tt
 
 -- ---- a run of cases and what comes where none holds
-module _ (t v : List ℕ) (s : Part) (x : Test) (shows : partMeans v s ≡ some x) (i n : ℕ) (rest : List ℕ) (o : (ℕ → Tree) → Walked) where
-  pub turns-case : (c : ℕ) → chosenOf t (firstCase t v s i n) ≡ Child c
+module _ (t v : List ℕ) (x : Test) (i n : ℕ) (rest : List ℕ) (o : (ℕ → Tree) → Walked) where
+  pub turns-case : (c : ℕ) → chosenOf t (firstCase t x i n) ≡ Child c
       → Turns t v (caseChildren t i n ++ rest) (λ f. walkCases (casesFor f t i n) x v (λ u. o f)) (Next.Node c)
-  turns-case c e = go (firstCase t v s i n) refl
+  turns-case c e = go (firstCase t x i n) refl
     where
-      go : (q : Option ℕ) → firstCase t v s i n ≡ q → Turns t v (caseChildren t i n ++ rest) (λ f. walkCases (casesFor f t i n) x v (λ u. o f)) (Next.Node c)
+      go : (q : Option ℕ) → firstCase t x i n ≡ q → Turns t v (caseChildren t i n ++ rest) (λ f. walkCases (casesFor f t i n) x v (λ u. o f)) (Next.Node c)
       go none q = let y : Nothing ≡ Child c = rw q at e in let z : _≡_ {A = ℕ} 0 1 = cc in absurd (omega arith)
       go (some j) q =
           let y : Child (caseChild t j) ≡ Child c = rw q at e in
           let child : c ≡ caseChild t j = cc in
           record {
-            means = λ f. ap (λ (k : ℕ). walk (f k) v) child ∙ sym (walk-first f t v s x (o f) i n shows ∙ rw q);
-            leads = rw child (isIn-left (caseChild t j) (caseChildren t i n) rest (first-listed t v s i n j q));
+            means = λ f. ap (λ (k : ℕ). walk (f k) v) child ∙ sym (walk-run f t v x (o f) i n ∙ rw q);
+            leads = rw child (isIn-left (caseChild t j) (caseChildren t i n) rest (first-listed t x i n j q));
           }
 
-  pub turns-past : (r : Next) → chosenOf t (firstCase t v s i n) ≡ Nothing → Turns t v rest o r
+  pub turns-past : (r : Next) → chosenOf t (firstCase t x i n) ≡ Nothing → Turns t v rest o r
       → Turns t v (caseChildren t i n ++ rest) (λ f. walkCases (casesFor f t i n) x v (λ u. o f)) r
-  turns-past r e w = go (firstCase t v s i n) refl
+  turns-past r e w = go (firstCase t x i n) refl
     where
-      go : (q : Option ℕ) → firstCase t v s i n ≡ q → Turns t v (caseChildren t i n ++ rest) (λ f. walkCases (casesFor f t i n) x v (λ u. o f)) r
+      go : (q : Option ℕ) → firstCase t x i n ≡ q → Turns t v (caseChildren t i n ++ rest) (λ f. walkCases (casesFor f t i n) x v (λ u. o f)) r
       go none q = record {
-        means = λ f. w .means f ∙ sym (walk-first f t v s x (o f) i n shows ∙ rw q);
+        means = λ f. w .means f ∙ sym (walk-run f t v x (o f) i n ∙ rw q);
         leads = leads-right (caseChildren t i n) rest r (w .leads);
       }
       go (some j) q = let y : Child (caseChild t j) ≡ Nothing = rw q at e in let z : _≡_ {A = ℕ} 0 1 = cc in absurd (omega arith)
@@ -128,7 +122,7 @@ module _ (t v : List ℕ) (long first tails d : ℕ) where
   }
 
   pub turns-tail : (r : Next) (k : ℕ) → ((f : ℕ → Tree) → k ≡ largestTail long (casesFor f t first tails)) → (k ≡ 0 → ⊥)
-      → Turns t v (caseChildren t first tails ++ defaultChild d) (λ f. walkCases (casesFor f t first tails) (ListWithTail (k - 1)) v (λ u. defaultWalk v d f)) r
+      → Turns t v (caseChildren t first tails ++ defaultChild d) (casesWalk t v (ListWithTail (k - 1)) first tails d) r
       → Turns t v (caseChildren t first tails ++ defaultChild d) (tailsWalk t v long first tails d) r
   unfolding atTail
   turns-tail r k e z w = record {
@@ -151,17 +145,17 @@ module _ (t v : List ℕ) (long first cases tails d : ℕ) where
       → Leads (caseChildren t first (cases + tails) ++ defaultChild d) r
   same-children r h = rw (caseChildren-add t first cases tails (defaultChild d)) at h
 
-  pub turns-length : (c : ℕ) → chosenOf t (firstCase t v (Part.List long) first cases) ≡ Child c
+  pub turns-length : (c : ℕ) → chosenOf t (firstCase t (ListOf long) first cases) ≡ Child c
       → Turns t v (caseChildren t first (cases + tails) ++ defaultChild d) (lengthWalk t v long first cases tails d) (Next.Node c)
   turns-length c e =
-      let w = turns-case t v (Part.List long) (ListOf long) refl first cases (caseChildren t (first + cases) tails ++ defaultChild d) (tailsWalk t v long (first + cases) tails d) c e in
+      let w = turns-case t v (ListOf long) first cases (caseChildren t (first + cases) tails ++ defaultChild d) (tailsWalk t v long (first + cases) tails d) c e in
       record { means = w .means; leads = same-children (Next.Node c) (w .leads) }
 
-  pub turns-no-length : (r : Next) → chosenOf t (firstCase t v (Part.List long) first cases) ≡ Nothing
+  pub turns-no-length : (r : Next) → chosenOf t (firstCase t (ListOf long) first cases) ≡ Nothing
       → Turns t v (caseChildren t (first + cases) tails ++ defaultChild d) (tailsWalk t v long (first + cases) tails d) r
       → Turns t v (caseChildren t first (cases + tails) ++ defaultChild d) (lengthWalk t v long first cases tails d) r
   turns-no-length r e w =
-      let u = turns-past t v (Part.List long) (ListOf long) refl first cases (caseChildren t (first + cases) tails ++ defaultChild d) (tailsWalk t v long (first + cases) tails d) r e w in
+      let u = turns-past t v (ListOf long) first cases (caseChildren t (first + cases) tails ++ defaultChild d) (tailsWalk t v long (first + cases) tails d) r e w in
       record { means = u .means; leads = same-children r (u .leads) }
 
 module _ (t v : List ℕ) (path first cases tails d : ℕ) where
@@ -205,41 +199,63 @@ of-this-kind-go : (k : ℕ) (x : Test) (g : Test → Walked) → ofKind (some x)
 unfolding ofThisKind
 of-this-kind-go k x g e = rw (e, ofThisKind)
 
+text-kind : (integer : Bool) (w : List ℕ) → testKind (textTest integer w) ≡ pick integer 1 2
+unfolding testKind
+text-kind true w = refl
+text-kind false w = refl
+
 module _ (t v : List ℕ) (path first cases d : ℕ) where
   pub switch-no-part : follow v (pathAt t path) panelRoot ≡ none
       → Turns t v (caseChildren t first cases ++ defaultChild d) (switchWalk t v path first cases d) (Next.End Reached.Stuck)
   unfolding walk atPart
   switch-no-part e = record { means = λ f. sym (rw e); leads = tt }
 
-  module _ (some-case : 1 ≤ cases) (known : caseKind t first ≤ 2) (p : Place) (s : Part) (found : follow v (pathAt t path) panelRoot ≡ some p) (shows : Shows v p s) where
-    opened : (f : ℕ → Tree) → switchWalk t v path first cases d f ≡ ofThisKind (caseKind t first) (partMeans v s) (λ x. walkCases (casesFor f t first cases) x v (λ u. walk (defaultFor f d) v))
+  -- the part there is, and its record was read as x
+  module _ (some-case : 1 ≤ cases) (known : caseKind t first ≤ 2) (p : Place) (found : follow v (pathAt t path) panelRoot ≡ some p) (x : Record) (is : x ≡ recordOf v (p .place)) where
+    opened-at : (o : Option Test) → shownAt v p ≡ o → (f : ℕ → Tree)
+        → switchWalk t v path first cases d f ≡ ofThisKind (caseKind t first) o (λ y. casesWalk t v y first cases d f)
     unfolding walk atPart
-    opened f = rw (found, first-kind f t first cases some-case (omega (arith, known)), shows .means)
+    opened-at o e f = rw (found, first-kind f t first cases some-case (omega (arith, known)), e)
 
-    pub switch-wrong-kind : isOfKind s (testOf t first) ≡ false
+    pub switch-wrong-kind : (x .kind ≡ askedBy (testOf t first) → ⊥)
         → Turns t v (caseChildren t first cases ++ defaultChild d) (switchWalk t v path first cases d) (Next.End Reached.Stuck)
-    switch-wrong-kind e = record {
-      means = λ f. sym (opened f ∙ of-this-kind (caseKind t first) (partMeans v s) _ (sym (of-kind-means v s t first known) ∙ e));
+    switch-wrong-kind h = record {
+      means = λ f.
+          sym (opened-at (shownAt v p) refl f ∙ of-this-kind (caseKind t first) (shownAt v p) _ (shown-other v p x is (caseKind t first) (λ e. h (e ∙ sym (asked-is t first known)))));
       leads = tt;
     }
 
-    pub switch-turns : isOfKind s (testOf t first) ≡ true → (r : Next)
-        → ((x : Test) → partMeans v s ≡ some x
-        → Turns t v (caseChildren t first cases ++ defaultChild d) (λ f. walkCases (casesFor f t first cases) x v (λ u. defaultWalk v d f)) r)
+    -- the part shows a test of the kind that is asked
+    switch-turns : (y : Test) → shownAt v p ≡ some y → testKind y ≡ caseKind t first → (r : Next)
+        → Turns t v (caseChildren t first cases ++ defaultChild d) (casesWalk t v y first cases d) r
         → Turns t v (caseChildren t first cases ++ defaultChild d) (switchWalk t v path first cases d) r
-    switch-turns e r w = go (partMeans v s) refl
-      where
-        kind : ofKind (partMeans v s) (caseKind t first) ≡ true
-        kind = sym (of-kind-means v s t first known) ∙ e
+    switch-turns y e k r w = record {
+      means = λ f. w .means f ∙ sym (opened-at (some y) e f ∙ of-this-kind-go (caseKind t first) y _ (eq-eqb (testKind y) (caseKind t first) k));
+      leads = w .leads;
+    }
 
-        go : (o : Option Test) → partMeans v s ≡ o → Turns t v (caseChildren t first cases ++ defaultChild d) (switchWalk t v path first cases d) r
-        go none q = let f : false ≡ true = rw q at kind in let z : _≡_ {A = ℕ} 0 1 = cc in absurd (omega arith)
-        go (some x) q =
-            let u = w x q in
-            record {
-              means = λ f. u .means f ∙ sym (opened f ∙ rw q (of-this-kind-go (caseKind t first) x _ (rw q at kind)));
-              leads = u .leads;
-            }
+    module _ (asks : x .kind ≡ askedBy (testOf t first)) (alike : AllKind t (caseKind t first) first cases) (chosen : Chosen) (r : Next) (by : TurnsBy chosen d r) where
+      pub switch-constr : askedBy (testOf t first) ≡ 5 → chosen ≡ chosenOf t (firstNumbered t (x .a) first cases)
+          → Turns t v (caseChildren t first cases ++ defaultChild d) (switchWalk t v path first cases d) r
+      unfolding testKind
+      switch-constr five e =
+          let zero = constr-asked t first known five in
+          switch-turns (Constr (x .a)) (shown-constr v p x is (asks ∙ five)) (sym zero) r
+          (by t v (Constr (x .a)) first cases (e ∙ ap (chosenOf t) (numbered-constr t first cases (x .a) (rw zero at alike))))
+
+      pub switch-text : (n : PanelMap) → Opened v n → (askedBy (testOf t first) ≡ 5 → ⊥)
+          → chosen ≡ chosenOf t (firstText t (textAt v (n .«pool_at» + x .first) (x .count)) first cases)
+          → Turns t v (caseChildren t first cases ++ defaultChild d) (switchWalk t v path first cases d) r
+      switch-text n opened other e = let texts = text-asked t first known other in go (texts .0) (texts .1) (texts .2)
+        where
+          w : List ℕ
+          w = textAt v (n .«pool_at» + x .first) (x .count)
+
+          go : (integer : Bool) → caseKind t first ≡ pick integer 1 2 → askedBy (testOf t first) ≡ pick integer 0 1
+              → Turns t v (caseChildren t first cases ++ defaultChild d) (switchWalk t v path first cases d) r
+          go integer k a =
+              switch-turns (textTest integer w) (shown-text v p x is n opened integer (asks ∙ a)) (text-kind integer w ∙ sym k) r
+              (by t v (textTest integer w) first cases (e ∙ ap (chosenOf t) (text-first t first cases integer w (rw k at alike))))
 
 -- ---- a node of a file
 module _ (t v : List ℕ) (sound : TreeSound t) (k : ℕ) (h : k < nodes t) where

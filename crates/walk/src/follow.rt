@@ -1,6 +1,7 @@
 // Following a path of a tree through a panel: each step asks a record of its kind that has the part, else the walk is stuck.
 // A position is a record and how many elements of its list are dropped.
 use panel::Map as PanelMap;
+use panel::records::Record;
 use panel::records::part_at;
 use panel::records::record_at;
 use tree::reading::Step;
@@ -8,14 +9,14 @@ use tree::reading::path_from;
 use tree::reading::step_from;
 ghost use mathlib.Core.Path.{_≡_};
 ghost use Prim.Native.Nat.{_+_, _<_, _≤_};
-ghost use Rattle.rules.specs.PanelFile.{records};
+ghost use Rattle.rules.specs.PanelFile.{parts};
 ghost use Rattle.rules.specs.TreeReader.{paths, pathsAt, stepsAt, stepOfFields, pathAt};
-ghost use Rattle.rules.specs.Walking.{panelRoot, partOf, tailOf, takeStep};
+ghost use Rattle.rules.specs.Walking.{panelRoot, takeStep};
 ghost use Rattle.rules.specs.Walking.{follow as Walking·follow};
-ghost use Rattle.facts.specs.PanelFacts.{PanelLaid, PanelShaped};
+ghost use Rattle.facts.specs.PanelFacts.{PanelShaped};
 ghost use Rattle.panel.specs.Opened.{Opened};
 ghost use Rattle.tree.specs.Reading.{mapOf};
-ghost use Rattle.walk.specs.Positions.{placed, foundOf, Ready, Within};
+ghost use Rattle.walk.specs.Positions.{placed, foundOf, leftBy, partIn, tailIn, Ready, Within};
 
 pub struct Position {
     pub record: usize,
@@ -27,15 +28,18 @@ pub enum Found {
     Stuck,
 }
 
-// Part i of record r, which must be of this kind.
-fn part_of(v: &[u8], n: PanelMap, kind: u8, r: usize, i: usize) -> Found
-    requires { ⌜ Opened (now v) n × PanelShaped (now v) × (r < records (now v)) × (2 ≤ kind) ⌝ }
-    ensures { λ res. ⌜ res ≡ foundOf (partOf (now (v .entry)) kind r i) ⌝ }
+// The kind of record that a step of this kind is taken from.
+fn left_by(kind: u8) -> u8
+    ensures { λ r. ⌜ r ≡ leftBy kind ⌝ }
 {
-    let x = record_at(v, r);
-    if x.kind != kind {
-        return Found::Stuck;
-    }
+    if kind < 3 { kind + 3 } else { 2 }
+}
+
+// Part i of a record.
+fn part_in(v: &[u8], n: PanelMap, x: Record, i: usize) -> Found
+    requires { ⌜ Opened (now v) n × (x .first + x .count ≤ parts (now v)) ⌝ }
+    ensures { λ r. ⌜ r ≡ foundOf (partIn (now (v .entry)) x i) ⌝ }
+{
     if x.count <= i {
         return Found::Stuck;
     }
@@ -44,14 +48,9 @@ fn part_of(v: &[u8], n: PanelMap, kind: u8, r: usize, i: usize) -> Found
 }
 
 // What is left of the list r after its first i elements.
-fn tail_of(v: &[u8], r: usize, i: usize) -> Found
-    requires { ⌜ PanelLaid (now v) × (r < records (now v)) ⌝ }
-    ensures { λ res. ⌜ res ≡ foundOf (tailOf (now (v .entry)) r i) ⌝ }
+fn tail_in(x: Record, r: usize, i: usize) -> Found
+    ensures { λ res. ⌜ res ≡ foundOf (tailIn x r i) ⌝ }
 {
-    let x = record_at(v, r);
-    if x.kind != 2 {
-        return Found::Stuck;
-    }
     if x.count < i {
         return Found::Stuck;
     }
@@ -70,13 +69,17 @@ fn take_step(v: &[u8], n: PanelMap, s: Step, p: Position) -> Found
     let i = s.index as usize;
     let r = p.record;
     let dropped = p.dropped;
-    match kind {
-        0 => part_of(v, n, 3, r, i),
-        1 => part_of(v, n, 4, r, i),
-        2 => part_of(v, n, 5, r, i),
-        3 => part_of(v, n, 2, r, dropped + i),
-        _ => tail_of(v, r, dropped + i),
+    let x = record_at(v, r);
+    if x.kind != left_by(kind) {
+        return Found::Stuck;
     }
+    if kind < 3 {
+        return part_in(v, n, x, i);
+    }
+    if kind == 3 {
+        return part_in(v, n, x, dropped + i);
+    }
+    tail_in(x, r, dropped + i)
 }
 
 // Where path p of the tree leads from the panel's root. Of the tree's map it takes the two starts that it reads from:

@@ -1,11 +1,10 @@
 // Where a node leads: "Switch: the first case that holds. List switch: the first of the exact length, else the first of the largest
 // tail number not above it. Else the default; with none, No leaf." A hoist is passed over; a wrong kind is stuck before any case.
 use crate::choose::Chosen;
-use crate::choose::Part;
-use crate::choose::first_case;
+use crate::choose::asked_by;
 use crate::choose::largest_tail;
-use crate::choose::of_kind;
-use crate::choose::shown_at;
+use crate::choose::numbered_case;
+use crate::choose::text_case;
 use crate::follow::Found;
 use crate::follow::follow;
 use panel::Map as PanelMap;
@@ -18,9 +17,10 @@ ghost use mathlib.Core.Path.{_≡_};
 ghost use mathlib.Core.List.{List, _++_};
 ghost use Prim.Native.Nat.{ℕ, _+_, _<_, _≤_};
 ghost use Rattle.rules.specs.TreeReader.{caseKind, caseChildren, defaultChild};
-ghost use Rattle.tree.specs.Reading.{Ruled, testOf};
+ghost use Rattle.tree.specs.Reading.{Mapped, testOf};
 ghost use Rattle.walk.specs.Positions.{Ready};
-ghost use Rattle.walk.specs.Turns.{Turns, defaultWalk, switchWalk, listWalk, tailsWalk, lengthWalk, Steps, Arrives};
+ghost use Rattle.walk.specs.Choices.{AllKind};
+ghost use Rattle.walk.specs.Turns.{Turns, TurnsBy, defaultWalk, switchWalk, listWalk, tailsWalk, lengthWalk, Steps, Arrives};
 
 pub enum Reached {
     Leaf { clause: u16, first: u16, count: u16 },
@@ -42,6 +42,17 @@ fn default_of(default: u16) -> Next
     Next::Node(default as usize - 1)
 }
 
+// The child that was chosen, else the default.
+fn chosen_or(chosen: Chosen, default: u16) -> Next
+    ensures { λ r. ⌜ TurnsBy chosen default r ⌝ }
+{
+    match chosen {
+        Chosen::Child(c) => Next::Node(c),
+        Chosen::Nothing => default_of(default),
+    }
+}
+
+// The cases are all of the first one's kind, so that they are searched by a constructor's number, or by a text.
 fn from_switch(
     t: &[u8],
     m: Map,
@@ -53,84 +64,55 @@ fn from_switch(
     default: u16,
     test: Test,
 ) -> Next
-    requires { ⌜ Ready (now t) m (now v) n × (path < m .paths .count) × (1 ≤ cases) × (first + cases ≤ m .cases .count) × (caseKind (now t) first ≤ 2) × (test ≡ testOf (now t) first) ⌝ }
+    requires { ⌜ Ready (now t) m (now v) n × (path < m .paths .count) × (1 ≤ cases) × (first + cases ≤ m .cases .count) × (caseKind (now t) first ≤ 2) × AllKind (now t) (caseKind (now t) first) first cases × (test ≡ testOf (now t) first) ⌝ }
     ensures { λ r. ⌜ Turns (now (t .entry)) (now (v .entry)) (caseChildren (now (t .entry)) first cases ++ defaultChild default) (switchWalk (now (t .entry)) (now (v .entry)) path first cases default) r ⌝ }
 {
+    let asked = asked_by(test);
     let Found::At(p) = follow(t, m.paths.start, m.steps.start, v, n, path as usize) else {
         return Next::End(Reached::Stuck);
     };
-    let s = shown_at(v, n, p);
-    if !of_kind(s, test) {
+    let r = p.record;
+    let x = record_at(v, r);
+    if x.kind != asked {
         return Next::End(Reached::Stuck);
     }
-    let Chosen::Child(c) = first_case(
-        t,
-        m.cases.start,
-        m.pool.start,
-        v,
-        first as usize,
-        cases as usize,
-        s,
-    ) else {
-        return default_of(default);
-    };
-    Next::Node(c)
+    if asked == 5 {
+        return chosen_or(
+            numbered_case(t, m, first as usize, cases as usize, x.a),
+            default,
+        );
+    }
+    let start = n.pool_at + x.first;
+    let chosen = text_case(t, m, v, first as usize, cases as usize, start, x.count);
+    chosen_or(chosen, default)
 }
 
 // Past the cases of the exact length.
-fn from_tails(
-    t: &[u8],
-    m: Map,
-    v: &[u8],
-    length: usize,
-    first: usize,
-    tails: usize,
-    default: u16,
-) -> Next
-    requires { ⌜ Ruled (now t) m × (first + tails ≤ m .cases .count) ⌝ }
-    ensures { λ r. ⌜ Turns (now (t .entry)) (now (v .entry)) (caseChildren (now (t .entry)) first tails ++ defaultChild default) (tailsWalk (now (t .entry)) (now (v .entry)) length first tails default) r ⌝ }
+fn from_tails(t: &[u8], m: Map, length: usize, first: usize, tails: usize, default: u16) -> Next
+    requires { ⌜ Mapped (now t) m × (first + tails ≤ m .cases .count) × AllKind (now t) 4 first tails ⌝ }
+    ensures { λ r. ⌜ ((v : List ℕ) → Turns (now (t .entry)) v (caseChildren (now (t .entry)) first tails ++ defaultChild default) (tailsWalk (now (t .entry)) v length first tails default) r) ⌝ }
 {
     let k = largest_tail(t, m, first, tails, length);
     if k == 0 {
         return default_of(default);
     }
-    let Chosen::Child(c) = first_case(
-        t,
-        m.cases.start,
-        m.pool.start,
-        v,
-        first,
-        tails,
-        Part::Tailed(k - 1),
-    ) else {
-        return default_of(default);
-    };
-    Next::Node(c)
+    chosen_or(numbered_case(t, m, first, tails, k - 1), default)
 }
 
 fn from_length(
     t: &[u8],
     m: Map,
-    v: &[u8],
     length: usize,
     first: usize,
     cases: usize,
     tails: usize,
     default: u16,
 ) -> Next
-    requires { ⌜ Ruled (now t) m × (first + (cases + tails) ≤ m .cases .count) ⌝ }
-    ensures { λ r. ⌜ Turns (now (t .entry)) (now (v .entry)) (caseChildren (now (t .entry)) first (cases + tails) ++ defaultChild default) (lengthWalk (now (t .entry)) (now (v .entry)) length first cases tails default) r ⌝ }
+    requires { ⌜ Mapped (now t) m × (first + (cases + tails) ≤ m .cases .count) × AllKind (now t) 3 first cases × AllKind (now t) 4 (first + cases) tails ⌝ }
+    ensures { λ r. ⌜ ((v : List ℕ) → Turns (now (t .entry)) v (caseChildren (now (t .entry)) first (cases + tails) ++ defaultChild default) (lengthWalk (now (t .entry)) v length first cases tails default) r) ⌝ }
 {
-    let Chosen::Child(c) = first_case(
-        t,
-        m.cases.start,
-        m.pool.start,
-        v,
-        first,
-        cases,
-        Part::List(length),
-    ) else {
-        return from_tails(t, m, v, length, first + cases, tails, default);
+    let Chosen::Child(c) = numbered_case(t, m, first, cases, length) else {
+        return from_tails(t, m, length, first + cases, tails, default);
     };
     Next::Node(c)
 }
@@ -146,7 +128,7 @@ fn from_list_switch(
     tails: u16,
     default: u16,
 ) -> Next
-    requires { ⌜ Ready (now t) m (now v) n × (path < m .paths .count) × (first + (cases + tails) ≤ m .cases .count) ⌝ }
+    requires { ⌜ Ready (now t) m (now v) n × (path < m .paths .count) × (first + (cases + tails) ≤ m .cases .count) × AllKind (now t) 3 first cases × AllKind (now t) 4 (first + cases) tails ⌝ }
     ensures { λ r. ⌜ Turns (now (t .entry)) (now (v .entry)) (caseChildren (now (t .entry)) first (cases + tails) ++ defaultChild default) (listWalk (now (t .entry)) (now (v .entry)) path first cases tails default) r ⌝ }
 {
     let Found::At(p) = follow(t, m.paths.start, m.steps.start, v, n, path as usize) else {
@@ -160,7 +142,6 @@ fn from_list_switch(
     from_length(
         t,
         m,
-        v,
         x.count - p.dropped,
         first as usize,
         cases as usize,

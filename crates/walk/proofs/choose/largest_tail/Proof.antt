@@ -1,8 +1,8 @@
 -- `walk::choose::largest_tail` meets its contract: the loop's invariant is that the larger of the best so far and of the largest among those left is the largest of all.
 use borrow.Author.Needs.{needs}
-use Rattle.tree.specs.ReadingLaws.{cases-count}
-use Rattle.walk.specs.ChoicesLaws.{case-tail-number, largest-start, largest-on, largest-end}
-use Rattle.rules.specs.Walking.{largestTail}
+use Rattle.walk.specs.ChoicesLaws.{tail-number-of, largest-start, largest-on, largest-end}
+use Rattle.rules.specs.Splitting.{ListWithTail}
+use Rattle.rules.specs.Walking.{tailNumber, largestTail}
 use Rattle.rules.specs.TreeReader.{casesFor}
 use Rattle.rules.specs.Building.{Tree}
 use Prim.Native.Nat.{ℕ, _+_, _-_, _≤_, max}
@@ -20,18 +20,14 @@ abbrev μ-loop : tie.MeasureT-loop
 loop-holds : tie.Need-loop-holds Inv-loop μ-loop
 loop-holds c = let a = c .before .args in (search needs, λ f. largest-start (a .t .now) (a .n) f (a .i) (a .tails))
 
-add-case-at : tie.Need-add-case-at Inv-loop μ-loop
-add-case-at c = search needs
+add-case-number : tie.Need-add-case-number Inv-loop μ-loop
+add-case-number c = search needs
 
-case-at-requires : tie.Need-case-at-requires Inv-loop μ-loop
-case-at-requires c κs =
-    let back3 = c .before .before .before in
-    let a = back3 .args in
-    let w = back3 .pre .0 in
-    let l = c .before .loop in
-    let count = cases-count (w .mapped) in
-    let known = w .rules .case-kind (a .i + l .j) (omega arith) in
-    (w .mapped, omega arith, known)
+case-number-requires : tie.Need-case-number-requires Inv-loop μ-loop
+case-number-requires c κs = search needs
+
+cast-k : tie.Need-cast-k Inv-loop μ-loop
+cast-k c = search needs
 
 tail-number-requires : tie.Need-tail-number-requires Inv-loop μ-loop
 tail-number-requires c κs = search needs
@@ -51,12 +47,10 @@ loop-again c =
     let back4 = back3 .before in
     let back6 = back4 .before .before in
     let a = back6 .args in
-    let w = back6 .pre .0 in
     let l = back4 .loop in
-    let count = cases-count (w .mapped) in
-    let known = w .rules .case-kind (a .i + l .j) (omega arith) in
-    let x = c .before .before .case-at .result in
-    let e = c .before .tail-number .ensures ∙ case-tail-number (a .t .now) (a .n) (a .i + l .j) x known (c .before .before .case-at .ensures) in (
+    let kind = back6 .pre .2 (a .i + l .j) (omega arith) (omega (arith, back3 .loop-test .taken)) in
+    let number = ap (λ (k : ℕ). tailNumber (a .n) (ListWithTail k)) (c .before .before .case-number .ensures) in
+    let e = c .before .tail-number .ensures ∙ number ∙ tail-number-of (a .t .now) (a .i + l .j) (a .n) kind in (
       search needs,
       λ f.
           ap (λ (k : ℕ). max k (largestTail (a .n) (casesFor f (a .t .now) (a .i + (l .j + 1)) (a .tails - (l .j + 1))))) (c .larger .ensures)
@@ -78,8 +72,9 @@ largest-tail-spec =
     Inv-loop
     μ-loop
     loop-holds
-    add-case-at
-    case-at-requires
+    add-case-number
+    case-number-requires
+    cast-k
     tail-number-requires
     larger-requires
     add-j

@@ -1,96 +1,96 @@
--- `walk::follow::take_step` meets its contract: each kind byte has its kind's step.
+-- `walk::follow::take_step` meets its contract: a step of each kind is taken from its kind of record.
 -- No more is dropped than a record has, so that the sums do not wrap.
-use borrow.Author.Needs.{needs}
-use Rattle.walk.specs.FollowLaws.{dropped-small, step-pair, step-tuple, step-constr, step-list, step-listtail}
+use Rattle.walk.specs.FollowLaws.{dropped-small, left-has-parts, parts-in, step-wrong-kind, step-part, step-list, step-listtail}
 use Rattle.walk.specs.Positions.{placed, foundOf}
 use native.Mathlib.Omega.{arith}
-use mathlib.Core.Path.{ap, _∙_}
+use mathlib.Core.Path.{sym, ap, _∙_}
+use borrow.Author.Needs.{needs}
 use Rattle.walk.proofs.follow.take_step.Statement.{statement}
 use Rattle.walk.proofs.follow.take_step.Tie as tie
 
 cast-i : tie.Need-cast-i
 cast-i c = search needs
 
-part-of-requires : tie.Need-part-of-requires
-part-of-requires c κs =
-    let back3 = c .before .before .before in
-    (back3 .pre .0, back3 .pre .1, back3 .pre .2 .place-in, omega arith)
+record-at-requires : tie.Need-record-at-requires
+record-at-requires c κs = search needs
 
-part-of-requires-2 : tie.Need-part-of-requires-2
-part-of-requires-2 c κs =
-    let back3 = c .before .before .before in
-    (back3 .pre .0, back3 .pre .1, back3 .pre .2 .place-in, omega arith)
-
-part-of-requires-3 : tie.Need-part-of-requires-3
-part-of-requires-3 c κs =
-    let back3 = c .before .before .before in
-    (back3 .pre .0, back3 .pre .1, back3 .pre .2 .place-in, omega arith)
-
-add-part-of : tie.Need-add-part-of
-add-part-of c =
-    let back3 = c .before .before .before in
-    omega (arith, dropped-small (back3 .pre .0 .laid) (back3 .pre .1) (placed (back3 .args .p)) (back3 .pre .2))
-
-part-of-requires-4 : tie.Need-part-of-requires-4
-part-of-requires-4 c κs =
-    let back3 = c .before .before .before in
-    (back3 .pre .0, back3 .pre .1, back3 .pre .2 .place-in, omega arith)
-
-add-tail-of : tie.Need-add-tail-of
-add-tail-of c =
-    let back3 = c .before .before .before in
-    omega (arith, dropped-small (back3 .pre .0 .laid) (back3 .pre .1) (placed (back3 .args .p)) (back3 .pre .2))
-
-tail-of-requires : tie.Need-tail-of-requires
-tail-of-requires c κs =
-    let back3 = c .before .before .before in
-    (back3 .pre .0 .laid, back3 .pre .2 .place-in)
+left-by-requires : tie.Need-left-by-requires
+left-by-requires c κs = search needs
 
 returns : tie.Need-returns
 returns c =
+    let back3 = c .before .before .before in
+    let a = back3 .before .before .before .args in
+    ap foundOf
+    (step-wrong-kind (a .v .now) (a .s) (a .p) (back3 .record-at .result) (back3 .record-at .ensures) (λ e. c .if1 .taken (e ∙ sym (c .before .before .left-by .ensures))))
+
+part-in-requires : tie.Need-part-in-requires
+part-in-requires c κs =
     let back4 = c .before .before .before .before in
-    let a = back4 .args in
-    c .part-of .ensures ∙ ap foundOf (step-pair (a .v .now) (a .s) (a .p) (c .before .match .keys1))
+    let start = back4 .before .before .before in
+    let a = start .args in
+    let kind = c .before .if1 .left ∙ c .before .before .before .left-by .ensures in
+    (start .pre .0, parts-in (a .v .now) (a .p .«record») (back4 .record-at .result) (back4 .record-at .ensures) (start .pre .1) (start .pre .2 .place-in) (omega (arith, kind, left-has-parts (a .s .kind))))
 
 returns-2 : tie.Need-returns-2
 returns-2 c =
-    let back4 = c .before .before .before .before in
-    let a = back4 .args in
-    c .part-of2 .ensures ∙ ap foundOf (step-tuple (a .v .now) (a .s) (a .p) (c .before .match .keys2))
+    let back5 = c .before .before .before .before .before in
+    let a = back5 .before .before .before .args in
+    let kind = c .before .before .if1 .left ∙ c .before .before .before .before .left-by .ensures in
+    c .part-in .ensures ∙ ap foundOf (step-part (a .v .now) (a .s) (a .p) (back5 .record-at .result) (back5 .record-at .ensures) kind (c .before .if2 .taken))
+
+add-part-in : tie.Need-add-part-in
+add-part-in c =
+    let start = c .before .before .before .before .before .before .before .before in
+    omega (arith, dropped-small (start .pre .0 .laid) (start .pre .1) (placed (start .args .p)) (start .pre .2))
+
+part-in-requires-2 : tie.Need-part-in-requires-2
+part-in-requires-2 c κs =
+    let back5 = c .before .before .before .before .before in
+    let start = back5 .before .before .before in
+    let a = start .args in
+    let kind = c .before .before .if1 .left ∙ c .before .before .before .before .left-by .ensures in
+    (start .pre .0, parts-in (a .v .now) (a .p .«record») (back5 .record-at .result) (back5 .record-at .ensures) (start .pre .1) (start .pre .2 .place-in) (omega (arith, kind, left-has-parts (a .s .kind))))
 
 returns-3 : tie.Need-returns-3
 returns-3 c =
-    let back4 = c .before .before .before .before in
-    let a = back4 .args in
-    c .part-of3 .ensures ∙ ap foundOf (step-constr (a .v .now) (a .s) (a .p) (c .before .match .keys3))
+    let back3 = c .before .before .before in
+    let back6 = back3 .before .before .before in
+    let a = back6 .before .before .before .args in
+    let kind = back3 .if1 .left ∙ back3 .before .before .left-by .ensures in
+    c .part-in2 .ensures ∙ ap foundOf (step-list (a .v .now) (a .s) (a .p) (back6 .record-at .result) (back6 .record-at .ensures) kind (c .before .if3 .taken))
+
+add-tail-in : tie.Need-add-tail-in
+add-tail-in c =
+    let start = c .before .before .before .before .before .before .before .before in
+    omega (arith, dropped-small (start .pre .0 .laid) (start .pre .1) (placed (start .args .p)) (start .pre .2))
+
+tail-in-requires : tie.Need-tail-in-requires
+tail-in-requires c κs = search needs
 
 returns-4 : tie.Need-returns-4
 returns-4 c =
-    let back4 = c .before .before .before .before in
-    let a = back4 .args in
-    c .part-of4 .ensures ∙ ap foundOf (step-list (a .v .now) (a .s) (a .p) (c .before .match .keys4))
-
-returns-5 : tie.Need-returns-5
-returns-5 c =
-    let back4 = c .before .before .before .before in
-    let a = back4 .args in
-    let r = c .before .match .rest in
-    c .tail-of .ensures ∙ ap foundOf (step-listtail (a .v .now) (a .s) (a .p) (r .0 .0 .0 .1) (r .0 .0 .1) (r .0 .1) (r .1))
+    let back3 = c .before .before .before in
+    let back6 = back3 .before .before .before in
+    let a = back6 .before .before .before .args in
+    let kind = back3 .if1 .left ∙ back3 .before .before .left-by .ensures in
+    c .tail-in .ensures
+    ∙ ap foundOf
+    (step-listtail (a .v .now) (a .s) (a .p) (back6 .record-at .result) (back6 .record-at .ensures) kind (omega (arith, c .before .before .if2 .left, c .before .if3 .left)))
 
 pub take-step-spec : {M : Type 1} → statement M
 take-step-spec =
     tie.close
     (tie.spec
     cast-i
-    part-of-requires
-    part-of-requires-2
-    part-of-requires-3
-    add-part-of
-    part-of-requires-4
-    add-tail-of
-    tail-of-requires
+    record-at-requires
+    left-by-requires
     returns
+    part-in-requires
     returns-2
+    add-part-in
+    part-in-requires-2
     returns-3
-    returns-4
-    returns-5)
+    add-tail-in
+    tail-in-requires
+    returns-4)

@@ -1,18 +1,16 @@
 -- `walk::nodes::from_length` meets its contract: one law of the walk at a length for each way out.
-use borrow.Author.Needs.{needs}
-use Rattle.walk.specs.FollowLaws.{ruled-own, cases-own, pool-own, run-own}
 use Rattle.walk.specs.TurnsLaws.{turns-length, turns-no-length}
+use Rattle.walk.specs.ChoicesLaws.{numbered-list}
+use Rattle.walk.specs.Choices.{chosenOf}
 use Rattle.walk.specs.declared.choose.Chosen.the-variants.{Child}
 use native.Mathlib.Omega.{arith}
-use mathlib.Core.Path.{_≡_, sym, _∙_}
+use mathlib.Core.Path.{_≡_, sym, ap, _∙_}
+use borrow.Author.Needs.{needs}
 use Rattle.walk.proofs.nodes.from_length.Statement.{statement}
 use Rattle.walk.proofs.nodes.from_length.Tie as tie
 
-first-case-requires : tie.Need-first-case-requires
-first-case-requires c κs =
-    let a = c .before .before .args in
-    let ruled = c .before .before .pre .0 in
-    (ruled-own ruled, cases-own ruled, pool-own ruled, tt, run-own ruled (a .first) (a .cases) (omega (arith, c .before .before .pre .1)))
+numbered-case-requires : tie.Need-numbered-case-requires
+numbered-case-requires c κs = (c .before .pre .0, omega (arith, c .before .pre .1))
 
 enum-known-c : tie.Need-enum-known-c
 enum-known-c c = search needs
@@ -22,36 +20,38 @@ enum-told c = search needs
 
 add-from-tails : tie.Need-add-from-tails
 add-from-tails c =
-    let back5 = c .before .before .before .before .before in
-    omega (arith, back5 .pre .0 .mapped, back5 .pre .1)
+    let start = c .before .before .before .before in
+    omega (arith, start .pre .0, start .pre .1)
 
 from-tails-requires : tie.Need-from-tails-requires
 from-tails-requires c κs =
-    let back5 = c .before .before .before .before .before in
-    (back5 .pre .0, omega (arith, back5 .pre .1))
+    let start = c .before .before .before .before in
+    (start .pre .0, omega (arith, start .pre .1), start .pre .3)
 
 returns : tie.Need-returns
 returns c =
     let back3 = c .before .before .before in
-    let back6 = back3 .before .before .before in
-    let a = back6 .args in
-    turns-no-length (a .t .now) (a .v .now) (a .length) (a .first) (a .cases) (a .tails) (a .default) (c .from-tails .result)
-    (sym (back3 .first-case .ensures) ∙ c .before .enum-told .given .1) (c .from-tails .ensures)
+    let start = back3 .before .before in
+    let a = start .args in
+    let chosen = back3 .numbered-case .ensures ∙ ap (chosenOf (a .t .now)) (numbered-list (a .t .now) (a .first) (a .cases) (a .length) (start .pre .2)) in
+    λ v. turns-no-length (a .t .now) v (a .length) (a .first) (a .cases) (a .tails) (a .default) (c .from-tails .result)
+    (sym chosen ∙ c .before .enum-told .given .1) (c .from-tails .ensures v)
 
 returns-2 : tie.Need-returns-2
 returns-2 c =
     let back3 = c .before .before .before in
-    let back6 = back3 .before .before .before in
-    let a = back6 .args in
+    let start = back3 .before .before in
+    let a = start .args in
     let child = c .before .c .given .0 .0 in
-    let chosen : back3 .first-case .result ≡ Child child = c .before .c .given .1 in
-    turns-length (a .t .now) (a .v .now) (a .length) (a .first) (a .cases) (a .tails) (a .default) child (sym (back3 .first-case .ensures) ∙ chosen)
+    let told : back3 .numbered-case .result ≡ Child child = c .before .c .given .1 in
+    let chosen = back3 .numbered-case .ensures ∙ ap (chosenOf (a .t .now)) (numbered-list (a .t .now) (a .first) (a .cases) (a .length) (start .pre .2)) in
+    λ v. turns-length (a .t .now) v (a .length) (a .first) (a .cases) (a .tails) (a .default) child (sym chosen ∙ told)
 
 pub from-length-spec : {M : Type 1} → statement M
 from-length-spec =
     tie.close
     (tie.spec
-    first-case-requires
+    numbered-case-requires
     enum-known-c
     enum-told
     add-from-tails

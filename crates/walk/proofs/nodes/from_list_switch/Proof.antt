@@ -2,7 +2,7 @@
 use borrow.Author.Needs.{needs}
 use Rattle.panel.specs.declared.records.Record.{Record}
 use Rattle.walk.specs.TurnsLaws.{list-no-part, list-wrong-kind, list-turns}
-use Rattle.walk.specs.FollowLaws.{found-some, found-none, found-within, ready-path, ready-ruled}
+use Rattle.walk.specs.FollowLaws.{found-some, found-none, found-within, ready-path}
 use Rattle.walk.specs.Positions.{placed}
 use Rattle.rules.specs.TreeReader.{pathAt}
 use Rattle.rules.specs.Walking.{panelRoot, follow}
@@ -71,7 +71,7 @@ sub-from-length c =
 from-length-requires : tie.Need-from-length-requires
 from-length-requires c κs =
     let back11 = c .before .before .before .before .before .before .before .before .before .before .before in
-    (ready-ruled (back11 .pre .0), back11 .pre .2)
+    (back11 .pre .0 .mapped, back11 .pre .2, back11 .pre .3, back11 .pre .4)
 
 returns-3 : tie.Need-returns-3
 returns-3 c =
@@ -87,7 +87,7 @@ returns-3 c =
     let found = found-some (follow (a .v .now) (pathAt (a .t .now) (a .path)) panelRoot) p (sym (back9 .follow .ensures) ∙ r) in
     let within = found-within ready (a .path) p found in
     list-turns (a .t .now) (a .v .now) (a .path) (a .first) (a .cases) (a .tails) (a .default) (placed p) (back5 .record-at .result)
-    (c .from-length .result) found (back5 .record-at .ensures) (back3 .if1 .left) (c .from-length .ensures)
+    (c .from-length .result) found (back5 .record-at .ensures) (back3 .if1 .left) (c .from-length .ensures (a .v .now))
 
 pub from-list-switch-spec : {M : Type 1} → statement M
 from-list-switch-spec =

@@ -4,7 +4,7 @@ use borrow.Author.Needs.{needs}
 use Rattle.tree.specs.ReadingLaws.{cases-count, paths-count}
 use Rattle.walk.specs.TurnsLaws.{steps-switch, steps-list-switch, steps-leaf, steps-hoist}
 use Rattle.walk.specs.FollowLaws.{ready-ruled}
-use Rattle.tree.specs.NodesLaws.{switch-node, list-switch-node, leaf-node, hoist-node, switch-node-run, switch-node-path, switch-node-kind, list-switch-node-run, list-switch-node-path}
+use Rattle.tree.specs.NodesLaws.{switch-node, list-switch-node, leaf-node, hoist-node, switch-node-run, switch-node-path, switch-node-kind, switch-node-alike, list-switch-node-run, list-switch-node-cases, list-switch-node-tails, list-switch-node-path}
 use Rattle.tree.specs.OrderLaws.{in-nodes, node-kind-known}
 use Rattle.tree.specs.declared.reading.Node.{Node}
 use native.Mathlib.Omega.{arith}
@@ -32,7 +32,8 @@ from-switch-requires c κs =
     let run = switch-node-run (ruled .rules) (a .k) h (g .0) (g .1 .0) (g .1 .1 .0) (g .1 .1 .1 .0) (g .1 .1 .1 .1 .0) w in
     let path = switch-node-path (ruled .rules) (a .k) h (g .0) (g .1 .0) (g .1 .1 .0) (g .1 .1 .1 .0) (g .1 .1 .1 .1 .0) w in
     let kind = switch-node-kind (ruled .rules) (a .k) h (g .0) (g .1 .0) (g .1 .1 .0) (g .1 .1 .1 .0) (g .1 .1 .1 .1 .0) w in
-    (ready, omega (arith, path, paths-count (ready .mapped)), run .0, omega (arith, run .1, cases-count (ready .mapped)), kind, w .test-is)
+    let alike = switch-node-alike (ruled .rules) (a .k) h (g .0) (g .1 .0) (g .1 .1 .0) (g .1 .1 .1 .0) (g .1 .1 .1 .1 .0) w in
+    (ready, omega (arith, path, paths-count (ready .mapped)), run .0, omega (arith, run .1, cases-count (ready .mapped)), kind, alike, w .test-is)
 
 enum-known-node-2 : tie.Need-enum-known-node-2
 enum-known-node-2 c = search needs
@@ -52,7 +53,9 @@ from-list-switch-requires c κs =
     (sym (back3 .node-at .ensures) ∙ e) in
     let run = list-switch-node-run (ruled .rules) (a .k) h (g .0) (g .1 .0) (g .1 .1 .0) (g .1 .1 .1 .0) (g .1 .1 .1 .1 .0) w in
     let path = list-switch-node-path (ruled .rules) (a .k) h (g .0) (g .1 .0) (g .1 .1 .0) (g .1 .1 .1 .0) (g .1 .1 .1 .1 .0) w in
-    (ready, omega (arith, path, paths-count (ready .mapped)), omega (arith, run .1, cases-count (ready .mapped)))
+    let lists = list-switch-node-cases (ruled .rules) (a .k) h (g .0) (g .1 .0) (g .1 .1 .0) (g .1 .1 .1 .0) (g .1 .1 .1 .1 .0) w in
+    let tails = list-switch-node-tails (ruled .rules) (a .k) h (g .0) (g .1 .0) (g .1 .1 .0) (g .1 .1 .1 .0) (g .1 .1 .1 .1 .0) w in
+    (ready, omega (arith, path, paths-count (ready .mapped)), omega (arith, run .1, cases-count (ready .mapped)), lists, tails)
 
 enum-known-node-3 : tie.Need-enum-known-node-3
 enum-known-node-3 c = search needs

@@ -1,22 +1,23 @@
 -- `walk::nodes::from_switch` meets its contract: one law of the walk at a switch for each way out.
-use borrow.Author.Needs.{needs}
-use Rattle.walk.specs.declared.nodes.Next.{Next}
-use Rattle.walk.specs.TurnsLaws.{turns-case, turns-past, switch-no-part, switch-wrong-kind, switch-turns}
-use Rattle.walk.specs.Turns.{defaultWalk}
-use Rattle.walk.specs.FollowLaws.{found-some, found-none, found-within, ready-path, ready-ruled, ruled-own, cases-own, pool-own, run-own}
-use Rattle.walk.specs.Choices.{isOfKind}
+use Rattle.walk.specs.TurnsLaws.{switch-no-part, switch-wrong-kind, switch-constr, switch-text}
+use Rattle.walk.specs.ChoicesLaws.{texts-asked, text-inside}
+use Rattle.walk.specs.Choices.{askedBy}
+use Rattle.walk.specs.FollowLaws.{found-some, found-none, found-within, ready-path, ready-ruled}
 use Rattle.walk.specs.Positions.{placed}
-use Rattle.rules.specs.TreeReader.{pathAt, defaultChild}
-use Rattle.rules.specs.Walking.{panelRoot, follow}
-use Rattle.walk.specs.declared.choose.Chosen.the-variants.{Child}
 use Rattle.walk.specs.declared.follow.Found.the-variants.{At}
-use borrow.Author.Tests.{not-true, not-false}
+use Rattle.rules.specs.TreeReader.{pathAt}
+use Rattle.rules.specs.Walking.{panelRoot, follow}
+use native.Mathlib.Omega.{arith}
 use mathlib.Core.Path.{_≡_, sym, ap, _∙_}
+use borrow.Author.Needs.{needs}
 use Rattle.walk.proofs.nodes.from_switch.Statement.{statement}
 use Rattle.walk.proofs.nodes.from_switch.Tie as tie
 
+asked-by-requires : tie.Need-asked-by-requires
+asked-by-requires c κs = search needs
+
 follow-requires : tie.Need-follow-requires
-follow-requires c κs = ready-path (c .before .before .pre .0) _ (c .before .before .pre .1)
+follow-requires c κs = let back3 = c .before .before .before in ready-path (back3 .pre .0) _ (back3 .pre .1)
 
 enum-known-p : tie.Need-enum-known-p
 enum-known-p c = search needs
@@ -26,113 +27,132 @@ enum-told c = search needs
 
 returns : tie.Need-returns
 returns c =
-    let back5 = c .before .before .before .before .before in
-    let a = back5 .args in
+    let a = c .before .before .before .before .before .before .args in
     switch-no-part (a .t .now) (a .v .now) (a .path) (a .first) (a .cases) (a .default)
     (found-none (follow (a .v .now) (pathAt (a .t .now) (a .path)) panelRoot) (sym (c .before .before .follow .ensures) ∙ c .enum-told .given .1))
 
-shown-at-requires : tie.Need-shown-at-requires
-shown-at-requires c κs =
+record-at-requires : tie.Need-record-at-requires
+record-at-requires c κs =
     let back3 = c .before .before .before in
-    let back6 = back3 .before .before .before in
-    let a = back6 .args in
-    let ready = back6 .pre .0 in
+    let start = back3 .before .before .before .before in
+    let a = start .args in
+    let ready = start .pre .0 in
     let p = c .before .p .given .0 .0 in
     let r : back3 .follow .result ≡ At p = c .before .p .given .1 in
     let found = found-some (follow (a .v .now) (pathAt (a .t .now) (a .path)) panelRoot) p (sym (back3 .follow .ensures) ∙ r) in
-    let within = found-within ready (a .path) p found in
-    (ready .opened, ready .panel .is-shaped, within .place-in)
-
-of-kind-requires : tie.Need-of-kind-requires
-of-kind-requires c κs = search needs
+    (ready .opened .laid, found-within ready (a .path) p found .place-in)
 
 returns-2 : tie.Need-returns-2
 returns-2 c =
     let back4 = c .before .before .before .before in
     let back6 = back4 .before .before in
-    let back9 = back6 .before .before .before in
-    let a = back9 .args in
-    let ready = back9 .pre .0 in
+    let back7 = back6 .before in
+    let start = back7 .before .before .before in
+    let a = start .args in
     let p = back4 .p .given .0 .0 in
     let r : back6 .follow .result ≡ At p = back4 .p .given .1 in
     let found = found-some (follow (a .v .now) (pathAt (a .t .now) (a .path)) panelRoot) p (sym (back6 .follow .ensures) ∙ r) in
-    let shows = c .before .before .shown-at .ensures in
-    let s = c .before .before .shown-at .result in
-    switch-wrong-kind (a .t .now) (a .v .now) (a .path) (a .first) (a .cases) (a .default) (back9 .pre .2) (back9 .pre .4) (placed p) s found shows
-    (ap (isOfKind s) (sym (back9 .pre .5)) ∙ sym (c .before .of-kind .ensures) ∙ not-true _ (c .if1 .taken))
+    let asked = back7 .asked-by .ensures ∙ ap askedBy (start .pre .6) in
+    switch-wrong-kind (a .t .now) (a .v .now) (a .path) (a .first) (a .cases) (a .default) (start .pre .2) (start .pre .4) (placed p) found
+    (c .before .before .record-at .result) (c .before .before .record-at .ensures) (λ e. c .if1 .taken (e ∙ sym asked))
 
-first-case-requires : tie.Need-first-case-requires
-first-case-requires c κs =
-    let back9 = c .before .before .before .before .before .before .before .before .before in
-    let ruled = ready-ruled (back9 .pre .0) in
-    (ruled-own ruled, cases-own ruled, pool-own ruled, c .before .before .shown-at .ensures .inside, run-own ruled _ _ (back9 .pre .3))
+numbered-case-requires : tie.Need-numbered-case-requires
+numbered-case-requires c κs =
+    let start = c .before .before .before .before .before .before .before .before .before .before .before in
+    (start .pre .0 .mapped, start .pre .3)
 
-enum-known-c : tie.Need-enum-known-c
-enum-known-c c = search needs
-
-enum-told-2 : tie.Need-enum-told-2
-enum-told-2 c = search needs
-
-default-of-requires : tie.Need-default-of-requires
-default-of-requires c κs = search needs
+chosen-or-requires : tie.Need-chosen-or-requires
+chosen-or-requires c κs = search needs
 
 returns-3 : tie.Need-returns-3
 returns-3 c =
     let back3 = c .before .before .before in
-    let back4 = back3 .before in
-    let back5 = back4 .before in
-    let back6 = back5 .before in
-    let back8 = back6 .before .before in
-    let back10 = back8 .before .before in
-    let back13 = back10 .before .before .before in
-    let a = back13 .args in
-    let ready = back13 .pre .0 in
-    let p = back8 .p .given .0 .0 in
-    let r : back10 .follow .result ≡ At p = back8 .p .given .1 in
-    let found = found-some (follow (a .v .now) (pathAt (a .t .now) (a .path)) panelRoot) p (sym (back10 .follow .ensures) ∙ r) in
-    let shows = back6 .shown-at .ensures in
-    let s = back6 .shown-at .result in
-    let rest = c .default-of .result in
-    switch-turns (a .t .now) (a .v .now) (a .path) (a .first) (a .cases) (a .default) (back13 .pre .2) (back13 .pre .4) (placed p) s found shows
-    (ap (isOfKind s) (sym (back13 .pre .5)) ∙ sym (back5 .of-kind .ensures) ∙ not-false _ (back4 .if1 .left)) rest
-    (λ x q. turns-past (a .t .now) (a .v .now) s x q (a .first) (a .cases) (defaultChild (a .default)) (defaultWalk (a .v .now) (a .default)) rest (sym (back3 .first-case .ensures) ∙ c .before .enum-told2 .given .1) (c .default-of .ensures (a .t .now) (a .v .now)))
+    let back5 = back3 .before .before in
+    let back7 = back5 .before .before in
+    let back9 = back7 .before .before in
+    let back10 = back9 .before in
+    let start = back10 .before .before .before in
+    let a = start .args in
+    let p = back7 .p .given .0 .0 in
+    let r : back9 .follow .result ≡ At p = back7 .p .given .1 in
+    let found = found-some (follow (a .v .now) (pathAt (a .t .now) (a .path)) panelRoot) p (sym (back9 .follow .ensures) ∙ r) in
+    let asked = back10 .asked-by .ensures ∙ ap askedBy (start .pre .6) in
+    switch-constr (a .t .now) (a .v .now) (a .path) (a .first) (a .cases) (a .default) (start .pre .2) (start .pre .4) (placed p) found
+    (back5 .record-at .result) (back5 .record-at .ensures) (back3 .if1 .left ∙ asked) (start .pre .5) (c .before .numbered-case .result)
+    (c .chosen-or .result) (c .chosen-or .ensures) (sym asked ∙ c .before .before .if2 .taken) (c .before .numbered-case .ensures)
+
+add-start : tie.Need-add-start
+add-start c =
+    let back3 = c .before .before .before in
+    let back5 = back3 .before .before in
+    let back7 = back5 .before .before in
+    let back9 = back7 .before .before in
+    let back10 = back9 .before in
+    let start = back10 .before .before .before in
+    let a = start .args in
+    let ready = start .pre .0 in
+    let p = back7 .p .given .0 .0 in
+    let r : back9 .follow .result ≡ At p = back7 .p .given .1 in
+    let found = found-some (follow (a .v .now) (pathAt (a .t .now) (a .path)) panelRoot) p (sym (back9 .follow .ensures) ∙ r) in
+    let asked = back10 .asked-by .ensures ∙ ap askedBy (start .pre .6) in
+    let texts = texts-asked (a .t .now) (a .first) (start .pre .4) (λ e. c .before .before .if2 .left (asked ∙ e)) (a .cases) (start .pre .5) in
+    let inside = text-inside (a .v .now) (placed p) (back5 .record-at .result) (back5 .record-at .ensures) (a .n) (ready .opened) (ready .panel .is-shaped) (found-within ready (a .path) p found .place-in) (omega (arith, back3 .if1 .left, asked, texts .0)) in
+    omega (arith, inside, ready .opened .laid .length-most)
+
+text-case-requires : tie.Need-text-case-requires
+text-case-requires c κs =
+    let back3 = c .before .before .before in
+    let back5 = back3 .before .before in
+    let back7 = back5 .before .before in
+    let back9 = back7 .before .before in
+    let back10 = back9 .before in
+    let start = back10 .before .before .before in
+    let a = start .args in
+    let ready = start .pre .0 in
+    let p = back7 .p .given .0 .0 in
+    let r : back9 .follow .result ≡ At p = back7 .p .given .1 in
+    let found = found-some (follow (a .v .now) (pathAt (a .t .now) (a .path)) panelRoot) p (sym (back9 .follow .ensures) ∙ r) in
+    let asked = back10 .asked-by .ensures ∙ ap askedBy (start .pre .6) in
+    let texts = texts-asked (a .t .now) (a .first) (start .pre .4) (λ e. c .before .before .if2 .left (asked ∙ e)) (a .cases) (start .pre .5) in
+    let inside = text-inside (a .v .now) (placed p) (back5 .record-at .result) (back5 .record-at .ensures) (a .n) (ready .opened) (ready .panel .is-shaped) (found-within ready (a .path) p found .place-in) (omega (arith, back3 .if1 .left, asked, texts .0)) in
+    (ready-ruled ready, start .pre .3, texts .1, inside)
+
+chosen-or-requires-2 : tie.Need-chosen-or-requires-2
+chosen-or-requires-2 c κs = search needs
 
 returns-4 : tie.Need-returns-4
 returns-4 c =
-    let back3 = c .before .before .before in
-    let back4 = back3 .before in
+    let back4 = c .before .before .before .before in
     let back5 = back4 .before in
-    let back6 = back5 .before in
-    let back8 = back6 .before .before in
-    let back10 = back8 .before .before in
-    let back13 = back10 .before .before .before in
-    let a = back13 .args in
-    let ready = back13 .pre .0 in
-    let p = back8 .p .given .0 .0 in
-    let r : back10 .follow .result ≡ At p = back8 .p .given .1 in
-    let found = found-some (follow (a .v .now) (pathAt (a .t .now) (a .path)) panelRoot) p (sym (back10 .follow .ensures) ∙ r) in
-    let shows = back6 .shown-at .ensures in
-    let s = back6 .shown-at .result in
-    let child = c .before .c .given .0 .0 in
-    let chosen : back3 .first-case .result ≡ Child child = c .before .c .given .1 in
-    switch-turns (a .t .now) (a .v .now) (a .path) (a .first) (a .cases) (a .default) (back13 .pre .2) (back13 .pre .4) (placed p) s found shows
-    (ap (isOfKind s) (sym (back13 .pre .5)) ∙ sym (back5 .of-kind .ensures) ∙ not-false _ (back4 .if1 .left)) (Next.Node child)
-    (λ x q. turns-case (a .t .now) (a .v .now) s x q (a .first) (a .cases) (defaultChild (a .default)) (defaultWalk (a .v .now) (a .default)) child (sym (back3 .first-case .ensures) ∙ chosen))
+    let back7 = back5 .before .before in
+    let back9 = back7 .before .before in
+    let back11 = back9 .before .before in
+    let back12 = back11 .before in
+    let start = back12 .before .before .before in
+    let a = start .args in
+    let p = back9 .p .given .0 .0 in
+    let r : back11 .follow .result ≡ At p = back9 .p .given .1 in
+    let found = found-some (follow (a .v .now) (pathAt (a .t .now) (a .path)) panelRoot) p (sym (back11 .follow .ensures) ∙ r) in
+    let asked = back12 .asked-by .ensures ∙ ap askedBy (start .pre .6) in
+    switch-text (a .t .now) (a .v .now) (a .path) (a .first) (a .cases) (a .default) (start .pre .2) (start .pre .4) (placed p) found
+    (back7 .record-at .result) (back7 .record-at .ensures) (back5 .if1 .left ∙ asked) (start .pre .5) (c .before .text-case .result)
+    (c .chosen-or2 .result) (c .chosen-or2 .ensures) (a .n) (start .pre .0 .opened) (λ e. back4 .if2 .left (asked ∙ e)) (c .before .text-case .ensures)
 
 pub from-switch-spec : {M : Type 1} → statement M
 from-switch-spec =
     tie.close
     (tie.spec
+    asked-by-requires
     follow-requires
     enum-known-p
     enum-told
     returns
-    shown-at-requires
-    of-kind-requires
+    record-at-requires
     returns-2
-    first-case-requires
-    enum-known-c
-    enum-told-2
-    default-of-requires
+    numbered-case-requires
+    chosen-or-requires
     returns-3
+    add-start
+    text-case-requires
+    chosen-or-requires-2
     returns-4)
