@@ -99,9 +99,6 @@ module _ (all : List Tree) where
   pub within-inside : (j : ℕ) (a : Tree) → Within all j (subtrees a) → j + nodesIn a ≤ length all
   within-inside j a h = omega (arith, h .inside, length-subtrees a)
 
-  pub withinOf-inside : (j : ℕ) (cs : Cases) → Within all j (subtreesOf cs) → j + nodesInOf cs ≤ length all
-  withinOf-inside j cs h = omega (arith, h .inside, length-subtreesOf cs)
-
   abbrev Part : ℕ → Tree → Type 0
   Part j s = Within all j (subtrees s)
 

@@ -83,14 +83,3 @@ module _ (l : List ℕ) (at : ℕ) where
       → l₁ ≡ stored l at (caseRecord x)
   unfolding caseRecord
   case-stored x t e f = f ∙ ap (λ z. stored l at (caseFields (kindOf z) (numberOf z) (lengthOf z) (x .child))) (sym e)
-
-  -- a case written with one child, and then with another
-  pub child-stored : (kind number count before child : ℕ)
-      → stored (stored l at (caseFields kind number count before)) (at + 6) (wordBytes child) ≡ stored l at (caseFields kind number count child)
-  unfolding caseFields
-  child-stored kind number count before child =
-      let xs = kind ∷ 0 ∷ (wordBytes number ++ wordBytes count) in
-      let six : at + length xs ≡ at + 6 = refl in
-      ap (λ z. stored z (at + 6) (wordBytes child)) (sym (stored-append l at (at + 6) xs (wordBytes before) six))
-      ∙ stored-again (stored l at xs) (at + 6) (wordBytes before) (wordBytes child) refl
-      ∙ stored-append l at (at + 6) xs (wordBytes child) six

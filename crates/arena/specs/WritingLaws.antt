@@ -126,15 +126,6 @@ kept-case k c b i from w xs f g h e =
       bindings = λ j l. getD-stored-above w (casesStart + caseSize * i + from) xs (bindingsStart + j) 0 (omega arith);
     }
 
-pub kept-binding : (k c b j : ℕ) (w xs : List ℕ) → k ≤ nodesMost → c ≤ casesMost → b ≤ j → Kept k c b w (stored w (bindingsStart + bindingSize * j) xs)
-kept-binding k c b j w xs f g h =
-    record {
-      same-length = length-stored w (bindingsStart + bindingSize * j) xs;
-      nodes = λ i l. getD-stored-below w (bindingsStart + bindingSize * j) xs i 0 (omega arith);
-      cases = λ i l. getD-stored-below w (bindingsStart + bindingSize * j) xs (casesStart + i) 0 (omega arith);
-      bindings = λ i l. getD-stored-below w (bindingsStart + bindingSize * j) xs (bindingsStart + i) 0 (omega arith);
-    }
-
 module _ {k' c' b' : ℕ} {w w' : List ℕ} (f : Kept k' c' b' w w') where
   pub nodes-kept : (k : ℕ) (xs : List ℕ) → nodeSize * k + length xs ≤ nodeSize * k' → Stands w (nodeSize * k) xs → Stands w' (nodeSize * k) xs
   nodes-kept k xs l s =
@@ -153,15 +144,6 @@ module _ {k' c' b' : ℕ} {w w' : List ℕ} (f : Kept k' c' b' w w') where
       (λ i h.
       let e : bindingsStart + bindingSize * b + i ≡ bindingsStart + (bindingSize * b + i) = omega arith in
       ap (λ z. getD w' z 0) e ∙ f .bindings (bindingSize * b + i) (omega arith) ∙ sym (ap (λ z. getD w z 0) e) ∙ stands-byte s i h)
-
-  -- THEOREM: a tree below the three numbers stays held
-  pub held-kept : (table : List Path) (k c b : ℕ) (a : Tree) → k + nodesIn a ≤ k' → c + casesIn a ≤ c' → b + length (bindingsIn a) ≤ b' → Held w table k c b a → Held w' table k c b a
-  held-kept table k c b a x y z h =
-      record {
-        nodes-there = nodes-kept k (nodesFrom table k c b a) (omega (arith, length-nodesFrom table k c b a)) (h .nodes-there);
-        cases-there = cases-kept c (casesFrom k a) (omega (arith, length-casesFrom k a)) (h .cases-there);
-        bindings-there = bindings-kept b (bindingsBytes table (bindingsIn a)) (omega (arith, length-bindingsBytes table (bindingsIn a))) (h .bindings-there);
-      }
 
   pub heldOf-kept : (table : List Path) (k c b : ℕ) (cs : Cases) → k + nodesInOf cs ≤ k' → c + casesInOf cs ≤ c' → b + length (bindingsInOf cs) ≤ b' → HeldOf w table k c b cs
       → HeldOf w' table k c b cs

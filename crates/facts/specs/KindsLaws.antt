@@ -133,9 +133,6 @@ pub record-unknown : (k : ℕ) → 6 ≤ k → recordKindOf k ≡ Unknown-record
 unfolding recordKindOf chain
 record-unknown k h = chain-past 0 recordKinds Unknown-record k h
 
-pub unknown-record : (k : ℕ) → recordKindOf k ≡ Unknown-record → 6 ≤ k
-unknown-record k e = chain-unknown recordNumber 6 recordKindOf k Unknown-record (record-number k) e refl
-
 -- ---- tree nodes
 abbrev pub nodeNumber : NodeKind → ℕ
 nodeNumber Switch = 0

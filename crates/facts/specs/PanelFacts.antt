@@ -343,10 +343,6 @@ accepted-panel v h =
 
 -- ---- parts along the child list
 module _ (f : ℕ → ℕ → Bool) (s v : List ℕ) where
-  pub partsFit-none : (j e step : ℕ) → partsFit f s v j 0 e step ≡ true
-  unfolding partsFit
-  partsFit-none j e step = refl
-
   pub partsFit-more : (j n e step : ℕ) → partsFit f s v j (n + 1) e step ≡ both (f (part v j) (entry s e)) (partsFit f s v (j + 1) n (e + step) step)
   unfolding partsFit
   partsFit-more j n e step = rw (add-one n)
@@ -406,7 +402,3 @@ module _ (s v : List ℕ) (sh : PanelShaped v) where
         let above = sh .part-above r j h o in
         hasTypeTo-enough (recordsMost - 1) recordsMost (part v j) u (held-record sh r j h o) (omega (arith, few .records-most)) (omega (arith, few .records-most)))
         (recordKindOf (recordKind v r)) refl
-
-    -- the same for a kind that is known
-    pub hasType-of-kind : (kind : RecordKind) → recordKindOf (recordKind v r) ≡ kind → hasTypeTo recordsMost s v r t ≡ recordFits (hasTypeTo recordsMost s v) s v r t kind
-    hasType-of-kind kind e = hasType-open ∙ ap (recordFits (hasTypeTo recordsMost s v) s v r t) e

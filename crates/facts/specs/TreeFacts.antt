@@ -72,12 +72,6 @@ module _ {t : List ℕ} (l : TreeLaid t) where
   pub path-inside : (p : ℕ) → p < paths t → pathsAt t + pathSize * p + pathSize + treeTrailer ≤ length t
   path-inside p h = omega arith
 
-  pub step-inside : (i : ℕ) → i < steps t → stepsAt t + stepSize * i + stepSize + treeTrailer ≤ length t
-  step-inside i h = omega arith
-
-  pub tree-text-inside : (first count : ℕ) → first + count ≤ treePoolSize t → treePoolAt t + first + count + treeTrailer ≤ length t
-  tree-text-inside first count h = omega arith
-
   -- the length is a word of the file
   pub tree-length-small : Bytes t → length t < 65536
   unfolding treeLength
@@ -456,10 +450,6 @@ module _ {t : List ℕ} (sound : TreeSound t) (k : ℕ) (known : k < nodes t) wh
 
 -- ---- the steps and the bindings of a run
 module _ (t : List ℕ) where
-  pub stepsFrom-none : (i : ℕ) → stepsFrom t i 0 ≡ []
-  unfolding stepsFrom
-  stepsFrom-none i = refl
-
   pub stepsFrom-more : (i n : ℕ) → stepsFrom t i (n + 1) ≡ stepAt t i ∷ stepsFrom t (i + 1) n
   unfolding stepsFrom
   stepsFrom-more i n = rw (add-one n)
@@ -471,10 +461,6 @@ module _ (t : List ℕ) where
   unfolding stepsFrom
   length-stepsFrom i zero = refl
   length-stepsFrom i (suc n) = ap suc (length-stepsFrom (i + 1) n)
-
-  pub bindingsFrom-none : (b : ℕ) → bindingsFrom t b 0 ≡ []
-  unfolding bindingsFrom
-  bindingsFrom-none b = refl
 
   pub bindingsFrom-more : (b n : ℕ) → bindingsFrom t b (n + 1) ≡ record { name = bindingName t b; path = pathAt t (bindingPath t b) } ∷ bindingsFrom t (b + 1) n
   unfolding bindingsFrom
@@ -491,10 +477,6 @@ module _ (t : List ℕ) where
 
 -- ---- the cases of a run
 module _ (f : ℕ → Tree) (t : List ℕ) where
-  pub casesFor-none : (i : ℕ) → casesFor f t i 0 ≡ cnil
-  unfolding casesFor
-  casesFor-none i = refl
-
   pub casesFor-more : (i n : ℕ) → casesFor f t i (n + 1) ≡ ccons (caseTest t i) (startOfTest (caseNumber t i) (caseTest t i)) (f (caseChild t i)) (casesFor f t (i + 1) n)
   unfolding casesFor
   casesFor-more i n = rw (add-one n)
@@ -572,7 +554,3 @@ module _ (t : List ℕ) (sound : TreeSound t) where
   -- the same for a kind that is known
   pub treeBelow-of-kind : (k : ℕ) → k < nodes t → (kind : NodeKind) → nodeKindOf (nodeKind t k) ≡ kind → treeBelow (nodes t) t k ≡ nodeFor (treeBelow (nodes t) t) t k kind
   treeBelow-of-kind k h kind e = treeBelow-open k h ∙ ap (nodeFor (treeBelow (nodes t) t) t k) e
-
-  pub treeOf-open : treeOf t ≡ nodeFor (treeBelow (nodes t) t) t 0 (nodeKindOf (nodeKind t 0))
-  unfolding treeOf
-  treeOf-open = treeBelow-open 0 (sound .some-node)

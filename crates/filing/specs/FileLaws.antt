@@ -101,8 +101,5 @@ file-length pool a = tree-filed pool a .length-is
 pub file-nodes : (pool : List ℕ) (a : Tree) → nodes (treeFile pool a) ≡ nodesIn a
 file-nodes pool a = tree-filed pool a .nodes-are
 
-pub file-cases : (pool : List ℕ) (a : Tree) → cases (treeFile pool a) ≡ casesIn a
-file-cases pool a = tree-filed pool a .cases-are
-
 pub file-bindings : (pool : List ℕ) (a : Tree) → bindings (treeFile pool a) ≡ length (bindingsIn a)
 file-bindings pool a = tree-filed pool a .bindings-are

@@ -137,9 +137,6 @@ firstBindings-idle c a h = first-in c a .1 h
 pub firstBindings-as : (P : ℕ → List Binding → Type 0) (c : ℕ) (a : Tree) → EachLeaf P a → hasLeaf c a ≡ true → P c (firstBindings c a)
 firstBindings-as P c a f h = f (leafWith c (firstBindings c a)) (firstBindings-leaf c a h)
 
-pub firstBindings-same : (c : ℕ) (a : Tree) (cs : List Binding) → EachLeaf (λ d bs. c ≡ d → SameBindings bs cs) a → hasLeaf c a ≡ true → SameBindings (firstBindings c a) cs
-firstBindings-same c a cs f h = firstBindings-as (λ d bs. c ≡ d → SameBindings bs cs) c a f h refl
-
 -- ---- nothing, where each leaf of the clause binds nothing
 one-empty : (c k : ℕ) (bs : List Binding) → _≡_ {A = List Binding} (elim (eqb c k) [ true ↦ bs | false ↦ [] ]) [] → (x : Leaf) → (x ≡ leafWith k bs) → c ≡ x .clause → x .bindings ≡ []
 one-empty c k bs e x z y =

@@ -101,26 +101,6 @@ mutual
 pub hasScope-scope : (c : ℕ) (a : Tree) → hasScope (scope c (visits [] a)) ≡ hasLeaf c a
 hasScope-scope c a = ap hasScope (scope-is c a) ∙ hasScope-scopeIn c a
 
-hasScope-none : (o : Option Place) → hasScope o ≡ false → o ≡ none
-unfolding hasScope
-hasScope-none none h = refl
-hasScope-none (some s) h = absurd (true≢false h)
-
-pub scope-none : (c : ℕ) (a : Tree) → (scope c (visits [] a) ≡ none) ↔ (hasLeaf c a ≡ false)
-unfolding hasScope
-scope-none c a = (
-  λ e. sym (hasScope-scope c a) ∙ ap hasScope e,
-  λ e. hasScope-none (scope c (visits [] a)) (hasScope-scope c a ∙ e),
-)
-
-pub scope-some : (c : ℕ) (a : Tree) → hasLeaf c a ≡ true → (s : Place) × (scope c (visits [] a) ≡ some s)
-unfolding hasScope
-scope-some c a h = go (scope c (visits [] a)) refl
-  where
-    go : (o : Option Place) → scope c (visits [] a) ≡ o → (s : Place) × (scope c (visits [] a) ≡ some s)
-    go none e = absurd (true≢false (sym h ∙ sym (hasScope-scope c a) ∙ ap hasScope e))
-    go (some s) e = (s, e)
-
 -- ---- 14
 -- THEOREM: the clauses that 14 finds on the whole tree are those without a scope
 pub lowestIdle-scope : (m n : ℕ) (a : Tree) → lowestIdle m (hoistAll n a) ≡ lowest (λ c. not (hasScope (scope c (visits [] a)))) 0 m

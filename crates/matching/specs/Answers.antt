@@ -133,9 +133,6 @@ module _ (v : List ℕ) where
   abbrev pub GoodRow : Row → Type 0
   GoodRow r = All (Good v) (r .tests)
 
-  pub good-tests : (rs : List Row) → All GoodRow rs → All TestRow rs
-  good-tests rs g = all-map GoodRow TestRow (λ r h. all-map (Good v) HasTest (λ c k. k .test) (r .tests) h) rs g
-
   -- a test pattern that suits the part at x
   abbrev pub Suited : Position → Pat → Type 0
   Suited x q = (isTest q ≡ true) × Suits q v x

@@ -58,15 +58,6 @@ module _ {s : List ℕ} (ok : Accepted s) where
         let h = openedTest s opened c time k in
         all-append Known (numbersHeld s h) (openedNumbers s opened c (time + 1) classes) (held-known time k h refl) (opened-known (time + 1) classes)
 
-  -- each is a pattern
-  pub bound-known : (M : Numbered) (c : ℕ) → c < clauses s → All Known (boundNumbers s M c)
-  unfolding boundNumbers
-  bound-known M c h =
-      all-append Known (bindsOf s (root s c)) (openedNumbers s (M .opened) c 0 (M .tested))
-      (all-copies Known (bindsOf s (root s c))
-      (λ q l. bind-at (ok .is-shaped) (ok .is-counted) (root s c) q (ok .is-shaped .root-pattern c h) (copies-in q (bindsOf s (root s c)) l) .1 .known))
-      (opened-known (M .opened) c 0 (M .tested))
-
   -- clause c's row after the columns tested binds these
   pub bound-row : (M : Numbered) (c : ℕ) → c < clauses s → State s (M .tested) (M .opened) c
       → (rowOf s (map (pathOf s) (M .tested)) c) .bindings ≡ map (bindingAt s) (boundNumbers s M c)

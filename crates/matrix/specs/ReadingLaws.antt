@@ -57,9 +57,6 @@ owner-most t class c h cell e owner f = omega (arith, h .owner, f ∙ ap (λ (x 
 pub has-test : (h : Held) {p : ℕ} → h ≡ Test p → true ≡ hasTest h
 has-test h e = rw e
 
-pub has-none : (h : Held) → h ≡ Wildcard → false ≡ hasTest h
-has-none h e = rw e
-
 count-wild : (held : ℕ → Held) (c : ℕ) (cs : List ℕ) (h : Held) → held c ≡ h → hasTest (held c) ≡ false → countOf held (c ∷ cs) ≡ 0
 unfolding countOf
 count-wild held c cs (Test p) e f = let g : true ≡ false = rw e at f in absurd (false≢true (sym g))

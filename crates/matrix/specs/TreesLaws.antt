@@ -194,9 +194,6 @@ module _ (s : List ℕ) (M : Numbered) (k : ℕ) where
     pub chosen-first : FirstTest (liveIn s (M .opened) k) (M .rows)
     chosen-first = count-first (liveIn s (M .opened) k) (M .rows) (chosen-facts .1)
 
-    pub chosen-rows : 1 ≤ length (M .rows)
-    chosen-rows = let f = chosen-first in rw (f .are) (omega arith)
-
 -- ---- of a sheet that was accepted
 module _ {s : List ℕ} (ok : Accepted s) where
   -- ---- the matrix of the clauses
@@ -213,10 +210,6 @@ module _ {s : List ℕ} (ok : Accepted s) where
   first-some = omega (arith, length-up 0 (clauses s), ok .is-counted .some-clause)
 
   module _ (M : Numbered) (sound : SoundOf s M) where
-    -- there is room for its rows and columns
-    pub few-rows : length (M .rows) ≤ clauses s
-    few-rows = omega (arith, rising-few (clauses s) 0 (M .rows) (omega arith) (sound .rising))
-
     pub few-columns : length (M .columns) + length (M .tested) ≤ patternsMost
     few-columns = omega (arith, sound .room, times-most (reached s (M .opened)) 0 (patterns s), ok .is-counted .patterns-most)
 

@@ -49,9 +49,6 @@ module _ (s : List ℕ) (number : ℕ) (rest : Verdict) where
     pub search-passes : {x : Checked} → r ≡ Nothing → x ≡ answer s rest → x ≡ answer s (requireNone o number rest)
     search-passes y g = let f : o ≡ none = found-nothing o (sym y ∙ e) in rw f g
 
-    pub nothing-found : r ≡ Nothing → o ≡ none
-    nothing-found y = found-nothing o (sym y ∙ e)
-
 -- ---- the first stages
 pub checked-is : (s : List ℕ) → checked s ≡ answer s (require (lengthFits s) 2 (require (layoutFits s) 3 (require (hasClause s) 4 (require (countsFit s) 5 (fromTypes s)))))
 unfolding checked fromTypes

@@ -10,7 +10,7 @@ use lib.ListN.{length, getD, set, take, drop, length-set, length-replicate}
 use lib.Seq.{sets, sets-eq, length-sets, set-set, set-comm, getD-set-same, getD-set-other}
 use Rattle.words.specs.Words.{wordAt, wordBytes, setWord, textAt, zeros}
 use Rattle.words.specs.WordsLaws.{wordAt-wordBytes, texts-agree, texts-agree-at, textAt-whole, drop-zeros}
-use Rattle.words.specs.Stored.{stored, Below}
+use Rattle.words.specs.Stored.{stored}
 
 module _ {ℓ} {A : Type ℓ} where
   -- ---- how stores compose
@@ -95,37 +95,7 @@ pub setWord-stored : (l : List ℕ) (i v : ℕ) → setWord l i v ≡ stored l i
 unfolding stored setWord
 setWord-stored l i v = ap (λ (k : ℕ). set (set l i (v % 256)) k (v / 256)) (add-one i)
 
-pub wordAt-stored-below : (l : List ℕ) (i : ℕ) (vs : List ℕ) (k : ℕ) → k + 1 < i → wordAt (stored l i vs) k ≡ wordAt l k
-unfolding wordAt
-wordAt-stored-below l i vs k h = rw (getD-stored-below l i vs k 0 (omega arith), getD-stored-below l i vs (k + 1) 0 h)
-
-pub wordAt-stored-above : (l : List ℕ) (i : ℕ) (vs : List ℕ) (k : ℕ) → i + length vs ≤ k → wordAt (stored l i vs) k ≡ wordAt l k
-unfolding wordAt
-wordAt-stored-above l i vs k h = rw (getD-stored-above l i vs k 0 h, getD-stored-above l i vs (k + 1) 0 (omega arith))
-
-pub wordAt-stored-inside : (l : List ℕ) (i : ℕ) (vs : List ℕ) (k : ℕ) → k + 1 < length vs → i + k + 1 < length l
-    → wordAt (stored l i vs) (i + k) ≡ wordAt vs k
-unfolding wordAt
-wordAt-stored-inside l i vs k h r =
-    let e : i + k + 1 ≡ i + (k + 1) = omega arith in
-    rw (e, getD-stored-inside l i vs k 0 (omega arith) (omega arith), getD-stored-inside l i vs (k + 1) 0 h (omega arith))
-
--- the word that was stored
-pub wordAt-stored-word : (l : List ℕ) (i v : ℕ) → i + 1 < length l → wordAt (stored l i (wordBytes v)) i ≡ v
-wordAt-stored-word l i v h =
-    rw add-zero at (wordAt-stored-inside l i (wordBytes v) 0 (omega arith) (omega arith)) ∙ wordAt-wordBytes v
-
 -- ---- a text after a store
-
-pub textAt-stored-below : (l : List ℕ) (i : ℕ) (vs : List ℕ) (start len : ℕ) → start + len ≤ i
-    → textAt (stored l i vs) start len ≡ textAt l start len
-textAt-stored-below l i vs start len h =
-    texts-agree-at (stored l i vs) l start len (length-stored l i vs) (λ k q. getD-stored-below l i vs (start + k) 0 (omega arith))
-
-pub textAt-stored-above : (l : List ℕ) (i : ℕ) (vs : List ℕ) (start len : ℕ) → i + length vs ≤ start
-    → textAt (stored l i vs) start len ≡ textAt l start len
-textAt-stored-above l i vs start len h =
-    texts-agree-at (stored l i vs) l start len (length-stored l i vs) (λ k q. getD-stored-above l i vs (start + k) 0 (omega arith))
 
 pub textAt-stored-inside : (l : List ℕ) (i : ℕ) (vs : List ℕ) (k n : ℕ) → k + n ≤ length vs → i + k + n ≤ length l
     → textAt (stored l i vs) (i + k) n ≡ textAt vs k n
@@ -136,33 +106,8 @@ textAt-stored-inside l i vs k n h r = texts-agree (stored l i vs) vs (i + k) k n
         let e : i + k + m ≡ i + (k + m) = omega arith in
         rw e (getD-stored-inside l i vs (k + m) 0 (omega arith) (omega arith))
 
--- the text that was stored
-pub textAt-stored : (l : List ℕ) (i : ℕ) (vs : List ℕ) → i + length vs ≤ length l → textAt (stored l i vs) i (length vs) ≡ vs
-textAt-stored l i vs h =
-    rw add-zero at (textAt-stored-inside l i vs 0 (length vs) (omega arith) (omega arith)) ∙ textAt-whole vs
-
 -- a store at the front of zeros
 pub stored-zeros : (n : ℕ) (vs : List ℕ) → length vs ≤ n → stored (zeros n) 0 vs ≡ vs ++ zeros (n - length vs)
 stored-zeros n vs h = stored-is (zeros n) 0 vs (simp length-replicate (omega arith)) ∙ rw (zero-add, drop-zeros (length vs) n)
 
 -- ---- the frame below a place
-
-pub below-refl : (n : ℕ) (l : List ℕ) → Below n l l
-below-refl n l = record { same = λ k h. refl }
-
-pub below-trans : {n : ℕ} {a b c : List ℕ} → Below n a b → Below n b c → Below n a c
-below-trans f g = record { same = λ k h. g .same k h ∙ f .same k h }
-
-pub below-weaken : {m n : ℕ} {a b : List ℕ} → m ≤ n → Below n a b → Below m a b
-below-weaken h f = record { same = λ k q. f .same k (omega arith) }
-
-pub below-stored : (n : ℕ) (l : List ℕ) (i : ℕ) (vs : List ℕ) → n ≤ i → Below n l (stored l i vs)
-below-stored n l i vs h = record { same = λ k q. getD-stored-below l i vs k 0 (omega arith) }
-
-pub wordAt-below : {n : ℕ} {a b : List ℕ} → Below n a b → (k : ℕ) → k + 1 < n → wordAt b k ≡ wordAt a k
-unfolding wordAt
-wordAt-below f k h = rw (f .same k (omega arith), f .same (k + 1) h)
-
-pub textAt-below : {n : ℕ} {a b : List ℕ} → Below n a b → length b ≡ length a → (start len : ℕ) → start + len ≤ n
-    → textAt b start len ≡ textAt a start len
-textAt-below {n} {a} {b} f e start len h = texts-agree-at b a start len e (λ k q. f .same (start + k) (omega arith))

@@ -96,12 +96,6 @@ length-textAt s i n h = simp (length-take, length-drop) (omega arith)
 pub getD-textAt : (s : List ℕ) (i n k d : ℕ) → k < n → getD (textAt s i n) k d ≡ getD s (i + k) d
 getD-textAt s i n k d h = rw (getD-take n (drop i s) k d h, getD-drop i s k d)
 
-pub wordAt-textAt : (s : List ℕ) (i n k : ℕ) → k + 1 < n → wordAt (textAt s i n) k ≡ wordAt s (i + k)
-unfolding wordAt
-wordAt-textAt s i n k h =
-    let e : i + k + 1 ≡ i + (k + 1) = omega arith in
-    rw (e, getD-textAt s i n k 0 (omega arith), getD-textAt s i n (k + 1) 0 h)
-
 -- texts that are as long as each other and agree at each byte
 textAt-agree : (s t : List ℕ) (i j n : ℕ) → length (textAt s i n) ≡ length (textAt t j n)
     → ((k : ℕ) → k < n → getD s (i + k) 0 ≡ getD t (j + k) 0) → textAt s i n ≡ textAt t j n
@@ -140,14 +134,6 @@ textAt-append-left a b i n h =
 
 pub textAt-append-right : (a b : List ℕ) (i n : ℕ) → textAt (a ++ b) (length a + i) n ≡ textAt b i n
 textAt-append-right a b i n = rw (drop-append-add a b i)
-
--- the bytes of the word at i are those that stand there
-pub wordBytes-wordAt : {s : List ℕ} → Bytes s → (i : ℕ) → i + 1 < length s → wordBytes (wordAt s i) ≡ textAt s i 2
-unfolding wordAt
-wordBytes-wordAt {s} bytes i h =
-    let low : (getD s i 0 + 256 * getD s (i + 1) 0) % 256 ≡ getD s i 0 = omega (arith, bytes .byte i) in
-    let high : (getD s i 0 + 256 * getD s (i + 1) 0) / 256 ≡ getD s (i + 1) 0 = omega (arith, bytes .byte i) in
-    rw (low, high, drop-cons s i 0 (omega arith), drop-cons s (suc i) 0 (omega arith), add-one i)
 
 pub sameText-refl : (a : List ℕ) → sameText a a ≡ true
 unfolding sameText
