@@ -1,3 +1,4 @@
+pub mod Stubs
 pub mod Built
 pub mod JoinedLaws
 pub mod BuiltLaws

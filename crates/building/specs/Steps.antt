@@ -1,14 +1,16 @@
 -- What building a matrix asks, and the column chosen in it: its tests, its cases in the order of their records, their trees.
 -- Rests on the matrix by numbers and on the cases met.
 use mathlib.Core.Path.{_≡_}
-use mathlib.Core.List.{List}
+use mathlib.Core.List.{List, map}
 use Prim.Native.Nat.{ℕ, _≤_}
-use lib.ListN.{length}
+use lib.ListN.{length, take}
+use Rattle.rules.specs.Limits.{patternsMost}
 use Rattle.rules.specs.Patterns.{Pat}
 use Rattle.rules.specs.Splitting.{Test, Met}
 use Rattle.rules.specs.SplittingLaws.{All}
-use Rattle.rules.specs.Building.{Tree}
+use Rattle.rules.specs.Building.{Tree, leaf}
 use Rattle.sheet.specs.declared.Map.{Map}
+use Rattle.table.specs.Seen.{bindingAt}
 use Rattle.matrix.specs.declared.Matrix.{Matrix}
 use Rattle.matrix.specs.declared.Choice.the-variants.{Column}
 use Rattle.matrix.specs.Ready.{Ready}
@@ -16,6 +18,7 @@ use Rattle.matrix.specs.Numbered.{Numbered, SoundOf, defaultNumbered, caseNumbe
 use Rattle.matrix.specs.InNumbers.{inNumbers, WholeMatrix}
 use Rattle.meeting.specs.Made.{columnOf}
 use Rattle.meeting.specs.SoFar.{InSheet}
+use Rattle.building.specs.Stubs.{leafNumbers}
 use Rattle.building.specs.declared.tops.Tops.{Tops}
 use Rattle.building.specs.Built.{Roomy, CasesOpen}
 use Rattle.building.specs.SwitchLaws.{inOrder}
@@ -32,6 +35,15 @@ pub record Asked (s : List ℕ) (m : Map) (t : List ℕ) (x : Matrix) (w : List 
   pub ready : Ready s m t
   pub there : MatrixThere s x
   pub room : Roomy w tops
+
+-- the leaf of clause c, where these columns were tested
+abbrev pub clauseLeaf : List ℕ → List ℕ → List ℕ → ℕ → Tree
+clauseLeaf s opened tested c = leaf c (map (bindingAt s) (leafNumbers s opened tested c))
+
+-- the array of the classes tested: its first `time` ones are as they were
+pub record StillTested (time : ℕ) (l l' : List ℕ) : Type 0 where
+  pub long : length l' ≡ patternsMost
+  pub same : take time l' ≡ take time l
 
 -- ---- the column of class k
 -- its tests, top down
