@@ -3,21 +3,22 @@
 use mathlib.Core.List.{List, [], _∷_, _++_, map}
 use Prim.Native.Nat.{ℕ, _+_, _*_, _≤_, _<_, min}
 use lib.Dec.{ltb}
-use lib.ListN.{length, getD}
+use lib.ListN.{length, getD, take}
 use Rattle.words.specs.Words.{wordBytes, pick}
 use Rattle.words.specs.Stored.{stored}
-use Rattle.rules.specs.Limits.{bindingsMost, bindingSize}
-use Rattle.rules.specs.SheetFile.{patterns, patternA}
+use Rattle.rules.specs.Limits.{patternsMost, bindingsMost, bindingSize}
+use Rattle.rules.specs.SheetFile.{patterns, clauses, patternA, root}
 use Rattle.rules.specs.Rows.{Binding}
+use Rattle.rules.specs.SplittingLaws.{All}
 use Rattle.facts.specs.SheetFacts.{Owns}
 use Rattle.table.specs.Standing.{classOf}
-use Rattle.table.specs.Seen.{bindingAt}
+use Rattle.table.specs.Seen.{bindingAt, bindsOf}
 use Rattle.arena.specs.Arena.{bindingsStart, arenaEnd}
 use Rattle.matrix.specs.declared.Matrix.{Matrix}
 use Rattle.matrix.specs.InNumbers.{inNumbers}
-use Rattle.matrix.specs.Lists.{Whole, WholeRows}
+use Rattle.matrix.specs.Lists.{asClasses, Whole, WholeRows}
 use Rattle.matrix.specs.Numbered.{SoundOf}
-use Rattle.matrix.specs.Bound.{boundNumbers}
+use Rattle.matrix.specs.Bound.{openedNumbers, boundNumbers}
 
 -- a number of bindings, told up to one more than there is room for
 abbrev pub capped : ℕ → ℕ
@@ -50,6 +51,10 @@ boundAll s x [] = x
 boundAll s x (q ∷ qs) = boundAll s (boundOne s x q) qs
 
 -- ---- a leaf
+-- what the leaf of clause c binds, where these columns were tested: what boundNumbers says of a matrix
+abbrev pub leafNumbers : List ℕ → List ℕ → List ℕ → ℕ → List ℕ
+leafNumbers s opened tested c = bindsOf s (root s c) ++ openedNumbers s opened c 0 tested
+
 -- the clause of its first row, and what that row binds
 abbrev pub firstClause : Matrix → ℕ
 firstClause x = getD (x .rows .list) 0 0
@@ -67,6 +72,12 @@ pub record Room (w : List ℕ) (top : ℕ) : Type 0 where
 pub record Entries (s : List ℕ) (p j n : ℕ) : Type 0 where
   pub known : p < patterns s
   pub owns : (i : ℕ) → j ≤ i → i < j + n → Owns s p i
+
+-- a clause of the sheet, and columns that were tested
+pub record LeafAsked (s : List ℕ) (c : ℕ) (tested : List ℕ) (n : ℕ) : Type 0 where
+  pub clause : c < clauses s
+  pub whole : Whole (asClasses tested n)
+  pub known : All (λ k. k < patternsMost) (take n tested)
 
 -- a sound matrix with a row
 pub record WithRow (s : List ℕ) (x : Matrix) : Type 0 where

@@ -1,6 +1,6 @@
 -- What is put at each way through the code, over plain values as it has them: a pattern's bindings by its kind, those of its children one
 -- after the other, what a test opened. Rests on what is seen at a pattern, one level at a time.
-use mathlib.Core.Path.{_≡_, refl, sym, ap, ap₂, _∙_}
+use mathlib.Core.Path.{_≡_, refl, sym, ap, _∙_}
 use mathlib.Core.Logic.{_⊎_, inl, inr}
 use mathlib.Core.Bool.{Bool, true, false}
 use mathlib.Core.List.{List, [], _∷_, _++_}
@@ -8,7 +8,7 @@ use Prim.Native.Nat.{ℕ, suc, _+_, _-_, _*_, _≤_, _<_}
 use native.Mathlib.Omega.{arith}
 use borrow.Author.Tests.{eq-eqb, ne-eqb, eqb-true, eqb-false}
 use lib.Dec.{eqb}
-use lib.ListN.{length, getD}
+use lib.ListN.{length, getD, take}
 use lib.Seq.{slice}
 use Rattle.words.specs.Words.{pick}
 use Rattle.rules.specs.Limits.{patternsMost, childrenMost}
@@ -31,12 +31,12 @@ use Rattle.table.specs.Tabled.{Checked, Tabled}
 use Rattle.matrix.specs.declared.Matrix.{Matrix}
 use Rattle.matrix.specs.Live.{openedTest, IsClass}
 use Rattle.matrix.specs.LiveLaws.{cell-some}
-use Rattle.matrix.specs.Bound.{numbersHeld, openedNumbers, boundNumbers}
+use Rattle.matrix.specs.Bound.{numbersHeld, openedNumbers}
 use Rattle.matrix.specs.Matrices.{Rising}
 use Rattle.matrix.specs.ReadingLaws.{all-at, slice-on, slice-end}
 use Rattle.matrix.specs.InNumbers.{inNumbers}
 use Rattle.matrix.specs.Lists.{numbersIn, classesIn}
-use Rattle.leaves.specs.Bindings.{Bound, bound, boundOne, boundAll, Entries, Room, firstClause, WithRow}
+use Rattle.leaves.specs.Bindings.{Bound, bound, boundOne, boundAll, leafNumbers, firstClause, Entries, Room, LeafAsked, WithRow}
 use Rattle.leaves.specs.BindingsLaws.{bound-none, bound-single, bound-append, bound-top, bound-length}
 
 -- ---- the store, by its answers
@@ -223,18 +223,24 @@ module _ (s : List ℕ) (x : Matrix) (with : WithRow s x) where
       rising-below [] from r = tt
       rising-below (c ∷ cs) from r = (r .1, rising-below cs (c + 1) (r .2))
 
-  pub tested-known : (time class : ℕ) → time < x .tested .count → class ≡ getD (x .tested .list) time 0 → class < patterns s
-  tested-known time class h e = rw e ((all-at (IsClass s) (x .tested .list) (x .tested .count) time h (omega (arith, with .tested)) (with .sound .were-classes)) .known)
+  -- the sheet's patterns are numbers of classes
+  pub leaf-asked : patterns s ≤ patternsMost → (c : ℕ) → c ≡ firstClause x → LeafAsked s c (x .tested .list) (x .tested .count)
+  leaf-asked most c e = record { clause = row-clause c e; whole = with .tested; known = below (classesIn (x .tested)) (with .sound .were-classes) }
+    where
+      below : (ks : List ℕ) → All (IsClass s) ks → All (λ k. k < patternsMost) ks
+      below [] a = tt
+      below (k ∷ ks) a = (omega (arith, most, a .0 .known), below ks (a .1))
 
-  module _ (c r time : ℕ) (a b z : Bound) (is-clause : c ≡ firstClause x) (is-root : r ≡ root s c) (done : time ≡ x .tested .count) where
-    pub leaf-put : b ≡ boundAll s a (bindsOf s r)
-        → boundAll s z (leftFrom s (x .opened) (x .tested .list) (x .tested .count) c time) ≡ boundAll s b (leftFrom s (x .opened) (x .tested .list) (x .tested .count) c 0)
-        → z ≡ boundAll s a (boundNumbers s (inNumbers x) (firstClause x))
-    unfolding boundNumbers
+module _ (s opened tested : List ℕ) (c n : ℕ) (asked : LeafAsked s c tested n) where
+  pub tested-known : (time class : ℕ) → time < n → class ≡ getD tested time 0 → class < patternsMost
+  tested-known time class h e = rw e (all-at (λ k. k < patternsMost) tested n time h (omega (arith, asked .whole)) (asked .known))
+
+  module _ (r time : ℕ) (a b z : Bound) (is-root : r ≡ root s c) (done : time ≡ n) where
+    pub leaf-put : b ≡ boundAll s a (bindsOf s r) → boundAll s z (leftFrom s opened tested n c time) ≡ boundAll s b (leftFrom s opened tested n c 0)
+        → z ≡ boundAll s a (leafNumbers s opened (take n tested) c)
     leaf-put e f =
-        let left = leftFrom s (x .opened) (x .tested .list) (x .tested .count) c 0 in
-        let none = left-none s (x .opened) (x .tested .list) (x .tested .count) c (omega (arith, with .tested)) time done in
-        put-nothing s z (leftFrom s (x .opened) (x .tested .list) (x .tested .count) c time) none
+        let left = leftFrom s opened tested n c 0 in
+        put-nothing s z (leftFrom s opened tested n c time) (left-none s opened tested n c (omega (arith, asked .whole)) time done)
         ∙ f
         ∙ put-turn s a b (bindsOf s r) left (bindsOf s r ++ left) refl e
-        ∙ ap₂ (λ (q k : ℕ). boundAll s a (bindsOf s q ++ openedNumbers s (x .opened) k 0 (classesIn (x .tested)))) (is-root ∙ ap (root s) is-clause) is-clause
+        ∙ ap (λ (q : ℕ). boundAll s a (bindsOf s q ++ left)) is-root

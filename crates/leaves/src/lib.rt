@@ -1,7 +1,6 @@
 // A leaf's bindings put into the arena: those of its clause's root, then what each column tested opened in the clause's row.
 // A binding is the number of its pattern; it is stored as its name and the class of its path, which the table has.
 use arena::writing;
-use matrix::Matrix;
 use matrix::wide;
 use sheet::Map;
 use sheet::records::child_at;
@@ -14,15 +13,14 @@ use table::at;
 use table::is_test;
 ghost use mathlib.Core.Path.{_≡_};
 ghost use Prim.Native.Nat.{_<_};
-ghost use lib.ListN.{getD};
+ghost use lib.ListN.{getD, take};
 ghost use Rattle.rules.specs.Limits.{patternsMost};
 ghost use Rattle.rules.specs.SheetFile.{patterns, clauses};
 ghost use Rattle.table.specs.Seen.{bindsOf, bindsOfEach};
 ghost use Rattle.matrix.specs.Live.{openedTest};
-ghost use Rattle.matrix.specs.Bound.{numbersHeld, boundNumbers};
-ghost use Rattle.matrix.specs.InNumbers.{inNumbers};
+ghost use Rattle.matrix.specs.Bound.{numbersHeld};
 ghost use Rattle.matrix.specs.Ready.{Ready};
-ghost use Rattle.leaves.specs.Bindings.{bound, boundOne, boundAll, Room, Entries, firstClause, WithRow};
+ghost use Rattle.leaves.specs.Bindings.{bound, boundOne, boundAll, leafNumbers, Room, Entries, LeafAsked};
 
 // The room for bindings. Where there are more, their number is told as one more than it.
 pub const BINDINGS_MOST: usize = 4096;
@@ -120,19 +118,26 @@ fn class_at(list: &[u8; 192], i: usize) -> usize
     wide(list[i])
 }
 
-// The bindings of the first row's clause, behind the `top` bindings there are; the number of all of them.
-pub fn leaf_bindings(s: &[u8], m: Map, t: &[u8], x: Matrix, work: &mut [u8], top: usize) -> usize
-    requires { ⌜ Ready (now s) m (now t) × WithRow (now s) x × Room (now work) top ⌝ }
-    ensures { λ r. ⌜ bound (now (work .exit)) r ≡ boundAll (now (s .entry)) (bound (now (work .entry)) top) (boundNumbers (now (s .entry)) (inNumbers x) (firstClause x)) ⌝ }
+// What the leaf of clause c binds, where the first n classes of `tested` were tested, behind the `top` bindings there are; the number of all.
+pub fn leaf_bindings<'a>(
+    s: &[u8],
+    m: Map,
+    t: &[u8],
+    c: usize,
+    tested: &'a [u8; 192],
+    n: usize,
+    opened: &'a [u8; 192],
+    work: &mut [u8],
+    top: usize,
+) -> usize
+    requires { ⌜ Ready (now s) m (now t) × LeafAsked (now s) c (now tested) n × Room (now work) top ⌝ }
+    ensures { λ r. ⌜ bound (now (work .exit)) r ≡ boundAll (now (s .entry)) (bound (now (work .entry)) top) (leafNumbers (now (s .entry)) (now (opened .entry)) (take n (now (tested .entry))) c) ⌝ }
 {
-    let rows = x.rows;
-    let c = wide(rows.list[0]);
-    let n = x.tested.count;
     let mut next = put_bindings(s, m, t, root_at(s, m, c), work, top);
     let mut time: usize = 0;
     while time < n {
-        let class = class_at(&x.tested.list, time);
-        next = put_opened(s, m, t, &x.opened, c, time, class, work, next);
+        let class = class_at(tested, time);
+        next = put_opened(s, m, t, opened, c, time, class, work, next);
         time += 1;
     }
     next
