@@ -1,10 +1,10 @@
-pub mod Stubs
 pub mod Built
 pub mod JoinedLaws
 pub mod BuiltLaws
 pub mod CasesLaws
 pub mod SwitchLaws
 pub mod Steps
+pub mod TestedLaws
 pub mod ColumnLaws
 pub mod LeafLaws
 pub mod LoopLaws

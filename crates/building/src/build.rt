@@ -2,14 +2,15 @@
 // One more column is tested at each call, and there are no more columns than patterns: 192 less the columns tested falls.
 use crate::stubs::case_matrix;
 use crate::stubs::default_matrix;
-use crate::stubs::leaf_bindings;
 use crate::stubs::meet_cases;
 use crate::tops::Built;
 use crate::tops::Tops;
 use arena::NODES_MOST;
+use arena::reading::Test;
 use arena::reading::case_at;
 use arena::writing::put_child;
 use arena::writing::put_node;
+use leaves::leaf_bindings;
 use matrix::Choice;
 use matrix::rows::highest_occurrence;
 use matrix::wide;
@@ -25,12 +26,13 @@ ghost use Rattle.rules.specs.Limits.{patternsMost, nodesMost, nodeSize};
 ghost use Rattle.rules.specs.TreeFile.{firstOf, nodeBytes};
 ghost use Rattle.table.specs.Standing.{sheetPaths};
 ghost use Rattle.matrix.specs.Ready.{Ready};
+ghost use Rattle.matrix.specs.Meant.{meant};
 ghost use Rattle.matrix.specs.Numbered.{treeAt};
 ghost use Rattle.matrix.specs.InNumbers.{inNumbers, matrixOf};
 ghost use Rattle.arena.specs.Arena.{arenaEnd, casesMost};
+ghost use Rattle.leaves.specs.Bindings.{LeafAsked};
 ghost use Rattle.building.specs.Built.{Put, Roomy, Builds, BuildsCases};
-ghost use Rattle.building.specs.Steps.{clauseLeaf, caseList, caseTree, StillTested, Asked, AskedColumn, AskedCases};
-ghost use Rattle.building.specs.Stubs.{LeafAsked};
+ghost use Rattle.building.specs.Steps.{clauseLeaf, caseList, caseTree, StillTested, Asked, AskedColumn, AskedCase, AskedCases};
 
 // 01: "first 0 at count 0".
 fn first_of(count: usize, first: usize) -> usize
@@ -107,6 +109,61 @@ fn put_switch(work: &mut [u8], k: usize, class: usize, first: usize, met: CasesM
     );
 }
 
+// A case of the column of this class.
+fn build_case<'a>(
+    s: &[u8],
+    m: Map,
+    t: &[u8],
+    rows: &'a [u8; 32],
+    n: usize,
+    columns: &'a [u8; 192],
+    k: usize,
+    tested: &mut [u8; 192],
+    time: usize,
+    opened: &'a [u8; 192],
+    class: usize,
+    test: Test,
+    work: &mut [u8],
+    tops: Tops,
+) -> Built
+    requires { ⌜ AskedCase (now s) m (now t) (matrixOf (now rows) n (now columns) k (now tested) time (now opened)) class test (now work) tops ⌝ }
+    ensures { λ r. ⌜ Builds (sheetPaths (now (s .entry))) (now (work .entry)) (now (work .exit)) (caseTree (now (s .entry)) class (inNumbers (matrixOf (now (rows .entry)) n (now (columns .entry)) k (now (tested .entry)) time (now (opened .entry)))) (meant (now (s .entry)) test)) tops r × StillTested time (now (tested .entry)) (now (tested .exit)) ⌝ }
+{
+    let mut new_rows = [0u8; 32];
+    let mut new_columns = [0u8; 192];
+    let mut new_opened = *opened;
+    let y = case_matrix(
+        s,
+        m,
+        t,
+        rows,
+        n,
+        columns,
+        k,
+        time,
+        class,
+        test,
+        &mut new_rows,
+        &mut new_columns,
+        tested,
+        &mut new_opened,
+    );
+    do_build_tree(
+        s,
+        m,
+        t,
+        &new_rows,
+        y.rows,
+        &new_columns,
+        y.columns,
+        tested,
+        time + 1,
+        &new_opened,
+        work,
+        tops,
+    )
+}
+
 // The cases whose records stand from number `first` on, up to the number of cases there are: each gets its child's number and its tree.
 fn build_cases<'a>(
     s: &[u8],
@@ -135,10 +192,7 @@ fn build_cases<'a>(
         let case = case_at(work, first + i);
         let test = case.test;
         put_child(work, first + i, tops.nodes as u16);
-        let mut new_rows = [0u8; 32];
-        let mut new_columns = [0u8; 192];
-        let mut new_opened = *opened;
-        let y = case_matrix(
+        let built = build_case(
             s,
             m,
             t,
@@ -146,25 +200,11 @@ fn build_cases<'a>(
             n,
             columns,
             k,
+            tested,
             time,
+            opened,
             class,
             test,
-            &mut new_rows,
-            &mut new_columns,
-            tested,
-            &mut new_opened,
-        );
-        let built = do_build_tree(
-            s,
-            m,
-            t,
-            &new_rows,
-            y.rows,
-            &new_columns,
-            y.columns,
-            tested,
-            time + 1,
-            &new_opened,
             work,
             tops,
         );

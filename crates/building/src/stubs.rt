@@ -19,8 +19,6 @@ ghost use Rattle.matrix.specs.Meant.{meant, InPool};
 ghost use Rattle.matrix.specs.InNumbers.{inNumbers, matrixOf, WholeMatrix, StandsFor, Splits, defaultRead};
 ghost use Rattle.meeting.specs.Made.{columnOf, MeetsTo};
 ghost use Rattle.arena.specs.Arena.{arenaEnd, casesMost};
-ghost use Rattle.leaves.specs.Bindings.{bound, boundAll, Room};
-ghost use Rattle.building.specs.Stubs.{leafNumbers, LeafAsked};
 
 pub struct Sizes {
     pub rows: usize,
@@ -92,21 +90,4 @@ pub fn meet_cases<'a>(
     ensures { λ r. ⌜ MeetsTo (now (s .entry)) (columnOf (now (s .entry)) (heldTests (liveIn (now (s .entry)) (now (opened .entry)) class) (take n (now (rows .entry))))) first (now (work .entry)) (now (work .exit)) r ⌝ }
 {
     Meeting::TooMany
-}
-
-pub fn leaf_bindings<'a>(
-    s: &[u8],
-    m: Map,
-    t: &[u8],
-    c: usize,
-    tested: &'a [u8; 192],
-    n: usize,
-    opened: &'a [u8; 192],
-    work: &mut [u8],
-    top: usize,
-) -> usize
-    requires { ⌜ Ready (now s) m (now t) × LeafAsked (now s) c (now tested) n × Room (now work) top ⌝ }
-    ensures { λ r. ⌜ bound (now (work .exit)) r ≡ boundAll (now (s .entry)) (bound (now (work .entry)) top) (leafNumbers (now (s .entry)) (now (opened .entry)) (take n (now (tested .entry))) c) ⌝ }
-{
-    top
 }
