@@ -1,8 +1,5 @@
 // The tree of a matrix: a leaf where no column is chosen, else a switch with the trees of its cases and of its default.
 // One more column is tested at each call, and there are no more columns than patterns: 192 less the columns tested falls.
-use crate::stubs::case_matrix;
-use crate::stubs::default_matrix;
-use crate::stubs::meet_cases;
 use crate::tops::Built;
 use crate::tops::Tops;
 use arena::NODES_MOST;
@@ -13,9 +10,12 @@ use arena::writing::put_node;
 use leaves::leaf_bindings;
 use matrix::Choice;
 use matrix::rows::highest_occurrence;
+use matrix::splitting::case_matrix;
+use matrix::splitting::default_matrix;
 use matrix::wide;
 use meeting::CasesMet;
 use meeting::Meeting;
+use meeting::meet_cases;
 use sheet::Map;
 ghost use mathlib.Core.Path.{_≡_};
 ghost use Prim.Native.Nat.{_<_, _≤_, _+_, _*_, _-_};

@@ -12,5 +12,4 @@
 // elsewhere; for the whole tree it is that its nodes are more than 1,024, as refusal 12 asks.
 pub mod build;
 pub mod raw;
-pub mod stubs;
 pub mod tops;

@@ -6,10 +6,10 @@ use mathlib.Core.Bool.{true, false}
 use lib.ListN.{length}
 use Rattle.table.specs.Standing.{sheetPaths}
 use Rattle.arena.specs.declared.reading.Case.{Case}
+use Rattle.matrix.specs.Meant.{meant}
 use Rattle.matrix.specs.InNumbers.{inNumbers, matrixOf}
-use Rattle.meeting.specs.Made.{MeetsTo}
 use Rattle.building.specs.Built.{Partly}
-use Rattle.building.specs.Steps.{StillTested, chosenColumn, caseList, caseTree}
+use Rattle.building.specs.Steps.{StillTested, caseList, caseTree}
 use Rattle.building.specs.TestedLaws.{still, still-on, still-fewer, still-column, still-default}
 use Rattle.building.specs.ColumnLaws.{tested-room, rows-known, column-in, column-splits, column-known, case-still, default-still}
 use Rattle.building.specs.LeafLaws.{asked-readable, asked-chosen, node-left, clause-asked, leaf-builds, full-builds}
@@ -34,9 +34,9 @@ use Rattle.arena.proofs.reading.case_at.Reads as case-at-reads
 use Rattle.arena.proofs.writing.put_child.Reads as put-child-reads
 use Rattle.building.proofs.build.put_leaf.Reads as put-leaf-reads
 use Rattle.building.proofs.build.put_switch.Reads as put-switch-reads
-use Rattle.building.proofs.stubs.case_matrix.Reads as case-matrix-reads
-use Rattle.building.proofs.stubs.default_matrix.Reads as default-matrix-reads
-use Rattle.building.proofs.stubs.meet_cases.Reads as meet-cases-reads
+use Rattle.matrix.proofs.splitting.case_matrix.Reads as case-matrix-reads
+use Rattle.matrix.proofs.splitting.default_matrix.Reads as default-matrix-reads
+use Rattle.meeting.proofs.meet_cases.Reads as meet-cases-reads
 use Rattle.matrix.proofs.rows.highest_occurrence.Reads as highest-occurrence-reads
 use Rattle.matrix.proofs.wide.Reads as wide-reads
 use Rattle.building.proofs.build.+build_case+build_cases+build_switch+do_build_tree.{
@@ -105,7 +105,7 @@ build-case-case-matrix-requires : (t : ℕ) → build-case-lts.Need-case-matrix-
   do-build-tree-below t,
   do-build-tree.Post,
 ) (build-case-at t) build-case.Post
-build-case-case-matrix-requires t c κs = ?
+build-case-case-matrix-requires t c κs = ((c .before .before .before .before .before .before .before .before .pre .1 .col .ready, c .before .before .before .before .before .before .before .before .pre .1 .col .there .whole, c .before .before .before .before .before .before .before .before .pre .1 .col .there .sound, column-in (c .before .before .before .before .before .before .before .before .pre .1 .col), c .before .before .before .before .before .before .before .before .pre .1 .pool), (refl, refl))
 
 -- src/build.rt:160:9
 build-case-add-do-build-tree : (t : ℕ) → build-case-lts.Need-add-do-build-tree (
@@ -114,7 +114,7 @@ build-case-add-do-build-tree : (t : ℕ) → build-case-lts.Need-add-do-build-tr
   do-build-tree-below t,
   do-build-tree.Post,
 ) (build-case-at t) build-case.Post
-build-case-add-do-build-tree t c = ?
+build-case-add-do-build-tree t c = omega (arith, tested-room (c .before .before .before .before .before .before .before .before .before .before .before .before .pre .1 .col))
 
 -- src/build.rt:151:5
 build-case-do-build-tree-requires : (t : ℕ) → build-case-lts.Need-do-build-tree-requires (
@@ -123,7 +123,7 @@ build-case-do-build-tree-requires : (t : ℕ) → build-case-lts.Need-do-build-t
   do-build-tree-below t,
   do-build-tree.Post,
 ) (build-case-at t) build-case.Post
-build-case-do-build-tree-requires t c κs = ?
+build-case-do-build-tree-requires t c κs = (omega (arith, c .before .before .before .before .before .before .before .before .before .before .before .before .before .before .pre .0, tested-room (c .before .before .before .before .before .before .before .before .before .before .before .before .before .before .pre .1 .col)), case-asked (c .before .before .before .before .before .before .before .before .before .before .before .before .before .before .pre .1) (matrixOf (c .before .before .before .before .before .case-matrix .last .1 .1 .1 .1 .1 .1 .1 .1 .1 .1 .0) (c .before .before .before .before .before .case-matrix .result .rows) (c .before .before .before .before .before .case-matrix .last .1 .1 .1 .1 .1 .1 .1 .1 .1 .1 .1 .0) (c .before .before .before .before .before .case-matrix .result .columns) (c .before .before .before .before .before .case-matrix .last .1 .1 .1 .1 .1 .1 .1 .1 .1 .1 .1 .1 .0) (c .before .before .before .before .before .before .before .before .before .before .before .before .before .before .args .time + 1) (c .before .before .before .before .before .case-matrix .last .1 .1 .1 .1 .1 .1 .1 .1 .1 .1 .1 .1 .1 .0)) (c .before .before .before .before .before .case-matrix .ensures))
 
 -- src/build.rt:113:1
 build-case-same-length : (t : ℕ) → build-case-lts.Need-same-length (
@@ -132,7 +132,7 @@ build-case-same-length : (t : ℕ) → build-case-lts.Need-same-length (
   do-build-tree-below t,
   do-build-tree.Post,
 ) (build-case-at t) build-case.Post
-build-case-same-length t c = ?
+build-case-same-length t c = c .before .before .do-build-tree .kept .1 .1 .1 .1 .1 .1 .1 .1 .1 .1 .0
 
 -- src/build.rt:113:1
 build-case-returns : (t : ℕ) → build-case-lts.Need-returns (
@@ -141,7 +141,7 @@ build-case-returns : (t : ℕ) → build-case-lts.Need-returns (
   do-build-tree-below t,
   do-build-tree.Post,
 ) (build-case-at t) build-case.Post
-build-case-returns t c = ?
+build-case-returns t c = (case-tree (c .before .before .before .before .before .before .before .before .before .before .before .before .before .before .before .before .before .pre .1) (matrixOf (c .before .before .before .before .before .before .before .before .case-matrix .last .1 .1 .1 .1 .1 .1 .1 .1 .1 .1 .0) (c .before .before .before .before .before .before .before .before .case-matrix .result .rows) (c .before .before .before .before .before .before .before .before .case-matrix .last .1 .1 .1 .1 .1 .1 .1 .1 .1 .1 .1 .0) (c .before .before .before .before .before .before .before .before .case-matrix .result .columns) (c .before .before .before .before .before .before .before .before .case-matrix .last .1 .1 .1 .1 .1 .1 .1 .1 .1 .1 .1 .1 .0) (c .before .before .before .before .before .before .before .before .before .before .before .before .before .before .before .before .before .args .time + 1) (c .before .before .before .before .before .before .before .before .case-matrix .last .1 .1 .1 .1 .1 .1 .1 .1 .1 .1 .1 .1 .1 .0)) (c .before .before .before .before .before .before .before .before .case-matrix .ensures) (c .before .before .do-build-tree .ensures .0), still-on (case-still (c .before .before .before .before .before .before .before .before .before .before .before .before .before .before .before .before .before .pre .1 .col) (matrixOf (c .before .before .before .before .before .before .before .before .case-matrix .last .1 .1 .1 .1 .1 .1 .1 .1 .1 .1 .0) (c .before .before .before .before .before .before .before .before .case-matrix .result .rows) (c .before .before .before .before .before .before .before .before .case-matrix .last .1 .1 .1 .1 .1 .1 .1 .1 .1 .1 .1 .0) (c .before .before .before .before .before .before .before .before .case-matrix .result .columns) (c .before .before .before .before .before .before .before .before .case-matrix .last .1 .1 .1 .1 .1 .1 .1 .1 .1 .1 .1 .1 .0) (c .before .before .before .before .before .before .before .before .before .before .before .before .before .before .before .before .before .args .time + 1) (c .before .before .before .before .before .before .before .before .case-matrix .last .1 .1 .1 .1 .1 .1 .1 .1 .1 .1 .1 .1 .1 .0)) (meant (c .before .before .before .before .before .before .before .before .before .before .before .before .before .before .before .before .before .args .s .now) (c .before .before .before .before .before .before .before .before .before .before .before .before .before .before .before .before .before .args .test)) (c .before .before .before .before .before .before .before .before .case-matrix .ensures .whole) (c .before .before .before .before .before .before .before .before .case-matrix .ensures .are) refl) (still-fewer (c .before .before .do-build-tree .ensures .1)))
 
 abbrev build-cases-Inv-loop : build-cases-lts.InvT-loop
 build-cases-Inv-loop s m t rows n columns k tested₀ time opened class work₀ first count tops₀ i₀ tested work tops i =
@@ -149,6 +149,29 @@ build-cases-Inv-loop s m t rows n columns k tested₀ time opened class work₀ 
 
 abbrev build-cases-μ-loop : build-cases-lts.MeasureT-loop
 build-cases-μ-loop s m t rows n columns k tested₀ time opened class work₀ first count tops₀ i₀ tested work tops i = count - i
+
+-- [helpers]
+-- what is known in a turn of the loop
+turn-at : (t : ℕ) (c : build-cases-lts.In-loop (case-at-reads.Asked, case-at-reads.Learnt, put-child-reads.Asked, put-child-reads.Learnt, build-case-below t, build-case.Post) (build-cases-at t) build-cases.Post build-cases-Inv-loop build-cases-μ-loop)
+    → Turn (c .before .before .before .before .before .before .args .s .now) (c .before .before .before .before .before .before .args .m) (c .before .before .before .before .before .before .args .t .now) (matrixOf (c .before .before .before .before .before .before .args .rows .now) (c .before .before .before .before .before .before .args .n) (c .before .before .before .before .before .before .args .columns .now) (c .before .before .before .before .before .before .args .k) (c .before .before .before .before .before .before .args .tested .now) (c .before .before .before .before .before .before .args .time) (c .before .before .before .before .before .before .args .opened .now)) (c .before .before .before .before .before .before .args .class) (c .before .before .before .before .before .before .args .first) (c .before .before .before .before .before .before .args .work .now) (c .before .before .before .before .before .before .args .from) (c .before .loop .i) (c .before .loop .tested) (c .before .loop .work) (c .before .loop .tops)
+turn-at t c = record { col = c .before .before .before .before .before .before .pre .1 .0; asked = c .before .before .before .before .before .before .pre .1 .1; part = c .before .loop .inv .3; inside = c .loop-test .taken; kept = c .before .loop .inv .2 }
+
+-- what is known of a switch whose cases are met
+opened-at : (t : ℕ) (c : build-switch-lts.After-known-told (meet-cases-reads.Asked, meet-cases-reads.Learnt, build-cases-below t, build-cases.Post, default-matrix-reads.Asked, default-matrix-reads.Learnt, put-switch-reads.Asked, put-switch-reads.Learnt, do-build-tree-below t, do-build-tree.Post) (build-switch-at t) build-switch.Post)
+    → Opened (c .before .before .before .before .before .before .before .before .before .before .args .s .now) (c .before .before .before .before .before .before .before .before .before .before .args .m) (c .before .before .before .before .before .before .before .before .before .before .args .t .now) (matrixOf (c .before .before .before .before .before .before .before .before .before .before .args .rows .now) (c .before .before .before .before .before .before .before .before .before .before .args .n) (c .before .before .before .before .before .before .before .before .before .before .args .columns .now) (c .before .before .before .before .before .before .before .before .before .before .args .k) (c .before .before .before .before .before .before .before .before .before .before .args .tested .now) (c .before .before .before .before .before .before .before .before .before .before .args .time) (c .before .before .before .before .before .before .before .before .before .before .args .opened .now)) (c .before .before .before .before .before .before .before .before .before .before .args .class) (c .before .before .before .before .before .before .before .before .before .before .args .work .now) (c .before .before .before .before .before .before .before .before .before .before .args .tops) (c .before .before .before .before .before .meet-cases .last .1 .1 .1 .1 .1 .1 .1 .0) (c .before .meeting .given .0 .0) (record { nodes = (c .before .before .before .before .before .before .before .before .before .before .args .tops .nodes) + 1; cases = (c .before .meeting .given .0 .0) .end; bindings = c .before .before .before .before .before .before .before .before .before .before .args .tops .bindings; leaves = c .before .before .before .before .before .before .before .before .before .before .args .tops .leaves })
+opened-at t c = opened (c .before .before .before .before .before .before .before .before .before .before .pre .1 .0) (c .before .before .before .before .before .before .before .before .before .before .pre .1 .1) (c .before .before .before .before .before .before .before .before .before .before .pre .1 .2) (c .before .before .before .before .before .meet-cases .result) (c .before .meeting .given .0 .0) (c .before .meeting .given .1) (c .before .before .before .before .before .meet-cases .ensures)
+
+-- and whose cases are built
+cased-at : (t : ℕ) (c : build-switch-lts.After-default-matrix (meet-cases-reads.Asked, meet-cases-reads.Learnt, build-cases-below t, build-cases.Post, default-matrix-reads.Asked, default-matrix-reads.Learnt, put-switch-reads.Asked, put-switch-reads.Learnt, do-build-tree-below t, do-build-tree.Post) (build-switch-at t) build-switch.Post)
+    → Cased (c .before .before .before .before .before .before .before .before .before .before .before .before .before .before .before .before .before .before .before .before .before .before .before .args .s .now) (c .before .before .before .before .before .before .before .before .before .before .before .before .before .before .before .before .before .before .before .before .before .before .before .args .m) (c .before .before .before .before .before .before .before .before .before .before .before .before .before .before .before .before .before .before .before .before .before .before .before .args .t .now) (matrixOf (c .before .before .before .before .before .before .before .before .before .before .before .before .before .before .before .before .before .before .before .before .before .before .before .args .rows .now) (c .before .before .before .before .before .before .before .before .before .before .before .before .before .before .before .before .before .before .before .before .before .before .before .args .n) (c .before .before .before .before .before .before .before .before .before .before .before .before .before .before .before .before .before .before .before .before .before .before .before .args .columns .now) (c .before .before .before .before .before .before .before .before .before .before .before .before .before .before .before .before .before .before .before .before .before .before .before .args .k) (c .before .before .before .before .before .before .before .before .before .before .before .before .before .before .before .before .before .before .before .before .before .before .before .args .tested .now) (c .before .before .before .before .before .before .before .before .before .before .before .before .before .before .before .before .before .before .before .before .before .before .before .args .time) (c .before .before .before .before .before .before .before .before .before .before .before .before .before .before .before .before .before .before .before .before .before .before .before .args .opened .now)) (c .before .before .before .before .before .before .before .before .before .before .before .before .before .before .before .before .before .before .before .before .before .before .before .args .class) (c .before .before .before .before .before .before .before .before .before .before .before .before .before .before .before .before .before .before .before .before .before .before .before .args .work .now) (c .before .before .before .before .before .before .before .before .before .before .before .before .before .before .before .before .before .before .before .before .before .before .before .args .tops) (c .before .before .before .before .before .before .before .before .before .before .before .before .before .before .before .before .before .before .meet-cases .last .1 .1 .1 .1 .1 .1 .1 .0) (c .before .before .before .before .before .before .before .before .before .before .before .before .before .before .meeting .given .0 .0) (record { nodes = (c .before .before .before .before .before .before .before .before .before .before .before .before .before .before .before .before .before .before .before .before .before .before .before .args .tops .nodes) + 1; cases = (c .before .before .before .before .before .before .before .before .before .before .before .before .before .before .meeting .given .0 .0) .end; bindings = c .before .before .before .before .before .before .before .before .before .before .before .before .before .before .before .before .before .before .before .before .before .before .before .args .tops .bindings; leaves = c .before .before .before .before .before .before .before .before .before .before .before .before .before .before .before .before .before .before .before .before .before .before .before .args .tops .leaves }) (c .before .before .before .before .before .before .before .before .before .build-cases .last .1 .1 .1 .1 .1 .1 .1 .1 .1 .1 .1 .0) (c .before .before .before .before .before .before .before .before .before .build-cases .result) (matrixOf (c .default-matrix .last .1 .1 .1 .1 .1 .1 .1 .1 .0) (c .default-matrix .result .rows) (c .default-matrix .last .1 .1 .1 .1 .1 .1 .1 .1 .1 .0) (c .default-matrix .result .columns) (c .default-matrix .last .1 .1 .1 .1 .1 .1 .1 .1 .1 .1 .0) (c .before .before .before .before .before .before .before .before .before .before .before .before .before .before .before .before .before .before .before .before .before .before .before .args .time + 1) (c .before .before .before .before .before .before .before .before .before .before .before .before .before .before .before .before .before .before .before .before .before .before .before .args .opened .now))
+cased-at t c =
+    record {
+      begun = (opened-at t (c .before .before .before .before .before .before .before .before .before .before .before .before .before));
+      fit = not-false (c .before .before .before .before .before .before .before .before .before .build-cases .result .fits) (c .before .before .before .before .before .if1 .left);
+      built = c .before .before .before .before .before .before .before .before .before .build-cases .ensures .0;
+      stands = still-default (c .before .before .before .before .before .before .before .before .before .before .before .before .before .before .before .before .before .before .before .before .before .before .before .pre .1 .0) (c .before .before .before .before .before .before .before .before .before .build-cases .ensures .1) (c .default-matrix .ensures);
+    }
+-- [end helpers]
 
 -- src/build.rt:188:17
 build-cases-sub-count : (t : ℕ) → build-cases-lts.Need-sub-count (
@@ -159,7 +182,7 @@ build-cases-sub-count : (t : ℕ) → build-cases-lts.Need-sub-count (
   build-case-below t,
   build-case.Post,
 ) (build-cases-at t) build-cases.Post build-cases-Inv-loop build-cases-μ-loop
-build-cases-sub-count t c = ?
+build-cases-sub-count t c = omega (arith, (c .before .before .before .before .pre .1 .1) .begun .to-come)
 
 -- src/build.rt:191:5
 build-cases-loop-holds : (t : ℕ) → build-cases-lts.Need-loop-holds (
@@ -170,7 +193,7 @@ build-cases-loop-holds : (t : ℕ) → build-cases-lts.Need-loop-holds (
   build-case-below t,
   build-case.Post,
 ) (build-cases-at t) build-cases.Post build-cases-Inv-loop build-cases-μ-loop
-build-cases-loop-holds t c = ?
+build-cases-loop-holds t c = (omega arith, refl, still (c .before .before .before .before .pre .1 .0 .there .whole .whole-tested .long), loop-begin (c .before .before .before .before .pre .1 .0) (c .before .before .before .before .pre .1 .1))
 
 -- src/build.rt:192:34
 build-cases-add-case-at : (t : ℕ) → build-cases-lts.Need-add-case-at (
@@ -181,7 +204,7 @@ build-cases-add-case-at : (t : ℕ) → build-cases-lts.Need-add-case-at (
   build-case-below t,
   build-case.Post,
 ) (build-cases-at t) build-cases.Post build-cases-Inv-loop build-cases-μ-loop
-build-cases-add-case-at t c = ?
+build-cases-add-case-at t c = omega (arith, turn-room (turn-at t (c .before)))
 
 -- src/build.rt:192:13
 build-cases-case-at-requires : (t : ℕ) → build-cases-lts.Need-case-at-requires (
@@ -192,7 +215,7 @@ build-cases-case-at-requires : (t : ℕ) → build-cases-lts.Need-case-at-requir
   build-case-below t,
   build-case.Post,
 ) (build-cases-at t) build-cases.Post build-cases-Inv-loop build-cases-μ-loop
-build-cases-case-at-requires t c κs = ?
+build-cases-case-at-requires t c κs = ((turn-room (turn-at t (c .before))) .2, (turn-room (turn-at t (c .before))) .0)
 
 -- src/build.rt:194:25
 build-cases-add-put-child : (t : ℕ) → build-cases-lts.Need-add-put-child (
@@ -203,7 +226,7 @@ build-cases-add-put-child : (t : ℕ) → build-cases-lts.Need-add-put-child (
   build-case-below t,
   build-case.Post,
 ) (build-cases-at t) build-cases.Post build-cases-Inv-loop build-cases-μ-loop
-build-cases-add-put-child t c = ?
+build-cases-add-put-child t c = omega (arith, turn-room (turn-at t (c .before .before .before)))
 
 -- src/build.rt:194:36
 build-cases-cast-put-child : (t : ℕ) → build-cases-lts.Need-cast-put-child (
@@ -214,7 +237,7 @@ build-cases-cast-put-child : (t : ℕ) → build-cases-lts.Need-cast-put-child (
   build-case-below t,
   build-case.Post,
 ) (build-cases-at t) build-cases.Post build-cases-Inv-loop build-cases-μ-loop
-build-cases-cast-put-child t c = ?
+build-cases-cast-put-child t c = omega (arith, turn-room (turn-at t (c .before .before .before .before)))
 
 -- src/build.rt:194:9
 build-cases-put-child-requires : (t : ℕ) → build-cases-lts.Need-put-child-requires (
@@ -225,7 +248,7 @@ build-cases-put-child-requires : (t : ℕ) → build-cases-lts.Need-put-child-re
   build-case-below t,
   build-case.Post,
 ) (build-cases-at t) build-cases.Post build-cases-Inv-loop build-cases-μ-loop
-build-cases-put-child-requires t c κs = ?
+build-cases-put-child-requires t c κs = ((turn-room (turn-at t (c .before .before .before .before))) .2, (turn-room (turn-at t (c .before .before .before .before))) .0)
 
 -- src/build.rt:195:13
 build-cases-build-case-requires : (t : ℕ) → build-cases-lts.Need-build-case-requires (
@@ -236,7 +259,7 @@ build-cases-build-case-requires : (t : ℕ) → build-cases-lts.Need-build-case-
   build-case-below t,
   build-case.Post,
 ) (build-cases-at t) build-cases.Post build-cases-Inv-loop build-cases-μ-loop
-build-cases-build-case-requires t c κs = ?
+build-cases-build-case-requires t c κs = (omega (arith, c .before .before .before .before .before .before .before .before .before .before .before .before .before .before .before .pre .0), turn-asked (turn-at t (c .before .before .before .before .before .before .before .before .before)) (c .before .before .before .before .before .before .before .case-at .result .test) (ap (λ (z : Case). z .test) (c .before .before .before .before .before .before .before .case-at .ensures)) (c .before .before .before .before .put-child .last .0) (c .before .before .before .before .put-child .ensures))
 
 -- src/build.rt:212:13
 build-cases-same-length : (t : ℕ) → build-cases-lts.Need-same-length (
@@ -247,7 +270,7 @@ build-cases-same-length : (t : ℕ) → build-cases-lts.Need-same-length (
   build-case-below t,
   build-case.Post,
 ) (build-cases-at t) build-cases.Post build-cases-Inv-loop build-cases-μ-loop
-build-cases-same-length t c = ?
+build-cases-same-length t c = (c .before .before .before .before .build-case .kept .1 .1 .1 .1 .1 .1 .1 .1 .1 .1 .1 .1 .0) ∙ (c .before .before .before .before .before .before .before .before .before .put-child .kept .0) ∙ (c .before .before .before .before .before .before .before .before .before .before .before .before .before .before .before .loop .inv .1)
 
 -- src/build.rt:212:13
 build-cases-returns : (t : ℕ) → build-cases-lts.Need-returns (
@@ -258,7 +281,7 @@ build-cases-returns : (t : ℕ) → build-cases-lts.Need-returns (
   build-case-below t,
   build-case.Post,
 ) (build-cases-at t) build-cases.Post build-cases-Inv-loop build-cases-μ-loop
-build-cases-returns t c = ?
+build-cases-returns t c = (turn-over (turn-at t (c .before .before .before .before .before .before .before .before .before .before .before .before .before .before)) (c .before .before .before .before .before .before .before .before .before .before .before .before .case-at .result .test) (ap (λ (z : Case). z .test) (c .before .before .before .before .before .before .before .before .before .before .before .before .case-at .ensures)) (c .before .before .before .before .before .before .before .before .before .put-child .last .0) (c .before .before .before .before .before .before .before .before .before .put-child .ensures) (c .before .before .before .before .build-case .last .1 .1 .1 .1 .1 .1 .1 .1 .1 .1 .1 .1 .0) (c .before .before .before .before .build-case .result) (c .before .before .before .before .build-case .ensures .0) (not-true (c .before .before .before .before .build-case .result .fits) (c .if1 .taken)), still-on (c .before .before .before .before .before .before .before .before .before .before .before .before .before .before .before .loop .inv .2) (c .before .before .before .before .build-case .ensures .1))
 
 -- src/build.rt:215:9
 build-cases-add-i : (t : ℕ) → build-cases-lts.Need-add-i (
@@ -269,7 +292,7 @@ build-cases-add-i : (t : ℕ) → build-cases-lts.Need-add-i (
   build-case-below t,
   build-case.Post,
 ) (build-cases-at t) build-cases.Post build-cases-Inv-loop build-cases-μ-loop
-build-cases-add-i t c = ?
+build-cases-add-i t c = omega (arith, turn-room (turn-at t (c .before .before .before .before .before .before .before .before .before .before .before .before .before .before .before)))
 
 -- src/build.rt:191:5
 build-cases-loop-less : (t : ℕ) → build-cases-lts.Need-loop-less (
@@ -280,7 +303,7 @@ build-cases-loop-less : (t : ℕ) → build-cases-lts.Need-loop-less (
   build-case-below t,
   build-case.Post,
 ) (build-cases-at t) build-cases.Post build-cases-Inv-loop build-cases-μ-loop
-build-cases-loop-less t c = ?
+build-cases-loop-less t c = omega (arith, c .before .before .before .before .before .before .before .before .before .before .before .before .before .before .before .loop-test .taken)
 
 -- src/build.rt:191:5
 build-cases-loop-again : (t : ℕ) → build-cases-lts.Need-loop-again (
@@ -291,7 +314,7 @@ build-cases-loop-again : (t : ℕ) → build-cases-lts.Need-loop-again (
   build-case-below t,
   build-case.Post,
 ) (build-cases-at t) build-cases.Post build-cases-Inv-loop build-cases-μ-loop
-build-cases-loop-again t c = ?
+build-cases-loop-again t c = (omega (arith, c .before .before .before .before .before .before .before .before .before .before .before .before .before .before .before .loop-test .taken), (c .before .before .before .before .before .build-case .kept .1 .1 .1 .1 .1 .1 .1 .1 .1 .1 .1 .1 .0) ∙ (c .before .before .before .before .before .before .before .before .before .before .put-child .kept .0) ∙ (c .before .before .before .before .before .before .before .before .before .before .before .before .before .before .before .before .loop .inv .1), still-on (c .before .before .before .before .before .before .before .before .before .before .before .before .before .before .before .before .loop .inv .2) (c .before .before .before .before .before .build-case .ensures .1), turn-done (turn-at t (c .before .before .before .before .before .before .before .before .before .before .before .before .before .before .before)) (c .before .before .before .before .before .before .before .before .before .before .before .before .before .case-at .result .test) (ap (λ (z : Case). z .test) (c .before .before .before .before .before .before .before .before .before .before .before .before .before .case-at .ensures)) (c .before .before .before .before .before .before .before .before .before .before .put-child .last .0) (c .before .before .before .before .before .before .before .before .before .before .put-child .ensures) (c .before .before .before .before .before .build-case .last .1 .1 .1 .1 .1 .1 .1 .1 .1 .1 .1 .1 .0) (c .before .before .before .before .before .build-case .result) (c .before .before .before .before .before .build-case .ensures .0) (not-false (c .before .before .before .before .before .build-case .result .fits) (c .before .if1 .left)))
 
 -- src/build.rt:168:1
 build-cases-same-length-2 : (t : ℕ) → build-cases-lts.Need-same-length-2 (
@@ -302,7 +325,7 @@ build-cases-same-length-2 : (t : ℕ) → build-cases-lts.Need-same-length-2 (
   build-case-below t,
   build-case.Post,
 ) (build-cases-at t) build-cases.Post build-cases-Inv-loop build-cases-μ-loop
-build-cases-same-length-2 t c = ?
+build-cases-same-length-2 t c = c .before .loop .inv .1
 
 -- src/build.rt:168:1
 build-cases-returns-2 : (t : ℕ) → build-cases-lts.Need-returns-2 (
@@ -313,7 +336,7 @@ build-cases-returns-2 : (t : ℕ) → build-cases-lts.Need-returns-2 (
   build-case-below t,
   build-case.Post,
 ) (build-cases-at t) build-cases.Post build-cases-Inv-loop build-cases-μ-loop
-build-cases-returns-2 t c = ?
+build-cases-returns-2 t c = (loop-end (c .before .before .before .before .before .before .pre .1 .0) (c .before .before .before .before .before .before .pre .1 .1) (c .before .loop .i) (c .before .loop .work) (c .before .loop .tops) (record { fits = true; tops = c .before .loop .tops }) (c .before .loop .inv .3) (c .loop-test .left) refl, c .before .loop .inv .2)
 
 -- src/build.rt:240:9
 build-switch-meet-cases-requires : (t : ℕ) → build-switch-lts.Need-meet-cases-requires (
@@ -328,7 +351,7 @@ build-switch-meet-cases-requires : (t : ℕ) → build-switch-lts.Need-meet-case
   do-build-tree-below t,
   do-build-tree.Post,
 ) (build-switch-at t) build-switch.Post
-build-switch-meet-cases-requires t c κs = ?
+build-switch-meet-cases-requires t c κs = (((c .before .before .before .before .pre .1 .0) .ready, (c .before .before .before .before .pre .1 .0) .there .whole .whole-rows, rows-known (c .before .before .before .before .pre .1 .0), column-known (c .before .before .before .before .pre .1 .0)), ((c .before .before .before .before .pre .1 .1) .long, omega (arith, (c .before .before .before .before .pre .1 .1) .cases-most)))
 
 -- src/build.rt:241:22
 build-switch-enum-known-meeting : (t : ℕ) → build-switch-lts.Need-enum-known-meeting (
@@ -343,7 +366,7 @@ build-switch-enum-known-meeting : (t : ℕ) → build-switch-lts.Need-enum-known
   do-build-tree-below t,
   do-build-tree.Post,
 ) (build-switch-at t) build-switch.Post
-build-switch-enum-known-meeting t c = ?
+build-switch-enum-known-meeting t c = search needs
 
 -- src/build.rt:242:9
 build-switch-enum-told : (t : ℕ) → build-switch-lts.Need-enum-told (
@@ -358,7 +381,7 @@ build-switch-enum-told : (t : ℕ) → build-switch-lts.Need-enum-told (
   do-build-tree-below t,
   do-build-tree.Post,
 ) (build-switch-at t) build-switch.Post
-build-switch-enum-told t c = ?
+build-switch-enum-told t c = search needs
 
 -- src/build.rt:242:9
 build-switch-same-length : (t : ℕ) → build-switch-lts.Need-same-length (
@@ -373,7 +396,7 @@ build-switch-same-length : (t : ℕ) → build-switch-lts.Need-same-length (
   do-build-tree-below t,
   do-build-tree.Post,
 ) (build-switch-at t) build-switch.Post
-build-switch-same-length t c = ?
+build-switch-same-length t c = c .before .before .before .before .meet-cases .kept .1 .1 .1 .1 .1 .1 .1 .0
 
 -- src/build.rt:242:9
 build-switch-returns : (t : ℕ) → build-switch-lts.Need-returns (
@@ -388,7 +411,7 @@ build-switch-returns : (t : ℕ) → build-switch-lts.Need-returns (
   do-build-tree-below t,
   do-build-tree.Post,
 ) (build-switch-at t) build-switch.Post
-build-switch-returns t c = ?
+build-switch-returns t c = (no-room (c .before .before .before .before .before .before .before .before .before .pre .1 .0) (c .before .before .before .before .before .before .before .before .before .args .work .now) (c .before .before .before .before .meet-cases .last .1 .1 .1 .1 .1 .1 .1 .0) (record { fits = false; tops = c .before .before .before .before .before .before .before .before .before .args .tops }) (c .before .before .before .before .meet-cases .result) (c .enum-told .given .1) (c .before .before .before .before .meet-cases .ensures) refl, still ((c .before .before .before .before .before .before .before .before .before .pre .1 .0) .there .whole .whole-tested .long))
 
 -- src/build.rt:245:5
 build-switch-add-from : (t : ℕ) → build-switch-lts.Need-add-from (
@@ -403,7 +426,7 @@ build-switch-add-from : (t : ℕ) → build-switch-lts.Need-add-from (
   do-build-tree-below t,
   do-build-tree.Post,
 ) (build-switch-at t) build-switch.Post
-build-switch-add-from t c = ?
+build-switch-add-from t c = omega (arith, c .before .before .before .before .before .before .before .before .before .before .before .pre .1 .2)
 
 -- src/build.rt:247:9
 build-switch-build-cases-requires : (t : ℕ) → build-switch-lts.Need-build-cases-requires (
@@ -418,7 +441,7 @@ build-switch-build-cases-requires : (t : ℕ) → build-switch-lts.Need-build-ca
   do-build-tree-below t,
   do-build-tree.Post,
 ) (build-switch-at t) build-switch.Post
-build-switch-build-cases-requires t c κs = ?
+build-switch-build-cases-requires t c κs = (omega (arith, c .before .before .before .before .before .before .before .before .before .before .before .before .before .pre .0), ((c .before .before .before .before .before .before .before .before .before .before .before .before .before .pre .1 .0), switch-open (opened-at t (c .before .before .before))))
 
 -- src/build.rt:264:9
 build-switch-same-length-2 : (t : ℕ) → build-switch-lts.Need-same-length-2 (
@@ -433,7 +456,7 @@ build-switch-same-length-2 : (t : ℕ) → build-switch-lts.Need-same-length-2 (
   do-build-tree-below t,
   do-build-tree.Post,
 ) (build-switch-at t) build-switch.Post
-build-switch-same-length-2 t c = ?
+build-switch-same-length-2 t c = (c .before .before .before .before .build-cases .kept .1 .1 .1 .1 .1 .1 .1 .1 .1 .1 .1 .0) ∙ (c .before .before .before .before .before .before .before .before .before .before .before .before .before .meet-cases .kept .1 .1 .1 .1 .1 .1 .1 .0)
 
 -- src/build.rt:264:9
 build-switch-returns-2 : (t : ℕ) → build-switch-lts.Need-returns-2 (
@@ -448,7 +471,7 @@ build-switch-returns-2 : (t : ℕ) → build-switch-lts.Need-returns-2 (
   do-build-tree-below t,
   do-build-tree.Post,
 ) (build-switch-at t) build-switch.Post
-build-switch-returns-2 t c = ?
+build-switch-returns-2 t c = (switch-cases-over (opened-at t (c .before .before .before .before .before .before .before .before)) (c .before .before .before .before .build-cases .last .1 .1 .1 .1 .1 .1 .1 .1 .1 .1 .1 .0) (c .before .before .before .before .build-cases .result) (not-true (c .before .before .before .before .build-cases .result .fits) (c .if1 .taken)) (c .before .before .before .before .build-cases .ensures .0), c .before .before .before .before .build-cases .ensures .1)
 
 -- src/build.rt:269:9
 build-switch-default-matrix-requires : (t : ℕ) → build-switch-lts.Need-default-matrix-requires (
@@ -463,7 +486,7 @@ build-switch-default-matrix-requires : (t : ℕ) → build-switch-lts.Need-defau
   do-build-tree-below t,
   do-build-tree.Post,
 ) (build-switch-at t) build-switch.Post
-build-switch-default-matrix-requires t c κs = ?
+build-switch-default-matrix-requires t c κs = (column-splits (still-column (c .before .before .before .before .before .before .before .before .before .before .before .before .before .before .before .before .before .before .before .before .before .before .pre .1 .0) (c .before .before .before .before .before .before .before .before .build-cases .ensures .1)), (refl, refl))
 
 -- src/build.rt:283:9
 build-switch-put-switch-requires : (t : ℕ) → build-switch-lts.Need-put-switch-requires (
@@ -478,7 +501,7 @@ build-switch-put-switch-requires : (t : ℕ) → build-switch-lts.Need-put-switc
   do-build-tree-below t,
   do-build-tree.Post,
 ) (build-switch-at t) build-switch.Post
-build-switch-put-switch-requires t c κs = ?
+build-switch-put-switch-requires t c κs = let a = switch-node-asked (cased-at t (c .before .before .before)) in ((a .0, a .1, a .2, omega arith), switch-met-asked (cased-at t (c .before .before .before)))
 
 -- src/build.rt:284:9
 build-switch-same-length-3 : (t : ℕ) → build-switch-lts.Need-same-length-3 (
@@ -493,7 +516,7 @@ build-switch-same-length-3 : (t : ℕ) → build-switch-lts.Need-same-length-3 (
   do-build-tree-below t,
   do-build-tree.Post,
 ) (build-switch-at t) build-switch.Post
-build-switch-same-length-3 t c = ?
+build-switch-same-length-3 t c = (c .before .before .put-switch .kept .0) ∙ (c .before .before .before .before .before .before .before .before .before .before .before .before .before .before .before .build-cases .kept .1 .1 .1 .1 .1 .1 .1 .1 .1 .1 .1 .0) ∙ (c .before .before .before .before .before .before .before .before .before .before .before .before .before .before .before .before .before .before .before .before .before .before .before .before .meet-cases .kept .1 .1 .1 .1 .1 .1 .1 .0)
 
 -- src/build.rt:284:9
 build-switch-returns-3 : (t : ℕ) → build-switch-lts.Need-returns-3 (
@@ -508,7 +531,7 @@ build-switch-returns-3 : (t : ℕ) → build-switch-lts.Need-returns-3 (
   do-build-tree-below t,
   do-build-tree.Post,
 ) (build-switch-at t) build-switch.Post
-build-switch-returns-3 t c = ?
+build-switch-returns-3 t c = (switch-done (cased-at t (c .before .before .before .before .before .before)) (c .before .before .put-switch .last .0) 0 (c .before .before .put-switch .ensures) (c .before .before .before .before .if2 .taken) refl, (still-on (c .before .before .before .before .before .before .before .before .before .before .before .before .before .before .before .build-cases .ensures .1) (default-still (still-column (c .before .before .before .before .before .before .before .before .before .before .before .before .before .before .before .before .before .before .before .before .before .before .before .before .before .before .before .before .before .pre .1 .0) (c .before .before .before .before .before .before .before .before .before .before .before .before .before .before .before .build-cases .ensures .1)) (matrixOf (c .before .before .before .before .before .before .default-matrix .last .1 .1 .1 .1 .1 .1 .1 .1 .0) (c .before .before .before .before .before .before .default-matrix .result .rows) (c .before .before .before .before .before .before .default-matrix .last .1 .1 .1 .1 .1 .1 .1 .1 .1 .0) (c .before .before .before .before .before .before .default-matrix .result .columns) (c .before .before .before .before .before .before .default-matrix .last .1 .1 .1 .1 .1 .1 .1 .1 .1 .1 .0) (c .before .before .before .before .before .before .before .before .before .before .before .before .before .before .before .before .before .before .before .before .before .before .before .before .before .before .before .before .before .args .time + 1) (c .before .before .before .before .before .before .before .before .before .before .before .before .before .before .before .before .before .before .before .before .before .before .before .before .before .before .before .before .before .args .opened .now)) (c .before .before .before .before .before .before .default-matrix .ensures) refl)))
 
 -- src/build.rt:286:53
 build-switch-add-put-switch : (t : ℕ) → build-switch-lts.Need-add-put-switch (
@@ -523,7 +546,7 @@ build-switch-add-put-switch : (t : ℕ) → build-switch-lts.Need-add-put-switch
   do-build-tree-below t,
   do-build-tree.Post,
 ) (build-switch-at t) build-switch.Post
-build-switch-add-put-switch t c = ?
+build-switch-add-put-switch t c = omega (arith, switch-node-asked (cased-at t (c .before .before .before .before)))
 
 -- src/build.rt:286:5
 build-switch-put-switch-requires-2 : (t : ℕ) → build-switch-lts.Need-put-switch-requires-2 (
@@ -538,7 +561,7 @@ build-switch-put-switch-requires-2 : (t : ℕ) → build-switch-lts.Need-put-swi
   do-build-tree-below t,
   do-build-tree.Post,
 ) (build-switch-at t) build-switch.Post
-build-switch-put-switch-requires-2 t c κs = ?
+build-switch-put-switch-requires-2 t c κs = let a = switch-node-asked (cased-at t (c .before .before .before .before)) in ((a .0, a .1, a .2, a .3), switch-met-asked (cased-at t (c .before .before .before .before)))
 
 -- src/build.rt:296:9
 build-switch-add-do-build-tree : (t : ℕ) → build-switch-lts.Need-add-do-build-tree (
@@ -553,7 +576,7 @@ build-switch-add-do-build-tree : (t : ℕ) → build-switch-lts.Need-add-do-buil
   do-build-tree-below t,
   do-build-tree.Post,
 ) (build-switch-at t) build-switch.Post
-build-switch-add-do-build-tree t c = ?
+build-switch-add-do-build-tree t c = omega (arith, tested-room (c .before .before .before .before .before .before .before .before .before .before .before .before .before .before .before .before .before .before .before .before .before .before .before .before .before .before .before .before .before .before .before .before .before .pre .1 .0))
 
 -- src/build.rt:287:5
 build-switch-do-build-tree-requires : (t : ℕ) → build-switch-lts.Need-do-build-tree-requires (
@@ -568,7 +591,7 @@ build-switch-do-build-tree-requires : (t : ℕ) → build-switch-lts.Need-do-bui
   do-build-tree-below t,
   do-build-tree.Post,
 ) (build-switch-at t) build-switch.Post
-build-switch-do-build-tree-requires t c κs = ?
+build-switch-do-build-tree-requires t c κs = (omega (arith, c .before .before .before .before .before .before .before .before .before .before .before .before .before .before .before .before .before .before .before .before .before .before .before .before .before .before .before .before .before .before .before .before .before .before .pre .0, tested-room (c .before .before .before .before .before .before .before .before .before .before .before .before .before .before .before .before .before .before .before .before .before .before .before .before .before .before .before .before .before .before .before .before .before .before .pre .1 .0)), switch-asked (cased-at t (c .before .before .before .before .before .before .before .before .before .before .before)) (c .before .before .before .before .before .before .put-switch2 .last .0) ((c .before .before .before .before .before .before .before .before .before .before .before .before .before .before .before .before .before .before .before .before .build-cases .result .tops .nodes) + 1) (c .before .before .before .before .before .before .put-switch2 .ensures) (c .before .before .before .before .before .before .before .before .before .if2 .left))
 
 -- src/build.rt:221:1
 build-switch-same-length-4 : (t : ℕ) → build-switch-lts.Need-same-length-4 (
@@ -583,7 +606,7 @@ build-switch-same-length-4 : (t : ℕ) → build-switch-lts.Need-same-length-4 (
   do-build-tree-below t,
   do-build-tree.Post,
 ) (build-switch-at t) build-switch.Post
-build-switch-same-length-4 t c = ?
+build-switch-same-length-4 t c = (c .before .before .do-build-tree .kept .1 .1 .1 .1 .1 .1 .1 .1 .1 .1 .0) ∙ (c .before .before .before .before .before .before .before .before .before .put-switch2 .kept .0) ∙ (c .before .before .before .before .before .before .before .before .before .before .before .before .before .before .before .before .before .before .before .before .before .before .before .build-cases .kept .1 .1 .1 .1 .1 .1 .1 .1 .1 .1 .1 .0) ∙ (c .before .before .before .before .before .before .before .before .before .before .before .before .before .before .before .before .before .before .before .before .before .before .before .before .before .before .before .before .before .before .before .before .meet-cases .kept .1 .1 .1 .1 .1 .1 .1 .0)
 
 -- src/build.rt:221:1
 build-switch-returns-4 : (t : ℕ) → build-switch-lts.Need-returns-4 (
@@ -598,7 +621,7 @@ build-switch-returns-4 : (t : ℕ) → build-switch-lts.Need-returns-4 (
   do-build-tree-below t,
   do-build-tree.Post,
 ) (build-switch-at t) build-switch.Post
-build-switch-returns-4 t c = ?
+build-switch-returns-4 t c = (switch-default (cased-at t (c .before .before .before .before .before .before .before .before .before .before .before .before .before .before)) (c .before .before .before .before .before .before .before .before .before .put-switch2 .last .0) ((c .before .before .before .before .before .before .before .before .before .before .before .before .before .before .before .before .before .before .before .before .before .before .before .build-cases .result .tops .nodes) + 1) (c .before .before .before .before .before .before .before .before .before .put-switch2 .ensures) (c .before .before .do-build-tree .last .1 .1 .1 .1 .1 .1 .1 .1 .1 .1 .0) (c .before .before .do-build-tree .result) (c .before .before .before .before .before .before .before .before .before .before .before .before .if2 .left) refl (c .before .before .do-build-tree .ensures .0), still-on (still-on (c .before .before .before .before .before .before .before .before .before .before .before .before .before .before .before .before .before .before .before .before .before .before .before .build-cases .ensures .1) (default-still (still-column (c .before .before .before .before .before .before .before .before .before .before .before .before .before .before .before .before .before .before .before .before .before .before .before .before .before .before .before .before .before .before .before .before .before .before .before .before .before .pre .1 .0) (c .before .before .before .before .before .before .before .before .before .before .before .before .before .before .before .before .before .before .before .before .before .before .before .build-cases .ensures .1)) (matrixOf (c .before .before .before .before .before .before .before .before .before .before .before .before .before .before .default-matrix .last .1 .1 .1 .1 .1 .1 .1 .1 .0) (c .before .before .before .before .before .before .before .before .before .before .before .before .before .before .default-matrix .result .rows) (c .before .before .before .before .before .before .before .before .before .before .before .before .before .before .default-matrix .last .1 .1 .1 .1 .1 .1 .1 .1 .1 .0) (c .before .before .before .before .before .before .before .before .before .before .before .before .before .before .default-matrix .result .columns) (c .before .before .before .before .before .before .before .before .before .before .before .before .before .before .default-matrix .last .1 .1 .1 .1 .1 .1 .1 .1 .1 .1 .0) (c .before .before .before .before .before .before .before .before .before .before .before .before .before .before .before .before .before .before .before .before .before .before .before .before .before .before .before .before .before .before .before .before .before .before .before .before .before .args .time + 1) (c .before .before .before .before .before .before .before .before .before .before .before .before .before .before .before .before .before .before .before .before .before .before .before .before .before .before .before .before .before .before .before .before .before .before .before .before .before .args .opened .now)) (c .before .before .before .before .before .before .before .before .before .before .before .before .before .before .default-matrix .ensures) refl)) (still-fewer (c .before .before .do-build-tree .ensures .1)))
 
 -- src/build.rt:323:9
 do-build-tree-returns : (t : ℕ) → do-build-tree-lts.Need-returns (
@@ -611,7 +634,7 @@ do-build-tree-returns : (t : ℕ) → do-build-tree-lts.Need-returns (
   build-switch-below t,
   build-switch.Post,
 ) (do-build-tree-at t) do-build-tree.Post
-do-build-tree-returns t c = ?
+do-build-tree-returns t c = (full-builds (c .before .before .before .before .before .pre .1 .ready .checked .ok) (c .before .before .before .before .before .pre .1 .there) (c .before .before .before .before .before .args .work .now) (c .before .before .before .before .before .args .work .now) (c .before .before .before .before .before .args .tops) (record { fits = false; tops = c .before .before .before .before .before .args .tops }) (c .if1 .taken) refl, still ((c .before .before .before .before .before .pre .1 .there) .whole .whole-tested .long))
 
 -- src/build.rt:325:9
 do-build-tree-highest-occurrence-requires :
@@ -625,7 +648,7 @@ do-build-tree-highest-occurrence-requires :
       build-switch-below t,
       build-switch.Post,
     ) (do-build-tree-at t) do-build-tree.Post
-do-build-tree-highest-occurrence-requires t c κs = ?
+do-build-tree-highest-occurrence-requires t c κs = let r = asked-readable (c .before .before .before .before .before .pre .1) in (r .whole .whole-rows, r .whole .whole-columns, r .cells)
 
 -- src/build.rt:326:24
 do-build-tree-enum-known-choice : (t : ℕ) → do-build-tree-lts.Need-enum-known-choice (
@@ -638,7 +661,7 @@ do-build-tree-enum-known-choice : (t : ℕ) → do-build-tree-lts.Need-enum-know
   build-switch-below t,
   build-switch.Post,
 ) (do-build-tree-at t) do-build-tree.Post
-do-build-tree-enum-known-choice t c = ?
+do-build-tree-enum-known-choice t c = search needs
 
 -- src/build.rt:327:43
 do-build-tree-enum-told : (t : ℕ) → do-build-tree-lts.Need-enum-told (
@@ -651,7 +674,7 @@ do-build-tree-enum-told : (t : ℕ) → do-build-tree-lts.Need-enum-told (
   build-switch-below t,
   build-switch.Post,
 ) (do-build-tree-at t) do-build-tree.Post
-do-build-tree-enum-told t c = ?
+do-build-tree-enum-told t c = search needs
 
 -- src/build.rt:327:43
 do-build-tree-element-copy-out-wide : (t : ℕ) → do-build-tree-lts.Need-element-copy-out-wide (
@@ -664,7 +687,7 @@ do-build-tree-element-copy-out-wide : (t : ℕ) → do-build-tree-lts.Need-eleme
   build-switch-below t,
   build-switch.Post,
 ) (do-build-tree-at t) do-build-tree.Post
-do-build-tree-element-copy-out-wide t c = ?
+do-build-tree-element-copy-out-wide t c = search needs
 
 -- src/build.rt:327:38
 do-build-tree-wide-requires : (t : ℕ) → do-build-tree-lts.Need-wide-requires (
@@ -677,7 +700,7 @@ do-build-tree-wide-requires : (t : ℕ) → do-build-tree-lts.Need-wide-requires
   build-switch-below t,
   build-switch.Post,
 ) (do-build-tree-at t) do-build-tree.Post
-do-build-tree-wide-requires t c κs = ?
+do-build-tree-wide-requires t c κs = search needs
 
 -- src/build.rt:327:13
 do-build-tree-put-leaf-requires : (t : ℕ) → do-build-tree-lts.Need-put-leaf-requires (
@@ -690,7 +713,7 @@ do-build-tree-put-leaf-requires : (t : ℕ) → do-build-tree-lts.Need-put-leaf-
   build-switch-below t,
   build-switch.Post,
 ) (do-build-tree-at t) do-build-tree.Post
-do-build-tree-put-leaf-requires t c κs = ?
+do-build-tree-put-leaf-requires t c κs = (c .before .before .before .before .before .before .before .before .before .before .before .before .pre .1 .ready, clause-asked (c .before .before .before .before .before .before .before .before .before .before .before .before .pre .1 .ready .checked .ok) (c .before .before .before .before .before .before .before .before .before .before .before .before .pre .1 .there) (c .before .before .wide .result) (c .before .before .wide .ensures), c .before .before .before .before .before .before .before .before .before .before .before .before .pre .1 .room, (node-left (c .before .before .before .before .before .before .before .before .before .before .before .before .pre .1 .room .nodes-most) (c .before .before .before .before .before .before .before .if1 .left)))
 
 -- src/build.rt:328:9
 do-build-tree-same-length : (t : ℕ) → do-build-tree-lts.Need-same-length (
@@ -703,7 +726,7 @@ do-build-tree-same-length : (t : ℕ) → do-build-tree-lts.Need-same-length (
   build-switch-below t,
   build-switch.Post,
 ) (do-build-tree-at t) do-build-tree.Post
-do-build-tree-same-length t c = ?
+do-build-tree-same-length t c = c .before .before .put-leaf .kept .1 .1 .1 .1 .1 .1 .1 .0
 
 -- src/build.rt:328:9
 do-build-tree-returns-2 : (t : ℕ) → do-build-tree-lts.Need-returns-2 (
@@ -716,7 +739,7 @@ do-build-tree-returns-2 : (t : ℕ) → do-build-tree-lts.Need-returns-2 (
   build-switch-below t,
   build-switch.Post,
 ) (do-build-tree-at t) do-build-tree.Post
-do-build-tree-returns-2 t c = ?
+do-build-tree-returns-2 t c = (leaf-builds (c .before .before .before .before .before .before .before .before .before .before .before .before .before .before .before .pre .1 .ready .checked .ok) (c .before .before .before .before .before .before .before .before .before .before .before .before .before .before .before .pre .1 .there) (c .before .before .before .before .before .before .before .before .before .before .before .before .before .before .before .args .work .now) (c .before .before .put-leaf .last .1 .1 .1 .1 .1 .1 .1 .0) (c .before .before .before .before .before .before .before .before .before .before .before .before .before .before .before .args .tops) (c .before .before .put-leaf .result) (record { fits = true; tops = c .before .before .put-leaf .result }) (c .before .before .before .before .before .wide .result) (asked-chosen (c .before .before .before .before .before .before .before .before .before .before .before .before .before .before .before .pre .1) (c .before .before .before .before .before .before .before .before .before .highest-occurrence .result) (c .before .before .before .before .before .before .before .before .before .highest-occurrence .ensures) (c .before .before .before .before .before .before .before .enum-told .given .1)) (c .before .before .before .before .before .wide .ensures) refl (c .before .before .put-leaf .ensures), still ((c .before .before .before .before .before .before .before .before .before .before .before .before .before .before .before .pre .1 .there) .whole .whole-tested .long))
 
 -- src/build.rt:333:5
 do-build-tree-build-switch-requires : (t : ℕ) → do-build-tree-lts.Need-build-switch-requires (
@@ -729,7 +752,7 @@ do-build-tree-build-switch-requires : (t : ℕ) → do-build-tree-lts.Need-build
   build-switch-below t,
   build-switch.Post,
 ) (do-build-tree-at t) do-build-tree.Post
-do-build-tree-build-switch-requires t c κs = ?
+do-build-tree-build-switch-requires t c κs = (omega (arith, c .before .before .before .before .before .before .before .before .before .before .before .pre .0), (record { ready = c .before .before .before .before .before .before .before .before .before .before .before .pre .1 .ready; there = (c .before .before .before .before .before .before .before .before .before .before .before .pre .1 .there); chosen = asked-chosen (c .before .before .before .before .before .before .before .before .before .before .before .pre .1) (c .before .before .before .before .before .highest-occurrence .result) (c .before .before .before .before .before .highest-occurrence .ensures) (c .before .before .before .choice .given .1) }, c .before .before .before .before .before .before .before .before .before .before .before .pre .1 .room, (node-left (c .before .before .before .before .before .before .before .before .before .before .before .pre .1 .room .nodes-most) (c .before .before .before .before .before .before .if1 .left))))
 
 -- src/build.rt:305:1
 do-build-tree-same-length-2 : (t : ℕ) → do-build-tree-lts.Need-same-length-2 (
@@ -742,7 +765,7 @@ do-build-tree-same-length-2 : (t : ℕ) → do-build-tree-lts.Need-same-length-2
   build-switch-below t,
   build-switch.Post,
 ) (do-build-tree-at t) do-build-tree.Post
-do-build-tree-same-length-2 t c = ?
+do-build-tree-same-length-2 t c = c .before .before .build-switch .kept .1 .1 .1 .1 .1 .1 .1 .1 .1 .1 .1 .0
 
 -- src/build.rt:305:1
 do-build-tree-returns-3 : (t : ℕ) → do-build-tree-lts.Need-returns-3 (
@@ -755,7 +778,7 @@ do-build-tree-returns-3 : (t : ℕ) → do-build-tree-lts.Need-returns-3 (
   build-switch-below t,
   build-switch.Post,
 ) (do-build-tree-at t) do-build-tree.Post
-do-build-tree-returns-3 t c = ?
+do-build-tree-returns-3 t c = c .before .before .build-switch .ensures
 
 pub +build-case+build-cases+build-switch+do-build-tree-spec : {M : Type 1} → statement M
 +build-case+build-cases+build-switch+do-build-tree-spec =
