@@ -8,7 +8,7 @@ use native.Mathlib.Omega.{arith}
 use native.Mathlib.Numerals.{add-one}
 use Rattle.rules.specs.Limits.{patternsMost}
 use Rattle.rules.specs.SheetFile.{patterns, entry, patternKind, patternA, patternFirst, patternCount, child}
-use Rattle.rules.specs.Patterns.{PatternKind, Discard, Variable, Assign, Integer, ByteString, ListOfAll, ListWithRest, Constructor, Pair, Tuple, Unknown, patternKindOf, Mark, pairs, tuples, Pat, Pats, discard, variable, assign, integer, bytestring, listed, tailed, constructor, opened, pnil, pcons, many, oneConstructor, decorated, along, ofConstructor, ofKind, patternTo, pattern}
+use Rattle.rules.specs.Patterns.{PatternKind, Discard, Variable, Assign, Integer, ByteString, ListOfAll, ListWithRest, Constructor, Pair, Tuple, Unknown, patternKindOf, pairs, tuples, Pat, Pats, assign, listed, tailed, opened, pnil, pcons, many, oneConstructor, decorated, along, ofConstructor, ofKind, patternTo, pattern}
 use Rattle.rules.specs.SheetRefusals.{hasChildren}
 use Rattle.facts.specs.KindsLaws.{pattern-byte}
 use Rattle.facts.specs.SheetFacts.{Counted, Parent, Owns, Shaped, owned-pattern}
