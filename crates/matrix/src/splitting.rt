@@ -34,7 +34,7 @@ ghost use Rattle.matrix.specs.RowStates.{upFrom};
 ghost use Rattle.matrix.specs.HeldRows.{joinOf, opensOf};
 ghost use Rattle.matrix.specs.Matrices.{gather, rootTests, marked};
 ghost use Rattle.matrix.specs.Numbered.{SoundOf, firstNumbered, caseNumbered};
-ghost use Rattle.matrix.specs.Lists.{classesIn, asClasses, asRows, Holds, HoldsRows, WholeRows};
+ghost use Rattle.matrix.specs.Lists.{asClasses, asRows, Holds, HoldsRows, WholeRows};
 ghost use Rattle.matrix.specs.Ready.{Ready, putTests, TestKnown};
 ghost use Rattle.matrix.specs.Meant.{meant, joinsTest, InPool, HeldKnown, joinRow, openRow, JoinsTo};
 ghost use Rattle.matrix.specs.InNumbers.{inNumbers, matrixOf, WholeMatrix, StandsFor, Splits, defaultRead};
