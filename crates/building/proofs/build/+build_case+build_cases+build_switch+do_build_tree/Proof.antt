@@ -171,6 +171,7 @@ cased-at t c =
       built = c .before .before .before .before .before .before .before .before .before .build-cases .ensures .0;
       stands = still-default (c .before .before .before .before .before .before .before .before .before .before .before .before .before .before .before .before .before .before .before .before .before .before .before .pre .1 .0) (c .before .before .before .before .before .before .before .before .before .build-cases .ensures .1) (c .default-matrix .ensures);
     }
+
 -- [end helpers]
 
 -- src/build.rt:188:17
