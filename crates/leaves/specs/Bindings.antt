@@ -1,5 +1,6 @@
 -- Bindings put into the arena one after the other, by the numbers of their patterns: each as its name and the class of its path, while
 -- there is room for it; past the room only their number goes on, to one more than the room. Rests on the table's classes.
+use mathlib.Core.Path.{_≡_}
 use mathlib.Core.List.{List, [], _∷_, _++_, map}
 use Prim.Native.Nat.{ℕ, _+_, _*_, _≤_, _<_, min}
 use lib.Dec.{ltb}
@@ -7,12 +8,14 @@ use lib.ListN.{length, getD, take}
 use Rattle.words.specs.Words.{wordBytes, pick}
 use Rattle.words.specs.Stored.{stored}
 use Rattle.rules.specs.Limits.{patternsMost, bindingsMost, bindingSize}
-use Rattle.rules.specs.SheetFile.{patterns, clauses, patternA, root}
+use Rattle.rules.specs.SheetFile.{patternsAt, childrenAt, patterns, clauses, patternA, root}
 use Rattle.rules.specs.Rows.{Binding}
 use Rattle.rules.specs.SplittingLaws.{All}
-use Rattle.facts.specs.SheetFacts.{Owns}
+use Rattle.facts.specs.SheetFacts.{Owns, Accepted}
+use Rattle.sheet.specs.declared.records.Run.{Run}
 use Rattle.table.specs.Standing.{classOf}
-use Rattle.table.specs.Seen.{bindingAt, bindsOf}
+use Rattle.table.specs.Seen.{binds, bindsOf, bindsOfEach, bindingAt}
+use Rattle.table.specs.Tabled.{Tabled}
 use Rattle.arena.specs.Arena.{bindingsStart, arenaEnd}
 use Rattle.matrix.specs.declared.Matrix.{Matrix}
 use Rattle.matrix.specs.InNumbers.{inNumbers}
@@ -50,6 +53,11 @@ unfolding boundOne
 boundAll s x [] = x
 boundAll s x (q ∷ qs) = boundAll s (boundOne s x q) qs
 
+-- ---- a pattern
+-- the binding of its own name, if it has one
+abbrev pub ownBinds : List ℕ → ℕ → List ℕ
+ownBinds s p = pick (binds s p) (p ∷ []) []
+
 -- ---- a leaf
 -- what the leaf of clause c binds, where these columns were tested: what boundNumbers says of a matrix
 abbrev pub leafNumbers : List ℕ → List ℕ → List ℕ → ℕ → List ℕ
@@ -68,10 +76,22 @@ pub record Room (w : List ℕ) (top : ℕ) : Type 0 where
   pub long : arenaEnd ≤ length w
   pub most : top ≤ bindingsMost + 1
 
+-- an accepted sheet with its table, and where its patterns and its child list start
+pub record Started (s t : List ℕ) (records list : ℕ) : Type 0 where
+  pub ok : Accepted s
+  pub tabled : Tabled s t
+  pub from-patterns : records ≡ patternsAt s
+  pub from-children : list ≡ childrenAt s
+
 -- the n entries of the child list from j on are p's
 pub record Entries (s : List ℕ) (p j n : ℕ) : Type 0 where
   pub known : p < patterns s
   pub owns : (i : ℕ) → j ≤ i → i < j + n → Owns s p i
+
+-- what is seen inside of p are the children in the run, so that p binds its own name and what those bind
+pub record SeenInside (s : List ℕ) (p : ℕ) (run : Run) : Type 0 where
+  pub entries : Entries s p (run .first) (run .count)
+  pub binds-these : bindsOf s p ≡ ownBinds s p ++ bindsOfEach s (run .first) (run .count)
 
 -- a clause of the sheet, and columns that were tested
 pub record LeafAsked (s : List ℕ) (c : ℕ) (tested : List ℕ) (n : ℕ) : Type 0 where

@@ -1,42 +1,45 @@
 -- What is put at each way through the code, over plain values as it has them: a pattern's bindings by its kind, those of its children one
 -- after the other, what a test opened. Rests on what is seen at a pattern, one level at a time.
-use mathlib.Core.Path.{_≡_, refl, sym, ap, _∙_}
-use mathlib.Core.Logic.{_⊎_, inl, inr}
+use mathlib.Core.Path.{_≡_, refl, sym, ap, ap₂, _∙_}
+use mathlib.Core.Logic.{_⊎_, inl, inr, ⊎-elim}
 use mathlib.Core.Bool.{Bool, true, false}
-use mathlib.Core.List.{List, [], _∷_, _++_}
+use mathlib.Core.List.{List, [], _∷_, _++_, append-nil}
 use Prim.Native.Nat.{ℕ, suc, _+_, _-_, _*_, _≤_, _<_}
 use native.Mathlib.Omega.{arith}
-use borrow.Author.Tests.{eq-eqb, ne-eqb, eqb-true, eqb-false}
-use lib.Dec.{eqb}
+use borrow.Author.Tests.{eq-eqb, ne-eqb, eqb-true, eqb-false, leb-true, leb-false}
+use lib.Dec.{eqb, leb}
 use lib.ListN.{length, getD, take}
 use lib.Seq.{slice}
 use Rattle.words.specs.Words.{pick}
+use Rattle.words.specs.WordsLaws.{pick-true, pick-false}
 use Rattle.rules.specs.Limits.{patternsMost, childrenMost}
 use Rattle.rules.specs.SheetFile.{patterns, children, clauses, patternKind, patternFirst, patternCount, child, root}
 use Rattle.rules.specs.Patterns.{patternKindOf}
 use Rattle.rules.specs.SheetRefusals.{hasChildren}
 use Rattle.rules.specs.SplittingLaws.{All}
-use Rattle.facts.specs.SheetFacts.{Owns, assign-parent, many-parent, owned-entry, owned-pattern}
+use Rattle.facts.specs.SheetFacts.{Counted, Parent, Owns, Shaped, Accepted, assign-parent, many-parent, owned-entry, owned-pattern}
 use Rattle.sheet.specs.declared.Map.{Map}
 use Rattle.sheet.specs.declared.records.PatternRecord.{PatternRecord}
 use Rattle.sheet.specs.declared.records.Run.{Run}
 use Rattle.sheet.specs.Records.{patternOf}
+use Rattle.sheet.specs.SectionsLaws.{mapped}
 use Rattle.sheet.specs.Shape.{childrenFirst, childrenCount, childrenOf}
 use Rattle.sheet.specs.CollectLaws.{run-owned}
-use Rattle.table.specs.Standing.{kindOf, isTest, cellOf}
-use Rattle.table.specs.Seen.{insideOf, bindsOf, bindsOfEach, openedBinds}
-use Rattle.table.specs.SeenLaws.{binds-no-name, binds-of-test, binds-of-parts, opened-binds-each, binds-discard, binds-variable, binds-assign, binds-text-or-list, binds-each-none}
+use Rattle.table.specs.Standing.{kindOf, ownerOf, isTest, cellOf}
+use Rattle.table.specs.StandingLaws.{child-owner, owner-below}
+use Rattle.table.specs.Seen.{insideOf, binds, bindsOf, bindsOfEach, openedBinds}
+use Rattle.table.specs.SeenLaws.{test-of-text-or-list, no-test-of-plain, test-kind, binds-a-name, binds-no-name, binds-of-test, binds-of-name, binds-of-parts, opened-binds-none, opened-binds-each, binds-each-none, binds-each-some}
 use Rattle.table.specs.Table.{cellsAt}
-use Rattle.table.specs.Tabled.{Checked, Tabled}
+use Rattle.table.specs.Tabled.{Tabled}
 use Rattle.matrix.specs.declared.Matrix.{Matrix}
 use Rattle.matrix.specs.Live.{openedTest, IsClass}
 use Rattle.matrix.specs.LiveLaws.{cell-some}
 use Rattle.matrix.specs.Bound.{numbersHeld, openedNumbers}
 use Rattle.matrix.specs.Matrices.{Rising}
 use Rattle.matrix.specs.ReadingLaws.{all-at, slice-on, slice-end}
-use Rattle.matrix.specs.InNumbers.{inNumbers}
+use Rattle.matrix.specs.Ready.{Ready}
 use Rattle.matrix.specs.Lists.{numbersIn, classesIn}
-use Rattle.leaves.specs.Bindings.{Bound, bound, boundOne, boundAll, leafNumbers, firstClause, Entries, Room, LeafAsked, WithRow}
+use Rattle.leaves.specs.Bindings.{Bound, bound, boundOne, boundAll, ownBinds, leafNumbers, firstClause, Room, Started, Entries, SeenInside, LeafAsked, WithRow}
 use Rattle.leaves.specs.BindingsLaws.{bound-none, bound-single, bound-append, bound-top, bound-length}
 
 -- ---- the store, by its answers
@@ -50,6 +53,9 @@ module _ (s : List ℕ) (x y : Bound) where
   pub put-more : (z : Bound) (qs rs all : List ℕ) → all ≡ qs ++ rs → y ≡ boundAll s x qs → z ≡ boundAll s y rs → z ≡ boundAll s x all
   put-more z qs rs all e f g = g ∙ ap (λ (v : Bound). boundAll s v rs) f ∙ sym (bound-append s x qs rs) ∙ ap (boundAll s x) (sym e)
 
+pub put-turn : (s : List ℕ) (x y : Bound) (qs rs all : List ℕ) → all ≡ qs ++ rs → y ≡ boundAll s x qs → boundAll s y rs ≡ boundAll s x all
+put-turn s x y qs rs all e f = ap (λ (v : Bound). boundAll s v rs) f ∙ sym (bound-append s x qs rs) ∙ ap (boundAll s x) (sym e)
+
 pub put-nothing : (s : List ℕ) (x : Bound) (all : List ℕ) → all ≡ [] → x ≡ boundAll s x all
 put-nothing s x all e = sym (ap (boundAll s x) e ∙ bound-none s x)
 
@@ -61,92 +67,143 @@ room-after s w w' top r qs h e =
     let most = ap (λ (x : Bound). x .top) e ∙ bound-top s (bound w top) qs (h .most) in
     record { long = omega (arith, h .long, length-after s w w' top r qs e); most = omega arith }
 
+-- ---- where the records are
+pub started : {s : List ℕ} {m : Map} {t : List ℕ} → Ready s m t → Started s t (m .at .patterns) (m .at .children)
+started {s = s} {m = m} ready =
+    let at = mapped s m (ready .checked .is-map) in
+    record { ok = ready .checked .ok; tabled = ready .tabled; from-patterns = at .at-patterns; from-children = at .at-children }
+
 -- ---- the bindings of pattern p, by what was read of it
-module _ (s : List ℕ) (m : Map) (ok : Checked s m) (p : ℕ) (h : p < patterns s) (r : PatternRecord) (is : r ≡ patternOf s p) where
-  kind-is : r .kind ≡ patternKind s p
-  kind-is = ap (λ (x : PatternRecord). x .kind) is
+module _ (s : List ℕ) (ok : Accepted s) (p : ℕ) (h : p < patterns s) where
+  sh : Shaped s
+  sh = ok .is-shaped
 
-  first-is : r .first ≡ patternFirst s p
-  first-is = ap (λ (x : PatternRecord). x .first) is
+  few : Counted s
+  few = ok .is-counted
 
-  count-is : r .count ≡ patternCount s p
-  count-is = ap (λ (x : PatternRecord). x .count) is
+  -- its own, then what is inside; of a test neither
+  own-test : isTest s p ≡ true → bindsOf s p ≡ ownBinds s p
+  own-test e = binds-of-test sh few p h e ∙ sym (pick-false (binds s p) (p ∷ []) [] (binds-no-name s p (inr (test-kind s p e))))
 
-  pub variable-binds : r .kind ≡ 1 → bindsOf s p ≡ p ∷ []
-  variable-binds k = binds-variable (ok .ok .is-shaped) (ok .ok .is-counted) p h (sym kind-is ∙ k)
-
-  module _ (k : r .kind ≡ 2) where
-    pub assign-owns : Owns s p (r .first)
-    assign-owns =
-        let one = ok .ok .is-shaped .assign-one p h (sym kind-is ∙ k) in
-        record { parent = assign-parent s p (sym kind-is ∙ k); from = omega (arith, first-is); to = omega (arith, first-is, one) }
-
-    pub assign-binds : (q : ℕ) → q ≡ child s (r .first) → bindsOf s p ≡ p ∷ bindsOf s q
-    assign-binds q e =
-        binds-assign (ok .ok .is-shaped) (ok .ok .is-counted) p h (sym kind-is ∙ k)
-        ∙ ap (λ (n : ℕ). p ∷ bindsOf s n) (sym (e ∙ ap (child s) first-is))
-
-  pub test-binds : (b : Bool) → b ≡ isTest s p → b ≡ true → bindsOf s p ≡ []
-  test-binds b e f = binds-of-test (ok .ok .is-shaped) (ok .ok .is-counted) p h (sym e ∙ f)
-
-  module _ (low : 7 ≤ r .kind) (high : r .kind < 10) where
-    low' : 7 ≤ patternKind s p
-    low' = omega (arith, kind-is)
-
-    high' : patternKind s p ≤ 9
-    high' = omega (arith, kind-is)
-
-    pub parts-owned : Entries s p (r .first) (r .count)
-    parts-owned =
-        record {
-          known = h;
-          owns = λ i from to. record {
-            parent = many-parent s p (omega (arith, low')) high';
-            from = omega (arith, first-is);
-            to = omega (arith, first-is, count-is);
-          };
-        }
-
-    pub parts-binds : (b : Bool) → b ≡ isTest s p → b ≡ false → bindsOf s p ≡ bindsOfEach s (r .first) (r .count)
-    parts-binds b e f =
-        binds-of-parts (ok .ok .is-shaped) (ok .ok .is-counted) p h (sym e ∙ f) (binds-no-name s p (inr (omega (arith, low'))))
-        ∙ opened-binds-each (ok .ok .is-shaped) (ok .ok .is-counted) p h (many-parent s p (omega (arith, low')) high')
-        ∙ rw (← first-is, ← count-is)
-
-  pub others-bind : (r .kind ≡ 1 → ⊥) → (r .kind ≡ 2 → ⊥) → (r .kind < 7) ⊎ (9 < r .kind) → bindsOf s p ≡ []
-  others-bind n1 n2 (inr high) = absurd (omega (arith, kind-is, ok .ok .is-shaped .pattern-kind p h))
-  others-bind n1 n2 (inl low) = go (eqb (r .kind) 0) refl
+  own-parts : isTest s p ≡ false → bindsOf s p ≡ ownBinds s p ++ openedBinds s p
+  own-parts e = go (binds s p) refl
     where
-      go : (b : Bool) → eqb (r .kind) 0 ≡ b → bindsOf s p ≡ []
-      go true e = binds-discard (ok .ok .is-shaped) (ok .ok .is-counted) p h (sym kind-is ∙ eqb-true (r .kind) 0 e)
-      go false e = binds-text-or-list (ok .ok .is-shaped) (ok .ok .is-counted) p h (omega (arith, kind-is, eqb-false (r .kind) 0 e)) (omega (arith, kind-is))
+      go : (b : Bool) → binds s p ≡ b → bindsOf s p ≡ ownBinds s p ++ openedBinds s p
+      go true x = binds-of-name sh few p h e x ∙ rw x
+      go false x = binds-of-parts sh few p h e x ∙ rw x
+
+  -- nothing is seen inside
+  none-inside : bindsOf s p ≡ ownBinds s p → SeenInside s p (record { first = 0; count = 0 })
+  none-inside e =
+      record {
+        entries = record { known = h; owns = λ i from to. absurd (omega arith) };
+        binds-these = e ∙ sym (ap (λ (l : List ℕ). ownBinds s p ++ l) (binds-each-none s 0) ∙ append-nil (ownBinds s p));
+      }
+
+  parts-inside : Parent s p → isTest s p ≡ false → SeenInside s p (record { first = patternFirst s p; count = patternCount s p })
+  parts-inside parent e =
+      record {
+        entries = record { known = h; owns = λ i from to. record { parent = parent; from = from; to = to } };
+        binds-these = own-parts e ∙ ap (λ (l : List ℕ). ownBinds s p ++ l) (opened-binds-each sh few p h parent);
+      }
+
+  module _ (r : PatternRecord) (is : r ≡ patternOf s p) where
+    kind-is : r .kind ≡ patternKind s p
+    kind-is = ap (λ (x : PatternRecord). x .kind) is
+
+    first-is : r .first ≡ patternFirst s p
+    first-is = ap (λ (x : PatternRecord). x .first) is
+
+    count-is : r .count ≡ patternCount s p
+    count-is = ap (λ (x : PatternRecord). x .count) is
+
+    pub name-own : 1 ≤ r .kind → r .kind < 3 → ownBinds s p ≡ p ∷ []
+    name-own low high = pick-true (binds s p) (p ∷ []) [] (binds-a-name s p (omega (arith, kind-is)) (omega (arith, kind-is)))
+
+    pub no-name-own : (r .kind < 1) ⊎ (2 < r .kind) → ownBinds s p ≡ []
+    no-name-own k = pick-false (binds s p) (p ∷ []) [] (binds-no-name s p (⊎-elim (λ e. inl (omega (arith, kind-is))) (λ e. inr (omega (arith, kind-is))) k))
+
+    these-inside : Parent s p → isTest s p ≡ false → SeenInside s p (record { first = r .first; count = r .count })
+    these-inside parent e = rw (first-is, count-is) (parts-inside parent e)
+
+    pub assign-inside : r .kind ≡ 2 → SeenInside s p (record { first = r .first; count = r .count })
+    assign-inside k = these-inside (assign-parent s p (sym kind-is ∙ k)) (no-test-of-plain s p (omega (arith, kind-is)))
+
+    pub plain-inside : (r .kind ≡ 2 → ⊥) → r .kind < 7 → SeenInside s p (record { first = 0; count = 0 })
+    plain-inside n l = none-inside (go (leb (patternKind s p) 2) refl)
+      where
+        go : (b : Bool) → leb (patternKind s p) 2 ≡ b → bindsOf s p ≡ ownBinds s p
+        go true e =
+            let plain : patternKind s p ≤ 1 = omega (arith, kind-is, leb-true (patternKind s p) 2 e) in
+            own-parts (no-test-of-plain s p (omega arith)) ∙ ap (λ (l : List ℕ). ownBinds s p ++ l) (opened-binds-none sh few p h (inl plain)) ∙ append-nil (ownBinds s p)
+        go false e = own-test (test-of-text-or-list s p (omega (arith, leb-false (patternKind s p) 2 e)) (omega (arith, kind-is)))
+
+    module _ (low : 7 ≤ r .kind) where
+      parent-here : Parent s p
+      parent-here = many-parent s p (omega (arith, kind-is)) (sh .pattern-kind p h)
+
+      pub childless-inside : r .count ≡ 0 → SeenInside s p (record { first = 0; count = 0 })
+      childless-inside e = none-inside (go (isTest s p) refl)
+        where
+          go : (b : Bool) → isTest s p ≡ b → bindsOf s p ≡ ownBinds s p
+          go true x = own-test x
+          go false x =
+              own-parts x
+              ∙ ap (λ (l : List ℕ). ownBinds s p ++ l) (opened-binds-each sh few p h parent-here ∙ ap (bindsOfEach s (patternFirst s p)) (sym count-is ∙ e) ∙ binds-each-none s (patternFirst s p))
+              ∙ append-nil (ownBinds s p)
+
+      module _ (some : r .count ≡ 0 → ⊥) where
+        pub first-owned : Owns s p (r .first)
+        first-owned = record { parent = parent-here; from = omega (arith, first-is); to = omega (arith, first-is, count-is) }
+
+        -- the test that the first child is inside of, as it was read
+        module _ (owner : ℕ) (read : owner ≡ ownerOf s (child s (r .first))) where
+          owner-is : owner ≡ pick (isTest s p) (p + 1) (ownerOf s p)
+          owner-is = read ∙ child-owner sh p (r .first) h first-owned few
+
+          pub test-inside : owner ≡ p + 1 → SeenInside s p (record { first = 0; count = 0 })
+          test-inside e = none-inside (go (isTest s p) refl)
+            where
+              go : (b : Bool) → isTest s p ≡ b → bindsOf s p ≡ ownBinds s p
+              go true x = own-test x
+              go false x = absurd (omega (arith, e, owner-is ∙ pick-false (isTest s p) (p + 1) (ownerOf s p) x, owner-below sh few p h))
+
+          pub open-inside : (owner ≡ p + 1 → ⊥) → SeenInside s p (record { first = r .first; count = r .count })
+          open-inside n = go (isTest s p) refl
+            where
+              go : (b : Bool) → isTest s p ≡ b → SeenInside s p (record { first = r .first; count = r .count })
+              go true x = absurd (n (owner-is ∙ pick-true (isTest s p) (p + 1) (ownerOf s p) x))
+              go false x = these-inside parent-here x
+
+  -- nothing but its own
+  pub nothing-inside : (run : Run) → SeenInside s p run → run .count ≡ 0 → bindsOf s p ≡ ownBinds s p
+  nothing-inside run x e =
+      x .binds-these ∙ ap (λ (l : List ℕ). ownBinds s p ++ l) (ap (bindsOfEach s (run .first)) e ∙ binds-each-none s (run .first)) ∙ append-nil (ownBinds s p)
 
 -- ---- children one after the other
-module _ (s : List ℕ) (m : Map) (ok : Checked s m) (p j n : ℕ) (x : Entries s p j n) where
-  pub children-few : n ≤ childrenMost
-  children-few = go (eqb n 0) refl
-    where
-      go : (b : Bool) → eqb n 0 ≡ b → n ≤ childrenMost
-      go true e = omega (arith, eqb-true n 0 e)
-      go false e =
-          let some = eqb-false n 0 e in
-          let last = x .owns (j + n - 1) (omega arith) (omega arith) in
-          omega (arith, owned-entry (ok .ok .is-shaped) p (j + n - 1) (x .known) last, ok .ok .is-counted .children-most)
+-- what the children bind after the first k of n, from entry j on
+abbrev pub eachFrom : List ℕ → ℕ → ℕ → ℕ → List ℕ
+eachFrom s j n k = bindsOfEach s (j + k) (n - k)
 
-  module _ (some : n ≡ 0 → ⊥) where
-    pub first-owned : Owns s p j
-    first-owned = x .owns j (omega arith) (omega arith)
+module _ (s : List ℕ) (j n : ℕ) where
+  pub each-first : eachFrom s j n 0 ≡ bindsOfEach s j n
+  each-first = ap₂ (bindsOfEach s) (omega arith) (omega arith)
 
-    pub rest-owned : Entries s p (j + 1) (n - 1)
-    rest-owned = record { known = x .known; owns = λ i from to. x .owns i (omega arith) (omega arith) }
+  pub each-more : (k q : ℕ) → k < n → q ≡ child s (j + k) → eachFrom s j n k ≡ bindsOf s q ++ eachFrom s j n (k + 1)
+  each-more k q h e =
+      binds-each-some s (j + k) (n - k) (omega arith) ∙ ap₂ _++_ (ap (bindsOf s) (sym e)) (ap₂ (bindsOfEach s) (omega arith) (omega arith))
 
-pub owned-below : (s : List ℕ) (m : Map) (ok : Checked s m) (p j q : ℕ) → p < patterns s → Owns s p j → q ≡ child s j → (j < children s) × (q < patterns s) × (p < q) × (q < patternsMost)
-owned-below s m ok p j q h o e =
-    let entry = owned-entry (ok .ok .is-shaped) p j h o in
-    let known = owned-pattern (ok .ok .is-shaped) p j h o in
-    let above = ok .ok .is-shaped .child-above p j h o in
-    let most = ok .ok .is-counted .patterns-most in
-    (entry, omega arith, omega arith, omega arith)
+  pub each-none : (k : ℕ) → k ≡ n → eachFrom s j n k ≡ []
+  each-none k e = ap (bindsOfEach s (j + k)) (omega arith) ∙ binds-each-none s (j + k)
+
+module _ (s : List ℕ) (ok : Accepted s) (p j n : ℕ) (x : Entries s p j n) where
+  pub entry-below : (k q : ℕ) → k < n → q ≡ child s (j + k) → (j + k < children s) × (q < patterns s) × (p < q) × (j + k < childrenMost) × (q < patternsMost)
+  entry-below k q h e =
+      let own = x .owns (j + k) (omega arith) (omega arith) in
+      let entry = owned-entry (ok .is-shaped) p (j + k) (x .known) own in
+      let known = owned-pattern (ok .is-shaped) p (j + k) (x .known) own in
+      let above = ok .is-shaped .child-above p (j + k) (x .known) own in
+      (entry, omega arith, omega arith, omega (arith, ok .is-counted .children-most), omega (arith, ok .is-counted .patterns-most))
 
 -- ---- what a test opened
 -- a pattern's children, as they were read
@@ -168,6 +225,9 @@ module _ (s : List ℕ) (p : ℕ) (h : p < patterns s) (run : Run) (is : run ≡
           → insideOf (bindsOf s) s p ≡ bindsOfEach s (pick (hasChildren (patternKindOf (patternKind s p))) (patternFirst s p) 0) (pick (hasChildren (patternKindOf (patternKind s p))) (patternCount s p) 0)
       go true e = rw (e, insideOf)
       go false e = rw (e, insideOf) (sym (binds-each-none s 0))
+
+  pub run-empty : run .count ≡ 0 → openedBinds s p ≡ []
+  run-empty e = run-opened ∙ ap (bindsOfEach s (run .first)) e ∙ binds-each-none s (run .first)
 
 -- the cell of the class, as it was read
 module _ (s t : List ℕ) (tabled : Tabled s t) (c class : ℕ) (hc : c < clauses s) (hk : class < patternsMost) (cell : ℕ) (is : cell ≡ getD t (cellsAt + 192 * c + class) 0) where
@@ -212,9 +272,6 @@ module _ (s opened list : List ℕ) (count c : ℕ) (most : count ≤ length lis
   left-none time e = rw (slice-end list time count e)
 
 -- ---- a leaf
-pub put-turn : (s : List ℕ) (x y : Bound) (qs rs all : List ℕ) → all ≡ qs ++ rs → y ≡ boundAll s x qs → boundAll s y rs ≡ boundAll s x all
-put-turn s x y qs rs all e f = ap (λ (v : Bound). boundAll s v rs) f ∙ sym (bound-append s x qs rs) ∙ ap (boundAll s x) (sym e)
-
 module _ (s : List ℕ) (x : Matrix) (with : WithRow s x) where
   pub row-clause : (c : ℕ) → c ≡ firstClause x → c < clauses s
   row-clause c e = rw e (all-at (λ k. k < clauses s) (x .rows .list) (x .rows .count) 0 (with .some-row) (omega (arith, with .rows)) (rising-below (numbersIn (x .rows)) 0 (with .sound .rising)))
@@ -235,12 +292,9 @@ module _ (s opened tested : List ℕ) (c n : ℕ) (asked : LeafAsked s c tested 
   pub tested-known : (time class : ℕ) → time < n → class ≡ getD tested time 0 → class < patternsMost
   tested-known time class h e = rw e (all-at (λ k. k < patternsMost) tested n time h (omega (arith, asked .whole)) (asked .known))
 
-  module _ (r time : ℕ) (a b z : Bound) (is-root : r ≡ root s c) (done : time ≡ n) where
-    pub leaf-put : b ≡ boundAll s a (bindsOf s r) → boundAll s z (leftFrom s opened tested n c time) ≡ boundAll s b (leftFrom s opened tested n c 0)
-        → z ≡ boundAll s a (leafNumbers s opened (take n tested) c)
-    leaf-put e f =
-        let left = leftFrom s opened tested n c 0 in
-        put-nothing s z (leftFrom s opened tested n c time) (left-none s opened tested n c (omega (arith, asked .whole)) time done)
-        ∙ f
-        ∙ put-turn s a b (bindsOf s r) left (bindsOf s r ++ left) refl e
-        ∙ ap (λ (q : ℕ). boundAll s a (bindsOf s q ++ left)) is-root
+  pub leaf-put : (time : ℕ) (a b z : Bound) → time ≡ n → b ≡ boundAll s a (bindsOf s (root s c))
+      → boundAll s z (leftFrom s opened tested n c time) ≡ boundAll s b (leftFrom s opened tested n c 0) → z ≡ boundAll s a (leafNumbers s opened (take n tested) c)
+  leaf-put time a b z done e f =
+      put-nothing s z (leftFrom s opened tested n c time) (left-none s opened tested n c (omega (arith, asked .whole)) time done)
+      ∙ f
+      ∙ put-turn s a b (bindsOf s (root s c)) (leftFrom s opened tested n c 0) (leafNumbers s opened (take n tested) c) refl e

@@ -3,69 +3,127 @@
 use arena::writing;
 use matrix::wide;
 use sheet::Map;
-use sheet::records::child_at;
+use sheet::limits::CHILD_SIZE;
+use sheet::limits::PATTERN_SIZE;
+use sheet::records::PatternRecord;
+use sheet::records::Run;
 use sheet::records::children_of;
-use sheet::records::pattern_at;
+use sheet::records::pattern_from;
 use sheet::records::root_at;
 use table::CELL;
 use table::CLASS;
+use table::OWNER;
 use table::at;
-use table::is_test;
+use words::word_at;
 ghost use mathlib.Core.Path.{_≡_};
 ghost use Prim.Native.Nat.{_<_};
 ghost use lib.ListN.{getD, take};
 ghost use Rattle.rules.specs.Limits.{patternsMost};
-ghost use Rattle.rules.specs.SheetFile.{patterns, clauses};
+ghost use Rattle.rules.specs.SheetFile.{patternsAt, childrenAt, patterns, children, clauses, child, root};
+ghost use Rattle.facts.specs.SheetFacts.{Laid, Accepted};
+ghost use Rattle.sheet.specs.Records.{patternOf};
 ghost use Rattle.table.specs.Seen.{bindsOf, bindsOfEach};
+ghost use Rattle.table.specs.Tabled.{Tabled};
 ghost use Rattle.matrix.specs.Live.{openedTest};
 ghost use Rattle.matrix.specs.Bound.{numbersHeld};
 ghost use Rattle.matrix.specs.Ready.{Ready};
-ghost use Rattle.leaves.specs.Bindings.{bound, boundOne, boundAll, leafNumbers, Room, Entries, LeafAsked};
+ghost use Rattle.leaves.specs.Bindings.{bound, boundOne, boundAll, ownBinds, leafNumbers, Room, Started, Entries, SeenInside, LeafAsked};
 
 // The room for bindings. Where there are more, their number is told as one more than it.
 pub const BINDINGS_MOST: usize = 4096;
 
+// Pattern p, by the start of the patterns alone: a recursion that hands on no more of the map stores no more of it at each call.
+fn pattern_in(s: &[u8], start: usize, p: usize) -> PatternRecord
+    requires { ⌜ Laid (now s) × (start ≡ patternsAt (now s)) × (p < patterns (now s)) ⌝ }
+    ensures { λ r. ⌜ r ≡ patternOf (now (s .entry)) p ⌝ }
+{
+    pattern_from(s, start + PATTERN_SIZE * p)
+}
+
+// Entry j of the child list, by its start alone.
+fn child_in(s: &[u8], start: usize, j: usize) -> usize
+    requires { ⌜ Laid (now s) × (start ≡ childrenAt (now s)) × (j < children (now s)) ⌝ }
+    ensures { λ r. ⌜ r ≡ child (now (s .entry)) j ⌝ }
+{
+    word_at(s, start + CHILD_SIZE * j) as usize
+}
+
 // The binding of pattern p, behind the `top` bindings there are.
-fn put_binding(s: &[u8], m: Map, t: &[u8], p: usize, work: &mut [u8], top: usize) -> usize
-    requires { ⌜ Ready (now s) m (now t) × (p < patterns (now s)) × Room (now work) top ⌝ }
+fn put_binding(s: &[u8], records: usize, t: &[u8], p: usize, work: &mut [u8], top: usize) -> usize
+    requires { ⌜ Accepted (now s) × Tabled (now s) (now t) × (records ≡ patternsAt (now s)) × (p < patterns (now s)) × Room (now work) top ⌝ }
     ensures { λ r. ⌜ bound (now (work .exit)) r ≡ boundOne (now (s .entry)) (bound (now (work .entry)) top) p ⌝ }
 {
     if top >= BINDINGS_MOST {
         return BINDINGS_MOST + 1;
     }
-    let r = pattern_at(s, m, p);
+    let r = pattern_in(s, records, p);
     let class = at(t, CLASS + p);
     writing::put_binding(work, top, r.a as u16, class as u16);
     top + 1
 }
 
-// The bindings of pattern p: one decision over kinds 0 to 9. A test binds nothing until it is opened.
-fn put_bindings(s: &[u8], m: Map, t: &[u8], p: usize, work: &mut [u8], top: usize) -> usize
-    requires { ⌜ Ready (now s) m (now t) × (p < patterns (now s)) × Room (now work) top ⌝ }
-    ensures { λ r. ⌜ bound (now (work .exit)) r ≡ boundAll (now (s .entry)) (bound (now (work .entry)) top) (bindsOf (now (s .entry)) p) ⌝ }
+// Pattern p's own binding: a variable and an assign have one.
+fn put_own(s: &[u8], records: usize, t: &[u8], p: usize, work: &mut [u8], top: usize) -> usize
+    requires { ⌜ Accepted (now s) × Tabled (now s) (now t) × (records ≡ patternsAt (now s)) × (p < patterns (now s)) × Room (now work) top ⌝ }
+    ensures { λ r. ⌜ bound (now (work .exit)) r ≡ boundAll (now (s .entry)) (bound (now (work .entry)) top) (ownBinds (now (s .entry)) p) ⌝ }
 {
-    let r = pattern_at(s, m, p);
+    let r = pattern_in(s, records, p);
     let kind = r.kind;
     match kind {
-        1 => put_binding(s, m, t, p, work, top),
-        2 => {
-            let next = put_binding(s, m, t, p, work, top);
-            put_bindings(s, m, t, child_at(s, m, r.first), work, next)
-        }
-        7 | 8 | 9 => {
-            if is_test(s, m, t, p) {
-                return top;
-            }
-            put_all_bindings(s, m, t, p, r.first, r.count, work, top)
-        }
+        1 | 2 => put_binding(s, records, t, p, work, top),
         _ => top,
     }
+}
+
+// What is seen inside of pattern p: its children, but of a test nothing until it is opened. A test is what its children are inside of.
+fn seen_inside(s: &[u8], records: usize, list: usize, t: &[u8], p: usize) -> Run
+    requires { ⌜ Started (now s) (now t) records list × (p < patterns (now s)) ⌝ }
+    ensures { λ r. ⌜ SeenInside (now (s .entry)) p r ⌝ }
+{
+    let r = pattern_in(s, records, p);
+    let first = r.first;
+    let count = r.count;
+    if r.kind == 2 {
+        return Run { first, count };
+    }
+    if r.kind < 7 {
+        return Run { first: 0, count: 0 };
+    }
+    if count == 0 {
+        return Run { first: 0, count: 0 };
+    }
+    if at(t, OWNER + child_in(s, list, first)) == p + 1 {
+        return Run { first: 0, count: 0 };
+    }
+    Run { first, count }
+}
+
+// The bindings of pattern p: its own, then those seen inside it.
+fn put_bindings(
+    s: &[u8],
+    records: usize,
+    list: usize,
+    t: &[u8],
+    p: usize,
+    work: &mut [u8],
+    top: usize,
+) -> usize
+    requires { ⌜ Started (now s) (now t) records list × (p < patterns (now s)) × Room (now work) top ⌝ }
+    ensures { λ r. ⌜ bound (now (work .exit)) r ≡ boundAll (now (s .entry)) (bound (now (work .entry)) top) (bindsOf (now (s .entry)) p) ⌝ }
+{
+    let next = put_own(s, records, t, p, work, top);
+    let run = seen_inside(s, records, list, t, p);
+    if run.count == 0 {
+        return next;
+    }
+    put_all_bindings(s, records, list, t, p, run.first, run.count, work, next)
 }
 
 // The bindings of n children of `parent` from entry j on. A child has a larger number than its parent, so that the two functions end.
 fn put_all_bindings(
     s: &[u8],
-    m: Map,
+    records: usize,
+    list: usize,
     t: &[u8],
     parent: usize,
     j: usize,
@@ -73,14 +131,34 @@ fn put_all_bindings(
     work: &mut [u8],
     top: usize,
 ) -> usize
-    requires { ⌜ Ready (now s) m (now t) × Entries (now s) parent j n × Room (now work) top ⌝ }
+    requires { ⌜ Started (now s) (now t) records list × Entries (now s) parent j n × Room (now work) top ⌝ }
     ensures { λ r. ⌜ bound (now (work .exit)) r ≡ boundAll (now (s .entry)) (bound (now (work .entry)) top) (bindsOfEach (now (s .entry)) j n) ⌝ }
 {
-    if n == 0 {
-        return top;
+    let mut next = top;
+    let mut k: usize = 0;
+    while k < n {
+        let q = child_in(s, list, j + k);
+        next = put_bindings(s, records, list, t, q, work, next);
+        k += 1;
     }
-    let next = put_bindings(s, m, t, child_at(s, m, j), work, top);
-    put_all_bindings(s, m, t, parent, j + 1, n - 1, work, next)
+    next
+}
+
+// The bindings of clause c's root. They are put as put_bindings puts them, and not by a call of it: the loop over children alone calls
+// it, so that it is compiled into that loop, and a call is made only for a pattern with something inside.
+fn put_root(s: &[u8], m: Map, t: &[u8], c: usize, work: &mut [u8], top: usize) -> usize
+    requires { ⌜ Ready (now s) m (now t) × (c < clauses (now s)) × Room (now work) top ⌝ }
+    ensures { λ r. ⌜ bound (now (work .exit)) r ≡ boundAll (now (s .entry)) (bound (now (work .entry)) top) (bindsOf (now (s .entry)) (root (now (s .entry)) c)) ⌝ }
+{
+    let records = m.at.patterns;
+    let list = m.at.children;
+    let p = root_at(s, m, c);
+    let own = put_own(s, records, t, p, work, top);
+    let run = seen_inside(s, records, list, t, p);
+    if run.count == 0 {
+        return own;
+    }
+    put_all_bindings(s, records, list, t, p, run.first, run.count, work, own)
 }
 
 // What clause c's test in the column of the class opened, if it was opened as that column was tested, after `time` others.
@@ -107,7 +185,20 @@ fn put_opened(
         return top;
     }
     let run = children_of(s, m, p);
-    put_all_bindings(s, m, t, p, run.first, run.count, work, top)
+    if run.count == 0 {
+        return top;
+    }
+    put_all_bindings(
+        s,
+        m.at.patterns,
+        m.at.children,
+        t,
+        p,
+        run.first,
+        run.count,
+        work,
+        top,
+    )
 }
 
 // The class at a place of a list.
@@ -133,7 +224,7 @@ pub fn leaf_bindings<'a>(
     requires { ⌜ Ready (now s) m (now t) × LeafAsked (now s) c (now tested) n × Room (now work) top ⌝ }
     ensures { λ r. ⌜ bound (now (work .exit)) r ≡ boundAll (now (s .entry)) (bound (now (work .entry)) top) (leafNumbers (now (s .entry)) (now (opened .entry)) (take n (now (tested .entry))) c) ⌝ }
 {
-    let mut next = put_bindings(s, m, t, root_at(s, m, c), work, top);
+    let mut next = put_root(s, m, t, c, work, top);
     let mut time: usize = 0;
     while time < n {
         let class = class_at(tested, time);

@@ -1,14 +1,12 @@
 use borrow.Author.Needs.{needs}
-use mathlib.Core.Path.{refl, sym, ap, _∙_}
-use mathlib.Core.Logic.{inl, inr}
-use mathlib.Core.List.{[], _∷_, _++_}
-use Prim.Native.Nat.{ℕ, _+_, _-_, _*_, _<_}
+use mathlib.Core.Path.{_≡_, refl, ap, _∙_}
+use Prim.Native.Nat.{ℕ, _+_, _-_, _*_, _≤_, _<_}
 use native.Mathlib.Omega.{arith}
+use lib.ListN.{length}
 use Rattle.rules.specs.SheetFile.{child}
 use Rattle.table.specs.Seen.{bindsOf, bindsOfEach}
-use Rattle.table.specs.SeenLaws.{binds-each-none, binds-each-some}
-use Rattle.leaves.specs.Bindings.{bound}
-use Rattle.leaves.specs.PuttingLaws.{put-one, put-run, put-more, put-nothing, room-after, variable-binds, assign-owns, assign-binds, test-binds, parts-owned, parts-binds, others-bind, children-few, first-owned, rest-owned, owned-below}
+use Rattle.leaves.specs.Bindings.{bound, boundAll, ownBinds, Room}
+use Rattle.leaves.specs.PuttingLaws.{put-run, put-more, put-turn, put-nothing, length-after, room-after, nothing-inside, eachFrom, each-first, each-more, each-none, entry-below}
 use borrow.Fn.Kinds.{In}
 use borrow.Fn.PlainCycle.{Measures, is, falls, and}
 use Rattle.leaves.proofs.put_all_bindings.Reads as put-all-bindings
@@ -17,18 +15,17 @@ use Rattle.leaves.proofs.+put_all_bindings+put_bindings.Lts-put_all_bin
 use Rattle.leaves.proofs.put_bindings.Reads as put-bindings
 use Rattle.leaves.proofs.put_bindings.Kinds as put-bindings-kinds
 use Rattle.leaves.proofs.+put_all_bindings+put_bindings.Lts-put_bindings as put-bindings-lts
-use Rattle.leaves.proofs.put_binding.Reads as put-binding-reads
-use Rattle.sheet.proofs.records.child_at.Reads as child-at-reads
-use Rattle.sheet.proofs.records.pattern_at.Reads as pattern-at-reads
-use Rattle.table.proofs.is_test.Reads as is-test-reads
+use Rattle.leaves.proofs.child_in.Reads as child-in-reads
+use Rattle.leaves.proofs.put_own.Reads as put-own-reads
+use Rattle.leaves.proofs.seen_inside.Reads as seen-inside-reads
 use Rattle.leaves.proofs.+put_all_bindings+put_bindings.{statement}
 use Rattle.leaves.proofs.+put_all_bindings+put_bindings.Tie.{close}
 
 abbrev μ-put-all-bindings : Measures 3 put-all-bindings-kinds.ps ℕ
-μ-put-all-bindings κs a = (191 - a .1 .1 .1 .0) * 256 + (a .1 .1 .1 .1 .1 .0 + 1)
+μ-put-all-bindings κs a = (191 - a .1 .1 .1 .1 .0) * 2 + 1
 
 abbrev μ-put-bindings : Measures 3 put-bindings-kinds.ps ℕ
-μ-put-bindings κs a = (192 - a .1 .1 .1 .0) * 256
+μ-put-bindings κs a = (192 - a .1 .1 .1 .1 .0) * 2
 
 abbrev put-all-bindings-at : ℕ → In 3 put-all-bindings-kinds.ps
 put-all-bindings-at t =
@@ -58,493 +55,239 @@ put-bindings-below t =
     (falls 3 put-bindings-kinds.ps _<_ μ-put-bindings t)
     put-bindings.Pre
 
-put-all-bindings-returns : (t : ℕ) → put-all-bindings-lts.Need-returns (
-  child-at-reads.Asked,
-  child-at-reads.Learnt,
-  put-bindings-below t,
-  put-bindings.Post,
-  put-all-bindings-below t,
-  put-all-bindings.Post,
-) (put-all-bindings-at t) put-all-bindings.Post
-put-all-bindings-returns t c = let a = c .before .before .before .before in
-    put-nothing (a .args .s .now) (bound (a .args .work .now) (a .args .top)) (bindsOfEach (a .args .s .now) (a .args .j) (a .args .n))
-    (ap (λ (k : ℕ). bindsOfEach (a .args .s .now) (a .args .j) k) (c .if1 .taken) ∙ binds-each-none (a .args .s .now) (a .args .j))
+abbrev put-all-bindings-Inv-loop : put-all-bindings-lts.InvT-loop
+put-all-bindings-Inv-loop s records list t parent j n work₀ top next₀ k₀ work next k = (k ≤ n) × Room work next × (length work ≡ length work₀) × (boundAll s (bound work next) (eachFrom s j n k) ≡ boundAll s (bound work₀ next₀) (bindsOfEach s j n))
 
-put-all-bindings-child-at-requires : (t : ℕ) → put-all-bindings-lts.Need-child-at-requires (
-  child-at-reads.Asked,
-  child-at-reads.Learnt,
+abbrev put-all-bindings-μ-loop : put-all-bindings-lts.MeasureT-loop
+put-all-bindings-μ-loop s records list t parent j n work₀ top next₀ k₀ work next k = n - k
+
+put-all-bindings-loop-holds : (t : ℕ) → put-all-bindings-lts.Need-loop-holds (
+  child-in-reads.Asked,
+  child-in-reads.Learnt,
   put-bindings-below t,
   put-bindings.Post,
-  put-all-bindings-below t,
-  put-all-bindings.Post,
-) (put-all-bindings-at t) put-all-bindings.Post
-put-all-bindings-child-at-requires t c κs = let a = c .before .before .before .before in
-    let s = a .args .s .now in
-    let ok = a .pre .1 .0 .checked in
-    let children = a .pre .1 .1 in
-    let own = first-owned s (a .args .m) ok (a .args .parent) (a .args .j) (a .args .n) children (c .if1 .left) in
-    (ok .ok .is-laid, ok .is-map, owned-below s (a .args .m) ok (a .args .parent) (a .args .j) (child s (a .args .j)) (children .known) own refl .0)
+) (put-all-bindings-at t) put-all-bindings.Post put-all-bindings-Inv-loop put-all-bindings-μ-loop
+put-all-bindings-loop-holds t c =
+    let a = c .before .before .before in
+    (omega arith, a .pre .1 .2, refl, ap (boundAll (a .args .s .now) (bound (a .args .work .now) (a .args .top))) (each-first (a .args .s .now) (a .args .j) (a .args .n)))
+
+put-all-bindings-add-child-in : (t : ℕ) → put-all-bindings-lts.Need-add-child-in (
+  child-in-reads.Asked,
+  child-in-reads.Learnt,
+  put-bindings-below t,
+  put-bindings.Post,
+) (put-all-bindings-at t) put-all-bindings.Post put-all-bindings-Inv-loop put-all-bindings-μ-loop
+put-all-bindings-add-child-in t c =
+    let a = c .before .before .before .before .before in
+    omega (arith, entry-below (a .args .s .now) (a .pre .1 .0 .ok) (a .args .parent) (a .args .j) (a .args .n) (a .pre .1 .1) (c .before .loop .k) (child (a .args .s .now) (a .args .j + c .before .loop .k)) (c .loop-test .taken) refl)
+
+put-all-bindings-child-in-requires : (t : ℕ) → put-all-bindings-lts.Need-child-in-requires (
+  child-in-reads.Asked,
+  child-in-reads.Learnt,
+  put-bindings-below t,
+  put-bindings.Post,
+) (put-all-bindings-at t) put-all-bindings.Post put-all-bindings-Inv-loop put-all-bindings-μ-loop
+put-all-bindings-child-in-requires t c κs =
+    let a = c .before .before .before .before .before in
+    (a .pre .1 .0 .ok .is-laid, a .pre .1 .0 .from-children, entry-below (a .args .s .now) (a .pre .1 .0 .ok) (a .args .parent) (a .args .j) (a .args .n) (a .pre .1 .1) (c .before .loop .k) (child (a .args .s .now) (a .args .j + c .before .loop .k)) (c .loop-test .taken) refl .0)
 
 put-all-bindings-put-bindings-requires : (t : ℕ) → put-all-bindings-lts.Need-put-bindings-requires (
-  child-at-reads.Asked,
-  child-at-reads.Learnt,
+  child-in-reads.Asked,
+  child-in-reads.Learnt,
   put-bindings-below t,
   put-bindings.Post,
-  put-all-bindings-below t,
-  put-all-bindings.Post,
-) (put-all-bindings-at t) put-all-bindings.Post
-put-all-bindings-put-bindings-requires t c κs = let a = c .before .before .before .before .before .before in
-    let s = a .args .s .now in
-    let ok = a .pre .1 .0 .checked in
-    let children = a .pre .1 .1 in
-    let own = first-owned s (a .args .m) ok (a .args .parent) (a .args .j) (a .args .n) children (c .before .before .if1 .left) in
-    let below = owned-below s (a .args .m) ok (a .args .parent) (a .args .j) (c .before .child-at .result) (children .known) own (c .before .child-at .ensures) in
-    (omega (arith, a .pre .0, below), (a .pre .1 .0, below .1, a .pre .1 .2))
+) (put-all-bindings-at t) put-all-bindings.Post put-all-bindings-Inv-loop put-all-bindings-μ-loop
+put-all-bindings-put-bindings-requires t c κs =
+    let a = c .before .before .before .before .before .before .before in
+    let below = entry-below (a .args .s .now) (a .pre .1 .0 .ok) (a .args .parent) (a .args .j) (a .args .n) (a .pre .1 .1) (c .before .before .before .loop .k) (c .before .child-in .result) (c .before .before .loop-test .taken) (c .before .child-in .ensures) in
+    (omega (arith, a .pre .0, below), (a .pre .1 .0, below .1, c .before .before .before .loop .inv .1))
 
-put-all-bindings-add-put-all-bindings : (t : ℕ) → put-all-bindings-lts.Need-add-put-all-bindings (
-  child-at-reads.Asked,
-  child-at-reads.Learnt,
+put-all-bindings-add-k : (t : ℕ) → put-all-bindings-lts.Need-add-k (
+  child-in-reads.Asked,
+  child-in-reads.Learnt,
   put-bindings-below t,
   put-bindings.Post,
-  put-all-bindings-below t,
-  put-all-bindings.Post,
-) (put-all-bindings-at t) put-all-bindings.Post
-put-all-bindings-add-put-all-bindings t c = let a = c .before .before .before .before .before .before .before .before .before in
-    let s = a .args .s .now in
-    let ok = a .pre .1 .0 .checked in
-    let children = a .pre .1 .1 in
-    let own = first-owned s (a .args .m) ok (a .args .parent) (a .args .j) (a .args .n) children (c .before .before .before .before .before .if1 .left) in
-    omega (arith, owned-below s (a .args .m) ok (a .args .parent) (a .args .j) (child s (a .args .j)) (children .known) own refl .0, ok .ok .is-counted .children-most)
+) (put-all-bindings-at t) put-all-bindings.Post put-all-bindings-Inv-loop put-all-bindings-μ-loop
+put-all-bindings-add-k t c = omega (arith, c .before .before .before .before .before .loop-test .taken)
 
-put-all-bindings-sub-put-all-bindings : (t : ℕ) → put-all-bindings-lts.Need-sub-put-all-bindings (
-  child-at-reads.Asked,
-  child-at-reads.Learnt,
+put-all-bindings-loop-less : (t : ℕ) → put-all-bindings-lts.Need-loop-less (
+  child-in-reads.Asked,
+  child-in-reads.Learnt,
   put-bindings-below t,
   put-bindings.Post,
-  put-all-bindings-below t,
-  put-all-bindings.Post,
-) (put-all-bindings-at t) put-all-bindings.Post
-put-all-bindings-sub-put-all-bindings t c = search needs
+) (put-all-bindings-at t) put-all-bindings.Post put-all-bindings-Inv-loop put-all-bindings-μ-loop
+put-all-bindings-loop-less t c = omega (arith, c .before .before .before .before .before .loop-test .taken)
 
-put-all-bindings-put-all-bindings-requires :
-    (t : ℕ) → put-all-bindings-lts.Need-put-all-bindings-requires (
-      child-at-reads.Asked,
-      child-at-reads.Learnt,
-      put-bindings-below t,
-      put-bindings.Post,
-      put-all-bindings-below t,
-      put-all-bindings.Post,
-    ) (put-all-bindings-at t) put-all-bindings.Post
-put-all-bindings-put-all-bindings-requires t c κs = let a = c .before .before .before .before .before .before .before .before .before .before in
+put-all-bindings-loop-again : (t : ℕ) → put-all-bindings-lts.Need-loop-again (
+  child-in-reads.Asked,
+  child-in-reads.Learnt,
+  put-bindings-below t,
+  put-bindings.Post,
+) (put-all-bindings-at t) put-all-bindings.Post put-all-bindings-Inv-loop put-all-bindings-μ-loop
+put-all-bindings-loop-again t c =
+    let a = c .before .before .before .before .before .before .before .before .before .before in
     let s = a .args .s .now in
-    let ok = a .pre .1 .0 .checked in
-    let children = a .pre .1 .1 in
-    let put = c .before .before .before .put-bindings in (
-      omega (arith, a .pre .0, c .before .before .before .before .before .before .if1 .left),
-      (
-        a .pre .1 .0,
-        rest-owned s (a .args .m) ok (a .args .parent) (a .args .j) (a .args .n) children (c .before .before .before .before .before .before .if1 .left),
-        room-after s (a .args .work .now) (put .last .1 .1 .1 .1 .0) (a .args .top) (put .result) (bindsOf s (c .before .before .before .before .before .child-at .result)) (a .pre .1 .2) (put .ensures),
-      ),
+    let loop = c .before .before .before .before .before .before .loop in
+    let more = c .before .before .before .before .before .loop-test .taken in
+    let q = c .before .before .before .before .child-in in
+    let put = c .before .before .put-bindings in
+    let after = put .last .1 .1 .1 .1 .1 .0 in (
+      omega (arith, more),
+      room-after s (loop .work) after (loop .next) (put .result) (bindsOf s (q .result)) (loop .inv .1) (put .ensures),
+      length-after s (loop .work) after (loop .next) (put .result) (bindsOf s (q .result)) (put .ensures) ∙ loop .inv .2,
+      put-turn s (bound (loop .work) (loop .next)) (bound after (put .result)) (bindsOf s (q .result)) (eachFrom s (a .args .j) (a .args .n) (loop .k + 1)) (eachFrom s (a .args .j) (a .args .n) (loop .k))
+          (each-more s (a .args .j) (a .args .n) (loop .k) (q .result) more (q .ensures)) (put .ensures)
+          ∙ loop .inv .3,
     )
 
 put-all-bindings-same-length : (t : ℕ) → put-all-bindings-lts.Need-same-length (
-  child-at-reads.Asked,
-  child-at-reads.Learnt,
+  child-in-reads.Asked,
+  child-in-reads.Learnt,
   put-bindings-below t,
   put-bindings.Post,
-  put-all-bindings-below t,
-  put-all-bindings.Post,
-) (put-all-bindings-at t) put-all-bindings.Post
-put-all-bindings-same-length t c = search needs
+) (put-all-bindings-at t) put-all-bindings.Post put-all-bindings-Inv-loop put-all-bindings-μ-loop
+put-all-bindings-same-length t c = c .before .loop .inv .2
 
-put-all-bindings-returns-2 : (t : ℕ) → put-all-bindings-lts.Need-returns-2 (
-  child-at-reads.Asked,
-  child-at-reads.Learnt,
+put-all-bindings-returns : (t : ℕ) → put-all-bindings-lts.Need-returns (
+  child-in-reads.Asked,
+  child-in-reads.Learnt,
   put-bindings-below t,
   put-bindings.Post,
-  put-all-bindings-below t,
-  put-all-bindings.Post,
-) (put-all-bindings-at t) put-all-bindings.Post
-put-all-bindings-returns-2 t c = let a = c .before .before .before .before .before .before .before .before .before .before .before .before .before in
+) (put-all-bindings-at t) put-all-bindings.Post put-all-bindings-Inv-loop put-all-bindings-μ-loop
+put-all-bindings-returns t c =
+    let a = c .before .before .before .before .before in
     let s = a .args .s .now in
-    let j = a .args .j in
-    let n = a .args .n in
-    let q = c .before .before .before .before .before .before .before .before .child-at .result in
-    let put = c .before .before .before .before .before .before .put-bindings in
-    let rest = c .before .before .put-all-bindings in
-    put-more s (bound (a .args .work .now) (a .args .top)) (bound (put .last .1 .1 .1 .1 .0) (put .result)) (bound (rest .last .1 .1 .1 .1 .1 .1 .0) (rest .result))
-    (bindsOf s q) (bindsOfEach s (j + 1) (n - 1)) (bindsOfEach s j n)
-    (binds-each-some s j n (c .before .before .before .before .before .before .before .before .before .if1 .left) ∙ ap (λ (k : ℕ). bindsOf s k ++ bindsOfEach s (j + 1) (n - 1)) (sym (c .before .before .before .before .before .before .before .before .child-at .ensures)))
-    (put .ensures) (rest .ensures)
+    let loop = c .before .loop in
+    put-nothing s (bound (loop .work) (loop .next)) (eachFrom s (a .args .j) (a .args .n) (loop .k)) (each-none s (a .args .j) (a .args .n) (loop .k) (omega (arith, c .loop-test .left, loop .inv .0)))
+    ∙ loop .inv .3
 
-put-bindings-pattern-at-requires : (t : ℕ) → put-bindings-lts.Need-pattern-at-requires (
-  pattern-at-reads.Asked,
-  pattern-at-reads.Learnt,
-  put-binding-reads.Asked,
-  put-binding-reads.Learnt,
-  child-at-reads.Asked,
-  child-at-reads.Learnt,
-  put-bindings-below t,
-  put-bindings.Post,
-  is-test-reads.Asked,
-  is-test-reads.Learnt,
+put-bindings-put-own-requires : (t : ℕ) → put-bindings-lts.Need-put-own-requires (
+  put-own-reads.Asked,
+  put-own-reads.Learnt,
+  seen-inside-reads.Asked,
+  seen-inside-reads.Learnt,
   put-all-bindings-below t,
   put-all-bindings.Post,
 ) (put-bindings-at t) put-bindings.Post
-put-bindings-pattern-at-requires t c κs = let a = c .before .before .before in (a .pre .1 .0 .checked .ok .is-laid, a .pre .1 .0 .checked .is-map, a .pre .1 .1)
+put-bindings-put-own-requires t c κs =
+    let a = c .before .before .before .before in
+    (a .pre .1 .0 .ok, a .pre .1 .0 .tabled, a .pre .1 .0 .from-patterns, a .pre .1 .1, a .pre .1 .2)
 
-put-bindings-put-binding-requires : (t : ℕ) → put-bindings-lts.Need-put-binding-requires (
-  pattern-at-reads.Asked,
-  pattern-at-reads.Learnt,
-  put-binding-reads.Asked,
-  put-binding-reads.Learnt,
-  child-at-reads.Asked,
-  child-at-reads.Learnt,
-  put-bindings-below t,
-  put-bindings.Post,
-  is-test-reads.Asked,
-  is-test-reads.Learnt,
+put-bindings-seen-inside-requires : (t : ℕ) → put-bindings-lts.Need-seen-inside-requires (
+  put-own-reads.Asked,
+  put-own-reads.Learnt,
+  seen-inside-reads.Asked,
+  seen-inside-reads.Learnt,
   put-all-bindings-below t,
   put-all-bindings.Post,
 ) (put-bindings-at t) put-bindings.Post
-put-bindings-put-binding-requires t c κs = c .before .before .before .before .before .before .pre .1
-
-put-bindings-put-binding-requires-2 : (t : ℕ) → put-bindings-lts.Need-put-binding-requires-2 (
-  pattern-at-reads.Asked,
-  pattern-at-reads.Learnt,
-  put-binding-reads.Asked,
-  put-binding-reads.Learnt,
-  child-at-reads.Asked,
-  child-at-reads.Learnt,
-  put-bindings-below t,
-  put-bindings.Post,
-  is-test-reads.Asked,
-  is-test-reads.Learnt,
-  put-all-bindings-below t,
-  put-all-bindings.Post,
-) (put-bindings-at t) put-bindings.Post
-put-bindings-put-binding-requires-2 t c κs = c .before .before .before .before .before .before .pre .1
-
-put-bindings-child-at-requires : (t : ℕ) → put-bindings-lts.Need-child-at-requires (
-  pattern-at-reads.Asked,
-  pattern-at-reads.Learnt,
-  put-binding-reads.Asked,
-  put-binding-reads.Learnt,
-  child-at-reads.Asked,
-  child-at-reads.Learnt,
-  put-bindings-below t,
-  put-bindings.Post,
-  is-test-reads.Asked,
-  is-test-reads.Learnt,
-  put-all-bindings-below t,
-  put-all-bindings.Post,
-) (put-bindings-at t) put-bindings.Post
-put-bindings-child-at-requires t c κs = let a = c .before .before .before .before .before .before .before .before .before in
-    let s = a .args .s .now in
-    let ok = a .pre .1 .0 .checked in
-    let r = c .before .before .before .before .before .pattern-at in
-    let own = assign-owns s (a .args .m) ok (a .args .p) (a .pre .1 .1) (r .result) (r .ensures) (c .before .before .before .before .match .keys2) in
-    (ok .ok .is-laid, ok .is-map, owned-below s (a .args .m) ok (a .args .p) (r .result .first) (child s (r .result .first)) (a .pre .1 .1) own refl .0)
-
-put-bindings-put-bindings-requires : (t : ℕ) → put-bindings-lts.Need-put-bindings-requires (
-  pattern-at-reads.Asked,
-  pattern-at-reads.Learnt,
-  put-binding-reads.Asked,
-  put-binding-reads.Learnt,
-  child-at-reads.Asked,
-  child-at-reads.Learnt,
-  put-bindings-below t,
-  put-bindings.Post,
-  is-test-reads.Asked,
-  is-test-reads.Learnt,
-  put-all-bindings-below t,
-  put-all-bindings.Post,
-) (put-bindings-at t) put-bindings.Post
-put-bindings-put-bindings-requires t c κs = let a = c .before .before .before .before .before .before .before .before .before .before .before in
-    let s = a .args .s .now in
-    let ok = a .pre .1 .0 .checked in
-    let r = c .before .before .before .before .before .before .before .pattern-at in
-    let put = c .before .before .before .before .put-binding2 in
-    let own = assign-owns s (a .args .m) ok (a .args .p) (a .pre .1 .1) (r .result) (r .ensures) (c .before .before .before .before .before .before .match .keys2) in
-    let below = owned-below s (a .args .m) ok (a .args .p) (r .result .first) (c .before .child-at .result) (a .pre .1 .1) own (c .before .child-at .ensures) in
-    let x = bound (a .args .work .now) (a .args .top) in
-    let y = bound (put .last .1 .1 .1 .1 .0) (put .result) in (
-      omega (arith, a .pre .0, below),
-      (
-        a .pre .1 .0,
-        below .1,
-        room-after s (a .args .work .now) (put .last .1 .1 .1 .1 .0) (a .args .top) (put .result) (a .args .p ∷ []) (a .pre .1 .2) (put-one s x y (a .args .p) (put .ensures)),
-      ),
-    )
-
-put-bindings-is-test-requires : (t : ℕ) → put-bindings-lts.Need-is-test-requires (
-  pattern-at-reads.Asked,
-  pattern-at-reads.Learnt,
-  put-binding-reads.Asked,
-  put-binding-reads.Learnt,
-  child-at-reads.Asked,
-  child-at-reads.Learnt,
-  put-bindings-below t,
-  put-bindings.Post,
-  is-test-reads.Asked,
-  is-test-reads.Learnt,
-  put-all-bindings-below t,
-  put-all-bindings.Post,
-) (put-bindings-at t) put-bindings.Post
-put-bindings-is-test-requires t c κs = let a = c .before .before .before .before .before .before .before in (a .pre .1 .0 .checked, a .pre .1 .0 .tabled .long, a .pre .1 .1, (a .pre .1 .0 .tabled .placed (a .args .p) (a .pre .1 .1)) .type)
-
-put-bindings-returns : (t : ℕ) → put-bindings-lts.Need-returns (
-  pattern-at-reads.Asked,
-  pattern-at-reads.Learnt,
-  put-binding-reads.Asked,
-  put-binding-reads.Learnt,
-  child-at-reads.Asked,
-  child-at-reads.Learnt,
-  put-bindings-below t,
-  put-bindings.Post,
-  is-test-reads.Asked,
-  is-test-reads.Learnt,
-  put-all-bindings-below t,
-  put-all-bindings.Post,
-) (put-bindings-at t) put-bindings.Post
-put-bindings-returns t c = let a = c .before .before .before .before .before .before .before .before .before in
-    let s = a .args .s .now in
-    let r = c .before .before .before .before .before .pattern-at in
-    put-nothing s (bound (a .args .work .now) (a .args .top)) (bindsOf s (a .args .p))
-    (test-binds s (a .args .m) (a .pre .1 .0 .checked) (a .args .p) (a .pre .1 .1) (r .result) (r .ensures) (c .before .is-test .result) (c .before .is-test .ensures) (c .if3 .taken))
-
-put-bindings-put-all-bindings-requires : (t : ℕ) → put-bindings-lts.Need-put-all-bindings-requires (
-  pattern-at-reads.Asked,
-  pattern-at-reads.Learnt,
-  put-binding-reads.Asked,
-  put-binding-reads.Learnt,
-  child-at-reads.Asked,
-  child-at-reads.Learnt,
-  put-bindings-below t,
-  put-bindings.Post,
-  is-test-reads.Asked,
-  is-test-reads.Learnt,
-  put-all-bindings-below t,
-  put-all-bindings.Post,
-) (put-bindings-at t) put-bindings.Post
-put-bindings-put-all-bindings-requires t c κs = let a = c .before .before .before .before .before .before .before .before .before .before in
-    let s = a .args .s .now in
-    let ok = a .pre .1 .0 .checked in
-    let r = c .before .before .before .before .before .before .pattern-at in
-    let children = parts-owned s (a .args .m) ok (a .args .p) (a .pre .1 .1) (r .result) (r .ensures) (c .before .before .before .before .if1 .left) (c .before .before .before .if2 .taken) in
-    let few = children-few s (a .args .m) ok (a .args .p) (r .result .first) (r .result .count) children in
-    (omega (arith, a .pre .0, few, a .pre .1 .1, ok .ok .is-counted .patterns-most), (a .pre .1 .0, children, a .pre .1 .2))
+put-bindings-seen-inside-requires t c κs = let a = c .before .before .before .before .before .before .before in (a .pre .1 .0, a .pre .1 .1)
 
 put-bindings-same-length : (t : ℕ) → put-bindings-lts.Need-same-length (
-  pattern-at-reads.Asked,
-  pattern-at-reads.Learnt,
-  put-binding-reads.Asked,
-  put-binding-reads.Learnt,
-  child-at-reads.Asked,
-  child-at-reads.Learnt,
-  put-bindings-below t,
-  put-bindings.Post,
-  is-test-reads.Asked,
-  is-test-reads.Learnt,
+  put-own-reads.Asked,
+  put-own-reads.Learnt,
+  seen-inside-reads.Asked,
+  seen-inside-reads.Learnt,
   put-all-bindings-below t,
   put-all-bindings.Post,
 ) (put-bindings-at t) put-bindings.Post
 put-bindings-same-length t c = search needs
 
-put-bindings-returns-2 : (t : ℕ) → put-bindings-lts.Need-returns-2 (
-  pattern-at-reads.Asked,
-  pattern-at-reads.Learnt,
-  put-binding-reads.Asked,
-  put-binding-reads.Learnt,
-  child-at-reads.Asked,
-  child-at-reads.Learnt,
-  put-bindings-below t,
-  put-bindings.Post,
-  is-test-reads.Asked,
-  is-test-reads.Learnt,
+put-bindings-returns : (t : ℕ) → put-bindings-lts.Need-returns (
+  put-own-reads.Asked,
+  put-own-reads.Learnt,
+  seen-inside-reads.Asked,
+  seen-inside-reads.Learnt,
   put-all-bindings-below t,
   put-all-bindings.Post,
 ) (put-bindings-at t) put-bindings.Post
-put-bindings-returns-2 t c = let a = c .before .before .before .before .before .before .before .before .before in
+put-bindings-returns t c =
+    let a = c .before .before .before .before .before .before .before .before .before .before in
     let s = a .args .s .now in
-    let r = c .before .before .before .before .before .pattern-at in
-    let put = c .before .before .put-binding in
-    let x = bound (a .args .work .now) (a .args .top) in
-    let y = bound (put .last .1 .1 .1 .1 .0) (put .result) in
-    put-run s x y (a .args .p ∷ []) (bindsOf s (a .args .p))
-    (variable-binds s (a .args .m) (a .pre .1 .0 .checked) (a .args .p) (a .pre .1 .1) (r .result) (r .ensures) (c .before .before .before .before .match .keys1))
-    (put-one s x y (a .args .p) (put .ensures))
+    let own = c .before .before .before .before .before .put-own in
+    let run = c .before .before .seen-inside in
+    put-run s (bound (a .args .work .now) (a .args .top)) (bound (own .last .1 .1 .1 .1 .0) (own .result)) (ownBinds s (a .args .p)) (bindsOf s (a .args .p))
+    (nothing-inside s (a .pre .1 .0 .ok) (a .args .p) (a .pre .1 .1) (run .result) (run .ensures) (c .if1 .taken)) (own .ensures)
+
+put-bindings-put-all-bindings-requires : (t : ℕ) → put-bindings-lts.Need-put-all-bindings-requires (
+  put-own-reads.Asked,
+  put-own-reads.Learnt,
+  seen-inside-reads.Asked,
+  seen-inside-reads.Learnt,
+  put-all-bindings-below t,
+  put-all-bindings.Post,
+) (put-bindings-at t) put-bindings.Post
+put-bindings-put-all-bindings-requires t c κs =
+    let a = c .before .before .before .before .before .before .before .before .before .before .before in
+    let s = a .args .s .now in
+    let own = c .before .before .before .before .before .before .put-own in
+    let run = c .before .before .before .seen-inside in (
+      omega (arith, a .pre .0, a .pre .1 .1, a .pre .1 .0 .ok .is-counted .patterns-most),
+      (a .pre .1 .0, run .ensures .entries, room-after s (a .args .work .now) (own .last .1 .1 .1 .1 .0) (a .args .top) (own .result) (ownBinds s (a .args .p)) (a .pre .1 .2) (own .ensures)),
+    )
 
 put-bindings-same-length-2 : (t : ℕ) → put-bindings-lts.Need-same-length-2 (
-  pattern-at-reads.Asked,
-  pattern-at-reads.Learnt,
-  put-binding-reads.Asked,
-  put-binding-reads.Learnt,
-  child-at-reads.Asked,
-  child-at-reads.Learnt,
-  put-bindings-below t,
-  put-bindings.Post,
-  is-test-reads.Asked,
-  is-test-reads.Learnt,
+  put-own-reads.Asked,
+  put-own-reads.Learnt,
+  seen-inside-reads.Asked,
+  seen-inside-reads.Learnt,
   put-all-bindings-below t,
   put-all-bindings.Post,
 ) (put-bindings-at t) put-bindings.Post
 put-bindings-same-length-2 t c = search needs
 
-put-bindings-returns-3 : (t : ℕ) → put-bindings-lts.Need-returns-3 (
-  pattern-at-reads.Asked,
-  pattern-at-reads.Learnt,
-  put-binding-reads.Asked,
-  put-binding-reads.Learnt,
-  child-at-reads.Asked,
-  child-at-reads.Learnt,
-  put-bindings-below t,
-  put-bindings.Post,
-  is-test-reads.Asked,
-  is-test-reads.Learnt,
+put-bindings-returns-2 : (t : ℕ) → put-bindings-lts.Need-returns-2 (
+  put-own-reads.Asked,
+  put-own-reads.Learnt,
+  seen-inside-reads.Asked,
+  seen-inside-reads.Learnt,
   put-all-bindings-below t,
   put-all-bindings.Post,
 ) (put-bindings-at t) put-bindings.Post
-put-bindings-returns-3 t c = let a = c .before .before .before .before .before .before .before .before .before .before .before .before .before .before in
+put-bindings-returns-2 t c =
+    let a = c .before .before .before .before .before .before .before .before .before .before .before .before .before .before in
     let s = a .args .s .now in
-    let r = c .before .before .before .before .before .before .before .before .before .before .pattern-at in
-    let put = c .before .before .before .before .before .before .before .put-binding2 in
-    let inside = c .before .before .put-bindings in
-    let q = c .before .before .before .before .child-at in
-    let x = bound (a .args .work .now) (a .args .top) in
-    let y = bound (put .last .1 .1 .1 .1 .0) (put .result) in
-    put-more s x y (bound (inside .last .1 .1 .1 .1 .0) (inside .result)) (a .args .p ∷ []) (bindsOf s (q .result)) (bindsOf s (a .args .p))
-    (assign-binds s (a .args .m) (a .pre .1 .0 .checked) (a .args .p) (a .pre .1 .1) (r .result) (r .ensures) (c .before .before .before .before .before .before .before .before .before .match .keys2) (q .result) (q .ensures))
-    (put-one s x y (a .args .p) (put .ensures)) (inside .ensures)
-
-put-bindings-same-length-3 : (t : ℕ) → put-bindings-lts.Need-same-length-3 (
-  pattern-at-reads.Asked,
-  pattern-at-reads.Learnt,
-  put-binding-reads.Asked,
-  put-binding-reads.Learnt,
-  child-at-reads.Asked,
-  child-at-reads.Learnt,
-  put-bindings-below t,
-  put-bindings.Post,
-  is-test-reads.Asked,
-  is-test-reads.Learnt,
-  put-all-bindings-below t,
-  put-all-bindings.Post,
-) (put-bindings-at t) put-bindings.Post
-put-bindings-same-length-3 t c = search needs
-
-put-bindings-returns-4 : (t : ℕ) → put-bindings-lts.Need-returns-4 (
-  pattern-at-reads.Asked,
-  pattern-at-reads.Learnt,
-  put-binding-reads.Asked,
-  put-binding-reads.Learnt,
-  child-at-reads.Asked,
-  child-at-reads.Learnt,
-  put-bindings-below t,
-  put-bindings.Post,
-  is-test-reads.Asked,
-  is-test-reads.Learnt,
-  put-all-bindings-below t,
-  put-all-bindings.Post,
-) (put-bindings-at t) put-bindings.Post
-put-bindings-returns-4 t c = let a = c .before .before .before .before .before .before .before .before .before .before .before .before .before in
-    let s = a .args .s .now in
-    let r = c .before .before .before .before .before .before .before .before .before .pattern-at in
+    let own = c .before .before .before .before .before .before .before .before .before .put-own in
+    let run = c .before .before .before .before .before .before .seen-inside in
     let put = c .before .before .put-all-bindings in
-    put-run s (bound (a .args .work .now) (a .args .top)) (bound (put .last .1 .1 .1 .1 .1 .1 .0) (put .result)) (bindsOfEach s (r .result .first) (r .result .count)) (bindsOf s (a .args .p))
-    (parts-binds s (a .args .m) (a .pre .1 .0 .checked) (a .args .p) (a .pre .1 .1) (r .result) (r .ensures) (c .before .before .before .before .before .before .before .if1 .left) (c .before .before .before .before .before .before .if2 .taken) (c .before .before .before .before .before .is-test .result) (c .before .before .before .before .before .is-test .ensures) (c .before .before .before .before .if3 .left))
-    (put .ensures)
-
-put-bindings-returns-5 : (t : ℕ) → put-bindings-lts.Need-returns-5 (
-  pattern-at-reads.Asked,
-  pattern-at-reads.Learnt,
-  put-binding-reads.Asked,
-  put-binding-reads.Learnt,
-  child-at-reads.Asked,
-  child-at-reads.Learnt,
-  put-bindings-below t,
-  put-bindings.Post,
-  is-test-reads.Asked,
-  is-test-reads.Learnt,
-  put-all-bindings-below t,
-  put-all-bindings.Post,
-) (put-bindings-at t) put-bindings.Post
-put-bindings-returns-5 t c = let a = c .before .before .before .before .before .before in
-    let s = a .args .s .now in
-    let r = c .before .before .pattern-at in
-    put-nothing s (bound (a .args .work .now) (a .args .top)) (bindsOf s (a .args .p))
-    (others-bind s (a .args .m) (a .pre .1 .0 .checked) (a .args .p) (a .pre .1 .1) (r .result) (r .ensures) (c .before .match .rest .0 .1) (c .before .match .rest .1) (inl (c .if1 .taken)))
-
-put-bindings-returns-6 : (t : ℕ) → put-bindings-lts.Need-returns-6 (
-  pattern-at-reads.Asked,
-  pattern-at-reads.Learnt,
-  put-binding-reads.Asked,
-  put-binding-reads.Learnt,
-  child-at-reads.Asked,
-  child-at-reads.Learnt,
-  put-bindings-below t,
-  put-bindings.Post,
-  is-test-reads.Asked,
-  is-test-reads.Learnt,
-  put-all-bindings-below t,
-  put-all-bindings.Post,
-) (put-bindings-at t) put-bindings.Post
-put-bindings-returns-6 t c = let a = c .before .before .before .before .before .before .before in
-    let s = a .args .s .now in
-    let r = c .before .before .before .pattern-at in
-    put-nothing s (bound (a .args .work .now) (a .args .top)) (bindsOf s (a .args .p))
-    (others-bind s (a .args .m) (a .pre .1 .0 .checked) (a .args .p) (a .pre .1 .1) (r .result) (r .ensures) (c .before .before .match .rest .0 .1) (c .before .before .match .rest .1) (inr (c .if2 .left)))
+    put-more s (bound (a .args .work .now) (a .args .top)) (bound (own .last .1 .1 .1 .1 .0) (own .result)) (bound (put .last .1 .1 .1 .1 .1 .1 .1 .0) (put .result))
+    (ownBinds s (a .args .p)) (bindsOfEach s (run .result .first) (run .result .count)) (bindsOf s (a .args .p)) (run .ensures .binds-these) (own .ensures) (put .ensures)
 
 pub +put-all-bindings+put-bindings-spec : {M : Type 1} → statement M
 +put-all-bindings+put-bindings-spec =
     close μ-put-all-bindings μ-put-bindings (λ t. put-all-bindings-lts.spec (
-      child-at-reads.Asked,
-      child-at-reads.Learnt,
+      child-in-reads.Asked,
+      child-in-reads.Learnt,
       put-bindings-below t,
       put-bindings.Post,
-      put-all-bindings-below t,
-      put-all-bindings.Post,
     )
     (put-all-bindings-at t)
     put-all-bindings.Post
-    (put-all-bindings-returns t)
-    (put-all-bindings-child-at-requires t)
+    put-all-bindings-Inv-loop
+    put-all-bindings-μ-loop
+    (put-all-bindings-loop-holds t)
+    (put-all-bindings-add-child-in t)
+    (put-all-bindings-child-in-requires t)
     (put-all-bindings-put-bindings-requires t)
-    (put-all-bindings-add-put-all-bindings t)
-    (put-all-bindings-sub-put-all-bindings t)
-    (put-all-bindings-put-all-bindings-requires t)
+    (put-all-bindings-add-k t)
+    (put-all-bindings-loop-less t)
+    (put-all-bindings-loop-again t)
     (put-all-bindings-same-length t)
-    (put-all-bindings-returns-2 t))
+    (put-all-bindings-returns t))
     λ t. put-bindings-lts.spec (
-      pattern-at-reads.Asked,
-      pattern-at-reads.Learnt,
-      put-binding-reads.Asked,
-      put-binding-reads.Learnt,
-      child-at-reads.Asked,
-      child-at-reads.Learnt,
-      put-bindings-below t,
-      put-bindings.Post,
-      is-test-reads.Asked,
-      is-test-reads.Learnt,
+      put-own-reads.Asked,
+      put-own-reads.Learnt,
+      seen-inside-reads.Asked,
+      seen-inside-reads.Learnt,
       put-all-bindings-below t,
       put-all-bindings.Post,
     )
     (put-bindings-at t)
     put-bindings.Post
-    (put-bindings-pattern-at-requires t)
-    (put-bindings-put-binding-requires t)
-    (put-bindings-put-binding-requires-2 t)
-    (put-bindings-child-at-requires t)
-    (put-bindings-put-bindings-requires t)
-    (put-bindings-is-test-requires t)
+    (put-bindings-put-own-requires t)
+    (put-bindings-seen-inside-requires t)
+    (put-bindings-same-length t)
     (put-bindings-returns t)
     (put-bindings-put-all-bindings-requires t)
-    (put-bindings-same-length t)
-    (put-bindings-returns-2 t)
     (put-bindings-same-length-2 t)
-    (put-bindings-returns-3 t)
-    (put-bindings-same-length-3 t)
-    (put-bindings-returns-4 t)
-    (put-bindings-returns-5 t)
-    (put-bindings-returns-6 t)
+    (put-bindings-returns-2 t)

@@ -4,6 +4,7 @@ use mathlib.Core.Path.{_≡_, refl, _∙_}
 use Prim.Native.Nat.{_+_, _-_, _≤_}
 use native.Mathlib.Omega.{arith}
 use lib.ListN.{length}
+use Rattle.rules.specs.SheetFile.{root}
 use Rattle.table.specs.Seen.{bindsOf}
 use Rattle.matrix.specs.Live.{openedTest}
 use Rattle.matrix.specs.Bound.{numbersHeld}
@@ -18,28 +19,22 @@ Inv-loop s m t c tested n opened work₀ top next₀ time₀ work next time = (t
 abbrev μ-loop : tie.MeasureT-loop
 μ-loop s m t c tested n opened work₀ top next₀ time₀ work next time = n - time
 
-root-at-requires : tie.Need-root-at-requires Inv-loop μ-loop
-root-at-requires c κs = let s = c .before .before .before in (s .pre .0 .checked .ok .is-laid, s .pre .0 .checked .is-map, s .pre .1 .clause)
-
-put-bindings-requires : tie.Need-put-bindings-requires Inv-loop μ-loop
-put-bindings-requires c κs =
-    let s = c .before .before .before .before .before in
-    (s .pre .0, omega (arith, c .before .root-at .ensures, s .pre .0 .checked .ok .is-shaped .root-pattern (s .args .c) (s .pre .1 .clause)), s .pre .2)
+put-root-requires : tie.Need-put-root-requires Inv-loop μ-loop
+put-root-requires c κs = let s = c .before .before .before .before in (s .pre .0, s .pre .1 .clause, s .pre .2)
 
 loop-holds : tie.Need-loop-holds Inv-loop μ-loop
 loop-holds c =
-    let s = c .before .before .before .before .before .before .before .before in
+    let s = c .before .before .before .before .before .before .before in
     let a = s .args in
-    let put = c .before .before .put-bindings in
-    let root = c .before .before .before .before .root-at in
-    (omega arith, room-after (a .s .now) (a .work .now) (put .last .1 .1 .1 .1 .0) (a .top) (put .result) (bindsOf (a .s .now) (root .result)) (s .pre .2) (put .ensures), refl, refl)
+    let put = c .before .before .put-root in
+    (omega arith, room-after (a .s .now) (a .work .now) (put .last .1 .1 .1 .1 .0) (a .top) (put .result) (bindsOf (a .s .now) (root (a .s .now) (a .c))) (s .pre .2) (put .ensures), refl, refl)
 
 class-at-requires : tie.Need-class-at-requires Inv-loop μ-loop
-class-at-requires c κs = let s = c .before .before .before .before .before .before .before .before .before .before in omega (arith, c .loop-test .taken, s .pre .1 .whole .most)
+class-at-requires c κs = omega (arith, c .loop-test .taken, c .before .before .before .before .before .before .before .before .before .pre .1 .whole .most)
 
 put-opened-requires : tie.Need-put-opened-requires Inv-loop μ-loop
 put-opened-requires c κs =
-    let s = c .before .before .before .before .before .before .before .before .before .before .before .before in
+    let s = c .before .before .before .before .before .before .before .before .before .before .before in
     let a = s .args in
     let loop = c .before .before .before .loop in
     let class = c .before .class-at in
@@ -52,14 +47,14 @@ put-opened-requires c κs =
     )
 
 add-time : tie.Need-add-time Inv-loop μ-loop
-add-time c = let s = c .before .before .before .before .before .before .before .before .before .before .before .before .before .before .before in omega (arith, c .before .before .before .before .before .loop-test .taken, s .pre .1 .whole .most)
+add-time c = omega (arith, c .before .before .before .before .before .loop-test .taken, c .before .before .before .before .before .before .before .before .before .before .before .before .before .before .pre .1 .whole .most)
 
 loop-less : tie.Need-loop-less Inv-loop μ-loop
 loop-less c = omega (arith, c .before .before .before .before .before .loop-test .taken)
 
 loop-again : tie.Need-loop-again Inv-loop μ-loop
 loop-again c =
-    let s = c .before .before .before .before .before .before .before .before .before .before .before .before .before .before .before in
+    let s = c .before .before .before .before .before .before .before .before .before .before .before .before .before .before in
     let a = s .args in
     let loop = c .before .before .before .before .before .before .loop in
     let class = c .before .before .before .before .class-at in
@@ -78,20 +73,18 @@ loop-again c =
 
 same-length : tie.Need-same-length Inv-loop μ-loop
 same-length c =
-    let a = c .before .before .before .before .before .before .before .before .before .before .args in
-    let put = c .before .before .before .before .put-bindings in
-    let root = c .before .before .before .before .before .before .root-at in
-    c .before .loop .inv .2 ∙ length-after (a .s .now) (a .work .now) (put .last .1 .1 .1 .1 .0) (a .top) (put .result) (bindsOf (a .s .now) (root .result)) (put .ensures)
+    let a = c .before .before .before .before .before .before .before .before .before .args in
+    let put = c .before .before .before .before .put-root in
+    c .before .loop .inv .2 ∙ length-after (a .s .now) (a .work .now) (put .last .1 .1 .1 .1 .0) (a .top) (put .result) (bindsOf (a .s .now) (root (a .s .now) (a .c))) (put .ensures)
 
 returns : tie.Need-returns Inv-loop μ-loop
 returns c =
-    let s = c .before .before .before .before .before .before .before .before .before .before in
+    let s = c .before .before .before .before .before .before .before .before .before in
     let a = s .args in
-    let put = c .before .before .before .before .put-bindings in
-    let root = c .before .before .before .before .before .before .root-at in
+    let put = c .before .before .before .before .put-root in
     let loop = c .before .loop in
-    leaf-put (a .s .now) (a .opened .now) (a .tested .now) (a .c) (a .n) (s .pre .1) (root .result) (loop .time) (bound (a .work .now) (a .top)) (bound (put .last .1 .1 .1 .1 .0) (put .result))
-    (bound (loop .work) (loop .next)) (root .ensures) (omega (arith, c .loop-test .left, loop .inv .0)) (put .ensures) (loop .inv .3)
+    leaf-put (a .s .now) (a .opened .now) (a .tested .now) (a .c) (a .n) (s .pre .1) (loop .time) (bound (a .work .now) (a .top)) (bound (put .last .1 .1 .1 .1 .0) (put .result)) (bound (loop .work) (loop .next))
+    (omega (arith, c .loop-test .left, loop .inv .0)) (put .ensures) (loop .inv .3)
 
 pub leaf-bindings-spec : {M : Type 1} → statement M
 leaf-bindings-spec =
@@ -99,8 +92,7 @@ leaf-bindings-spec =
     (tie.spec
     Inv-loop
     μ-loop
-    root-at-requires
-    put-bindings-requires
+    put-root-requires
     loop-holds
     class-at-requires
     put-opened-requires
