@@ -21,7 +21,7 @@ same-length c = search needs
 
 -- src/raw.rt:15:1
 returns : tie.Need-returns
-returns c = raw-builds (c .before .before .before .before .before .before .before .before .before .before .before .before .before .before .pre .0) (c .before .before .before .before .before .before .before .before .before .before .first-matrix .result) (c .before .before .before .before .before .before .before .before .before .before .first-matrix .ensures) (c .before .before .before .before .before .before .before .before .before .before .before .before .before .before .args .work .now) (c .before .before .before .before .before .before .before .before .before .before .before .before .before .before .pre .1) (c .before .before .do-build-tree .last .1 .1 .1 .1 .1 .1 .1 .1 .1 .1 .0) (c .before .before .do-build-tree .result) (c .before .before .do-build-tree .ensures .0)
+returns c = raw-builds (c .before .before .before .before .before .before .before .before .before .before .before .before .before .before .pre .0) (c .before .before .before .before .before .before .before .before .before .before .first-matrix .result) (c .before .before .before .before .before .before .before .before .before .before .first-matrix .ensures) (c .before .before .before .before .before .before .before .before .before .before .before .before .before .before .args .work .now) (c .before .before .before .before .before .before .before .before .before .before .before .before .before .before .pre .1) (c .before .before .do-build-tree .last .1 .1 .1 .1 .1 .1 .1 .1 .0) (c .before .before .do-build-tree .result) (c .before .before .do-build-tree .ensures .0)
 
 pub build-tree-spec : {M : Type 1} → statement M
 build-tree-spec =
