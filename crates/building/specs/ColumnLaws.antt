@@ -42,7 +42,7 @@ use Rattle.meeting.specs.PassesLaws.{sorts-length}
 use Rattle.building.specs.CasesLaws.{There}
 use Rattle.building.specs.SwitchLaws.{inOrder}
 use Rattle.building.specs.Steps.{MatrixThere, StillTested, chosenColumn, caseList, caseTree, defaultTree, AskedColumn}
-use Rattle.building.specs.TestedLaws.{still-more}
+use Rattle.building.specs.TestedLaws.{one-more, still-more}
 
 -- ---- a column's tests are tests, and each has a case
 column-tests : (p : Path) (rs : List Row) → All TestRow rs → All (λ q. isTest q ≡ true) (column p rs)
@@ -155,10 +155,14 @@ module _ {s : List ℕ} {m : Map} {t : List ℕ} {x : Matrix} {k : ℕ} (col : A
           some-row = subst (λ (M : Numbered). 1 ≤ length (M .rows)) (sym is) (case-some s (inNumbers x) k u e);
         }
 
-    -- the classes tested before it stay
-    pub case-still : y .tested .count ≡ x .tested .count + 1 → StillTested (x .tested .count) (x .tested .list) (y .tested .list)
+    -- one class more is tested, and those before it stay
+    pub case-more : y .tested .count ≡ x .tested .count + 1
     unfolding caseNumbered
-    case-still one-more = still-more k (col .there .whole) whole one-more (ap (λ (M : Numbered). M .tested) is)
+    case-more = one-more k (col .there .whole) whole (ap (λ (M : Numbered). M .tested) is)
+
+    pub case-still : StillTested (x .tested .count) (x .tested .list) (y .tested .list)
+    unfolding caseNumbered
+    case-still = still-more k (col .there .whole) whole (ap (λ (M : Numbered). M .tested) is)
 
   -- the default's
   module _ (d : Matrix) (stands : StandsFor d (defaultRead t k (inNumbers x))) where
@@ -179,9 +183,13 @@ module _ {s : List ℕ} {m : Map} {t : List ℕ} {x : Matrix} {k : ℕ} (col : A
     pub default-none : d .rows .count ≡ 0 → defaultTree s k (inNumbers x) ≡ absent
     default-none e = no-tree s (defaultNumbered s k (inNumbers x)) (rw (← default-are) (ap (λ z. take z (d .rows .list)) e))
 
-    pub default-still : d .tested .count ≡ x .tested .count + 1 → StillTested (x .tested .count) (x .tested .list) (d .tested .list)
+    pub default-more : d .tested .count ≡ x .tested .count + 1
     unfolding defaultRead
-    default-still one-more = still-more k (col .there .whole) whole one-more (ap (λ (M : Numbered). M .tested) (stands .are))
+    default-more = one-more k (col .there .whole) whole (ap (λ (M : Numbered). M .tested) (stands .are))
+
+    pub default-still : StillTested (x .tested .count) (x .tested .list) (d .tested .list)
+    unfolding defaultRead
+    default-still = still-more k (col .there .whole) whole (ap (λ (M : Numbered). M .tested) (stands .are))
 
   pub as-switch : treeAt s (inNumbers x) ≡ nodeOn (pathOf s k) (chosenColumn s k (inNumbers x)) (caseTree s k (inNumbers x)) (defaultTree s k (inNumbers x))
   as-switch = tree-switch ok (inNumbers x) (col .there .sound) k (col .chosen)

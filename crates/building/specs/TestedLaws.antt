@@ -4,12 +4,13 @@ use mathlib.Core.Path.{_≡_, refl, sym, ap, subst, _∙_}
 use mathlib.Core.List.{List, [], _∷_, _++_}
 use Prim.Native.Nat.{ℕ, _+_, _≤_}
 use native.Mathlib.Omega.{arith}
-use lib.ListN.{length, take}
+use lib.ListN.{length, take, length-append}
 use lib.Seq.{take-take, take-at, length-take-le}
 use Rattle.rules.specs.Limits.{patternsMost}
 use Rattle.sheet.specs.declared.Map.{Map}
 use Rattle.matrix.specs.declared.Matrix.{Matrix}
 use Rattle.matrix.specs.Lists.{classesIn, numbersIn, asClasses}
+use Rattle.matrix.specs.ListsLaws.{holds-count}
 use Rattle.matrix.specs.Numbered.{Numbered, SoundOf, chosenIn}
 use Rattle.matrix.specs.InNumbers.{inNumbers, WholeMatrix, StandsFor, defaultRead}
 use Rattle.building.specs.Steps.{StillTested, AskedColumn}
@@ -22,11 +23,11 @@ pub still-on : {time : ℕ} {l l' l'' : List ℕ} → StillTested time l l' → 
 still-on a b = record { long = b .long; same = b .same ∙ a .same }
 
 -- by a call that leaves one more of them
-pub still-fewer : {time : ℕ} {l l' : List ℕ} → StillTested (time + 1) l l' → StillTested time l l'
-still-fewer {time} {l} {l'} a =
+pub still-fewer : {time more : ℕ} {l l' : List ℕ} → more ≡ time + 1 → StillTested more l l' → StillTested time l l'
+still-fewer {time} {more} {l} {l'} e a =
     record {
       long = a .long;
-      same = sym (take-take time (time + 1) l' (omega arith)) ∙ ap (take time) (a .same) ∙ take-take time (time + 1) l (omega arith);
+      same = sym (take-take time more l' (omega arith)) ∙ ap (take time) (a .same) ∙ take-take time more l (omega arith);
     }
 
 -- ---- a matrix, with the classes tested in another array
@@ -61,15 +62,19 @@ module _ {s : List ℕ} {m : Map} {t : List ℕ} {x : Matrix} {k : ℕ} (col : A
   still-default stands = record { whole = stands .whole; are = stands .are ∙ ap (defaultRead t k) (still-numbers x kept) }
 
 -- ---- a class more
-pub still-more : {x y : Matrix} (k : ℕ) → WholeMatrix x → WholeMatrix y → y .tested .count ≡ x .tested .count + 1
-    → (inNumbers y) .tested ≡ (inNumbers x) .tested ++ k ∷ [] → StillTested (x .tested .count) (x .tested .list) (y .tested .list)
-still-more {x} {y} k before after one-more are =
-    let time = x .tested .count in
-    let l = x .tested .list in
-    record {
-      long = after .whole-tested .long;
-      same =
-          sym (take-take time (y .tested .count) (y .tested .list) (omega arith))
-          ∙ ap (take time) are
-          ∙ take-at (take time l) (k ∷ []) time (length-take-le time l (omega (arith, before .whole-tested .long, before .whole-tested .most)));
-    }
+module _ {x y : Matrix} (k : ℕ) (before : WholeMatrix x) (after : WholeMatrix y) (are : (inNumbers y) .tested ≡ (inNumbers x) .tested ++ k ∷ []) where
+  pub one-more : y .tested .count ≡ x .tested .count + 1
+  one-more =
+      omega (arith, holds-count (after .whole-tested), holds-count (before .whole-tested), ap length are, length-append (classesIn (x .tested)) (k ∷ []))
+
+  pub still-more : StillTested (x .tested .count) (x .tested .list) (y .tested .list)
+  still-more =
+      let time = x .tested .count in
+      let l = x .tested .list in
+      record {
+        long = after .whole-tested .long;
+        same =
+            sym (take-take time (y .tested .count) (y .tested .list) (omega (arith, one-more)))
+            ∙ ap (take time) are
+            ∙ take-at (take time l) (k ∷ []) time (length-take-le time l (omega (arith, before .whole-tested .long, before .whole-tested .most)));
+      }

@@ -9,6 +9,7 @@ use arena::writing::put_child;
 use arena::writing::put_node;
 use leaves::leaf_bindings;
 use matrix::Choice;
+use matrix::Sizes;
 use matrix::rows::highest_occurrence;
 use matrix::splitting::case_matrix;
 use matrix::splitting::default_matrix;
@@ -109,59 +110,42 @@ fn put_switch(work: &mut [u8], k: usize, class: usize, first: usize, met: CasesM
     );
 }
 
-// A case of the column of this class.
+// A case of the column of class k.
 fn build_case<'a>(
     s: &[u8],
     m: Map,
     t: &[u8],
     rows: &'a [u8; 32],
-    n: usize,
     columns: &'a [u8; 192],
-    k: usize,
     tested: &mut [u8; 192],
-    time: usize,
     opened: &'a [u8; 192],
-    class: usize,
+    n: Sizes,
+    k: usize,
     test: Test,
-    work: &mut [u8],
+    w: &mut [u8],
     tops: Tops,
 ) -> Built
-    requires { ⌜ AskedCase (now s) m (now t) (matrixOf (now rows) n (now columns) k (now tested) time (now opened)) class test (now work) tops ⌝ }
-    ensures { λ r. ⌜ Builds (sheetPaths (now (s .entry))) (now (work .entry)) (now (work .exit)) (caseTree (now (s .entry)) class (inNumbers (matrixOf (now (rows .entry)) n (now (columns .entry)) k (now (tested .entry)) time (now (opened .entry)))) (meant (now (s .entry)) test)) tops r × StillTested time (now (tested .entry)) (now (tested .exit)) ⌝ }
+    requires { ⌜ AskedCase (now s) m (now t) (matrixOf (now rows) (now columns) (now tested) (now opened) n) k test (now w) tops ⌝ }
+    ensures { λ r. ⌜ Builds (sheetPaths (now (s .entry))) (now (w .entry)) (now (w .exit)) (caseTree (now (s .entry)) k (inNumbers (matrixOf (now (rows .entry)) (now (columns .entry)) (now (tested .entry)) (now (opened .entry)) n)) (meant (now (s .entry)) test)) tops r × StillTested (n .tested) (now (tested .entry)) (now (tested .exit)) ⌝ }
 {
-    let mut new_rows = [0u8; 32];
-    let mut new_columns = [0u8; 192];
-    let mut new_opened = *opened;
+    let mut some = [0u8; 32];
+    let mut rest = [0u8; 192];
+    let mut more = *opened;
     let y = case_matrix(
         s,
         m,
         t,
         rows,
-        n,
         columns,
+        tested,
+        &mut more,
+        n,
         k,
-        time,
-        class,
         test,
-        &mut new_rows,
-        &mut new_columns,
-        tested,
-        &mut new_opened,
+        &mut some,
+        &mut rest,
     );
-    do_build_tree(
-        s,
-        m,
-        t,
-        &new_rows,
-        y.rows,
-        &new_columns,
-        y.columns,
-        tested,
-        time + 1,
-        &new_opened,
-        work,
-        tops,
-    )
+    do_build_tree(s, m, t, &some, &rest, tested, &more, y, w, tops)
 }
 
 // The cases whose records stand from number `first` on, up to the number of cases there are: each gets its child's number and its tree.
@@ -170,44 +154,27 @@ fn build_cases<'a>(
     m: Map,
     t: &[u8],
     rows: &'a [u8; 32],
-    n: usize,
     columns: &'a [u8; 192],
-    k: usize,
     tested: &mut [u8; 192],
-    time: usize,
     opened: &'a [u8; 192],
-    class: usize,
-    work: &mut [u8],
+    n: Sizes,
+    k: usize,
+    w: &mut [u8],
     first: usize,
     from: Tops,
 ) -> Built
-    requires { ⌜ AskedColumn (now s) m (now t) (matrixOf (now rows) n (now columns) k (now tested) time (now opened)) class ⌝ }
-    requires { ⌜ AskedCases (now s) class (inNumbers (matrixOf (now rows) n (now columns) k (now tested) time (now opened))) first (now work) from ⌝ }
-    ensures { λ r. ⌜ BuildsCases (sheetPaths (now (s .entry))) (caseTree (now (s .entry)) class (inNumbers (matrixOf (now (rows .entry)) n (now (columns .entry)) k (now (tested .entry)) time (now (opened .entry))))) (caseList (now (s .entry)) class (inNumbers (matrixOf (now (rows .entry)) n (now (columns .entry)) k (now (tested .entry)) time (now (opened .entry))))) first (now (work .entry)) (now (work .exit)) from r × StillTested time (now (tested .entry)) (now (tested .exit)) ⌝ }
+    requires { ⌜ AskedColumn (now s) m (now t) (matrixOf (now rows) (now columns) (now tested) (now opened) n) k ⌝ }
+    requires { ⌜ AskedCases (now s) k (inNumbers (matrixOf (now rows) (now columns) (now tested) (now opened) n)) first (now w) from ⌝ }
+    ensures { λ r. ⌜ BuildsCases (sheetPaths (now (s .entry))) (caseTree (now (s .entry)) k (inNumbers (matrixOf (now (rows .entry)) (now (columns .entry)) (now (tested .entry)) (now (opened .entry)) n))) (caseList (now (s .entry)) k (inNumbers (matrixOf (now (rows .entry)) (now (columns .entry)) (now (tested .entry)) (now (opened .entry)) n))) first (now (w .entry)) (now (w .exit)) from r × StillTested (n .tested) (now (tested .entry)) (now (tested .exit)) ⌝ }
 {
     let count = from.cases - first;
     let mut tops = from;
     let mut i: usize = 0;
     while i < count {
-        let case = case_at(work, first + i);
+        let case = case_at(w, first + i);
         let test = case.test;
-        put_child(work, first + i, tops.nodes as u16);
-        let built = build_case(
-            s,
-            m,
-            t,
-            rows,
-            n,
-            columns,
-            k,
-            tested,
-            time,
-            opened,
-            class,
-            test,
-            work,
-            tops,
-        );
+        put_child(w, first + i, tops.nodes as u16);
+        let built = build_case(s, m, t, rows, columns, tested, opened, n, k, test, w, tops);
         if !built.fits {
             return built;
         }
@@ -217,132 +184,74 @@ fn build_cases<'a>(
     Built { fits: true, tops }
 }
 
-// A switch on the column of this class.
+// A switch on the column of class k.
 fn build_switch<'a>(
     s: &[u8],
     m: Map,
     t: &[u8],
     rows: &'a [u8; 32],
-    n: usize,
     columns: &'a [u8; 192],
-    k: usize,
     tested: &mut [u8; 192],
-    time: usize,
     opened: &'a [u8; 192],
-    class: usize,
-    work: &mut [u8],
+    n: Sizes,
+    k: usize,
+    w: &mut [u8],
     tops: Tops,
 ) -> Built
-    requires { ⌜ AskedColumn (now s) m (now t) (matrixOf (now rows) n (now columns) k (now tested) time (now opened)) class × Roomy (now work) tops × (tops .nodes < nodesMost) ⌝ }
-    ensures { λ r. ⌜ Builds (sheetPaths (now (s .entry))) (now (work .entry)) (now (work .exit)) (treeAt (now (s .entry)) (inNumbers (matrixOf (now (rows .entry)) n (now (columns .entry)) k (now (tested .entry)) time (now (opened .entry))))) tops r × StillTested time (now (tested .entry)) (now (tested .exit)) ⌝ }
+    requires { ⌜ AskedColumn (now s) m (now t) (matrixOf (now rows) (now columns) (now tested) (now opened) n) k × Roomy (now w) tops × (tops .nodes < nodesMost) ⌝ }
+    ensures { λ r. ⌜ Builds (sheetPaths (now (s .entry))) (now (w .entry)) (now (w .exit)) (treeAt (now (s .entry)) (inNumbers (matrixOf (now (rows .entry)) (now (columns .entry)) (now (tested .entry)) (now (opened .entry)) n))) tops r × StillTested (n .tested) (now (tested .entry)) (now (tested .exit)) ⌝ }
 {
     let first = tops.cases;
-    let meeting = meet_cases(s, m, t, rows, n, opened, class, work, first);
+    let meeting = meet_cases(s, m, t, rows, n.rows, opened, k, w, first);
     let Meeting::Met(met) = meeting else {
         return Built { fits: false, tops };
     };
     let mut from = tops;
     from.nodes += 1;
     from.cases = met.end;
-    let built = build_cases(
-        s,
-        m,
-        t,
-        rows,
-        n,
-        columns,
-        k,
-        tested,
-        time,
-        opened,
-        class,
-        work,
-        first,
-        from,
-    );
+    let built = build_cases(s, m, t, rows, columns, tested, opened, n, k, w, first, from);
     if !built.fits {
         return built;
     }
     let next = built.tops;
-    let mut new_rows = [0u8; 32];
-    let mut new_columns = [0u8; 192];
-    let d = default_matrix(
-        t,
-        rows,
-        n,
-        columns,
-        k,
-        time,
-        opened,
-        class,
-        &mut new_rows,
-        &mut new_columns,
-        tested,
-    );
+    let mut wild = [0u8; 32];
+    let mut rest = [0u8; 192];
+    let d = default_matrix(t, rows, columns, tested, opened, n, k, &mut wild, &mut rest);
     if d.rows == 0 {
-        put_switch(work, tops.nodes, class, first, met, 0);
+        put_switch(w, tops.nodes, k, first, met, 0);
         return built;
     }
-    put_switch(work, tops.nodes, class, first, met, next.nodes + 1);
-    do_build_tree(
-        s,
-        m,
-        t,
-        &new_rows,
-        d.rows,
-        &new_columns,
-        d.columns,
-        tested,
-        time + 1,
-        opened,
-        work,
-        next,
-    )
+    put_switch(w, tops.nodes, k, first, met, next.nodes + 1);
+    do_build_tree(s, m, t, &wild, &rest, tested, opened, d, w, next)
 }
 
 // The tree of the matrix of these parts, which has a row, from the tops on. The classes tested are in one array for the whole
-// building: a call writes behind the first `time` of them.
+// building: a call writes behind those of its own matrix.
 pub fn do_build_tree<'a>(
     s: &[u8],
     m: Map,
     t: &[u8],
     rows: &'a [u8; 32],
-    n: usize,
     columns: &'a [u8; 192],
-    k: usize,
     tested: &mut [u8; 192],
-    time: usize,
     opened: &'a [u8; 192],
-    work: &mut [u8],
+    n: Sizes,
+    w: &mut [u8],
     tops: Tops,
 ) -> Built
-    requires { ⌜ Asked (now s) m (now t) (matrixOf (now rows) n (now columns) k (now tested) time (now opened)) (now work) tops ⌝ }
-    ensures { λ r. ⌜ Builds (sheetPaths (now (s .entry))) (now (work .entry)) (now (work .exit)) (treeAt (now (s .entry)) (inNumbers (matrixOf (now (rows .entry)) n (now (columns .entry)) k (now (tested .entry)) time (now (opened .entry))))) tops r × StillTested time (now (tested .entry)) (now (tested .exit)) ⌝ }
+    requires { ⌜ Asked (now s) m (now t) (matrixOf (now rows) (now columns) (now tested) (now opened) n) (now w) tops ⌝ }
+    ensures { λ r. ⌜ Builds (sheetPaths (now (s .entry))) (now (w .entry)) (now (w .exit)) (treeAt (now (s .entry)) (inNumbers (matrixOf (now (rows .entry)) (now (columns .entry)) (now (tested .entry)) (now (opened .entry)) n))) tops r × StillTested (n .tested) (now (tested .entry)) (now (tested .exit)) ⌝ }
 {
     if tops.nodes == NODES_MOST {
         return Built { fits: false, tops };
     }
-    let choice = highest_occurrence(t, rows, n, columns, k, opened);
-    let Choice::Column(class) = choice else {
-        let next = put_leaf(s, m, t, wide(rows[0]), tested, time, opened, work, tops);
+    let choice = highest_occurrence(t, rows, n.rows, columns, n.columns, opened);
+    let Choice::Column(k) = choice else {
+        let next = put_leaf(s, m, t, wide(rows[0]), tested, n.tested, opened, w, tops);
         return Built {
             fits: true,
             tops: next,
         };
     };
-    build_switch(
-        s,
-        m,
-        t,
-        rows,
-        n,
-        columns,
-        k,
-        tested,
-        time,
-        opened,
-        class,
-        work,
-        tops,
-    )
+    build_switch(s, m, t, rows, columns, tested, opened, n, k, w, tops)
 }

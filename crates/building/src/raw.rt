@@ -3,6 +3,7 @@
 use crate::build::do_build_tree;
 use crate::tops::Built;
 use crate::tops::Tops;
+use matrix::Sizes;
 use matrix::splitting::first_matrix;
 use sheet::Map;
 ghost use Prim.Native.Nat.{_≤_};
@@ -23,18 +24,21 @@ pub fn build_tree(s: &[u8], m: Map, t: &[u8], work: &mut [u8]) -> Built
         bindings: 0,
         leaves: [0; 32],
     };
+    let n = Sizes {
+        rows: x.rows.count,
+        columns: x.columns.count,
+        tested: x.tested.count,
+    };
     let mut tested = x.tested.list;
     do_build_tree(
         s,
         m,
         t,
         &x.rows.list,
-        x.rows.count,
         &x.columns.list,
-        x.columns.count,
         &mut tested,
-        x.tested.count,
         &x.opened,
+        n,
         work,
         none,
     )

@@ -9,6 +9,7 @@ use Rattle.rules.specs.Limits.{patternsMost}
 use Rattle.rules.specs.SheetRefusals.{isIn}
 use Rattle.rules.specs.SplittingLaws.{All}
 use Rattle.matrix.specs.declared.Matrix.{Matrix}
+use Rattle.matrix.specs.declared.Sizes.{Sizes}
 use Rattle.matrix.specs.declared.Choice.{Choice}
 use Rattle.matrix.specs.declared.Choice.the-variants.{Leaf}
 use Rattle.matrix.specs.HeldRows.{countOf, bestOf, wildOf}
@@ -18,8 +19,9 @@ use Rattle.matrix.specs.Ordered.{withoutClass}
 use Rattle.matrix.specs.Reading.{heldIn, InTable}
 
 -- the matrix of parts that are lent: rows, columns and columns tested up to their counts, and what is opened
-abbrev pub matrixOf : List ℕ → ℕ → List ℕ → ℕ → List ℕ → ℕ → List ℕ → Matrix
-matrixOf rows n columns k tested time opened = record { rows = asRows rows n; columns = asClasses columns k; tested = asClasses tested time; opened = opened }
+abbrev pub matrixOf : List ℕ → List ℕ → List ℕ → List ℕ → Sizes → Matrix
+matrixOf rows columns tested opened n =
+    record { rows = asRows rows (n .rows); columns = asClasses columns (n .columns); tested = asClasses tested (n .tested); opened = opened }
 
 abbrev pub inNumbers : Matrix → Numbered
 inNumbers x = record { rows = numbersIn (x .rows); columns = classesIn (x .columns); tested = classesIn (x .tested); opened = x .opened }

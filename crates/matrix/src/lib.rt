@@ -47,6 +47,13 @@ pub struct Matrix {
     pub opened: [u8; 192],
 }
 
+// How many rows and columns a matrix has, and how many columns were tested.
+pub struct Sizes {
+    pub rows: usize,
+    pub columns: usize,
+    pub tested: usize,
+}
+
 // A byte as an index.
 pub fn wide(x: u8) -> usize
     ensures { λ r. ⌜ r ≡ x ⌝ }

@@ -5,6 +5,7 @@ use crate::Classes;
 use crate::Held;
 use crate::Matrix;
 use crate::PerRow;
+use crate::Sizes;
 use crate::columns::empty;
 use crate::columns::map_pattern_to_row;
 use crate::columns::open;
@@ -83,36 +84,29 @@ pub fn first_matrix(s: &[u8], m: Map, t: &[u8]) -> Matrix
     }
 }
 
-// How many rows and columns a matrix has.
-pub struct Sizes {
-    pub rows: usize,
-    pub columns: usize,
-}
-
 // The default of the column of a class: the rows with a wildcard there, the other columns, and this one tested; what is opened stays.
 pub fn default_matrix<'a, 'b>(
     t: &[u8],
     rows: &'a [u8; 32],
-    n: usize,
     columns: &'a [u8; 192],
-    k: usize,
-    time: usize,
+    tested: &'b mut [u8; 192],
     opened: &'a [u8; 192],
+    n: Sizes,
     class: usize,
     new_rows: &'b mut [u8; 32],
     new_columns: &'b mut [u8; 192],
-    tested: &'b mut [u8; 192],
 ) -> Sizes
-    requires { ⌜ Splits (now t) (matrixOf (now rows) n (now columns) k (now tested) time (now opened)) class ⌝ }
+    requires { ⌜ Splits (now t) (matrixOf (now rows) (now columns) (now tested) (now opened) n) class ⌝ }
     requires { ⌜ (length (now «new_rows») ≡ clausesMost) × (length (now «new_columns») ≡ patternsMost) ⌝ }
-    ensures { λ r. ⌜ StandsFor (matrixOf (now («new_rows» .exit)) (r .rows) (now («new_columns» .exit)) (r .columns) (now (tested .exit)) (time + 1) (now (opened .entry))) (defaultRead (now (t .entry)) class (inNumbers (matrixOf (now (rows .entry)) n (now (columns .entry)) k (now (tested .entry)) time (now (opened .entry))))) ⌝ }
+    ensures { λ r. ⌜ StandsFor (matrixOf (now («new_rows» .exit)) (now («new_columns» .exit)) (now (tested .exit)) (now (opened .entry)) r) (defaultRead (now (t .entry)) class (inNumbers (matrixOf (now (rows .entry)) (now (columns .entry)) (now (tested .entry)) (now (opened .entry)) n))) ⌝ }
 {
-    let count = wild_rows(t, rows, n, opened, class, new_rows);
-    let rest = put_rest(new_columns, 0, columns, k, class);
-    push(tested, time, class);
+    let count = wild_rows(t, rows, n.rows, opened, class, new_rows);
+    let rest = put_rest(new_columns, 0, columns, n.columns, class);
+    push(tested, n.tested, class);
     Sizes {
         rows: count,
         columns: rest,
+        tested: n.tested + 1,
     }
 }
 
@@ -220,29 +214,40 @@ pub fn case_matrix<'a, 'b>(
     m: Map,
     t: &[u8],
     rows: &'a [u8; 32],
-    n: usize,
     columns: &'a [u8; 192],
-    k: usize,
-    time: usize,
+    tested: &'b mut [u8; 192],
+    opened: &'b mut [u8; 192],
+    n: Sizes,
     class: usize,
     test: Test,
     new_rows: &'b mut [u8; 32],
     new_columns: &'b mut [u8; 192],
-    tested: &'b mut [u8; 192],
-    opened: &'b mut [u8; 192],
 ) -> Sizes
-    requires { ⌜ Ready (now s) m (now t) × WholeMatrix (matrixOf (now rows) n (now columns) k (now tested) time (now opened)) × SoundOf (now s) (inNumbers (matrixOf (now rows) n (now columns) k (now tested) time (now opened))) × (isIn class (take k (now columns)) ≡ true) × InPool (now s) test ⌝ }
+    requires { ⌜ Ready (now s) m (now t) × WholeMatrix (matrixOf (now rows) (now columns) (now tested) (now opened) n) × SoundOf (now s) (inNumbers (matrixOf (now rows) (now columns) (now tested) (now opened) n)) × (isIn class (take (n .columns) (now columns)) ≡ true) × InPool (now s) test ⌝ }
     requires { ⌜ (length (now «new_rows») ≡ clausesMost) × (length (now «new_columns») ≡ patternsMost) ⌝ }
-    ensures { λ r. ⌜ StandsFor (matrixOf (now («new_rows» .exit)) (r .rows) (now («new_columns» .exit)) (r .columns) (now (tested .exit)) (time + 1) (now (opened .exit))) (caseNumbered (now (s .entry)) class (meant (now (s .entry)) test) (inNumbers (matrixOf (now (rows .entry)) n (now (columns .entry)) k (now (tested .entry)) time (now (opened .entry))))) ⌝ }
+    ensures { λ r. ⌜ StandsFor (matrixOf (now («new_rows» .exit)) (now («new_columns» .exit)) (now (tested .exit)) (now (opened .exit)) r) (caseNumbered (now (s .entry)) class (meant (now (s .entry)) test) (inNumbers (matrixOf (now (rows .entry)) (now (columns .entry)) (now (tested .entry)) (now (opened .entry)) n))) ⌝ }
 {
     let mut opens = [0u8; 32];
-    let o = join_rows(s, m, t, rows, n, opened, class, test, new_rows, &mut opens);
+    let o = join_rows(
+        s,
+        m,
+        t,
+        rows,
+        n.rows,
+        opened,
+        class,
+        test,
+        new_rows,
+        &mut opens,
+    );
     let front = open_all(s, m, t, &opens, o.opens, new_columns);
-    let all = put_rest(new_columns, front, columns, k, class);
-    push(tested, time, class);
-    mark(opened, &opens, o.opens, time + 1);
+    let all = put_rest(new_columns, front, columns, n.columns, class);
+    push(tested, n.tested, class);
+    let time = n.tested + 1;
+    mark(opened, &opens, o.opens, time);
     Sizes {
         rows: o.rows,
         columns: all,
+        tested: time,
     }
 }

@@ -11,7 +11,7 @@ use Rattle.matrix.specs.InNumbers.{inNumbers, matrixOf}
 use Rattle.building.specs.Built.{Partly}
 use Rattle.building.specs.Steps.{StillTested, caseList, caseTree}
 use Rattle.building.specs.TestedLaws.{still, still-on, still-fewer, still-column, still-default}
-use Rattle.building.specs.ColumnLaws.{tested-room, rows-known, column-in, column-splits, column-known, case-still, default-still}
+use Rattle.building.specs.ColumnLaws.{tested-room, rows-known, column-in, column-splits, column-known, case-more, case-still, default-more, default-still}
 use Rattle.building.specs.LeafLaws.{asked-readable, asked-chosen, node-left, clause-asked, leaf-builds, full-builds}
 use Rattle.building.specs.LoopLaws.{case-asked, case-tree, Turn, turn-room, turn-asked, turn-done, turn-over, loop-begin, loop-end}
 use Rattle.building.specs.ChosenLaws.{Opened, opened, Cased, no-room, switch-open, switch-cases-over, switch-node-asked, switch-met-asked, switch-asked, switch-done, switch-default}
@@ -47,16 +47,16 @@ use Rattle.building.proofs.build.+build_case+build_cases+build_switch+d
 }
 
 abbrev μ-build-case : Measures 5 build-case-kinds.ps ℕ
-μ-build-case κs a = 4 * (192 - a .1 .1 .1 .1 .1 .1 .1 .1 .0)
+μ-build-case κs a = 4 * (192 - a .1 .1 .1 .1 .1 .1 .1 .0 .tested)
 
 abbrev μ-build-cases : Measures 5 build-cases-kinds.ps ℕ
-μ-build-cases κs a = 4 * (192 - a .1 .1 .1 .1 .1 .1 .1 .1 .0) + 1
+μ-build-cases κs a = 4 * (192 - a .1 .1 .1 .1 .1 .1 .1 .0 .tested) + 1
 
 abbrev μ-build-switch : Measures 5 build-switch-kinds.ps ℕ
-μ-build-switch κs a = 4 * (192 - a .1 .1 .1 .1 .1 .1 .1 .1 .0) + 2
+μ-build-switch κs a = 4 * (192 - a .1 .1 .1 .1 .1 .1 .1 .0 .tested) + 2
 
 abbrev μ-do-build-tree : Measures 5 do-build-tree-kinds.ps ℕ
-μ-do-build-tree κs a = 4 * (192 - a .1 .1 .1 .1 .1 .1 .1 .1 .0) + 3
+μ-do-build-tree κs a = 4 * (192 - a .1 .1 .1 .1 .1 .1 .1 .0 .tested) + 3
 
 abbrev build-case-at : ℕ → In 5 build-case-kinds.ps
 build-case-at t =
@@ -107,15 +107,6 @@ build-case-case-matrix-requires : (t : ℕ) → build-case-lts.Need-case-matrix-
 ) (build-case-at t) build-case.Post
 build-case-case-matrix-requires t c κs = ((c .before .before .before .before .before .before .before .before .pre .1 .col .ready, c .before .before .before .before .before .before .before .before .pre .1 .col .there .whole, c .before .before .before .before .before .before .before .before .pre .1 .col .there .sound, column-in (c .before .before .before .before .before .before .before .before .pre .1 .col), c .before .before .before .before .before .before .before .before .pre .1 .pool), (refl, refl))
 
--- src/build.rt:160:9
-build-case-add-do-build-tree : (t : ℕ) → build-case-lts.Need-add-do-build-tree (
-  case-matrix-reads.Asked,
-  case-matrix-reads.Learnt,
-  do-build-tree-below t,
-  do-build-tree.Post,
-) (build-case-at t) build-case.Post
-build-case-add-do-build-tree t c = omega (arith, tested-room (c .before .before .before .before .before .before .before .before .before .before .before .before .pre .1 .col))
-
 -- src/build.rt:151:5
 build-case-do-build-tree-requires : (t : ℕ) → build-case-lts.Need-do-build-tree-requires (
   case-matrix-reads.Asked,
@@ -123,7 +114,7 @@ build-case-do-build-tree-requires : (t : ℕ) → build-case-lts.Need-do-build-t
   do-build-tree-below t,
   do-build-tree.Post,
 ) (build-case-at t) build-case.Post
-build-case-do-build-tree-requires t c κs = (omega (arith, c .before .before .before .before .before .before .before .before .before .before .before .before .before .before .pre .0, tested-room (c .before .before .before .before .before .before .before .before .before .before .before .before .before .before .pre .1 .col)), case-asked (c .before .before .before .before .before .before .before .before .before .before .before .before .before .before .pre .1) (matrixOf (c .before .before .before .before .before .case-matrix .last .1 .1 .1 .1 .1 .1 .1 .1 .1 .1 .0) (c .before .before .before .before .before .case-matrix .result .rows) (c .before .before .before .before .before .case-matrix .last .1 .1 .1 .1 .1 .1 .1 .1 .1 .1 .1 .0) (c .before .before .before .before .before .case-matrix .result .columns) (c .before .before .before .before .before .case-matrix .last .1 .1 .1 .1 .1 .1 .1 .1 .1 .1 .1 .1 .0) (c .before .before .before .before .before .before .before .before .before .before .before .before .before .before .args .time + 1) (c .before .before .before .before .before .case-matrix .last .1 .1 .1 .1 .1 .1 .1 .1 .1 .1 .1 .1 .1 .0)) (c .before .before .before .before .before .case-matrix .ensures))
+build-case-do-build-tree-requires t c κs = (omega (arith, c .before .before .before .before .before .before .before .before .before .before .before .before .before .before .pre .0, tested-room (c .before .before .before .before .before .before .before .before .before .before .before .before .before .before .pre .1 .col), case-more (c .before .before .before .before .before .before .before .before .before .before .before .before .before .before .pre .1 .col) (matrixOf (c .before .before .before .before .before .case-matrix .last .1 .1 .1 .1 .1 .1 .1 .1 .1 .1 .0) (c .before .before .before .before .before .case-matrix .last .1 .1 .1 .1 .1 .1 .1 .1 .1 .1 .1 .0) (c .before .before .before .before .before .case-matrix .last .1 .1 .1 .1 .1 .0) (c .before .before .before .before .before .case-matrix .last .1 .1 .1 .1 .1 .1 .0) (c .before .before .before .before .before .case-matrix .result)) (meant (c .before .before .before .before .before .before .before .before .before .before .before .before .before .before .args .s .now) (c .before .before .before .before .before .before .before .before .before .before .before .before .before .before .args .test)) (c .before .before .before .before .before .case-matrix .ensures .whole) (c .before .before .before .before .before .case-matrix .ensures .are)), case-asked (c .before .before .before .before .before .before .before .before .before .before .before .before .before .before .pre .1) (matrixOf (c .before .before .before .before .before .case-matrix .last .1 .1 .1 .1 .1 .1 .1 .1 .1 .1 .0) (c .before .before .before .before .before .case-matrix .last .1 .1 .1 .1 .1 .1 .1 .1 .1 .1 .1 .0) (c .before .before .before .before .before .case-matrix .last .1 .1 .1 .1 .1 .0) (c .before .before .before .before .before .case-matrix .last .1 .1 .1 .1 .1 .1 .0) (c .before .before .before .before .before .case-matrix .result)) (c .before .before .before .before .before .case-matrix .ensures))
 
 -- src/build.rt:113:1
 build-case-same-length : (t : ℕ) → build-case-lts.Need-same-length (
@@ -132,7 +123,7 @@ build-case-same-length : (t : ℕ) → build-case-lts.Need-same-length (
   do-build-tree-below t,
   do-build-tree.Post,
 ) (build-case-at t) build-case.Post
-build-case-same-length t c = c .before .before .do-build-tree .kept .1 .1 .1 .1 .1 .1 .1 .1 .1 .1 .0
+build-case-same-length t c = c .before .before .do-build-tree .kept .1 .1 .1 .1 .1 .1 .1 .1 .0
 
 -- src/build.rt:113:1
 build-case-returns : (t : ℕ) → build-case-lts.Need-returns (
@@ -141,29 +132,29 @@ build-case-returns : (t : ℕ) → build-case-lts.Need-returns (
   do-build-tree-below t,
   do-build-tree.Post,
 ) (build-case-at t) build-case.Post
-build-case-returns t c = (case-tree (c .before .before .before .before .before .before .before .before .before .before .before .before .before .before .before .before .before .pre .1) (matrixOf (c .before .before .before .before .before .before .before .before .case-matrix .last .1 .1 .1 .1 .1 .1 .1 .1 .1 .1 .0) (c .before .before .before .before .before .before .before .before .case-matrix .result .rows) (c .before .before .before .before .before .before .before .before .case-matrix .last .1 .1 .1 .1 .1 .1 .1 .1 .1 .1 .1 .0) (c .before .before .before .before .before .before .before .before .case-matrix .result .columns) (c .before .before .before .before .before .before .before .before .case-matrix .last .1 .1 .1 .1 .1 .1 .1 .1 .1 .1 .1 .1 .0) (c .before .before .before .before .before .before .before .before .before .before .before .before .before .before .before .before .before .args .time + 1) (c .before .before .before .before .before .before .before .before .case-matrix .last .1 .1 .1 .1 .1 .1 .1 .1 .1 .1 .1 .1 .1 .0)) (c .before .before .before .before .before .before .before .before .case-matrix .ensures) (c .before .before .do-build-tree .ensures .0), still-on (case-still (c .before .before .before .before .before .before .before .before .before .before .before .before .before .before .before .before .before .pre .1 .col) (matrixOf (c .before .before .before .before .before .before .before .before .case-matrix .last .1 .1 .1 .1 .1 .1 .1 .1 .1 .1 .0) (c .before .before .before .before .before .before .before .before .case-matrix .result .rows) (c .before .before .before .before .before .before .before .before .case-matrix .last .1 .1 .1 .1 .1 .1 .1 .1 .1 .1 .1 .0) (c .before .before .before .before .before .before .before .before .case-matrix .result .columns) (c .before .before .before .before .before .before .before .before .case-matrix .last .1 .1 .1 .1 .1 .1 .1 .1 .1 .1 .1 .1 .0) (c .before .before .before .before .before .before .before .before .before .before .before .before .before .before .before .before .before .args .time + 1) (c .before .before .before .before .before .before .before .before .case-matrix .last .1 .1 .1 .1 .1 .1 .1 .1 .1 .1 .1 .1 .1 .0)) (meant (c .before .before .before .before .before .before .before .before .before .before .before .before .before .before .before .before .before .args .s .now) (c .before .before .before .before .before .before .before .before .before .before .before .before .before .before .before .before .before .args .test)) (c .before .before .before .before .before .before .before .before .case-matrix .ensures .whole) (c .before .before .before .before .before .before .before .before .case-matrix .ensures .are) refl) (still-fewer (c .before .before .do-build-tree .ensures .1)))
+build-case-returns t c = (case-tree (c .before .before .before .before .before .before .before .before .before .before .before .before .before .before .before .before .before .pre .1) (matrixOf (c .before .before .before .before .before .before .before .before .case-matrix .last .1 .1 .1 .1 .1 .1 .1 .1 .1 .1 .0) (c .before .before .before .before .before .before .before .before .case-matrix .last .1 .1 .1 .1 .1 .1 .1 .1 .1 .1 .1 .0) (c .before .before .before .before .before .before .before .before .case-matrix .last .1 .1 .1 .1 .1 .0) (c .before .before .before .before .before .before .before .before .case-matrix .last .1 .1 .1 .1 .1 .1 .0) (c .before .before .before .before .before .before .before .before .case-matrix .result)) (c .before .before .before .before .before .before .before .before .case-matrix .ensures) (c .before .before .do-build-tree .ensures .0), still-on (case-still (c .before .before .before .before .before .before .before .before .before .before .before .before .before .before .before .before .before .pre .1 .col) (matrixOf (c .before .before .before .before .before .before .before .before .case-matrix .last .1 .1 .1 .1 .1 .1 .1 .1 .1 .1 .0) (c .before .before .before .before .before .before .before .before .case-matrix .last .1 .1 .1 .1 .1 .1 .1 .1 .1 .1 .1 .0) (c .before .before .before .before .before .before .before .before .case-matrix .last .1 .1 .1 .1 .1 .0) (c .before .before .before .before .before .before .before .before .case-matrix .last .1 .1 .1 .1 .1 .1 .0) (c .before .before .before .before .before .before .before .before .case-matrix .result)) (meant (c .before .before .before .before .before .before .before .before .before .before .before .before .before .before .before .before .before .args .s .now) (c .before .before .before .before .before .before .before .before .before .before .before .before .before .before .before .before .before .args .test)) (c .before .before .before .before .before .before .before .before .case-matrix .ensures .whole) (c .before .before .before .before .before .before .before .before .case-matrix .ensures .are)) (still-fewer (case-more (c .before .before .before .before .before .before .before .before .before .before .before .before .before .before .before .before .before .pre .1 .col) (matrixOf (c .before .before .before .before .before .before .before .before .case-matrix .last .1 .1 .1 .1 .1 .1 .1 .1 .1 .1 .0) (c .before .before .before .before .before .before .before .before .case-matrix .last .1 .1 .1 .1 .1 .1 .1 .1 .1 .1 .1 .0) (c .before .before .before .before .before .before .before .before .case-matrix .last .1 .1 .1 .1 .1 .0) (c .before .before .before .before .before .before .before .before .case-matrix .last .1 .1 .1 .1 .1 .1 .0) (c .before .before .before .before .before .before .before .before .case-matrix .result)) (meant (c .before .before .before .before .before .before .before .before .before .before .before .before .before .before .before .before .before .args .s .now) (c .before .before .before .before .before .before .before .before .before .before .before .before .before .before .before .before .before .args .test)) (c .before .before .before .before .before .before .before .before .case-matrix .ensures .whole) (c .before .before .before .before .before .before .before .before .case-matrix .ensures .are)) (c .before .before .do-build-tree .ensures .1)))
 
 abbrev build-cases-Inv-loop : build-cases-lts.InvT-loop
-build-cases-Inv-loop s m t rows n columns k tested₀ time opened class work₀ first count tops₀ i₀ tested work tops i =
-    (i ≤ count) × (length work ≡ length work₀) × StillTested time tested₀ tested × Partly (sheetPaths s) (caseTree s class (inNumbers (matrixOf rows n columns k tested₀ time opened))) (caseList s class (inNumbers (matrixOf rows n columns k tested₀ time opened))) first i work₀ work tops₀ tops
+build-cases-Inv-loop s m t rows columns tested₀ opened n k work₀ first count tops₀ i₀ tested work tops i =
+    (i ≤ count) × (length work ≡ length work₀) × StillTested (n .tested) tested₀ tested × Partly (sheetPaths s) (caseTree s k (inNumbers (matrixOf rows columns tested₀ opened n))) (caseList s k (inNumbers (matrixOf rows columns tested₀ opened n))) first i work₀ work tops₀ tops
 
 abbrev build-cases-μ-loop : build-cases-lts.MeasureT-loop
-build-cases-μ-loop s m t rows n columns k tested₀ time opened class work₀ first count tops₀ i₀ tested work tops i = count - i
+build-cases-μ-loop s m t rows columns tested₀ opened n k work₀ first count tops₀ i₀ tested work tops i = count - i
 
 -- [helpers]
 -- what is known in a turn of the loop
 turn-at : (t : ℕ) (c : build-cases-lts.In-loop (case-at-reads.Asked, case-at-reads.Learnt, put-child-reads.Asked, put-child-reads.Learnt, build-case-below t, build-case.Post) (build-cases-at t) build-cases.Post build-cases-Inv-loop build-cases-μ-loop)
-    → Turn (c .before .before .before .before .before .before .args .s .now) (c .before .before .before .before .before .before .args .m) (c .before .before .before .before .before .before .args .t .now) (matrixOf (c .before .before .before .before .before .before .args .rows .now) (c .before .before .before .before .before .before .args .n) (c .before .before .before .before .before .before .args .columns .now) (c .before .before .before .before .before .before .args .k) (c .before .before .before .before .before .before .args .tested .now) (c .before .before .before .before .before .before .args .time) (c .before .before .before .before .before .before .args .opened .now)) (c .before .before .before .before .before .before .args .class) (c .before .before .before .before .before .before .args .first) (c .before .before .before .before .before .before .args .work .now) (c .before .before .before .before .before .before .args .from) (c .before .loop .i) (c .before .loop .tested) (c .before .loop .work) (c .before .loop .tops)
+    → Turn (c .before .before .before .before .before .before .args .s .now) (c .before .before .before .before .before .before .args .m) (c .before .before .before .before .before .before .args .t .now) (matrixOf (c .before .before .before .before .before .before .args .rows .now) (c .before .before .before .before .before .before .args .columns .now) (c .before .before .before .before .before .before .args .tested .now) (c .before .before .before .before .before .before .args .opened .now) (c .before .before .before .before .before .before .args .n)) (c .before .before .before .before .before .before .args .k) (c .before .before .before .before .before .before .args .first) (c .before .before .before .before .before .before .args .w .now) (c .before .before .before .before .before .before .args .from) (c .before .loop .i) (c .before .loop .tested) (c .before .loop .w) (c .before .loop .tops)
 turn-at t c = record { col = c .before .before .before .before .before .before .pre .1 .0; asked = c .before .before .before .before .before .before .pre .1 .1; part = c .before .loop .inv .3; inside = c .loop-test .taken; kept = c .before .loop .inv .2 }
 
 -- what is known of a switch whose cases are met
 opened-at : (t : ℕ) (c : build-switch-lts.After-known-told (meet-cases-reads.Asked, meet-cases-reads.Learnt, build-cases-below t, build-cases.Post, default-matrix-reads.Asked, default-matrix-reads.Learnt, put-switch-reads.Asked, put-switch-reads.Learnt, do-build-tree-below t, do-build-tree.Post) (build-switch-at t) build-switch.Post)
-    → Opened (c .before .before .before .before .before .before .before .before .before .before .args .s .now) (c .before .before .before .before .before .before .before .before .before .before .args .m) (c .before .before .before .before .before .before .before .before .before .before .args .t .now) (matrixOf (c .before .before .before .before .before .before .before .before .before .before .args .rows .now) (c .before .before .before .before .before .before .before .before .before .before .args .n) (c .before .before .before .before .before .before .before .before .before .before .args .columns .now) (c .before .before .before .before .before .before .before .before .before .before .args .k) (c .before .before .before .before .before .before .before .before .before .before .args .tested .now) (c .before .before .before .before .before .before .before .before .before .before .args .time) (c .before .before .before .before .before .before .before .before .before .before .args .opened .now)) (c .before .before .before .before .before .before .before .before .before .before .args .class) (c .before .before .before .before .before .before .before .before .before .before .args .work .now) (c .before .before .before .before .before .before .before .before .before .before .args .tops) (c .before .before .before .before .before .meet-cases .last .1 .1 .1 .1 .1 .1 .1 .0) (c .before .meeting .given .0 .0) (record { nodes = (c .before .before .before .before .before .before .before .before .before .before .args .tops .nodes) + 1; cases = (c .before .meeting .given .0 .0) .end; bindings = c .before .before .before .before .before .before .before .before .before .before .args .tops .bindings; leaves = c .before .before .before .before .before .before .before .before .before .before .args .tops .leaves })
+    → Opened (c .before .before .before .before .before .before .before .before .before .before .args .s .now) (c .before .before .before .before .before .before .before .before .before .before .args .m) (c .before .before .before .before .before .before .before .before .before .before .args .t .now) (matrixOf (c .before .before .before .before .before .before .before .before .before .before .args .rows .now) (c .before .before .before .before .before .before .before .before .before .before .args .columns .now) (c .before .before .before .before .before .before .before .before .before .before .args .tested .now) (c .before .before .before .before .before .before .before .before .before .before .args .opened .now) (c .before .before .before .before .before .before .before .before .before .before .args .n)) (c .before .before .before .before .before .before .before .before .before .before .args .k) (c .before .before .before .before .before .before .before .before .before .before .args .w .now) (c .before .before .before .before .before .before .before .before .before .before .args .tops) (c .before .before .before .before .before .meet-cases .last .1 .1 .1 .1 .1 .1 .1 .0) (c .before .meeting .given .0 .0) (record { nodes = (c .before .before .before .before .before .before .before .before .before .before .args .tops .nodes) + 1; cases = (c .before .meeting .given .0 .0) .end; bindings = c .before .before .before .before .before .before .before .before .before .before .args .tops .bindings; leaves = c .before .before .before .before .before .before .before .before .before .before .args .tops .leaves })
 opened-at t c = opened (c .before .before .before .before .before .before .before .before .before .before .pre .1 .0) (c .before .before .before .before .before .before .before .before .before .before .pre .1 .1) (c .before .before .before .before .before .before .before .before .before .before .pre .1 .2) (c .before .before .before .before .before .meet-cases .result) (c .before .meeting .given .0 .0) (c .before .meeting .given .1) (c .before .before .before .before .before .meet-cases .ensures)
 
 -- and whose cases are built
 cased-at : (t : ℕ) (c : build-switch-lts.After-default-matrix (meet-cases-reads.Asked, meet-cases-reads.Learnt, build-cases-below t, build-cases.Post, default-matrix-reads.Asked, default-matrix-reads.Learnt, put-switch-reads.Asked, put-switch-reads.Learnt, do-build-tree-below t, do-build-tree.Post) (build-switch-at t) build-switch.Post)
-    → Cased (c .before .before .before .before .before .before .before .before .before .before .before .before .before .before .before .before .before .before .before .before .before .before .before .args .s .now) (c .before .before .before .before .before .before .before .before .before .before .before .before .before .before .before .before .before .before .before .before .before .before .before .args .m) (c .before .before .before .before .before .before .before .before .before .before .before .before .before .before .before .before .before .before .before .before .before .before .before .args .t .now) (matrixOf (c .before .before .before .before .before .before .before .before .before .before .before .before .before .before .before .before .before .before .before .before .before .before .before .args .rows .now) (c .before .before .before .before .before .before .before .before .before .before .before .before .before .before .before .before .before .before .before .before .before .before .before .args .n) (c .before .before .before .before .before .before .before .before .before .before .before .before .before .before .before .before .before .before .before .before .before .before .before .args .columns .now) (c .before .before .before .before .before .before .before .before .before .before .before .before .before .before .before .before .before .before .before .before .before .before .before .args .k) (c .before .before .before .before .before .before .before .before .before .before .before .before .before .before .before .before .before .before .before .before .before .before .before .args .tested .now) (c .before .before .before .before .before .before .before .before .before .before .before .before .before .before .before .before .before .before .before .before .before .before .before .args .time) (c .before .before .before .before .before .before .before .before .before .before .before .before .before .before .before .before .before .before .before .before .before .before .before .args .opened .now)) (c .before .before .before .before .before .before .before .before .before .before .before .before .before .before .before .before .before .before .before .before .before .before .before .args .class) (c .before .before .before .before .before .before .before .before .before .before .before .before .before .before .before .before .before .before .before .before .before .before .before .args .work .now) (c .before .before .before .before .before .before .before .before .before .before .before .before .before .before .before .before .before .before .before .before .before .before .before .args .tops) (c .before .before .before .before .before .before .before .before .before .before .before .before .before .before .before .before .before .before .meet-cases .last .1 .1 .1 .1 .1 .1 .1 .0) (c .before .before .before .before .before .before .before .before .before .before .before .before .before .before .meeting .given .0 .0) (record { nodes = (c .before .before .before .before .before .before .before .before .before .before .before .before .before .before .before .before .before .before .before .before .before .before .before .args .tops .nodes) + 1; cases = (c .before .before .before .before .before .before .before .before .before .before .before .before .before .before .meeting .given .0 .0) .end; bindings = c .before .before .before .before .before .before .before .before .before .before .before .before .before .before .before .before .before .before .before .before .before .before .before .args .tops .bindings; leaves = c .before .before .before .before .before .before .before .before .before .before .before .before .before .before .before .before .before .before .before .before .before .before .before .args .tops .leaves }) (c .before .before .before .before .before .before .before .before .before .build-cases .last .1 .1 .1 .1 .1 .1 .1 .1 .1 .1 .1 .0) (c .before .before .before .before .before .before .before .before .before .build-cases .result) (matrixOf (c .default-matrix .last .1 .1 .1 .1 .1 .1 .1 .1 .0) (c .default-matrix .result .rows) (c .default-matrix .last .1 .1 .1 .1 .1 .1 .1 .1 .1 .0) (c .default-matrix .result .columns) (c .default-matrix .last .1 .1 .1 .1 .1 .1 .1 .1 .1 .1 .0) (c .before .before .before .before .before .before .before .before .before .before .before .before .before .before .before .before .before .before .before .before .before .before .before .args .time + 1) (c .before .before .before .before .before .before .before .before .before .before .before .before .before .before .before .before .before .before .before .before .before .before .before .args .opened .now))
+    → Cased (c .before .before .before .before .before .before .before .before .before .before .before .before .before .before .before .before .before .before .before .before .before .before .before .args .s .now) (c .before .before .before .before .before .before .before .before .before .before .before .before .before .before .before .before .before .before .before .before .before .before .before .args .m) (c .before .before .before .before .before .before .before .before .before .before .before .before .before .before .before .before .before .before .before .before .before .before .before .args .t .now) (matrixOf (c .before .before .before .before .before .before .before .before .before .before .before .before .before .before .before .before .before .before .before .before .before .before .before .args .rows .now) (c .before .before .before .before .before .before .before .before .before .before .before .before .before .before .before .before .before .before .before .before .before .before .before .args .columns .now) (c .before .before .before .before .before .before .before .before .before .before .before .before .before .before .before .before .before .before .before .before .before .before .before .args .tested .now) (c .before .before .before .before .before .before .before .before .before .before .before .before .before .before .before .before .before .before .before .before .before .before .before .args .opened .now) (c .before .before .before .before .before .before .before .before .before .before .before .before .before .before .before .before .before .before .before .before .before .before .before .args .n)) (c .before .before .before .before .before .before .before .before .before .before .before .before .before .before .before .before .before .before .before .before .before .before .before .args .k) (c .before .before .before .before .before .before .before .before .before .before .before .before .before .before .before .before .before .before .before .before .before .before .before .args .w .now) (c .before .before .before .before .before .before .before .before .before .before .before .before .before .before .before .before .before .before .before .before .before .before .before .args .tops) (c .before .before .before .before .before .before .before .before .before .before .before .before .before .before .before .before .before .before .meet-cases .last .1 .1 .1 .1 .1 .1 .1 .0) (c .before .before .before .before .before .before .before .before .before .before .before .before .before .before .meeting .given .0 .0) (record { nodes = (c .before .before .before .before .before .before .before .before .before .before .before .before .before .before .before .before .before .before .before .before .before .before .before .args .tops .nodes) + 1; cases = (c .before .before .before .before .before .before .before .before .before .before .before .before .before .before .meeting .given .0 .0) .end; bindings = c .before .before .before .before .before .before .before .before .before .before .before .before .before .before .before .before .before .before .before .before .before .before .before .args .tops .bindings; leaves = c .before .before .before .before .before .before .before .before .before .before .before .before .before .before .before .before .before .before .before .before .before .before .before .args .tops .leaves }) (c .before .before .before .before .before .before .before .before .before .build-cases .last .1 .1 .1 .1 .1 .1 .1 .1 .1 .0) (c .before .before .before .before .before .before .before .before .before .build-cases .result) (matrixOf (c .default-matrix .last .1 .1 .1 .1 .1 .1 .1 .0) (c .default-matrix .last .1 .1 .1 .1 .1 .1 .1 .1 .0) (c .default-matrix .last .1 .1 .1 .0) (c .before .before .before .before .before .before .before .before .before .before .before .before .before .before .before .before .before .before .before .before .before .before .before .args .opened .now) (c .default-matrix .result))
 cased-at t c =
     record {
       begun = (opened-at t (c .before .before .before .before .before .before .before .before .before .before .before .before .before));
@@ -171,6 +162,7 @@ cased-at t c =
       built = c .before .before .before .before .before .before .before .before .before .build-cases .ensures .0;
       stands = still-default (c .before .before .before .before .before .before .before .before .before .before .before .before .before .before .before .before .before .before .before .before .before .before .before .pre .1 .0) (c .before .before .before .before .before .before .before .before .before .build-cases .ensures .1) (c .default-matrix .ensures);
     }
+
 -- [end helpers]
 
 -- src/build.rt:188:17
@@ -270,7 +262,7 @@ build-cases-same-length : (t : ℕ) → build-cases-lts.Need-same-length (
   build-case-below t,
   build-case.Post,
 ) (build-cases-at t) build-cases.Post build-cases-Inv-loop build-cases-μ-loop
-build-cases-same-length t c = (c .before .before .before .before .build-case .kept .1 .1 .1 .1 .1 .1 .1 .1 .1 .1 .1 .1 .0) ∙ (c .before .before .before .before .before .before .before .before .before .put-child .kept .0) ∙ (c .before .before .before .before .before .before .before .before .before .before .before .before .before .before .before .loop .inv .1)
+build-cases-same-length t c = (c .before .before .before .before .build-case .kept .1 .1 .1 .1 .1 .1 .1 .1 .1 .1 .0) ∙ (c .before .before .before .before .before .before .before .before .before .put-child .kept .0) ∙ (c .before .before .before .before .before .before .before .before .before .before .before .before .before .before .before .loop .inv .1)
 
 -- src/build.rt:212:13
 build-cases-returns : (t : ℕ) → build-cases-lts.Need-returns (
@@ -281,7 +273,7 @@ build-cases-returns : (t : ℕ) → build-cases-lts.Need-returns (
   build-case-below t,
   build-case.Post,
 ) (build-cases-at t) build-cases.Post build-cases-Inv-loop build-cases-μ-loop
-build-cases-returns t c = (turn-over (turn-at t (c .before .before .before .before .before .before .before .before .before .before .before .before .before .before)) (c .before .before .before .before .before .before .before .before .before .before .before .before .case-at .result .test) (ap (λ (z : Case). z .test) (c .before .before .before .before .before .before .before .before .before .before .before .before .case-at .ensures)) (c .before .before .before .before .before .before .before .before .before .put-child .last .0) (c .before .before .before .before .before .before .before .before .before .put-child .ensures) (c .before .before .before .before .build-case .last .1 .1 .1 .1 .1 .1 .1 .1 .1 .1 .1 .1 .0) (c .before .before .before .before .build-case .result) (c .before .before .before .before .build-case .ensures .0) (not-true (c .before .before .before .before .build-case .result .fits) (c .if1 .taken)), still-on (c .before .before .before .before .before .before .before .before .before .before .before .before .before .before .before .loop .inv .2) (c .before .before .before .before .build-case .ensures .1))
+build-cases-returns t c = (turn-over (turn-at t (c .before .before .before .before .before .before .before .before .before .before .before .before .before .before)) (c .before .before .before .before .before .before .before .before .before .before .before .before .case-at .result .test) (ap (λ (z : Case). z .test) (c .before .before .before .before .before .before .before .before .before .before .before .before .case-at .ensures)) (c .before .before .before .before .before .before .before .before .before .put-child .last .0) (c .before .before .before .before .before .before .before .before .before .put-child .ensures) (c .before .before .before .before .build-case .last .1 .1 .1 .1 .1 .1 .1 .1 .1 .1 .0) (c .before .before .before .before .build-case .result) (c .before .before .before .before .build-case .ensures .0) (not-true (c .before .before .before .before .build-case .result .fits) (c .if1 .taken)), still-on (c .before .before .before .before .before .before .before .before .before .before .before .before .before .before .before .loop .inv .2) (c .before .before .before .before .build-case .ensures .1))
 
 -- src/build.rt:215:9
 build-cases-add-i : (t : ℕ) → build-cases-lts.Need-add-i (
@@ -314,7 +306,7 @@ build-cases-loop-again : (t : ℕ) → build-cases-lts.Need-loop-again (
   build-case-below t,
   build-case.Post,
 ) (build-cases-at t) build-cases.Post build-cases-Inv-loop build-cases-μ-loop
-build-cases-loop-again t c = (omega (arith, c .before .before .before .before .before .before .before .before .before .before .before .before .before .before .before .loop-test .taken), (c .before .before .before .before .before .build-case .kept .1 .1 .1 .1 .1 .1 .1 .1 .1 .1 .1 .1 .0) ∙ (c .before .before .before .before .before .before .before .before .before .before .put-child .kept .0) ∙ (c .before .before .before .before .before .before .before .before .before .before .before .before .before .before .before .before .loop .inv .1), still-on (c .before .before .before .before .before .before .before .before .before .before .before .before .before .before .before .before .loop .inv .2) (c .before .before .before .before .before .build-case .ensures .1), turn-done (turn-at t (c .before .before .before .before .before .before .before .before .before .before .before .before .before .before .before)) (c .before .before .before .before .before .before .before .before .before .before .before .before .before .case-at .result .test) (ap (λ (z : Case). z .test) (c .before .before .before .before .before .before .before .before .before .before .before .before .before .case-at .ensures)) (c .before .before .before .before .before .before .before .before .before .before .put-child .last .0) (c .before .before .before .before .before .before .before .before .before .before .put-child .ensures) (c .before .before .before .before .before .build-case .last .1 .1 .1 .1 .1 .1 .1 .1 .1 .1 .1 .1 .0) (c .before .before .before .before .before .build-case .result) (c .before .before .before .before .before .build-case .ensures .0) (not-false (c .before .before .before .before .before .build-case .result .fits) (c .before .if1 .left)))
+build-cases-loop-again t c = (omega (arith, c .before .before .before .before .before .before .before .before .before .before .before .before .before .before .before .loop-test .taken), (c .before .before .before .before .before .build-case .kept .1 .1 .1 .1 .1 .1 .1 .1 .1 .1 .0) ∙ (c .before .before .before .before .before .before .before .before .before .before .put-child .kept .0) ∙ (c .before .before .before .before .before .before .before .before .before .before .before .before .before .before .before .before .loop .inv .1), still-on (c .before .before .before .before .before .before .before .before .before .before .before .before .before .before .before .before .loop .inv .2) (c .before .before .before .before .before .build-case .ensures .1), turn-done (turn-at t (c .before .before .before .before .before .before .before .before .before .before .before .before .before .before .before)) (c .before .before .before .before .before .before .before .before .before .before .before .before .before .case-at .result .test) (ap (λ (z : Case). z .test) (c .before .before .before .before .before .before .before .before .before .before .before .before .before .case-at .ensures)) (c .before .before .before .before .before .before .before .before .before .before .put-child .last .0) (c .before .before .before .before .before .before .before .before .before .before .put-child .ensures) (c .before .before .before .before .before .build-case .last .1 .1 .1 .1 .1 .1 .1 .1 .1 .1 .0) (c .before .before .before .before .before .build-case .result) (c .before .before .before .before .before .build-case .ensures .0) (not-false (c .before .before .before .before .before .build-case .result .fits) (c .before .if1 .left)))
 
 -- src/build.rt:168:1
 build-cases-same-length-2 : (t : ℕ) → build-cases-lts.Need-same-length-2 (
@@ -336,7 +328,7 @@ build-cases-returns-2 : (t : ℕ) → build-cases-lts.Need-returns-2 (
   build-case-below t,
   build-case.Post,
 ) (build-cases-at t) build-cases.Post build-cases-Inv-loop build-cases-μ-loop
-build-cases-returns-2 t c = (loop-end (c .before .before .before .before .before .before .pre .1 .0) (c .before .before .before .before .before .before .pre .1 .1) (c .before .loop .i) (c .before .loop .work) (c .before .loop .tops) (record { fits = true; tops = c .before .loop .tops }) (c .before .loop .inv .3) (c .loop-test .left) refl, c .before .loop .inv .2)
+build-cases-returns-2 t c = (loop-end (c .before .before .before .before .before .before .pre .1 .0) (c .before .before .before .before .before .before .pre .1 .1) (c .before .loop .i) (c .before .loop .w) (c .before .loop .tops) (record { fits = true; tops = c .before .loop .tops }) (c .before .loop .inv .3) (c .loop-test .left) refl, c .before .loop .inv .2)
 
 -- src/build.rt:240:9
 build-switch-meet-cases-requires : (t : ℕ) → build-switch-lts.Need-meet-cases-requires (
@@ -411,7 +403,7 @@ build-switch-returns : (t : ℕ) → build-switch-lts.Need-returns (
   do-build-tree-below t,
   do-build-tree.Post,
 ) (build-switch-at t) build-switch.Post
-build-switch-returns t c = (no-room (c .before .before .before .before .before .before .before .before .before .pre .1 .0) (c .before .before .before .before .before .before .before .before .before .args .work .now) (c .before .before .before .before .meet-cases .last .1 .1 .1 .1 .1 .1 .1 .0) (record { fits = false; tops = c .before .before .before .before .before .before .before .before .before .args .tops }) (c .before .before .before .before .meet-cases .result) (c .enum-told .given .1) (c .before .before .before .before .meet-cases .ensures) refl, still ((c .before .before .before .before .before .before .before .before .before .pre .1 .0) .there .whole .whole-tested .long))
+build-switch-returns t c = (no-room (c .before .before .before .before .before .before .before .before .before .pre .1 .0) (c .before .before .before .before .before .before .before .before .before .args .w .now) (c .before .before .before .before .meet-cases .last .1 .1 .1 .1 .1 .1 .1 .0) (record { fits = false; tops = c .before .before .before .before .before .before .before .before .before .args .tops }) (c .before .before .before .before .meet-cases .result) (c .enum-told .given .1) (c .before .before .before .before .meet-cases .ensures) refl, still ((c .before .before .before .before .before .before .before .before .before .pre .1 .0) .there .whole .whole-tested .long))
 
 -- src/build.rt:245:5
 build-switch-add-from : (t : ℕ) → build-switch-lts.Need-add-from (
@@ -456,7 +448,7 @@ build-switch-same-length-2 : (t : ℕ) → build-switch-lts.Need-same-length-2 (
   do-build-tree-below t,
   do-build-tree.Post,
 ) (build-switch-at t) build-switch.Post
-build-switch-same-length-2 t c = (c .before .before .before .before .build-cases .kept .1 .1 .1 .1 .1 .1 .1 .1 .1 .1 .1 .0) ∙ (c .before .before .before .before .before .before .before .before .before .before .before .before .before .meet-cases .kept .1 .1 .1 .1 .1 .1 .1 .0)
+build-switch-same-length-2 t c = (c .before .before .before .before .build-cases .kept .1 .1 .1 .1 .1 .1 .1 .1 .1 .0) ∙ (c .before .before .before .before .before .before .before .before .before .before .before .before .before .meet-cases .kept .1 .1 .1 .1 .1 .1 .1 .0)
 
 -- src/build.rt:264:9
 build-switch-returns-2 : (t : ℕ) → build-switch-lts.Need-returns-2 (
@@ -471,7 +463,7 @@ build-switch-returns-2 : (t : ℕ) → build-switch-lts.Need-returns-2 (
   do-build-tree-below t,
   do-build-tree.Post,
 ) (build-switch-at t) build-switch.Post
-build-switch-returns-2 t c = (switch-cases-over (opened-at t (c .before .before .before .before .before .before .before .before)) (c .before .before .before .before .build-cases .last .1 .1 .1 .1 .1 .1 .1 .1 .1 .1 .1 .0) (c .before .before .before .before .build-cases .result) (not-true (c .before .before .before .before .build-cases .result .fits) (c .if1 .taken)) (c .before .before .before .before .build-cases .ensures .0), c .before .before .before .before .build-cases .ensures .1)
+build-switch-returns-2 t c = (switch-cases-over (opened-at t (c .before .before .before .before .before .before .before .before)) (c .before .before .before .before .build-cases .last .1 .1 .1 .1 .1 .1 .1 .1 .1 .0) (c .before .before .before .before .build-cases .result) (not-true (c .before .before .before .before .build-cases .result .fits) (c .if1 .taken)) (c .before .before .before .before .build-cases .ensures .0), c .before .before .before .before .build-cases .ensures .1)
 
 -- src/build.rt:269:9
 build-switch-default-matrix-requires : (t : ℕ) → build-switch-lts.Need-default-matrix-requires (
@@ -516,7 +508,7 @@ build-switch-same-length-3 : (t : ℕ) → build-switch-lts.Need-same-length-3 (
   do-build-tree-below t,
   do-build-tree.Post,
 ) (build-switch-at t) build-switch.Post
-build-switch-same-length-3 t c = (c .before .before .put-switch .kept .0) ∙ (c .before .before .before .before .before .before .before .before .before .before .before .before .before .before .before .build-cases .kept .1 .1 .1 .1 .1 .1 .1 .1 .1 .1 .1 .0) ∙ (c .before .before .before .before .before .before .before .before .before .before .before .before .before .before .before .before .before .before .before .before .before .before .before .before .meet-cases .kept .1 .1 .1 .1 .1 .1 .1 .0)
+build-switch-same-length-3 t c = (c .before .before .put-switch .kept .0) ∙ (c .before .before .before .before .before .before .before .before .before .before .before .before .before .before .before .build-cases .kept .1 .1 .1 .1 .1 .1 .1 .1 .1 .0) ∙ (c .before .before .before .before .before .before .before .before .before .before .before .before .before .before .before .before .before .before .before .before .before .before .before .before .meet-cases .kept .1 .1 .1 .1 .1 .1 .1 .0)
 
 -- src/build.rt:284:9
 build-switch-returns-3 : (t : ℕ) → build-switch-lts.Need-returns-3 (
@@ -531,7 +523,7 @@ build-switch-returns-3 : (t : ℕ) → build-switch-lts.Need-returns-3 (
   do-build-tree-below t,
   do-build-tree.Post,
 ) (build-switch-at t) build-switch.Post
-build-switch-returns-3 t c = (switch-done (cased-at t (c .before .before .before .before .before .before)) (c .before .before .put-switch .last .0) 0 (c .before .before .put-switch .ensures) (c .before .before .before .before .if2 .taken) refl, (still-on (c .before .before .before .before .before .before .before .before .before .before .before .before .before .before .before .build-cases .ensures .1) (default-still (still-column (c .before .before .before .before .before .before .before .before .before .before .before .before .before .before .before .before .before .before .before .before .before .before .before .before .before .before .before .before .before .pre .1 .0) (c .before .before .before .before .before .before .before .before .before .before .before .before .before .before .before .build-cases .ensures .1)) (matrixOf (c .before .before .before .before .before .before .default-matrix .last .1 .1 .1 .1 .1 .1 .1 .1 .0) (c .before .before .before .before .before .before .default-matrix .result .rows) (c .before .before .before .before .before .before .default-matrix .last .1 .1 .1 .1 .1 .1 .1 .1 .1 .0) (c .before .before .before .before .before .before .default-matrix .result .columns) (c .before .before .before .before .before .before .default-matrix .last .1 .1 .1 .1 .1 .1 .1 .1 .1 .1 .0) (c .before .before .before .before .before .before .before .before .before .before .before .before .before .before .before .before .before .before .before .before .before .before .before .before .before .before .before .before .before .args .time + 1) (c .before .before .before .before .before .before .before .before .before .before .before .before .before .before .before .before .before .before .before .before .before .before .before .before .before .before .before .before .before .args .opened .now)) (c .before .before .before .before .before .before .default-matrix .ensures) refl)))
+build-switch-returns-3 t c = (switch-done (cased-at t (c .before .before .before .before .before .before)) (c .before .before .put-switch .last .0) 0 (c .before .before .put-switch .ensures) (c .before .before .before .before .if2 .taken) refl, (still-on (c .before .before .before .before .before .before .before .before .before .before .before .before .before .before .before .build-cases .ensures .1) (default-still (still-column (c .before .before .before .before .before .before .before .before .before .before .before .before .before .before .before .before .before .before .before .before .before .before .before .before .before .before .before .before .before .pre .1 .0) (c .before .before .before .before .before .before .before .before .before .before .before .before .before .before .before .build-cases .ensures .1)) (matrixOf (c .before .before .before .before .before .before .default-matrix .last .1 .1 .1 .1 .1 .1 .1 .0) (c .before .before .before .before .before .before .default-matrix .last .1 .1 .1 .1 .1 .1 .1 .1 .0) (c .before .before .before .before .before .before .default-matrix .last .1 .1 .1 .0) (c .before .before .before .before .before .before .before .before .before .before .before .before .before .before .before .before .before .before .before .before .before .before .before .before .before .before .before .before .before .args .opened .now) (c .before .before .before .before .before .before .default-matrix .result)) (c .before .before .before .before .before .before .default-matrix .ensures))))
 
 -- src/build.rt:286:53
 build-switch-add-put-switch : (t : ℕ) → build-switch-lts.Need-add-put-switch (
@@ -563,21 +555,6 @@ build-switch-put-switch-requires-2 : (t : ℕ) → build-switch-lts.Need-put-swi
 ) (build-switch-at t) build-switch.Post
 build-switch-put-switch-requires-2 t c κs = let a = switch-node-asked (cased-at t (c .before .before .before .before)) in ((a .0, a .1, a .2, a .3), switch-met-asked (cased-at t (c .before .before .before .before)))
 
--- src/build.rt:296:9
-build-switch-add-do-build-tree : (t : ℕ) → build-switch-lts.Need-add-do-build-tree (
-  meet-cases-reads.Asked,
-  meet-cases-reads.Learnt,
-  build-cases-below t,
-  build-cases.Post,
-  default-matrix-reads.Asked,
-  default-matrix-reads.Learnt,
-  put-switch-reads.Asked,
-  put-switch-reads.Learnt,
-  do-build-tree-below t,
-  do-build-tree.Post,
-) (build-switch-at t) build-switch.Post
-build-switch-add-do-build-tree t c = omega (arith, tested-room (c .before .before .before .before .before .before .before .before .before .before .before .before .before .before .before .before .before .before .before .before .before .before .before .before .before .before .before .before .before .before .before .before .before .pre .1 .0))
-
 -- src/build.rt:287:5
 build-switch-do-build-tree-requires : (t : ℕ) → build-switch-lts.Need-do-build-tree-requires (
   meet-cases-reads.Asked,
@@ -591,7 +568,7 @@ build-switch-do-build-tree-requires : (t : ℕ) → build-switch-lts.Need-do-bui
   do-build-tree-below t,
   do-build-tree.Post,
 ) (build-switch-at t) build-switch.Post
-build-switch-do-build-tree-requires t c κs = (omega (arith, c .before .before .before .before .before .before .before .before .before .before .before .before .before .before .before .before .before .before .before .before .before .before .before .before .before .before .before .before .before .before .before .before .before .before .pre .0, tested-room (c .before .before .before .before .before .before .before .before .before .before .before .before .before .before .before .before .before .before .before .before .before .before .before .before .before .before .before .before .before .before .before .before .before .before .pre .1 .0)), switch-asked (cased-at t (c .before .before .before .before .before .before .before .before .before .before .before)) (c .before .before .before .before .before .before .put-switch2 .last .0) ((c .before .before .before .before .before .before .before .before .before .before .before .before .before .before .before .before .before .before .before .before .build-cases .result .tops .nodes) + 1) (c .before .before .before .before .before .before .put-switch2 .ensures) (c .before .before .before .before .before .before .before .before .before .if2 .left))
+build-switch-do-build-tree-requires t c κs = (omega (arith, c .before .before .before .before .before .before .before .before .before .before .before .before .before .before .before .before .before .before .before .before .before .before .before .before .before .before .before .before .before .before .before .before .before .before .pre .0, tested-room (c .before .before .before .before .before .before .before .before .before .before .before .before .before .before .before .before .before .before .before .before .before .before .before .before .before .before .before .before .before .before .before .before .before .before .pre .1 .0), default-more (still-column (c .before .before .before .before .before .before .before .before .before .before .before .before .before .before .before .before .before .before .before .before .before .before .before .before .before .before .before .before .before .before .before .before .before .before .pre .1 .0) (c .before .before .before .before .before .before .before .before .before .before .before .before .before .before .before .before .before .before .before .before .build-cases .ensures .1)) (matrixOf (c .before .before .before .before .before .before .before .before .before .before .before .default-matrix .last .1 .1 .1 .1 .1 .1 .1 .0) (c .before .before .before .before .before .before .before .before .before .before .before .default-matrix .last .1 .1 .1 .1 .1 .1 .1 .1 .0) (c .before .before .before .before .before .before .before .before .before .before .before .default-matrix .last .1 .1 .1 .0) (c .before .before .before .before .before .before .before .before .before .before .before .before .before .before .before .before .before .before .before .before .before .before .before .before .before .before .before .before .before .before .before .before .before .before .args .opened .now) (c .before .before .before .before .before .before .before .before .before .before .before .default-matrix .result)) (c .before .before .before .before .before .before .before .before .before .before .before .default-matrix .ensures)), switch-asked (cased-at t (c .before .before .before .before .before .before .before .before .before .before .before)) (c .before .before .before .before .before .before .put-switch2 .last .0) ((c .before .before .before .before .before .before .before .before .before .before .before .before .before .before .before .before .before .before .before .before .build-cases .result .tops .nodes) + 1) (c .before .before .before .before .before .before .put-switch2 .ensures) (c .before .before .before .before .before .before .before .before .before .if2 .left))
 
 -- src/build.rt:221:1
 build-switch-same-length-4 : (t : ℕ) → build-switch-lts.Need-same-length-4 (
@@ -606,7 +583,7 @@ build-switch-same-length-4 : (t : ℕ) → build-switch-lts.Need-same-length-4 (
   do-build-tree-below t,
   do-build-tree.Post,
 ) (build-switch-at t) build-switch.Post
-build-switch-same-length-4 t c = (c .before .before .do-build-tree .kept .1 .1 .1 .1 .1 .1 .1 .1 .1 .1 .0) ∙ (c .before .before .before .before .before .before .before .before .before .put-switch2 .kept .0) ∙ (c .before .before .before .before .before .before .before .before .before .before .before .before .before .before .before .before .before .before .before .before .before .before .before .build-cases .kept .1 .1 .1 .1 .1 .1 .1 .1 .1 .1 .1 .0) ∙ (c .before .before .before .before .before .before .before .before .before .before .before .before .before .before .before .before .before .before .before .before .before .before .before .before .before .before .before .before .before .before .before .before .meet-cases .kept .1 .1 .1 .1 .1 .1 .1 .0)
+build-switch-same-length-4 t c = (c .before .before .do-build-tree .kept .1 .1 .1 .1 .1 .1 .1 .1 .0) ∙ (c .before .before .before .before .before .before .before .before .before .put-switch2 .kept .0) ∙ (c .before .before .before .before .before .before .before .before .before .before .before .before .before .before .before .before .before .before .before .before .before .before .before .build-cases .kept .1 .1 .1 .1 .1 .1 .1 .1 .1 .0) ∙ (c .before .before .before .before .before .before .before .before .before .before .before .before .before .before .before .before .before .before .before .before .before .before .before .before .before .before .before .before .before .before .before .before .meet-cases .kept .1 .1 .1 .1 .1 .1 .1 .0)
 
 -- src/build.rt:221:1
 build-switch-returns-4 : (t : ℕ) → build-switch-lts.Need-returns-4 (
@@ -621,7 +598,7 @@ build-switch-returns-4 : (t : ℕ) → build-switch-lts.Need-returns-4 (
   do-build-tree-below t,
   do-build-tree.Post,
 ) (build-switch-at t) build-switch.Post
-build-switch-returns-4 t c = (switch-default (cased-at t (c .before .before .before .before .before .before .before .before .before .before .before .before .before .before)) (c .before .before .before .before .before .before .before .before .before .put-switch2 .last .0) ((c .before .before .before .before .before .before .before .before .before .before .before .before .before .before .before .before .before .before .before .before .before .before .before .build-cases .result .tops .nodes) + 1) (c .before .before .before .before .before .before .before .before .before .put-switch2 .ensures) (c .before .before .do-build-tree .last .1 .1 .1 .1 .1 .1 .1 .1 .1 .1 .0) (c .before .before .do-build-tree .result) (c .before .before .before .before .before .before .before .before .before .before .before .before .if2 .left) refl (c .before .before .do-build-tree .ensures .0), still-on (still-on (c .before .before .before .before .before .before .before .before .before .before .before .before .before .before .before .before .before .before .before .before .before .before .before .build-cases .ensures .1) (default-still (still-column (c .before .before .before .before .before .before .before .before .before .before .before .before .before .before .before .before .before .before .before .before .before .before .before .before .before .before .before .before .before .before .before .before .before .before .before .before .before .pre .1 .0) (c .before .before .before .before .before .before .before .before .before .before .before .before .before .before .before .before .before .before .before .before .before .before .before .build-cases .ensures .1)) (matrixOf (c .before .before .before .before .before .before .before .before .before .before .before .before .before .before .default-matrix .last .1 .1 .1 .1 .1 .1 .1 .1 .0) (c .before .before .before .before .before .before .before .before .before .before .before .before .before .before .default-matrix .result .rows) (c .before .before .before .before .before .before .before .before .before .before .before .before .before .before .default-matrix .last .1 .1 .1 .1 .1 .1 .1 .1 .1 .0) (c .before .before .before .before .before .before .before .before .before .before .before .before .before .before .default-matrix .result .columns) (c .before .before .before .before .before .before .before .before .before .before .before .before .before .before .default-matrix .last .1 .1 .1 .1 .1 .1 .1 .1 .1 .1 .0) (c .before .before .before .before .before .before .before .before .before .before .before .before .before .before .before .before .before .before .before .before .before .before .before .before .before .before .before .before .before .before .before .before .before .before .before .before .before .args .time + 1) (c .before .before .before .before .before .before .before .before .before .before .before .before .before .before .before .before .before .before .before .before .before .before .before .before .before .before .before .before .before .before .before .before .before .before .before .before .before .args .opened .now)) (c .before .before .before .before .before .before .before .before .before .before .before .before .before .before .default-matrix .ensures) refl)) (still-fewer (c .before .before .do-build-tree .ensures .1)))
+build-switch-returns-4 t c = (switch-default (cased-at t (c .before .before .before .before .before .before .before .before .before .before .before .before .before .before)) (c .before .before .before .before .before .before .before .before .before .put-switch2 .last .0) ((c .before .before .before .before .before .before .before .before .before .before .before .before .before .before .before .before .before .before .before .before .before .before .before .build-cases .result .tops .nodes) + 1) (c .before .before .before .before .before .before .before .before .before .put-switch2 .ensures) (c .before .before .do-build-tree .last .1 .1 .1 .1 .1 .1 .1 .1 .0) (c .before .before .do-build-tree .result) (c .before .before .before .before .before .before .before .before .before .before .before .before .if2 .left) refl (c .before .before .do-build-tree .ensures .0), still-on (still-on (c .before .before .before .before .before .before .before .before .before .before .before .before .before .before .before .before .before .before .before .before .before .before .before .build-cases .ensures .1) (default-still (still-column (c .before .before .before .before .before .before .before .before .before .before .before .before .before .before .before .before .before .before .before .before .before .before .before .before .before .before .before .before .before .before .before .before .before .before .before .before .before .pre .1 .0) (c .before .before .before .before .before .before .before .before .before .before .before .before .before .before .before .before .before .before .before .before .before .before .before .build-cases .ensures .1)) (matrixOf (c .before .before .before .before .before .before .before .before .before .before .before .before .before .before .default-matrix .last .1 .1 .1 .1 .1 .1 .1 .0) (c .before .before .before .before .before .before .before .before .before .before .before .before .before .before .default-matrix .last .1 .1 .1 .1 .1 .1 .1 .1 .0) (c .before .before .before .before .before .before .before .before .before .before .before .before .before .before .default-matrix .last .1 .1 .1 .0) (c .before .before .before .before .before .before .before .before .before .before .before .before .before .before .before .before .before .before .before .before .before .before .before .before .before .before .before .before .before .before .before .before .before .before .before .before .before .args .opened .now) (c .before .before .before .before .before .before .before .before .before .before .before .before .before .before .default-matrix .result)) (c .before .before .before .before .before .before .before .before .before .before .before .before .before .before .default-matrix .ensures))) (still-fewer (default-more (still-column (c .before .before .before .before .before .before .before .before .before .before .before .before .before .before .before .before .before .before .before .before .before .before .before .before .before .before .before .before .before .before .before .before .before .before .before .before .before .pre .1 .0) (c .before .before .before .before .before .before .before .before .before .before .before .before .before .before .before .before .before .before .before .before .before .before .before .build-cases .ensures .1)) (matrixOf (c .before .before .before .before .before .before .before .before .before .before .before .before .before .before .default-matrix .last .1 .1 .1 .1 .1 .1 .1 .0) (c .before .before .before .before .before .before .before .before .before .before .before .before .before .before .default-matrix .last .1 .1 .1 .1 .1 .1 .1 .1 .0) (c .before .before .before .before .before .before .before .before .before .before .before .before .before .before .default-matrix .last .1 .1 .1 .0) (c .before .before .before .before .before .before .before .before .before .before .before .before .before .before .before .before .before .before .before .before .before .before .before .before .before .before .before .before .before .before .before .before .before .before .before .before .before .args .opened .now) (c .before .before .before .before .before .before .before .before .before .before .before .before .before .before .default-matrix .result)) (c .before .before .before .before .before .before .before .before .before .before .before .before .before .before .default-matrix .ensures)) (c .before .before .do-build-tree .ensures .1)))
 
 -- src/build.rt:323:9
 do-build-tree-returns : (t : ℕ) → do-build-tree-lts.Need-returns (
@@ -634,7 +611,7 @@ do-build-tree-returns : (t : ℕ) → do-build-tree-lts.Need-returns (
   build-switch-below t,
   build-switch.Post,
 ) (do-build-tree-at t) do-build-tree.Post
-do-build-tree-returns t c = (full-builds (c .before .before .before .before .before .pre .1 .ready .checked .ok) (c .before .before .before .before .before .pre .1 .there) (c .before .before .before .before .before .args .work .now) (c .before .before .before .before .before .args .work .now) (c .before .before .before .before .before .args .tops) (record { fits = false; tops = c .before .before .before .before .before .args .tops }) (c .if1 .taken) refl, still ((c .before .before .before .before .before .pre .1 .there) .whole .whole-tested .long))
+do-build-tree-returns t c = (full-builds (c .before .before .before .before .before .pre .1 .ready .checked .ok) (c .before .before .before .before .before .pre .1 .there) (c .before .before .before .before .before .args .w .now) (c .before .before .before .before .before .args .w .now) (c .before .before .before .before .before .args .tops) (record { fits = false; tops = c .before .before .before .before .before .args .tops }) (c .if1 .taken) refl, still ((c .before .before .before .before .before .pre .1 .there) .whole .whole-tested .long))
 
 -- src/build.rt:325:9
 do-build-tree-highest-occurrence-requires :
@@ -739,7 +716,7 @@ do-build-tree-returns-2 : (t : ℕ) → do-build-tree-lts.Need-returns-2 (
   build-switch-below t,
   build-switch.Post,
 ) (do-build-tree-at t) do-build-tree.Post
-do-build-tree-returns-2 t c = (leaf-builds (c .before .before .before .before .before .before .before .before .before .before .before .before .before .before .before .pre .1 .ready .checked .ok) (c .before .before .before .before .before .before .before .before .before .before .before .before .before .before .before .pre .1 .there) (c .before .before .before .before .before .before .before .before .before .before .before .before .before .before .before .args .work .now) (c .before .before .put-leaf .last .1 .1 .1 .1 .1 .1 .1 .0) (c .before .before .before .before .before .before .before .before .before .before .before .before .before .before .before .args .tops) (c .before .before .put-leaf .result) (record { fits = true; tops = c .before .before .put-leaf .result }) (c .before .before .before .before .before .wide .result) (asked-chosen (c .before .before .before .before .before .before .before .before .before .before .before .before .before .before .before .pre .1) (c .before .before .before .before .before .before .before .before .before .highest-occurrence .result) (c .before .before .before .before .before .before .before .before .before .highest-occurrence .ensures) (c .before .before .before .before .before .before .before .enum-told .given .1)) (c .before .before .before .before .before .wide .ensures) refl (c .before .before .put-leaf .ensures), still ((c .before .before .before .before .before .before .before .before .before .before .before .before .before .before .before .pre .1 .there) .whole .whole-tested .long))
+do-build-tree-returns-2 t c = (leaf-builds (c .before .before .before .before .before .before .before .before .before .before .before .before .before .before .before .pre .1 .ready .checked .ok) (c .before .before .before .before .before .before .before .before .before .before .before .before .before .before .before .pre .1 .there) (c .before .before .before .before .before .before .before .before .before .before .before .before .before .before .before .args .w .now) (c .before .before .put-leaf .last .1 .1 .1 .1 .1 .1 .1 .0) (c .before .before .before .before .before .before .before .before .before .before .before .before .before .before .before .args .tops) (c .before .before .put-leaf .result) (record { fits = true; tops = c .before .before .put-leaf .result }) (c .before .before .before .before .before .wide .result) (asked-chosen (c .before .before .before .before .before .before .before .before .before .before .before .before .before .before .before .pre .1) (c .before .before .before .before .before .before .before .before .before .highest-occurrence .result) (c .before .before .before .before .before .before .before .before .before .highest-occurrence .ensures) (c .before .before .before .before .before .before .before .enum-told .given .1)) (c .before .before .before .before .before .wide .ensures) refl (c .before .before .put-leaf .ensures), still ((c .before .before .before .before .before .before .before .before .before .before .before .before .before .before .before .pre .1 .there) .whole .whole-tested .long))
 
 -- src/build.rt:333:5
 do-build-tree-build-switch-requires : (t : ℕ) → do-build-tree-lts.Need-build-switch-requires (
@@ -765,7 +742,7 @@ do-build-tree-same-length-2 : (t : ℕ) → do-build-tree-lts.Need-same-length-2
   build-switch-below t,
   build-switch.Post,
 ) (do-build-tree-at t) do-build-tree.Post
-do-build-tree-same-length-2 t c = c .before .before .build-switch .kept .1 .1 .1 .1 .1 .1 .1 .1 .1 .1 .1 .0
+do-build-tree-same-length-2 t c = c .before .before .build-switch .kept .1 .1 .1 .1 .1 .1 .1 .1 .1 .0
 
 -- src/build.rt:305:1
 do-build-tree-returns-3 : (t : ℕ) → do-build-tree-lts.Need-returns-3 (
@@ -791,7 +768,6 @@ pub +build-case+build-cases+build-switch+do-build-tree-spec : {M : Type 1} → s
     (build-case-at t)
     build-case.Post
     (build-case-case-matrix-requires t)
-    (build-case-add-do-build-tree t)
     (build-case-do-build-tree-requires t)
     (build-case-same-length t)
     (build-case-returns t))
@@ -851,7 +827,6 @@ pub +build-case+build-cases+build-switch+do-build-tree-spec : {M : Type 1} → s
     (build-switch-returns-3 t)
     (build-switch-add-put-switch t)
     (build-switch-put-switch-requires-2 t)
-    (build-switch-add-do-build-tree t)
     (build-switch-do-build-tree-requires t)
     (build-switch-same-length-4 t)
     (build-switch-returns-4 t))

@@ -23,19 +23,22 @@ put-rest-requires c κs =
 push-requires : tie.Need-push-requires
 push-requires c κs = let s = c .before .before .before .before .before .before in (s .pre .0 .whole .whole-tested, s .pre .0 .room, s .pre .0 .known)
 
+add-t16 : tie.Need-add-t16
+add-t16 c = omega (arith, c .before .before .before .before .before .before .before .before .pre .0 .room)
+
 returns : tie.Need-returns
 unfolding defaultRead
 returns c =
-    let s = c .before .before .before .before .before .before .before in
+    let s = c .before .before .before .before .before .before .before .before in
     let a = s .args in
-    let rows = c .before .before .before .before .wild-rows in
-    let columns = c .before .before .put-rest in
-    let tested = c .push in
+    let rows = c .before .before .before .before .before .wild-rows in
+    let columns = c .before .before .before .put-rest in
+    let tested = c .before .push in
     stands-for
-    (matrixOf (rows .last .1 .1 .1 .1 .1 .0) (rows .result) (columns .last .0) (columns .result) (tested .last .0) (a .time + 1) (a .opened .now))
-    (defaultRead (a .t .now) (a .class) (inNumbers (matrixOf (a .rows .now) (a .n) (a .columns .now) (a .k) (a .tested .now) (a .time) (a .opened .now))))
+    (matrixOf (rows .last .1 .1 .1 .1 .1 .0) (columns .last .0) (tested .last .0) (a .opened .now) (record { rows = rows .result; columns = columns .result; tested = a .n .tested + 1 }))
+    (defaultRead (a .t .now) (a .class) (inNumbers (matrixOf (a .rows .now) (a .columns .now) (a .tested .now) (a .opened .now) (a .n))))
     (rows .ensures) (columns .ensures) (tested .ensures) refl (s .pre .0 .whole .long-opened)
 
 pub default-matrix-spec : {M : Type 1} → statement M
 default-matrix-spec =
-    tie.close (tie.spec wild-rows-requires put-rest-requires push-requires returns)
+    tie.close (tie.spec wild-rows-requires put-rest-requires push-requires add-t16 returns)
