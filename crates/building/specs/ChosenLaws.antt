@@ -11,6 +11,7 @@ use Rattle.words.specs.Words.{pick}
 use Rattle.words.specs.Stored.{stored}
 use Rattle.words.specs.StoredLaws.{length-stored}
 use Rattle.rules.specs.Limits.{patternsMost, nodesMost, nodeSize, caseSize}
+use Rattle.rules.specs.Patterns.{Pat}
 use Rattle.rules.specs.Splitting.{casesOf}
 use Rattle.rules.specs.SplittingLaws.{All}
 use Rattle.rules.specs.Building.{Tree, absent, leaf, hoist, switch, listswitch}
@@ -20,18 +21,21 @@ use Rattle.matching.specs.Depth.{isTail, isExact, only}
 use Rattle.sheet.specs.declared.Map.{Map}
 use Rattle.table.specs.Standing.{sheetPaths, pathOf, classOf}
 use Rattle.matrix.specs.declared.Matrix.{Matrix}
-use Rattle.matrix.specs.Numbered.{treeAt}
+use Rattle.matrix.specs.HeldRows.{heldTests}
+use Rattle.matrix.specs.Live.{liveIn}
+use Rattle.matrix.specs.Lists.{numbersIn}
+use Rattle.matrix.specs.Numbered.{testsIn, treeAt}
 use Rattle.matrix.specs.InNumbers.{inNumbers, StandsFor, defaultRead}
 use Rattle.matrix.specs.TreesLaws.{some-tree, chosen-class}
 use Rattle.arena.specs.Arena.{casesStart, casesMost, arenaEnd}
 use Rattle.arena.specs.WritingLaws.{Kept, stands-stored}
 use Rattle.meeting.specs.declared.CasesMet.{CasesMet}
 use Rattle.meeting.specs.declared.Meeting.{Meeting}
-use Rattle.meeting.specs.declared.Meeting.the-variants.{Met as MetTo}
+use Rattle.meeting.specs.declared.Meeting.the-variants.{TooMany, Met as MetTo}
 use Rattle.meeting.specs.Passes.{caseRecords}
 use Rattle.meeting.specs.SoFar.{InSheet}
 use Rattle.meeting.specs.SoFarLaws.{length-caseRecords}
-use Rattle.meeting.specs.Made.{CasesMade, MeetsTo}
+use Rattle.meeting.specs.Made.{columnOf, CasesMade, MeetsTo}
 use Rattle.building.specs.declared.tops.Tops.{Tops}
 use Rattle.building.specs.declared.tops.Built.{Built}
 use Rattle.building.specs.Built.{Roomy, Put, Builds, CasesPut, BuildsCases, CasesOpen}
@@ -57,18 +61,28 @@ there-field n (hoist c bs a) h = add-one n
 there-field n (switch p cs d) h = add-one n
 there-field n (listswitch p cs ts d) h = add-one n
 
+-- ---- what meeting the cases answers, as the code has it
+abbrev metColumn : List ℕ → ℕ → Matrix → List Pat
+metColumn s k x = columnOf s (heldTests (liveIn s (x .opened) k) (numbersIn (x .rows)))
+
+column-met : (s : List ℕ) (k : ℕ) (x : Matrix) (first : ℕ) (w w' : List ℕ) (r o : Meeting) → r ≡ o → MeetsTo s (metColumn s k x) first w w' r
+    → MeetsTo s (chosenColumn s k (inNumbers x)) first w w' o
+unfolding testsIn
+column-met s k x first w w' r o e h = subst (MeetsTo s (metColumn s k x) first w w') e h
+
 -- ---- no room for the cases
 module _ {s : List ℕ} {m : Map} {t : List ℕ} {x : Matrix} {k : ℕ} (col : AskedColumn s m t x k) {tops : Tops} where
-  pub no-room : (w w' : List ℕ) (r : Built) → casesMost ≤ tops .cases + length (casesOf (chosenColumn s k (inNumbers x))) → r ≡ record { fits = false; tops = tops }
+  pub no-room : (w w' : List ℕ) (r : Built) (z : Meeting) → z ≡ TooMany → MeetsTo s (metColumn s k x) (tops .cases) w w' z → r ≡ record { fits = false; tops = tops }
       → Builds (sheetPaths s) w w' (treeAt s (inNumbers x)) tops r
-  no-room w w' r l e =
+  no-room w w' r z none met e =
+      let more = (column-met s k x (tops .cases) w w' z TooMany none met) .more in
       rw (e, as-switch col)
       (record {
         put = λ f. absurd (false≢true f);
         fewer-cases = λ f. absurd (false≢true f);
         over = λ _.
             met-over (pathOf s k) (chosenColumn s k (inNumbers x)) (caseTree s k (inNumbers x)) (defaultTree s k (inNumbers x)) tops (cases-there col)
-            (omega (arith, order-length (chosenColumn s k (inNumbers x))));
+            (omega (arith, more, order-length (chosenColumn s k (inNumbers x))));
       })
 
 -- ---- the cases met
@@ -81,10 +95,10 @@ pub record Opened (s : List ℕ) (m : Map) (t : List ℕ) (x : Matrix) (k : ℕ)
 
 -- as the code has them
 pub opened : {s : List ℕ} {m : Map} {t : List ℕ} {x : Matrix} {k : ℕ} → AskedColumn s m t x k → {w : List ℕ} {tops : Tops} → Roomy w tops → tops .nodes < nodesMost
-    → {w₁ : List ℕ} (r : Meeting) (c : CasesMet) → r ≡ MetTo c → MeetsTo s (chosenColumn s k (inNumbers x)) (tops .cases) w w₁ r
+    → {w₁ : List ℕ} (r : Meeting) (c : CasesMet) → r ≡ MetTo c → MeetsTo s (metColumn s k x) (tops .cases) w w₁ r
     → Opened s m t x k w tops w₁ c (record { nodes = tops .nodes + 1; cases = c .end; bindings = tops .bindings; leaves = tops .leaves })
 opened {s} {m} {t} {x} {k} col {w} {tops} room l {w₁} r c e h =
-    record { col = col; room = room; node-room = l; made = subst (MeetsTo s (chosenColumn s k (inNumbers x)) (tops .cases) w w₁) e h; from-is = refl }
+    record { col = col; room = room; node-room = l; made = column-met s k x (tops .cases) w w₁ r (MetTo c) e h; from-is = refl }
 
 module _ {s : List ℕ} {m : Map} {t : List ℕ} {x : Matrix} {k : ℕ} {w : List ℕ} {tops : Tops} {w₁ : List ℕ} {c : CasesMet} {from : Tops}
     (o : Opened s m t x k w tops w₁ c from) where

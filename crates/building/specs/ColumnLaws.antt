@@ -10,6 +10,7 @@ use lib.ListN.{length, take, length-append, length-map}
 use lib.Seq.{length-take-le}
 use Rattle.words.specs.Words.{either}
 use Rattle.rules.specs.Limits.{patternsMost}
+use Rattle.rules.specs.SheetFile.{clauses}
 use Rattle.rules.specs.SheetRefusals.{isIn}
 use Rattle.rules.specs.Patterns.{Pat}
 use Rattle.rules.specs.Rows.{Path, Row}
@@ -27,20 +28,21 @@ use Rattle.sheet.specs.declared.Map.{Map}
 use Rattle.table.specs.Standing.{pathOf, patternOf}
 use Rattle.matrix.specs.declared.Matrix.{Matrix}
 use Rattle.matrix.specs.declared.Held.{Held}
-use Rattle.matrix.specs.Lists.{classesIn}
+use Rattle.matrix.specs.Lists.{classesIn, numbersIn}
 use Rattle.matrix.specs.Numbered.{Numbered, SoundOf, defaultNumbered, caseNumbered, testsIn, treeAt}
 use Rattle.matrix.specs.InNumbers.{inNumbers, WholeMatrix, StandsFor, Splits, defaultRead}
-use Rattle.matrix.specs.InNumbersLaws.{default-read, splits}
+use Rattle.matrix.specs.InNumbersLaws.{rising-below, default-read, splits}
 use Rattle.matrix.specs.Live.{liveIn}
 use Rattle.matrix.specs.HeldRows.{heldTests}
 use Rattle.matrix.specs.Matrices.{rowsAt}
 use Rattle.matrix.specs.MatricesLaws.{column-is}
-use Rattle.matrix.specs.TreesLaws.{FirstTest, rows-tests, chosen-first, some-tree, no-tree, case-some, case-tested, default-tested, chosen-there, chosen-room, chosen-class, tree-switch, sound-default, sound-case}
+use Rattle.matrix.specs.TreesLaws.{FirstTest, rows-tests, chosen-first, some-tree, no-tree, case-some, chosen-there, chosen-room, chosen-class, tree-switch, sound-default, sound-case}
 use Rattle.arena.specs.declared.reading.Test.{Test}
 use Rattle.meeting.specs.PassesLaws.{sorts-length}
 use Rattle.building.specs.CasesLaws.{There}
 use Rattle.building.specs.SwitchLaws.{inOrder}
-use Rattle.building.specs.Steps.{MatrixThere, chosenColumn, caseList, caseTree, defaultTree, AskedColumn}
+use Rattle.building.specs.Steps.{MatrixThere, StillTested, chosenColumn, caseList, caseTree, defaultTree, AskedColumn}
+use Rattle.building.specs.TestedLaws.{still-more}
 
 -- ---- a column's tests are tests, and each has a case
 column-tests : (p : Path) (rs : List Row) → All TestRow rs → All (λ q. isTest q ≡ true) (column p rs)
@@ -126,6 +128,10 @@ module _ {s : List ℕ} {m : Map} {t : List ℕ} {x : Matrix} {k : ℕ} (col : A
   pub column-known : k < patternsMost
   column-known = omega (arith, chosen-class ok (inNumbers x) (col .there .sound) k (col .chosen) .known, ok .is-counted .patterns-most)
 
+  -- its rows are clauses
+  pub rows-known : All (λ c. c < clauses s) (numbersIn (x .rows))
+  rows-known = rising-below (clauses s) 0 (numbersIn (x .rows)) (col .there .sound .rising)
+
   -- what its parts ask
   pub column-in : isIn k (classesIn (x .columns)) ≡ true
   column-in = chosen-there s (inNumbers x) k (col .chosen)
@@ -149,9 +155,10 @@ module _ {s : List ℕ} {m : Map} {t : List ℕ} {x : Matrix} {k : ℕ} (col : A
           some-row = subst (λ (M : Numbered). 1 ≤ length (M .rows)) (sym is) (case-some s (inNumbers x) k u e);
         }
 
-    pub case-deeper : y .tested .count ≡ x .tested .count + 1
-    case-deeper =
-        omega (arith, tested-is whole, tested-is (col .there .whole), ap (λ (M : Numbered). length (M .tested)) is, case-tested s (inNumbers x) k u)
+    -- the classes tested before it stay
+    pub case-still : y .tested .count ≡ x .tested .count + 1 → StillTested (x .tested .count) (x .tested .list) (y .tested .list)
+    unfolding caseNumbered
+    case-still one-more = still-more k (col .there .whole) whole one-more (ap (λ (M : Numbered). M .tested) is)
 
   -- the default's
   module _ (d : Matrix) (stands : StandsFor d (defaultRead t k (inNumbers x))) where
@@ -172,9 +179,9 @@ module _ {s : List ℕ} {m : Map} {t : List ℕ} {x : Matrix} {k : ℕ} (col : A
     pub default-none : d .rows .count ≡ 0 → defaultTree s k (inNumbers x) ≡ absent
     default-none e = no-tree s (defaultNumbered s k (inNumbers x)) (rw (← default-are) (ap (λ z. take z (d .rows .list)) e))
 
-    pub default-deeper : d .tested .count ≡ x .tested .count + 1
-    default-deeper =
-        omega (arith, tested-is whole, tested-is (col .there .whole), ap (λ (M : Numbered). length (M .tested)) default-are, default-tested s (inNumbers x) k)
+    pub default-still : d .tested .count ≡ x .tested .count + 1 → StillTested (x .tested .count) (x .tested .list) (d .tested .list)
+    unfolding defaultRead
+    default-still one-more = still-more k (col .there .whole) whole one-more (ap (λ (M : Numbered). M .tested) (stands .are))
 
   pub as-switch : treeAt s (inNumbers x) ≡ nodeOn (pathOf s k) (chosenColumn s k (inNumbers x)) (caseTree s k (inNumbers x)) (defaultTree s k (inNumbers x))
   as-switch = tree-switch ok (inNumbers x) (col .there .sound) k (col .chosen)

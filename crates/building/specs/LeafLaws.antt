@@ -2,10 +2,10 @@
 -- Rests on the bindings put by the crate leaves.
 use mathlib.Core.Path.{_≡_, refl, sym, ap, subst, _∙_}
 use mathlib.Core.Bool.{true, false, false≢true}
-use mathlib.Core.List.{List}
+use mathlib.Core.List.{List, map}
 use Prim.Native.Nat.{ℕ, zero, suc, _+_, _-_, _*_, _≤_, _<_}
 use native.Mathlib.Omega.{arith}
-use lib.ListN.{length, set}
+use lib.ListN.{length, take, set}
 use Rattle.words.specs.Stored.{stored}
 use Rattle.rules.specs.Limits.{clausesMost, nodesMost, bindingsMost, nodeSize}
 use Rattle.rules.specs.Rows.{Binding}
@@ -15,6 +15,7 @@ use Rattle.rules.specs.TreeFile.{firstOf, nodeBytes, casesIn}
 use Rattle.facts.specs.SheetFacts.{Accepted}
 use Rattle.sheet.specs.declared.Map.{Map}
 use Rattle.table.specs.Standing.{sheetPaths}
+use Rattle.table.specs.Seen.{bindingAt}
 use Rattle.matrix.specs.declared.Matrix.{Matrix}
 use Rattle.matrix.specs.declared.Choice.{Choice}
 use Rattle.matrix.specs.declared.Choice.the-variants.{Leaf}
@@ -27,16 +28,16 @@ use Rattle.matrix.specs.InNumbers.{inNumbers, Readable, chosenRead}
 use Rattle.matrix.specs.InNumbersLaws.{chosen-read, readable}
 use Rattle.matrix.specs.TreesLaws.{some-tree, tree-leaf}
 use Rattle.arena.specs.Arena.{arenaEnd}
-use Rattle.leaves.specs.Bindings.{bound, boundAll, firstClause, leafBindings, WithRow}
-use Rattle.leaves.specs.PuttingLaws.{row-clause}
-use Rattle.leaves.specs.StandsLaws.{leaf-is, leaf-bound}
+use Rattle.leaves.specs.Bindings.{bound, boundAll, leafNumbers, LeafAsked, firstClause, WithRow}
+use Rattle.leaves.specs.PuttingLaws.{leaf-asked}
+use Rattle.leaves.specs.StandsLaws.{all-bound, leaf-is}
 use Rattle.building.specs.declared.tops.Tops.{Tops}
 use Rattle.building.specs.declared.tops.Built.{Built}
 use Rattle.building.specs.Built.{Roomy, Put, Builds}
 use Rattle.building.specs.BuiltLaws.{leaf-put}
 use Rattle.building.specs.SwitchLaws.{full-over}
 use Rattle.building.specs.ColumnLaws.{rows-count}
-use Rattle.building.specs.Steps.{MatrixThere, Asked}
+use Rattle.building.specs.Steps.{MatrixThere, clauseLeaf, Asked}
 
 -- ---- "first 0 at count 0"
 pub first-none : (count first : ℕ) → count ≡ 0 → 0 ≡ firstOf count first
@@ -53,9 +54,42 @@ leaf-fewer : (c : ℕ) (bs : List Binding) → casesIn (leaf c bs) < nodesIn (le
 unfolding casesIn nodesIn
 leaf-fewer c bs = omega arith
 
--- ---- a leaf
+-- as the code has them
+pub first-small : (count first from : ℕ) → first ≡ firstOf count from → first ≤ from
+unfolding firstOf
+first-small zero first from e = omega arith
+first-small (suc count) first from e = omega arith
+
+-- ---- the leaf of a clause
+module _ {s : List ℕ} (ok : Accepted s) {c n : ℕ} {tested : List ℕ} (asked : LeafAsked s c tested n) (opened : List ℕ) where
+  abbrev numbers : List ℕ
+  numbers = leafNumbers s opened (take n tested) c
+
+  pub clause-small : c < clausesMost
+  clause-small = omega (arith, asked .clause, ok .is-counted .clauses-most)
+
+  pub leaf-top : {w w₁ : List ℕ} {tops : Tops} {top : ℕ} → Roomy w tops → bound w₁ top ≡ boundAll s (bound w (tops .bindings)) numbers
+      → (tops .bindings ≤ top) × (top ≤ bindingsMost + 1) × (length w₁ ≡ length w)
+  leaf-top {w} {w₁} {tops} {top} room bs =
+      let b = all-bound s numbers w (tops .bindings) w₁ top (record { long = room .long; most = room .bindings-most }) bs in
+      (omega (arith, b .count, room .bindings-most), omega (arith, b .count), b .kept .same-length)
+
+  -- the leaf's record behind its bindings
+  pub leaf-step : (w w₁ w' : List ℕ) (tops to : Tops) (top count first : ℕ) → Roomy w tops → tops .nodes < nodesMost
+      → bound w₁ top ≡ boundAll s (bound w (tops .bindings)) numbers → count ≡ top - tops .bindings → first ≡ firstOf count (tops .bindings)
+      → w' ≡ stored w₁ (nodeSize * tops .nodes) (nodeBytes 2 c first count 0 0)
+      → to ≡ record { nodes = tops .nodes + 1; cases = tops .cases; bindings = top; leaves = set (tops .leaves) c 1 }
+      → Put (sheetPaths s) w w' (clauseLeaf s opened (take n tested) c) tops to
+  leaf-step w w₁ w' tops to top count first room l bs count-is first-is put to-is =
+      let b = all-bound s numbers w (tops .bindings) w₁ top (record { long = room .long; most = room .bindings-most }) bs in
+      leaf-put (sheetPaths s) w w₁ w' c (map (bindingAt s) numbers) tops to first count room l clause-small (b .kept) (b .there) put
+      (count-is ∙ ap (λ z. z - tops .bindings) (sym (ap (λ (z : Tops). z .bindings) to-is))) first-is
+      (ap (λ (z : Tops). z .nodes) to-is) (ap (λ (z : Tops). z .cases) to-is) (ap (λ (z : Tops). z .bindings) to-is ∙ b .count)
+      (ap (λ (z : Tops). z .leaves) to-is)
+
+-- ---- the leaf of a matrix
 module _ {s : List ℕ} (ok : Accepted s) {x : Matrix} (there : MatrixThere s x) where
-  pub with-row : WithRow s x
+  with-row : WithRow s x
   with-row =
       record {
         rows = there .whole .whole-rows;
@@ -64,51 +98,22 @@ module _ {s : List ℕ} (ok : Accepted s) {x : Matrix} (there : MatrixThere s x)
         some-row = omega (arith, there .some-row, rows-count (there .whole));
       }
 
-  pub leaf-clause : firstClause x < clausesMost
-  leaf-clause = omega (arith, row-clause s x with-row (firstClause x) refl, ok .is-counted .clauses-most)
+  -- as the code has it
+  pub clause-asked : (c : ℕ) → c ≡ firstClause x → LeafAsked s c (x .tested .list) (x .tested .count)
+  clause-asked c e = leaf-asked s x with-row (ok .is-counted .patterns-most) c e
 
-  leaf-tree : chosenIn s (inNumbers x) ≡ Leaf → treeAt s (inNumbers x) ≡ leaf (firstClause x) (leafBindings s x)
-  leaf-tree e = tree-leaf ok (inNumbers x) (there .sound) e ∙ leaf-is s ok x with-row
-
-  -- as the code has them
-  pub first-small : (count first from : ℕ) → first ≡ firstOf count from → first ≤ from
-  unfolding firstOf
-  first-small zero first from e = omega arith
-  first-small (suc count) first from e = omega arith
-
-  pub clause-small : (clause : ℕ) → clause ≡ firstClause x → clause < clausesMost
-  clause-small clause e = rw e leaf-clause
-
-  pub leaf-top : (w w₁ : List ℕ) (from top : ℕ) → arenaEnd ≤ length w → from ≤ bindingsMost + 1
-      → bound w₁ top ≡ boundAll s (bound w from) (boundNumbers s (inNumbers x) (firstClause x)) → (from ≤ top) × (top ≤ bindingsMost + 1) × (length w₁ ≡ length w)
-  leaf-top w w₁ from top l h bs =
-      let b = leaf-bound s ok x with-row w from w₁ top (record { long = l; most = h }) bs in
-      (omega (arith, b .count), omega (arith, b .count), b .kept .same-length)
-
-  -- the leaf's record behind its bindings
-  pub leaf-step : (w w₁ w' : List ℕ) (tops to : Tops) (clause top count first : ℕ) → chosenIn s (inNumbers x) ≡ Leaf → Roomy w tops → tops .nodes < nodesMost
-      → bound w₁ top ≡ boundAll s (bound w (tops .bindings)) (boundNumbers s (inNumbers x) (firstClause x))
-      → clause ≡ firstClause x → count ≡ top - tops .bindings → first ≡ firstOf count (tops .bindings)
-      → w' ≡ stored w₁ (nodeSize * tops .nodes) (nodeBytes 2 clause first count 0 0)
-      → to ≡ record { nodes = tops .nodes + 1; cases = tops .cases; bindings = top; leaves = set (tops .leaves) clause 1 }
-      → Put (sheetPaths s) w w' (treeAt s (inNumbers x)) tops to
-  leaf-step w w₁ w' tops to clause top count first e room l bs clause-is count-is first-is put to-is =
-      let b = leaf-bound s ok x with-row w (tops .bindings) w₁ top (record { long = room .long; most = room .bindings-most }) bs in
-      rw (leaf-tree e)
-      (leaf-put (sheetPaths s) w w₁ w' (firstClause x) (leafBindings s x) tops to first count room l leaf-clause (b .kept) (b .there)
-      (put ∙ ap (λ z. stored w₁ (nodeSize * tops .nodes) (nodeBytes 2 z first count 0 0)) clause-is)
-      (count-is ∙ ap (λ z. z - tops .bindings) (sym (ap (λ (z : Tops). z .bindings) to-is))) first-is
-      (ap (λ (z : Tops). z .nodes) to-is) (ap (λ (z : Tops). z .cases) to-is) (ap (λ (z : Tops). z .bindings) to-is ∙ b .count)
-      (ap (λ (z : Tops). z .leaves) to-is ∙ ap (λ z. set (tops .leaves) z 1) clause-is))
+  leaf-tree : chosenIn s (inNumbers x) ≡ Leaf → (c : ℕ) → c ≡ firstClause x → treeAt s (inNumbers x) ≡ clauseLeaf s (x .opened) (classesIn (x .tested)) c
+  unfolding boundNumbers
+  leaf-tree e c is = tree-leaf ok (inNumbers x) (there .sound) e ∙ leaf-is s ok x with-row ∙ ap (clauseLeaf s (x .opened) (classesIn (x .tested))) (sym is)
 
   -- it is built
-  pub leaf-builds : (w w' : List ℕ) (tops to : Tops) (r : Built) → chosenIn s (inNumbers x) ≡ Leaf → r ≡ record { fits = true; tops = to }
-      → Put (sheetPaths s) w w' (treeAt s (inNumbers x)) tops to → Builds (sheetPaths s) w w' (treeAt s (inNumbers x)) tops r
-  leaf-builds w w' tops to r e r-is p =
-      rw r-is
+  pub leaf-builds : (w w' : List ℕ) (tops to : Tops) (r : Built) (c : ℕ) → chosenIn s (inNumbers x) ≡ Leaf → c ≡ firstClause x → r ≡ record { fits = true; tops = to }
+      → Put (sheetPaths s) w w' (clauseLeaf s (x .opened) (classesIn (x .tested)) c) tops to → Builds (sheetPaths s) w w' (treeAt s (inNumbers x)) tops r
+  leaf-builds w w' tops to r c e is r-is p =
+      rw (r-is, leaf-tree e c is)
       (record {
         put = λ _. p;
-        fewer-cases = λ _. subst (λ (a : Tree). casesIn a < nodesIn a) (sym (leaf-tree e)) (leaf-fewer (firstClause x) (leafBindings s x));
+        fewer-cases = λ _. leaf-fewer c (map (bindingAt s) (leafNumbers s (x .opened) (classesIn (x .tested)) c));
         over = λ f. absurd (false≢true (sym f));
       })
 

@@ -1,6 +1,6 @@
 -- The loop over the cases of a switch, as the code takes it: a case's test read, its matrix, its child's number written and its tree built.
 -- Rests on the laws of cases over plain values.
-use mathlib.Core.Path.{_≡_, refl, sym, ap, subst, _∙_}
+use mathlib.Core.Path.{_≡_, refl, sym, ap, ap₂, subst, _∙_}
 use mathlib.Core.Bool.{true, false, false≢true}
 use mathlib.Core.List.{List, _∷_}
 use Prim.Native.Nat.{ℕ, _+_, _-_, _*_, _≤_, _<_}
@@ -22,7 +22,7 @@ use Rattle.matching.specs.Lists.{all-back}
 use Rattle.sheet.specs.declared.Map.{Map}
 use Rattle.table.specs.Standing.{sheetPaths}
 use Rattle.matrix.specs.declared.Matrix.{Matrix}
-use Rattle.matrix.specs.Numbered.{caseNumbered, treeAt}
+use Rattle.matrix.specs.Numbered.{Numbered, caseNumbered, treeAt}
 use Rattle.matrix.specs.Meant.{meant, InPool}
 use Rattle.matrix.specs.InNumbers.{inNumbers, StandsFor}
 use Rattle.arena.specs.declared.reading.Test.{Test}
@@ -37,8 +37,9 @@ use Rattle.building.specs.declared.tops.Tops.{Tops}
 use Rattle.building.specs.declared.tops.Built.{Built}
 use Rattle.building.specs.Built.{Put, Builds, Partly, TooMany, BuildsCases, CasesOpen}
 use Rattle.building.specs.CasesLaws.{Next, next-case, next-stands, case-built, case-over, cases-begin, cases-end}
-use Rattle.building.specs.ColumnLaws.{met-among, order-met, cases-there, case-there, case-deeper}
-use Rattle.building.specs.Steps.{MatrixThere, Asked, chosenColumn, caseList, caseTree, AskedColumn, AskedCases}
+use Rattle.building.specs.TestedLaws.{testedIn, still-numbers, still-column}
+use Rattle.building.specs.ColumnLaws.{met-among, order-met, cases-there, case-there}
+use Rattle.building.specs.Steps.{StillTested, Asked, chosenColumn, caseList, caseTree, AskedColumn, AskedCase, AskedCases}
 
 -- ---- a case's test, as it is read
 -- a case met means its test, and its text lies in the sheet's pool
@@ -57,16 +58,33 @@ module _ (s : List ℕ) where
       go (splitting.ListOf n) e = rw e (refl, tt)
       go (splitting.ListWithTail n) e = rw e (refl, tt)
 
+-- ---- a case
+module _ {s : List ℕ} {m : Map} {t : List ℕ} {x : Matrix} {k : ℕ} {test : Test} {w : List ℕ} {tops : Tops} (asked : AskedCase s m t x k test w tops) (y : Matrix)
+    (stands : StandsFor y (caseNumbered s k (meant s test) (inNumbers x))) where
+  -- its matrix y
+  pub case-asked : Asked s m t y w tops
+  case-asked =
+      record {
+        ready = asked .col .ready;
+        there = case-there (asked .col) y (meant s test) (stands .whole) (stands .are) (asked .met);
+        room = asked .room;
+      }
+
+  pub case-tree : {w' : List ℕ} {r : Built} → Builds (sheetPaths s) w w' (treeAt s (inNumbers y)) tops r
+      → Builds (sheetPaths s) w w' (caseTree s k (inNumbers x) (meant s test)) tops r
+  case-tree {w'} {r} b = subst (λ (a : Tree). Builds (sheetPaths s) w w' a tops r) (ap (treeAt s) (stands .are)) b
+
 -- ---- a turn
 -- i cases are built, and there is one more
-pub record Turn (s : List ℕ) (m : Map) (t : List ℕ) (x : Matrix) (k first : ℕ) (w₀ : List ℕ) (from : Tops) (i : ℕ) (w : List ℕ) (tops : Tops) : Type 0 where
+pub record Turn (s : List ℕ) (m : Map) (t : List ℕ) (x : Matrix) (k first : ℕ) (w₀ : List ℕ) (from : Tops) (i : ℕ) (l w : List ℕ) (tops : Tops) : Type 0 where
   pub col : AskedColumn s m t x k
   pub asked : AskedCases s k (inNumbers x) first w₀ from
   pub part : Partly (sheetPaths s) (caseTree s k (inNumbers x)) (caseList s k (inNumbers x)) first i w₀ w from tops
   pub inside : i < from .cases - first
+  pub kept : StillTested (x .tested .count) (x .tested .list) l
 
-module _ {s : List ℕ} {m : Map} {t : List ℕ} {x : Matrix} {k first : ℕ} {w₀ : List ℕ} {from : Tops} {i : ℕ} {w : List ℕ} {tops : Tops}
-    (turn : Turn s m t x k first w₀ from i w tops) where
+module _ {s : List ℕ} {m : Map} {t : List ℕ} {x : Matrix} {k first : ℕ} {w₀ : List ℕ} {from : Tops} {i : ℕ} {l w : List ℕ} {tops : Tops}
+    (turn : Turn s m t x k first w₀ from i l w tops) where
   abbrev begun : CasesOpen (caseList s k (inNumbers x)) first w₀ from
   begun = turn .asked .begun
 
@@ -89,34 +107,27 @@ module _ {s : List ℕ} {m : Map} {t : List ℕ} {x : Matrix} {k first : ℕ} {w
   u-meant : Meant s (next .case)
   u-meant = sheet-meant s (next .case) ((all-back (InSheet s) (next .done) (next .case ∷ next .rest) (subst (All (InSheet s)) (next .whole) (turn .asked .each))) .0)
 
-  pub turn-in-pool : (test : Test) → test ≡ (caseOf w (first + i)) .test → InPool s test
-  turn-in-pool test e = subst (InPool s) (sym (test-is test e)) (u-meant .1)
-
   pub turn-room : (first + i < casesMost) × (tops .nodes ≤ nodesMost) × (arenaEnd ≤ length w)
   turn-room =
       let r = next .put .room in
       (omega (arith, begun .room .cases-most, begun .to-come, turn .inside), r .nodes-most, r .long)
 
-  -- the case's matrix y
-  module _ (test : Test) (e : test ≡ (caseOf w (first + i)) .test) (y : Matrix)
-      (stands : StandsFor y (caseNumbered s k (meant s test) (inNumbers x))) where
-    y-is : inNumbers y ≡ caseNumbered s k u (inNumbers x)
-    y-is = stands .are ∙ ap (λ z. caseNumbered s k z (inNumbers x)) (ap (meant s) (test-is test e) ∙ u-meant .0)
+  module _ (test : Test) (e : test ≡ (caseOf w (first + i)) .test) where
+    abbrev now-is : inNumbers (testedIn x l) ≡ inNumbers x
+    now-is = still-numbers x (turn .kept)
 
-    pub turn-there : MatrixThere s y
-    turn-there = case-there (turn .col) y u (stands .whole) y-is u-met
-
-    pub turn-deeper : y .tested .count ≡ x .tested .count + 1
-    turn-deeper = case-deeper (turn .col) y u (stands .whole) y-is
+    meant-is : meant s test ≡ u
+    meant-is = ap (meant s) (test-is test e) ∙ u-meant .0
 
     -- its child is written
     module _ (w₁ : List ℕ) (child : w₁ ≡ stored w (casesStart + caseSize * (first + i) + 6) (wordBytes (tops .nodes))) where
-      pub turn-asked : Asked s m t y w₁ tops
+      pub turn-asked : AskedCase s m t (testedIn x l) k test w₁ tops
       turn-asked =
           let r = next .put .room in
           record {
-            ready = turn .col .ready;
-            there = turn-there;
+            col = still-column (turn .col) (turn .kept);
+            pool = subst (InPool s) (sym (test-is test e)) (u-meant .1);
+            met = ap₂ (λ (z : splitting.Test) (M : Numbered). isMet z (casesOf (chosenColumn s k M))) meant-is now-is ∙ u-met;
             room = record {
               long = omega (arith, r .long, ap length child, length-stored w (casesStart + caseSize * (first + i) + 6) (wordBytes (tops .nodes)));
               nodes-most = r .nodes-most;
@@ -127,9 +138,9 @@ module _ {s : List ℕ} {m : Map} {t : List ℕ} {x : Matrix} {k first : ℕ} {w
           }
 
       -- its tree is built, or has too many nodes
-      module _ (w₂ : List ℕ) (r : Built) (b : Builds (sheetPaths s) w₁ w₂ (treeAt s (inNumbers y)) tops r) where
-        as-case : treeAt s (inNumbers y) ≡ caseTree s k (inNumbers x) u
-        as-case = ap (treeAt s) y-is
+      module _ (w₂ : List ℕ) (r : Built) (b : Builds (sheetPaths s) w₁ w₂ (caseTree s k (inNumbers (testedIn x l)) (meant s test)) tops r) where
+        as-case : caseTree s k (inNumbers (testedIn x l)) (meant s test) ≡ caseTree s k (inNumbers x) u
+        as-case = ap₂ (λ (z : splitting.Test) (M : Numbered). caseTree s k M z) meant-is now-is
 
         pub turn-done : r .fits ≡ true
             → Partly (sheetPaths s) (caseTree s k (inNumbers x)) (caseList s k (inNumbers x)) first (i + 1) w₀ w₂ from (r .tops)

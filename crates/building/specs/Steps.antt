@@ -1,21 +1,27 @@
 -- What building a matrix asks, and the column chosen in it: its tests, its cases in the order of their records, their trees.
 -- Rests on the matrix by numbers and on the cases met.
 use mathlib.Core.Path.{_≡_}
-use mathlib.Core.List.{List}
+use mathlib.Core.Bool.{true}
+use mathlib.Core.List.{List, map}
 use Prim.Native.Nat.{ℕ, _≤_}
-use lib.ListN.{length}
+use lib.ListN.{length, take}
+use Rattle.rules.specs.Limits.{patternsMost}
 use Rattle.rules.specs.Patterns.{Pat}
-use Rattle.rules.specs.Splitting.{Test, Met}
+use Rattle.rules.specs.Splitting.{Test, Met, isMet, casesOf}
 use Rattle.rules.specs.SplittingLaws.{All}
-use Rattle.rules.specs.Building.{Tree}
+use Rattle.rules.specs.Building.{Tree, leaf}
 use Rattle.sheet.specs.declared.Map.{Map}
+use Rattle.table.specs.Seen.{bindingAt}
 use Rattle.matrix.specs.declared.Matrix.{Matrix}
 use Rattle.matrix.specs.declared.Choice.the-variants.{Column}
+use Rattle.arena.specs.declared.reading.Test as reading
 use Rattle.matrix.specs.Ready.{Ready}
+use Rattle.matrix.specs.Meant.{meant, InPool}
 use Rattle.matrix.specs.Numbered.{Numbered, SoundOf, defaultNumbered, caseNumbered, chosenIn, testsIn, treeAt}
 use Rattle.matrix.specs.InNumbers.{inNumbers, WholeMatrix}
 use Rattle.meeting.specs.Made.{columnOf}
 use Rattle.meeting.specs.SoFar.{InSheet}
+use Rattle.leaves.specs.Bindings.{leafNumbers}
 use Rattle.building.specs.declared.tops.Tops.{Tops}
 use Rattle.building.specs.Built.{Roomy, CasesOpen}
 use Rattle.building.specs.SwitchLaws.{inOrder}
@@ -32,6 +38,15 @@ pub record Asked (s : List ℕ) (m : Map) (t : List ℕ) (x : Matrix) (w : List 
   pub ready : Ready s m t
   pub there : MatrixThere s x
   pub room : Roomy w tops
+
+-- the leaf of clause c, where these columns were tested
+abbrev pub clauseLeaf : List ℕ → List ℕ → List ℕ → ℕ → Tree
+clauseLeaf s opened tested c = leaf c (map (bindingAt s) (leafNumbers s opened tested c))
+
+-- the array of the classes tested: its first `time` ones are as they were
+pub record StillTested (time : ℕ) (l l' : List ℕ) : Type 0 where
+  pub long : length l' ≡ patternsMost
+  pub same : take time l' ≡ take time l
 
 -- ---- the column of class k
 -- its tests, top down
@@ -52,6 +67,13 @@ pub record AskedColumn (s : List ℕ) (m : Map) (t : List ℕ) (x : Matrix) (k :
   pub ready : Ready s m t
   pub there : MatrixThere s x
   pub chosen : chosenIn s (inNumbers x) ≡ Column k
+
+-- what building a case asks: its test is one of them
+pub record AskedCase (s : List ℕ) (m : Map) (t : List ℕ) (x : Matrix) (k : ℕ) (test : reading.Test) (w : List ℕ) (tops : Tops) : Type 0 where
+  pub col : AskedColumn s m t x k
+  pub pool : InPool s test
+  pub met : isMet (meant s test) (casesOf (chosenColumn s k (inNumbers x))) ≡ true
+  pub room : Roomy w tops
 
 -- what building its cases asks
 pub record AskedCases (s : List ℕ) (k : ℕ) (M : Numbered) (first : ℕ) (w : List ℕ) (from : Tops) : Type 0 where

@@ -3,12 +3,12 @@
 use crate::tops::Built;
 use crate::tops::Tops;
 use arena::NODES_MOST;
+use arena::reading::Test;
 use arena::reading::case_at;
 use arena::writing::put_child;
 use arena::writing::put_node;
 use leaves::leaf_bindings;
 use matrix::Choice;
-use matrix::Matrix;
 use matrix::rows::highest_occurrence;
 use matrix::splitting::case_matrix;
 use matrix::splitting::default_matrix;
@@ -19,18 +19,20 @@ use meeting::meet_cases;
 use sheet::Map;
 ghost use mathlib.Core.Path.{_≡_};
 ghost use Prim.Native.Nat.{_<_, _≤_, _+_, _*_, _-_};
-ghost use lib.ListN.{length};
+ghost use lib.ListN.{length, take};
 ghost use Rattle.words.specs.Words.{pick};
 ghost use Rattle.words.specs.Stored.{stored};
 ghost use Rattle.rules.specs.Limits.{patternsMost, nodesMost, nodeSize};
 ghost use Rattle.rules.specs.TreeFile.{firstOf, nodeBytes};
 ghost use Rattle.table.specs.Standing.{sheetPaths};
-ghost use Rattle.matrix.specs.declared.Choice.the-variants.{Leaf};
-ghost use Rattle.matrix.specs.Numbered.{chosenIn, treeAt};
-ghost use Rattle.matrix.specs.InNumbers.{inNumbers};
+ghost use Rattle.matrix.specs.Ready.{Ready};
+ghost use Rattle.matrix.specs.Meant.{meant};
+ghost use Rattle.matrix.specs.Numbered.{treeAt};
+ghost use Rattle.matrix.specs.InNumbers.{inNumbers, matrixOf};
 ghost use Rattle.arena.specs.Arena.{arenaEnd, casesMost};
+ghost use Rattle.leaves.specs.Bindings.{LeafAsked};
 ghost use Rattle.building.specs.Built.{Put, Roomy, Builds, BuildsCases};
-ghost use Rattle.building.specs.Steps.{caseList, caseTree, Asked, AskedColumn, AskedCases};
+ghost use Rattle.building.specs.Steps.{clauseLeaf, caseList, caseTree, StillTested, Asked, AskedColumn, AskedCase, AskedCases};
 
 // 01: "first 0 at count 0".
 fn first_of(count: usize, first: usize) -> usize
@@ -42,14 +44,22 @@ fn first_of(count: usize, first: usize) -> usize
     first
 }
 
-// The leaf of the first row.
-fn put_leaf(s: &[u8], m: Map, t: &[u8], x: Matrix, work: &mut [u8], tops: Tops) -> Tops
-    requires { ⌜ Asked (now s) m (now t) x (now work) tops × (tops .nodes < nodesMost) × (chosenIn (now s) (inNumbers x) ≡ Leaf) ⌝ }
-    ensures { λ r. ⌜ Put (sheetPaths (now (s .entry))) (now (work .entry)) (now (work .exit)) (treeAt (now (s .entry)) (inNumbers x)) tops r ⌝ }
+// The leaf of a clause, where the first `time` of these classes were tested.
+fn put_leaf<'a>(
+    s: &[u8],
+    m: Map,
+    t: &[u8],
+    clause: usize,
+    tested: &'a [u8; 192],
+    time: usize,
+    opened: &'a [u8; 192],
+    work: &mut [u8],
+    tops: Tops,
+) -> Tops
+    requires { ⌜ Ready (now s) m (now t) × LeafAsked (now s) clause (now tested) time × Roomy (now work) tops × (tops .nodes < nodesMost) ⌝ }
+    ensures { λ r. ⌜ Put (sheetPaths (now (s .entry))) (now (work .entry)) (now (work .exit)) (clauseLeaf (now (s .entry)) (now (opened .entry)) (take time (now (tested .entry))) clause) tops r ⌝ }
 {
-    let rows = x.rows;
-    let clause = wide(rows.list[0]);
-    let top = leaf_bindings(s, m, t, x, work, tops.bindings);
+    let top = leaf_bindings(s, m, t, clause, tested, time, opened, work, tops.bindings);
     let count = top - tops.bindings;
     let first = first_of(count, tops.bindings);
     put_node(
@@ -99,37 +109,105 @@ fn put_switch(work: &mut [u8], k: usize, class: usize, first: usize, met: CasesM
     );
 }
 
-// The cases whose records stand from number `first` on, up to the number of cases there are: each gets its child's number and its tree.
-fn build_cases(
+// A case of the column of this class.
+fn build_case<'a>(
     s: &[u8],
     m: Map,
     t: &[u8],
-    x: Matrix,
+    rows: &'a [u8; 32],
+    n: usize,
+    columns: &'a [u8; 192],
+    k: usize,
+    tested: &mut [u8; 192],
+    time: usize,
+    opened: &'a [u8; 192],
+    class: usize,
+    test: Test,
+    work: &mut [u8],
+    tops: Tops,
+) -> Built
+    requires { ⌜ AskedCase (now s) m (now t) (matrixOf (now rows) n (now columns) k (now tested) time (now opened)) class test (now work) tops ⌝ }
+    ensures { λ r. ⌜ Builds (sheetPaths (now (s .entry))) (now (work .entry)) (now (work .exit)) (caseTree (now (s .entry)) class (inNumbers (matrixOf (now (rows .entry)) n (now (columns .entry)) k (now (tested .entry)) time (now (opened .entry)))) (meant (now (s .entry)) test)) tops r × StillTested time (now (tested .entry)) (now (tested .exit)) ⌝ }
+{
+    let mut new_rows = [0u8; 32];
+    let mut new_columns = [0u8; 192];
+    let mut new_opened = *opened;
+    let y = case_matrix(
+        s,
+        m,
+        t,
+        rows,
+        n,
+        columns,
+        k,
+        time,
+        class,
+        test,
+        &mut new_rows,
+        &mut new_columns,
+        tested,
+        &mut new_opened,
+    );
+    do_build_tree(
+        s,
+        m,
+        t,
+        &new_rows,
+        y.rows,
+        &new_columns,
+        y.columns,
+        tested,
+        time + 1,
+        &new_opened,
+        work,
+        tops,
+    )
+}
+
+// The cases whose records stand from number `first` on, up to the number of cases there are: each gets its child's number and its tree.
+fn build_cases<'a>(
+    s: &[u8],
+    m: Map,
+    t: &[u8],
+    rows: &'a [u8; 32],
+    n: usize,
+    columns: &'a [u8; 192],
+    k: usize,
+    tested: &mut [u8; 192],
+    time: usize,
+    opened: &'a [u8; 192],
     class: usize,
     work: &mut [u8],
     first: usize,
     from: Tops,
 ) -> Built
-    requires { ⌜ AskedColumn (now s) m (now t) x class ⌝ }
-    requires { ⌜ AskedCases (now s) class (inNumbers x) first (now work) from ⌝ }
-    ensures { λ r. ⌜ BuildsCases (sheetPaths (now (s .entry))) (caseTree (now (s .entry)) class (inNumbers x)) (caseList (now (s .entry)) class (inNumbers x)) first (now (work .entry)) (now (work .exit)) from r ⌝ }
+    requires { ⌜ AskedColumn (now s) m (now t) (matrixOf (now rows) n (now columns) k (now tested) time (now opened)) class ⌝ }
+    requires { ⌜ AskedCases (now s) class (inNumbers (matrixOf (now rows) n (now columns) k (now tested) time (now opened))) first (now work) from ⌝ }
+    ensures { λ r. ⌜ BuildsCases (sheetPaths (now (s .entry))) (caseTree (now (s .entry)) class (inNumbers (matrixOf (now (rows .entry)) n (now (columns .entry)) k (now (tested .entry)) time (now (opened .entry))))) (caseList (now (s .entry)) class (inNumbers (matrixOf (now (rows .entry)) n (now (columns .entry)) k (now (tested .entry)) time (now (opened .entry))))) first (now (work .entry)) (now (work .exit)) from r × StillTested time (now (tested .entry)) (now (tested .exit)) ⌝ }
 {
     let count = from.cases - first;
-    let n = x.rows.count;
-    let k = x.columns.count;
-    let j = x.tested.count;
     let mut tops = from;
     let mut i: usize = 0;
     while i < count {
         let case = case_at(work, first + i);
         let test = case.test;
         put_child(work, first + i, tops.nodes as u16);
-        let rows = &x.rows.list;
-        let columns = &x.columns.list;
-        let tested = &x.tested.list;
-        let opened = &x.opened;
-        let y = case_matrix(s, m, t, rows, n, columns, k, tested, j, opened, class, test);
-        let built = do_build_tree(s, m, t, y, work, tops);
+        let built = build_case(
+            s,
+            m,
+            t,
+            rows,
+            n,
+            columns,
+            k,
+            tested,
+            time,
+            opened,
+            class,
+            test,
+            work,
+            tops,
+        );
         if !built.fits {
             return built;
         }
@@ -140,63 +218,131 @@ fn build_cases(
 }
 
 // A switch on the column of this class.
-fn build_switch(
+fn build_switch<'a>(
     s: &[u8],
     m: Map,
     t: &[u8],
-    x: Matrix,
+    rows: &'a [u8; 32],
+    n: usize,
+    columns: &'a [u8; 192],
+    k: usize,
+    tested: &mut [u8; 192],
+    time: usize,
+    opened: &'a [u8; 192],
     class: usize,
     work: &mut [u8],
     tops: Tops,
 ) -> Built
-    requires { ⌜ AskedColumn (now s) m (now t) x class × Roomy (now work) tops × (tops .nodes < nodesMost) ⌝ }
-    ensures { λ r. ⌜ Builds (sheetPaths (now (s .entry))) (now (work .entry)) (now (work .exit)) (treeAt (now (s .entry)) (inNumbers x)) tops r ⌝ }
+    requires { ⌜ AskedColumn (now s) m (now t) (matrixOf (now rows) n (now columns) k (now tested) time (now opened)) class × Roomy (now work) tops × (tops .nodes < nodesMost) ⌝ }
+    ensures { λ r. ⌜ Builds (sheetPaths (now (s .entry))) (now (work .entry)) (now (work .exit)) (treeAt (now (s .entry)) (inNumbers (matrixOf (now (rows .entry)) n (now (columns .entry)) k (now (tested .entry)) time (now (opened .entry))))) tops r × StillTested time (now (tested .entry)) (now (tested .exit)) ⌝ }
 {
     let first = tops.cases;
-    let meeting = meet_cases(s, m, t, x, class, work, first);
+    let meeting = meet_cases(s, m, t, rows, n, opened, class, work, first);
     let Meeting::Met(met) = meeting else {
         return Built { fits: false, tops };
     };
     let mut from = tops;
     from.nodes += 1;
     from.cases = met.end;
-    let built = build_cases(s, m, t, x, class, work, first, from);
+    let built = build_cases(
+        s,
+        m,
+        t,
+        rows,
+        n,
+        columns,
+        k,
+        tested,
+        time,
+        opened,
+        class,
+        work,
+        first,
+        from,
+    );
     if !built.fits {
         return built;
     }
     let next = built.tops;
-    let rows = &x.rows.list;
-    let columns = &x.columns.list;
-    let tested = &x.tested.list;
-    let opened = &x.opened;
-    let k = x.columns.count;
-    let j = x.tested.count;
-    let d = default_matrix(t, rows, x.rows.count, columns, k, tested, j, opened, class);
-    if d.rows.count == 0 {
+    let mut new_rows = [0u8; 32];
+    let mut new_columns = [0u8; 192];
+    let d = default_matrix(
+        t,
+        rows,
+        n,
+        columns,
+        k,
+        time,
+        opened,
+        class,
+        &mut new_rows,
+        &mut new_columns,
+        tested,
+    );
+    if d.rows == 0 {
         put_switch(work, tops.nodes, class, first, met, 0);
         return built;
     }
     put_switch(work, tops.nodes, class, first, met, next.nodes + 1);
-    do_build_tree(s, m, t, d, work, next)
+    do_build_tree(
+        s,
+        m,
+        t,
+        &new_rows,
+        d.rows,
+        &new_columns,
+        d.columns,
+        tested,
+        time + 1,
+        opened,
+        work,
+        next,
+    )
 }
 
-// The tree of the matrix x, which has a row, from the tops on.
-pub fn do_build_tree(s: &[u8], m: Map, t: &[u8], x: Matrix, work: &mut [u8], tops: Tops) -> Built
-    requires { ⌜ Asked (now s) m (now t) x (now work) tops ⌝ }
-    ensures { λ r. ⌜ Builds (sheetPaths (now (s .entry))) (now (work .entry)) (now (work .exit)) (treeAt (now (s .entry)) (inNumbers x)) tops r ⌝ }
+// The tree of the matrix of these parts, which has a row, from the tops on. The classes tested are in one array for the whole
+// building: a call writes behind the first `time` of them.
+pub fn do_build_tree<'a>(
+    s: &[u8],
+    m: Map,
+    t: &[u8],
+    rows: &'a [u8; 32],
+    n: usize,
+    columns: &'a [u8; 192],
+    k: usize,
+    tested: &mut [u8; 192],
+    time: usize,
+    opened: &'a [u8; 192],
+    work: &mut [u8],
+    tops: Tops,
+) -> Built
+    requires { ⌜ Asked (now s) m (now t) (matrixOf (now rows) n (now columns) k (now tested) time (now opened)) (now work) tops ⌝ }
+    ensures { λ r. ⌜ Builds (sheetPaths (now (s .entry))) (now (work .entry)) (now (work .exit)) (treeAt (now (s .entry)) (inNumbers (matrixOf (now (rows .entry)) n (now (columns .entry)) k (now (tested .entry)) time (now (opened .entry))))) tops r × StillTested time (now (tested .entry)) (now (tested .exit)) ⌝ }
 {
     if tops.nodes == NODES_MOST {
         return Built { fits: false, tops };
     }
-    let n = x.rows.count;
-    let k = x.columns.count;
-    let choice = highest_occurrence(t, &x.rows.list, n, &x.columns.list, k, &x.opened);
+    let choice = highest_occurrence(t, rows, n, columns, k, opened);
     let Choice::Column(class) = choice else {
-        let next = put_leaf(s, m, t, x, work, tops);
+        let next = put_leaf(s, m, t, wide(rows[0]), tested, time, opened, work, tops);
         return Built {
             fits: true,
             tops: next,
         };
     };
-    build_switch(s, m, t, x, class, work, tops)
+    build_switch(
+        s,
+        m,
+        t,
+        rows,
+        n,
+        columns,
+        k,
+        tested,
+        time,
+        opened,
+        class,
+        work,
+        tops,
+    )
 }

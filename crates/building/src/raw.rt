@@ -23,5 +23,19 @@ pub fn build_tree(s: &[u8], m: Map, t: &[u8], work: &mut [u8]) -> Built
         bindings: 0,
         leaves: [0; 32],
     };
-    do_build_tree(s, m, t, x, work, none)
+    let mut tested = x.tested.list;
+    do_build_tree(
+        s,
+        m,
+        t,
+        &x.rows.list,
+        x.rows.count,
+        &x.columns.list,
+        x.columns.count,
+        &mut tested,
+        x.tested.count,
+        &x.opened,
+        work,
+        none,
+    )
 }

@@ -1,4 +1,4 @@
--- A matrix as the code has it, by value, and the matrix by numbers that it stands for; what splitting it by a column asks, and the
+-- A matrix as the code has it, in arrays, and the matrix by numbers that it stands for; what splitting it by a column asks, and the
 -- matrix of the default as the table tells it. InNumbersLaws has that these are the same of a table that is a sheet's.
 use mathlib.Core.Bool.{true}
 use mathlib.Core.List.{List, [], _∷_, _++_}

@@ -1,9 +1,9 @@
--- Laws of a matrix by value: a matrix is what its parts hold; and where the table is the sheet's and the matrix is sound, what the table
+-- Laws of a matrix in arrays: a matrix is what its parts hold; and where the table is the sheet's and the matrix is sound, what the table
 -- tells is what the sheet says: the column chosen, and the matrix of the default.
 use mathlib.Core.Path.{_≡_, refl, ap, ap₂, _∙_}
 use mathlib.Core.Bool.{true}
 use mathlib.Core.List.{List, [], _∷_, _++_}
-use Prim.Native.Nat.{ℕ, zero, suc, _+_, _-_, _<_}
+use Prim.Native.Nat.{ℕ, zero, suc, _+_, _<_}
 use native.Mathlib.Omega.{arith}
 use lib.Dec.{ltb}
 use lib.ListN.{length}
@@ -28,7 +28,7 @@ use Rattle.matrix.specs.ListsLaws.{holds-count, whole, whole-rows}
 use Rattle.matrix.specs.Ordered.{withoutClass, without-one}
 use Rattle.matrix.specs.Matrices.{Rising}
 use Rattle.matrix.specs.MatricesLaws.{all-in}
-use Rattle.matrix.specs.Numbered.{Numbered, SoundOf, chosenIn, testsIn, defaultNumbered}
+use Rattle.matrix.specs.Numbered.{Numbered, SoundOf, chosenIn, defaultNumbered}
 use Rattle.matrix.specs.TreesLaws.{few-columns}
 use Rattle.matrix.specs.Reading.{ownerIn, cellHeld, heldIn, InTable}
 use Rattle.matrix.specs.Ready.{Ready}
@@ -49,20 +49,20 @@ stands-for x M a b c d e = record {
 
 -- ---- told alike, counted and kept alike
 module _ (f g : ℕ → Held) where
-  abbrev pub Alike : ℕ → Type 0
+  abbrev Alike : ℕ → Type 0
   Alike c = f c ≡ g c
 
-  pub count-alike : (cs : List ℕ) → All Alike cs → countOf f cs ≡ countOf g cs
+  count-alike : (cs : List ℕ) → All Alike cs → countOf f cs ≡ countOf g cs
   unfolding countOf
   count-alike [] h = refl
   count-alike (c ∷ cs) h = ap₂ (λ (x : Held) (n : ℕ). elim x [ Test p ↦ suc n | Wildcard ↦ 0 ]) (h .0) (count-alike cs (h .1))
 
-  pub wild-alike : (cs : List ℕ) → All Alike cs → wildOf f cs ≡ wildOf g cs
+  wild-alike : (cs : List ℕ) → All Alike cs → wildOf f cs ≡ wildOf g cs
   unfolding wildOf
   wild-alike [] h = refl
   wild-alike (c ∷ cs) h = ap₂ (λ (x : Held) (l : List ℕ). elim x [ Test p ↦ l | Wildcard ↦ c ∷ l ]) (h .0) (wild-alike cs (h .1))
 
-  pub tests-alike : (cs : List ℕ) → All Alike cs → heldTests f cs ≡ heldTests g cs
+  tests-alike : (cs : List ℕ) → All Alike cs → heldTests f cs ≡ heldTests g cs
   unfolding heldTests
   tests-alike [] h = refl
   tests-alike (c ∷ cs) h = ap₂ (λ (x : Held) (l : List ℕ). elim x [ Test p ↦ p ∷ l | Wildcard ↦ l ]) (h .0) (tests-alike cs (h .1))
@@ -104,32 +104,43 @@ module _ {s : List ℕ} {m : Map} {t : List ℕ} (ready : Ready s m t) where
             let owner : ownerIn t p ≡ ownerOf s p = ready .tabled .placed p (omega (arith, cell-most s c class)) .owner in
             rw (e, owner) (unfold isLive available in refl)
 
+  -- ---- of rows that are clauses
+  module _ (rows : List ℕ) (low : All (λ c. c < clauses s) rows) (k : ℕ) (known : k < patternsMost) where
+    pub cells-in : All (InTable t k) rows
+    cells-in = all-map (λ c. c < clauses s) (InTable t k) (λ c h. in-table c k h known) rows low
+
+    module _ (opened : List ℕ) where
+      alike-rows : All (Alike (heldIn t opened k) (liveIn s opened k)) rows
+      alike-rows = all-map (λ c. c < clauses s) (Alike (heldIn t opened k) (liveIn s opened k)) (λ c h. held-read c k h known opened) rows low
+
+      count-read : countOf (heldIn t opened k) rows ≡ countOf (liveIn s opened k) rows
+      count-read = count-alike (heldIn t opened k) (liveIn s opened k) rows alike-rows
+
+      wild-read : wildOf (heldIn t opened k) rows ≡ wildOf (liveIn s opened k) rows
+      wild-read = wild-alike (heldIn t opened k) (liveIn s opened k) rows alike-rows
+
+      pub tests-read : heldTests (heldIn t opened k) rows ≡ heldTests (liveIn s opened k) rows
+      tests-read = tests-alike (heldIn t opened k) (liveIn s opened k) rows alike-rows
+
   -- ---- of a sound matrix
   module _ (M : Numbered) (sound : SoundOf s M) where
     class-most : (k : ℕ) → IsClass s k → k < patternsMost
     class-most k h = omega (arith, h .known, ok .is-counted .patterns-most)
 
-    pub alike-rows : (k : ℕ) → k < patternsMost → All (Alike (heldIn t (M .opened) k) (liveIn s (M .opened) k)) (M .rows)
-    alike-rows k h = all-map (λ c. c < clauses s) (Alike (heldIn t (M .opened) k) (liveIn s (M .opened) k)) (λ c l. held-read c k l h (M .opened)) (M .rows) (rising-below (clauses s) 0 (M .rows) (sound .rising))
-
-    pub cells-in : (k : ℕ) → k < patternsMost → All (InTable t k) (M .rows)
-    cells-in k h = all-map (λ c. c < clauses s) (InTable t k) (λ c l. in-table c k l h) (M .rows) (rising-below (clauses s) 0 (M .rows) (sound .rising))
+    rows-low : All (λ c. c < clauses s) (M .rows)
+    rows-low = rising-below (clauses s) 0 (M .rows) (sound .rising)
 
     pub chosen-read : chosenRead t M ≡ chosenIn s M
     unfolding chosenRead chosenIn
     chosen-read =
         best-alike (λ k. countOf (heldIn t (M .opened) k) (M .rows)) (λ k. countOf (liveIn s (M .opened) k) (M .rows)) Leaf 0 (M .columns)
         (all-map (IsClass s) (λ k. countOf (heldIn t (M .opened) k) (M .rows) ≡ countOf (liveIn s (M .opened) k) (M .rows))
-        (λ k h. count-alike (heldIn t (M .opened) k) (liveIn s (M .opened) k) (M .rows) (alike-rows k (class-most k h))) (M .columns) (sound .are-classes))
-
-    pub tests-read : (k : ℕ) → k < patternsMost → heldTests (heldIn t (M .opened) k) (M .rows) ≡ testsIn s k M
-    unfolding testsIn
-    tests-read k h = tests-alike (heldIn t (M .opened) k) (liveIn s (M .opened) k) (M .rows) (alike-rows k h)
+        (λ k h. count-read (M .rows) rows-low k (class-most k h) (M .opened)) (M .columns) (sound .are-classes))
 
     pub default-read : (k : ℕ) → k < patternsMost → defaultRead t k M ≡ defaultNumbered s k M
     unfolding defaultRead defaultNumbered
     default-read k h i = record {
-      rows = wild-alike (heldIn t (M .opened) k) (liveIn s (M .opened) k) (M .rows) (alike-rows k h) i;
+      rows = wild-read (M .rows) rows-low k h (M .opened) i;
       columns = withoutClass k (M .columns);
       tested = M .tested ++ k ∷ [];
       opened = M .opened;
@@ -139,7 +150,7 @@ module _ {s : List ℕ} {m : Map} {t : List ℕ} (ready : Ready s m t) where
     pub readable : Readable t x
     readable = record {
       whole = whole;
-      cells = all-map (IsClass s) (λ k. All (InTable t k) (numbersIn (x .rows))) (λ k h. cells-in (inNumbers x) sound k (class-most (inNumbers x) sound k h)) (classesIn (x .columns)) (sound .are-classes);
+      cells = all-map (IsClass s) (λ k. All (InTable t k) (numbersIn (x .rows))) (λ k h. cells-in (numbersIn (x .rows)) (rows-low (inNumbers x) sound) k (class-most (inNumbers x) sound k h)) (classesIn (x .columns)) (sound .are-classes);
     }
 
     pub splits : (class : ℕ) → isIn class (classesIn (x .columns)) ≡ true → Splits t x class
@@ -149,6 +160,6 @@ module _ {s : List ℕ} {m : Map} {t : List ℕ} (ready : Ready s m t) where
           whole = whole;
           there = there;
           known = known;
-          cells = cells-in (inNumbers x) sound class known;
+          cells = cells-in (numbersIn (x .rows)) (rows-low (inNumbers x) sound) class known;
           room = omega (arith, few-columns ok (inNumbers x) sound, without-one class (classesIn (x .columns)) there, holds-count (whole .whole-tested));
         }

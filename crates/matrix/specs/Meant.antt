@@ -14,10 +14,9 @@ use Rattle.arena.specs.declared.reading.Test.{Test}
 use Rattle.arena.specs.Reading.{testFor}
 use Rattle.matrix.specs.declared.Held.{Held}
 use Rattle.matrix.specs.declared.Held.the-variants.{Test as HeldTest, Wildcard}
-use Rattle.matrix.specs.declared.splitting.Joined.{Joined}
-use Rattle.matrix.specs.declared.splitting.Counts.{Counts}
+use Rattle.matrix.specs.declared.PerRow.{PerRow}
 use Rattle.matrix.specs.HeldRows.{joinsCase}
-use Rattle.matrix.specs.Lists.{HoldsRows, asRows}
+use Rattle.matrix.specs.Lists.{HoldsRows}
 use Rattle.matrix.specs.Ready.{TestKnown}
 
 unfoldable pub meant : List ℕ → Test → splitting.Test
@@ -90,10 +89,7 @@ abbrev pub openRow : (ℕ → Bool) → Held → List ℕ
 openRow joins (HeldTest p) = pick (joins p) (p ∷ []) []
 openRow joins Wildcard = []
 
--- the rows and tests in arrays, as many as there are of each
-abbrev pub asJoined : List ℕ → List ℕ → Counts → Joined
-asJoined rows opens n = record { rows = asRows rows (n .rows); opens = asRows opens (n .opens) }
-
-pub record JoinsTo (o : Joined) (rows opens : List ℕ) : Type 0 where
-  pub has-rows : HoldsRows (o .rows) rows
-  pub has-opens : HoldsRows (o .opens) opens
+-- the rows of a case and the tests that they open, in arrays
+pub record JoinsTo (in-rows in-opens : PerRow) (rows opens : List ℕ) : Type 0 where
+  pub has-rows : HoldsRows in-rows rows
+  pub has-opens : HoldsRows in-opens opens

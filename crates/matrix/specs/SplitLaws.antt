@@ -22,7 +22,6 @@ use Rattle.matrix.specs.declared.PerRow.{PerRow}
 use Rattle.matrix.specs.declared.Matrix.{Matrix}
 use Rattle.matrix.specs.declared.Held.{Held}
 use Rattle.matrix.specs.declared.Held.the-variants.{Test, Wildcard}
-use Rattle.matrix.specs.declared.splitting.Joined.{Joined}
 use Rattle.matrix.specs.Live.{liveIn}
 use Rattle.matrix.specs.LiveLaws.{live-test}
 use Rattle.matrix.specs.HeldRows.{joinOf, opensOf, joinsCase}
@@ -142,35 +141,36 @@ module _ {s : List ℕ} {m : Map} {t : List ℕ} (ready : Ready s m t) where
       next-columns = holds-same n columns-more
 
 -- ---- the rows of a case, one by one
-module _ (joins : ℕ → Bool) (o : Joined) (h : Held) (c : ℕ) where
-  pub joined-not : {p : ℕ} → WholeRows (o .rows) → WholeRows (o .opens) → h ≡ Test p → joins p ≡ false
-      → JoinsTo o (numbersIn (o .rows) ++ joinRow joins h c) (numbersIn (o .opens) ++ openRow joins h)
+-- `joined` has the rows so far and `opens` the tests that they open
+module _ (joins : ℕ → Bool) (joined opens : PerRow) (h : Held) (c : ℕ) where
+  pub joined-not : {p : ℕ} → WholeRows joined → WholeRows opens → h ≡ Test p → joins p ≡ false
+      → JoinsTo joined opens (numbersIn joined ++ joinRow joins h c) (numbersIn opens ++ openRow joins h)
   joined-not {p} a b e f =
-      let rows : joinRow joins h c ≡ [] = rw (e, f) in
-      let opens : openRow joins h ≡ [] = rw (e, f) in
+      let rows-are : joinRow joins h c ≡ [] = rw (e, f) in
+      let opens-are : openRow joins h ≡ [] = rw (e, f) in
       record {
-        has-rows = holds-rows-same a (sym (ap (λ (x : List ℕ). numbersIn (o .rows) ++ x) rows ∙ append-nil (numbersIn (o .rows))));
-        has-opens = holds-rows-same b (sym (ap (λ (x : List ℕ). numbersIn (o .opens) ++ x) opens ∙ append-nil (numbersIn (o .opens))));
+        has-rows = holds-rows-same a (sym (ap (λ (x : List ℕ). numbersIn joined ++ x) rows-are ∙ append-nil (numbersIn joined)));
+        has-opens = holds-rows-same b (sym (ap (λ (x : List ℕ). numbersIn opens ++ x) opens-are ∙ append-nil (numbersIn opens)));
       }
 
-  pub joined-test : {p : ℕ} (rows opens : PerRow) → HoldsRows rows (numbersIn (o .rows) ++ c ∷ []) → HoldsRows opens (numbersIn (o .opens) ++ p ∷ [])
-      → h ≡ Test p → joins p ≡ true → JoinsTo (record { rows = rows; opens = opens }) (numbersIn (o .rows) ++ joinRow joins h c) (numbersIn (o .opens) ++ openRow joins h)
-  joined-test {p} rows opens a b e f =
+  pub joined-test : {p : ℕ} (rows tests : PerRow) → HoldsRows rows (numbersIn joined ++ c ∷ []) → HoldsRows tests (numbersIn opens ++ p ∷ [])
+      → h ≡ Test p → joins p ≡ true → JoinsTo rows tests (numbersIn joined ++ joinRow joins h c) (numbersIn opens ++ openRow joins h)
+  joined-test {p} rows tests a b e f =
       let rows-are : joinRow joins h c ≡ c ∷ [] = rw (e, f) in
       let opens-are : openRow joins h ≡ p ∷ [] = rw (e, f) in
       record {
-        has-rows = holds-rows-same a (sym (ap (λ (x : List ℕ). numbersIn (o .rows) ++ x) rows-are));
-        has-opens = holds-rows-same b (sym (ap (λ (x : List ℕ). numbersIn (o .opens) ++ x) opens-are));
+        has-rows = holds-rows-same a (sym (ap (λ (x : List ℕ). numbersIn joined ++ x) rows-are));
+        has-opens = holds-rows-same b (sym (ap (λ (x : List ℕ). numbersIn opens ++ x) opens-are));
       }
 
-  pub joined-wild : (rows : PerRow) → HoldsRows rows (numbersIn (o .rows) ++ c ∷ []) → WholeRows (o .opens) → h ≡ Wildcard
-      → JoinsTo (record { rows = rows; opens = o .opens }) (numbersIn (o .rows) ++ joinRow joins h c) (numbersIn (o .opens) ++ openRow joins h)
+  pub joined-wild : (rows : PerRow) → HoldsRows rows (numbersIn joined ++ c ∷ []) → WholeRows opens → h ≡ Wildcard
+      → JoinsTo rows opens (numbersIn joined ++ joinRow joins h c) (numbersIn opens ++ openRow joins h)
   joined-wild rows a b e =
       let rows-are : joinRow joins h c ≡ c ∷ [] = rw e in
       let opens-are : openRow joins h ≡ [] = rw e in
       record {
-        has-rows = holds-rows-same a (sym (ap (λ (x : List ℕ). numbersIn (o .rows) ++ x) rows-are));
-        has-opens = holds-rows-same b (sym (ap (λ (x : List ℕ). numbersIn (o .opens) ++ x) opens-are ∙ append-nil (numbersIn (o .opens))));
+        has-rows = holds-rows-same a (sym (ap (λ (x : List ℕ). numbersIn joined ++ x) rows-are));
+        has-opens = holds-rows-same b (sym (ap (λ (x : List ℕ). numbersIn opens ++ x) opens-are ∙ append-nil (numbersIn opens)));
       }
 
 pub held-test : (s : List ℕ) (h : Held) {p : ℕ} → HeldKnown s h → h ≡ Test p → TestKnown s p
@@ -198,9 +198,9 @@ open-most joins (Test p) = go (joins p)
 open-most joins Wildcard = omega arith
 
 -- the rows joined so far and those that are left are all
-pub record Joining (joins : ℕ → Bool) (held : ℕ → Held) (o : Joined) (left rows : List ℕ) : Type 0 where
-  pub rows-are : numbersIn (o .rows) ++ joinOf joins held left ≡ joinOf joins held rows
-  pub opens-are : numbersIn (o .opens) ++ opensOf joins held left ≡ opensOf joins held rows
+pub record Joining (joins : ℕ → Bool) (held : ℕ → Held) (joined opens : PerRow) (left rows : List ℕ) : Type 0 where
+  pub rows-are : numbersIn joined ++ joinOf joins held left ≡ joinOf joins held rows
+  pub opens-are : numbersIn opens ++ opensOf joins held left ≡ opensOf joins held rows
 
 module _ (joins : ℕ → Bool) (held : ℕ → Held) where
   join-more : (c : ℕ) (cs : List ℕ) → joinOf joins held (c ∷ cs) ≡ joinRow joins (held c) c ++ joinOf joins held cs
@@ -229,31 +229,31 @@ module _ (joins : ℕ → Bool) (held : ℕ → Held) where
       go (Test p) = tested p (joins p)
       go Wildcard = refl
 
-  module _ (o next : Joined) (rows : List ℕ) (h : Held) (c : ℕ) (is : h ≡ held c)
-      (j : JoinsTo next (numbersIn (o .rows) ++ joinRow joins h c) (numbersIn (o .opens) ++ openRow joins h)) where
-    pub joining-on : (left : List ℕ) → Joining joins held o (c ∷ left) rows → Joining joins held next left rows
+  module _ (joined opens next next-opens : PerRow) (rows : List ℕ) (h : Held) (c : ℕ) (is : h ≡ held c)
+      (j : JoinsTo next next-opens (numbersIn joined ++ joinRow joins h c) (numbersIn opens ++ openRow joins h)) where
+    pub joining-on : (left : List ℕ) → Joining joins held joined opens (c ∷ left) rows → Joining joins held next next-opens left rows
     joining-on left e = record {
-      rows-are = ap (λ (x : List ℕ). x ++ joinOf joins held left) (j .has-rows .are) ∙ append-assoc (numbersIn (o .rows)) (joinRow joins h c) (joinOf joins held left)
-          ∙ ap (λ (x : List ℕ). numbersIn (o .rows) ++ x) (ap (λ (x : Held). joinRow joins x c ++ joinOf joins held left) is ∙ sym (join-more c left)) ∙ e .rows-are;
-      opens-are = ap (λ (x : List ℕ). x ++ opensOf joins held left) (j .has-opens .are) ∙ append-assoc (numbersIn (o .opens)) (openRow joins h) (opensOf joins held left)
-          ∙ ap (λ (x : List ℕ). numbersIn (o .opens) ++ x) (ap (λ (x : Held). openRow joins x ++ opensOf joins held left) is ∙ sym (open-more c left)) ∙ e .opens-are;
+      rows-are = ap (λ (x : List ℕ). x ++ joinOf joins held left) (j .has-rows .are) ∙ append-assoc (numbersIn joined) (joinRow joins h c) (joinOf joins held left)
+          ∙ ap (λ (x : List ℕ). numbersIn joined ++ x) (ap (λ (x : Held). joinRow joins x c ++ joinOf joins held left) is ∙ sym (join-more c left)) ∙ e .rows-are;
+      opens-are = ap (λ (x : List ℕ). x ++ opensOf joins held left) (j .has-opens .are) ∙ append-assoc (numbersIn opens) (openRow joins h) (opensOf joins held left)
+          ∙ ap (λ (x : List ℕ). numbersIn opens ++ x) (ap (λ (x : Held). openRow joins x ++ opensOf joins held left) is ∙ sym (open-more c left)) ∙ e .opens-are;
     }
 
-    pub joining-few : WholeRows (o .rows) → WholeRows (o .opens) → (next .rows .count ≤ o .rows .count + 1) × (next .opens .count ≤ o .opens .count + 1)
+    pub joining-few : WholeRows joined → WholeRows opens → (next .count ≤ joined .count + 1) × (next-opens .count ≤ opens .count + 1)
     joining-few a b = (
-      omega (arith, holds-rows-count (j .has-rows), length-append (numbersIn (o .rows)) (joinRow joins h c), join-most joins h c, holds-rows-count a),
-      omega (arith, holds-rows-count (j .has-opens), length-append (numbersIn (o .opens)) (openRow joins h), open-most joins h, holds-rows-count b),
+      omega (arith, holds-rows-count (j .has-rows), length-append (numbersIn joined) (joinRow joins h c), join-most joins h c, holds-rows-count a),
+      omega (arith, holds-rows-count (j .has-opens), length-append (numbersIn opens) (openRow joins h), open-most joins h, holds-rows-count b),
     )
 
-  pub joining-end : (o : Joined) (left rows : List ℕ) → left ≡ [] → WholeRows (o .rows) → WholeRows (o .opens) → Joining joins held o left rows
-      → JoinsTo o (joinOf joins held rows) (opensOf joins held rows)
+  pub joining-end : (joined opens : PerRow) (left rows : List ℕ) → left ≡ [] → WholeRows joined → WholeRows opens → Joining joins held joined opens left rows
+      → JoinsTo joined opens (joinOf joins held rows) (opensOf joins held rows)
   unfolding joinOf opensOf
-  joining-end o left rows z a b e =
-      let rows-are : numbersIn (o .rows) ++ [] ≡ joinOf joins held rows = rw z at (e .rows-are) in
-      let opens-are : numbersIn (o .opens) ++ [] ≡ opensOf joins held rows = rw z at (e .opens-are) in
+  joining-end joined opens left rows z a b e =
+      let rows-are : numbersIn joined ++ [] ≡ joinOf joins held rows = rw z at (e .rows-are) in
+      let opens-are : numbersIn opens ++ [] ≡ opensOf joins held rows = rw z at (e .opens-are) in
       record {
-        has-rows = holds-rows-same a (sym (append-nil (numbersIn (o .rows))) ∙ rows-are);
-        has-opens = holds-rows-same b (sym (append-nil (numbersIn (o .opens))) ∙ opens-are);
+        has-rows = holds-rows-same a (sym (append-nil (numbersIn joined)) ∙ rows-are);
+        has-opens = holds-rows-same b (sym (append-nil (numbersIn opens)) ∙ opens-are);
       }
 
 -- ---- tests marked from the front
@@ -343,21 +343,21 @@ module _ {s : List ℕ} {m : Map} {t : List ℕ} (ready : Ready s m t) (x : Matr
   case-rest-room h = omega (arith, opened-few, holds-count h)
 
   -- ---- a case of what its parts are
-  module _ {j : Joined} (is : JoinsTo j (joinOf (joinsCase s u) (liveIn s (x .opened) class) (numbersIn (x .rows))) (opensOf (joinsCase s u) (liveIn s (x .opened) class) (numbersIn (x .rows)))) where
-    opens-are : numbersIn (j .opens) ≡ opensIn s class u (inNumbers x)
+  module _ {joined opens : PerRow} (is : JoinsTo joined opens (joinOf (joinsCase s u) (liveIn s (x .opened) class) (numbersIn (x .rows))) (opensOf (joinsCase s u) (liveIn s (x .opened) class) (numbersIn (x .rows)))) where
+    opens-are : numbersIn opens ≡ opensIn s class u (inNumbers x)
     unfolding opensIn
     opens-are = is .has-opens .are
 
-    pub joined-there : All (TestKnown s) (numbersIn (j .opens))
+    pub joined-there : All (TestKnown s) (numbersIn opens)
     joined-there = rw opens-are tests-there
 
-    pub joined-low : All (λ p. p < patternsMost) (numbersIn (j .opens))
+    pub joined-low : All (λ p. p < patternsMost) (numbersIn opens)
     joined-low = rw opens-are tests-low
 
-    pub joined-room : length (putTests s (gather (openedTests s) (numbersIn (j .opens))) []) ≤ patternsMost
+    pub joined-room : length (putTests s (gather (openedTests s) (numbersIn opens)) []) ≤ patternsMost
     joined-room = rw opens-are case-opens-room
 
-    module _ {o : Classes} (h : Holds o (putTests s (gather (openedTests s) (numbersIn (j .opens))) [])) where
+    module _ {o : Classes} (h : Holds o (putTests s (gather (openedTests s) (numbersIn opens)) [])) where
       opened-are : Holds o (putTests s (gather (openedTests s) (opensIn s class u (inNumbers x))) [])
       opened-are = holds-same h (ap (λ (ps : List ℕ). putTests s (gather (openedTests s) ps) []) opens-are)
 
@@ -365,13 +365,13 @@ module _ {s : List ℕ} {m : Map} {t : List ℕ} (ready : Ready s m t) (x : Matr
       joined-rest = case-rest-room opened-are
 
       pub case-stands : {columns tested : Classes} {opened : List ℕ} → Holds columns (classesIn o ++ withoutClass class (classesIn (x .columns)))
-          → Holds tested (classesIn (x .tested) ++ class ∷ []) → opened ≡ marked (x .tested .count + 1) (x .opened) (numbersIn (j .opens))
-          → StandsFor (record { rows = j .rows; columns = columns; tested = tested; opened = opened }) (caseNumbered s class u (inNumbers x))
+          → Holds tested (classesIn (x .tested) ++ class ∷ []) → opened ≡ marked (x .tested .count + 1) (x .opened) (numbersIn opens)
+          → StandsFor (record { rows = joined; columns = columns; tested = tested; opened = opened }) (caseNumbered s class u (inNumbers x))
       unfolding caseNumbered
       case-stands {columns} {tested} {opened} a b c =
           let marks : opened ≡ marked (length (classesIn (x .tested)) + 1) (x .opened) (opensIn s class u (inNumbers x)) =
           c ∙ ap₂ (λ (n : ℕ) (ps : List ℕ). marked (n + 1) (x .opened) ps) (holds-count (whole .whole-tested)) opens-are
           in
-          stands-for (record { rows = j .rows; columns = columns; tested = tested; opened = opened }) (caseNumbered s class u (inNumbers x))
+          stands-for (record { rows = joined; columns = columns; tested = tested; opened = opened }) (caseNumbered s class u (inNumbers x))
           (is .has-rows) (holds-same a (ap (λ (l : List ℕ). l ++ withoutClass class (classesIn (x .columns))) (opened-are .are))) b marks
           (ap length marks ∙ sound-case (ready .checked .ok) (inNumbers x) sound class there u .long)

@@ -36,7 +36,6 @@ use Rattle.matrix.specs.declared.Choice.{Choice}
 use Rattle.matrix.specs.declared.Choice.the-variants.{Column, Leaf}
 use Rattle.matrix.specs.RowStates.{openAt, rowAfter, rowOf, rowsOf, upFrom, openAt-wild, openAt-test}
 use Rattle.matrix.specs.Live.{liveIn, IsClass}
-use Rattle.matrix.specs.LiveLaws.{length-next}
 use Rattle.matrix.specs.HeldRows.{countOf, bestOf, pathChosen, heldTests, joinOf, joinsCase}
 use Rattle.matrix.specs.Ordered.{without-one}
 use Rattle.matrix.specs.Matrices.{TestIn, rowsAt, columnsAt, reached}
@@ -173,18 +172,10 @@ module _ (s : List ℕ) (M : Numbered) (k : ℕ) where
   unfolding opensIn
   opens-known u = opens-in s (joinsCase s u) (M .opened) k (M .rows)
 
-  -- a case that is met has rows, and one more column is tested
+  -- a case that is met has rows
   pub case-some : (u : Test) → isMet u (casesOf (map (patternOf s) (testsIn s k M))) ≡ true → 1 ≤ length ((caseNumbered s k u M) .rows)
   unfolding caseNumbered testsIn
   case-some u e = join-some s u (liveIn s (M .opened) k) (M .rows) (case-covered u (map (patternOf s) (heldTests (liveIn s (M .opened) k) (M .rows))) e)
-
-  pub case-tested : (u : Test) → length ((caseNumbered s k u M) .tested) ≡ length (M .tested) + 1
-  unfolding caseNumbered
-  case-tested u = length-next (M .tested) k
-
-  pub default-tested : length ((defaultNumbered s k M) .tested) ≡ length (M .tested) + 1
-  unfolding defaultNumbered
-  default-tested = length-next (M .tested) k
 
   -- the column chosen is there, and the first row has a test in it
   module _ (chosen : chosenIn s M ≡ Column k) where

@@ -34,13 +34,12 @@ pub fn empty() -> Classes
     }
 }
 
-// The class behind the others.
-pub fn push(list: &mut [u8; 192], count: usize, class: usize) -> usize
+// The class behind the others, so that there is one more.
+pub fn push(list: &mut [u8; 192], count: usize, class: usize)
     requires { ⌜ Whole (asClasses (now list) count) × (count < 192) × (class < 192) ⌝ }
-    ensures { λ r. ⌜ Holds (asClasses (now (list .exit)) r) (take count (now (list .entry)) ++ class ∷ []) ⌝ }
+    ensures { λ _. ⌜ Holds (asClasses (now (list .exit)) (count + 1)) (take count (now (list .entry)) ++ class ∷ []) ⌝ }
 {
     list[count] = class as u8;
-    count + 1
 }
 
 // The class at this place, the others before and behind it.

@@ -2,7 +2,6 @@
 // The rows with a wildcard are the default's.
 use crate::Choice;
 use crate::Held;
-use crate::PerRow;
 use crate::wide;
 use table::CELL;
 use table::OWNER;
@@ -10,7 +9,8 @@ use table::at;
 ghost use mathlib.Core.Path.{_≡_};
 ghost use mathlib.Core.List.{[], _∷_, _++_};
 ghost use Prim.Native.Nat.{_+_, _<_};
-ghost use lib.ListN.{take};
+ghost use lib.ListN.{length, take};
+ghost use Rattle.rules.specs.Limits.{clausesMost};
 ghost use Rattle.rules.specs.SplittingLaws.{All};
 ghost use Rattle.matrix.specs.declared.Choice.the-variants.{Leaf};
 ghost use Rattle.matrix.specs.HeldRows.{countOf, bestOf, wildOf};
@@ -127,24 +127,24 @@ fn keep_wild(list: &mut [u8; 32], count: usize, c: u8, held: Held) -> usize
     }
 }
 
-// The first n of these rows, those with a wildcard in the column.
+// The first n of these rows, those with a wildcard in the column, in the list; how many there are.
 pub fn wild_rows<'a>(
     t: &[u8],
     rows: &'a [u8; 32],
     n: usize,
     opened: &'a [u8; 192],
     class: usize,
-) -> PerRow
-    requires { ⌜ WholeRows (asRows (now rows) n) × All (InTable (now t) class) (take n (now rows)) ⌝ }
-    ensures { λ r. ⌜ HoldsRows r (wildOf (heldIn (now (t .entry)) (now (opened .entry)) class) (take n (now (rows .entry)))) ⌝ }
+    list: &mut [u8; 32],
+) -> usize
+    requires { ⌜ WholeRows (asRows (now rows) n) × All (InTable (now t) class) (take n (now rows)) × (length (now list) ≡ clausesMost) ⌝ }
+    ensures { λ r. ⌜ HoldsRows (asRows (now (list .exit)) r) (wildOf (heldIn (now (t .entry)) (now (opened .entry)) class) (take n (now (rows .entry)))) ⌝ }
 {
-    let mut list = [0u8; 32];
     let mut count: usize = 0;
     let mut i: usize = 0;
     while i < n {
         let c = rows[i];
-        count = keep_wild(&mut list, count, c, test_at(t, opened, wide(c), class));
+        count = keep_wild(list, count, c, test_at(t, opened, wide(c), class));
         i += 1;
     }
-    PerRow { list, count }
+    count
 }

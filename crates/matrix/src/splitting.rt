@@ -1,6 +1,6 @@
 // Rules 2 and 4: the matrix of the clauses, of a default and of a case of a column.
-// The matrix of a default or of a case reads its parent's parts where they are, and is filled where it is made; its rows are found going
-// down, its columns put from the last row up.
+// The matrix of a default or of a case reads its parent's rows and columns where they are and is made in arrays that are lent: its rows
+// are found going down, its columns put from the last row up, and the column is tested behind those tested so far, where these are.
 use crate::Classes;
 use crate::Held;
 use crate::Matrix;
@@ -21,7 +21,7 @@ use sheet::records::root_at;
 ghost use mathlib.Core.Path.{_≡_};
 ghost use mathlib.Core.Bool.{true};
 ghost use mathlib.Core.List.{[], _++_};
-ghost use Prim.Native.Nat.{_<_, _≤_};
+ghost use Prim.Native.Nat.{_+_, _<_, _≤_};
 ghost use lib.ListN.{length, take};
 ghost use Rattle.rules.specs.Limits.{clausesMost, patternsMost};
 ghost use Rattle.rules.specs.SheetRefusals.{isIn};
@@ -34,9 +34,9 @@ ghost use Rattle.matrix.specs.RowStates.{upFrom};
 ghost use Rattle.matrix.specs.HeldRows.{joinOf, opensOf};
 ghost use Rattle.matrix.specs.Matrices.{gather, rootTests, marked};
 ghost use Rattle.matrix.specs.Numbered.{SoundOf, firstNumbered, caseNumbered};
-ghost use Rattle.matrix.specs.Lists.{classesIn, asClasses, asRows, Holds, HoldsRows, WholeRows};
+ghost use Rattle.matrix.specs.Lists.{asClasses, asRows, Holds, HoldsRows, WholeRows};
 ghost use Rattle.matrix.specs.Ready.{Ready, putTests, TestKnown};
-ghost use Rattle.matrix.specs.Meant.{meant, joinsTest, InPool, HeldKnown, joinRow, openRow, asJoined, JoinsTo};
+ghost use Rattle.matrix.specs.Meant.{meant, joinsTest, InPool, HeldKnown, joinRow, openRow, JoinsTo};
 ghost use Rattle.matrix.specs.InNumbers.{inNumbers, matrixOf, WholeMatrix, StandsFor, Splits, defaultRead};
 
 // A row for each of n clauses.
@@ -83,42 +83,37 @@ pub fn first_matrix(s: &[u8], m: Map, t: &[u8]) -> Matrix
     }
 }
 
-// The default of the column of a class: the rows with a wildcard there, the other columns, and this one tested.
-pub fn default_matrix<'a>(
+// How many rows and columns a matrix has.
+pub struct Sizes {
+    pub rows: usize,
+    pub columns: usize,
+}
+
+// The default of the column of a class: the rows with a wildcard there, the other columns, and this one tested; what is opened stays.
+pub fn default_matrix<'a, 'b>(
     t: &[u8],
     rows: &'a [u8; 32],
     n: usize,
     columns: &'a [u8; 192],
     k: usize,
-    tested: &'a [u8; 192],
     time: usize,
     opened: &'a [u8; 192],
     class: usize,
-) -> Matrix
+    new_rows: &'b mut [u8; 32],
+    new_columns: &'b mut [u8; 192],
+    tested: &'b mut [u8; 192],
+) -> Sizes
     requires { ⌜ Splits (now t) (matrixOf (now rows) n (now columns) k (now tested) time (now opened)) class ⌝ }
-    ensures { λ r. ⌜ StandsFor r (defaultRead (now (t .entry)) class (inNumbers (matrixOf (now (rows .entry)) n (now (columns .entry)) k (now (tested .entry)) time (now (opened .entry))))) ⌝ }
+    requires { ⌜ (length (now «new_rows») ≡ clausesMost) × (length (now «new_columns») ≡ patternsMost) ⌝ }
+    ensures { λ r. ⌜ StandsFor (matrixOf (now («new_rows» .exit)) (r .rows) (now («new_columns» .exit)) (r .columns) (now (tested .exit)) (time + 1) (now (opened .entry))) (defaultRead (now (t .entry)) class (inNumbers (matrixOf (now (rows .entry)) n (now (columns .entry)) k (now (tested .entry)) time (now (opened .entry))))) ⌝ }
 {
-    let mut y = Matrix {
-        rows: wild_rows(t, rows, n, opened, class),
-        columns: Classes {
-            list: [0; 192],
-            count: 0,
-        },
-        tested: Classes {
-            list: *tested,
-            count: time,
-        },
-        opened: *opened,
-    };
-    y.columns.count = put_rest(&mut y.columns.list, 0, columns, k, class);
-    y.tested.count = push(&mut y.tested.list, time, class);
-    y
-}
-
-// The rows of a case, and the tests that they open.
-struct Joined {
-    rows: PerRow,
-    opens: PerRow,
+    let count = wild_rows(t, rows, n, opened, class, new_rows);
+    let rest = put_rest(new_columns, 0, columns, k, class);
+    push(tested, time, class);
+    Sizes {
+        rows: count,
+        columns: rest,
+    }
 }
 
 // How many of each there are so far.
@@ -140,7 +135,7 @@ fn join_row(
 ) -> Counts
     requires { ⌜ Checked (now s) m × HeldKnown (now s) held × InPool (now s) test ⌝ }
     requires { ⌜ WholeRows (asRows (now rows) (o .rows)) × WholeRows (asRows (now opens) (o .opens)) × (o .rows < clausesMost) × (o .opens < clausesMost) ⌝ }
-    ensures { λ r. ⌜ JoinsTo (asJoined (now (rows .exit)) (now (opens .exit)) r) (take (o .rows) (now (rows .entry)) ++ joinRow (joinsTest (now (s .entry)) test) held c) (take (o .opens) (now (opens .entry)) ++ openRow (joinsTest (now (s .entry)) test) held) ⌝ }
+    ensures { λ r. ⌜ JoinsTo (asRows (now (rows .exit)) (r .rows)) (asRows (now (opens .exit)) (r .opens)) (take (o .rows) (now (rows .entry)) ++ joinRow (joinsTest (now (s .entry)) test) held c) (take (o .opens) (now (opens .entry)) ++ openRow (joinsTest (now (s .entry)) test) held) ⌝ }
 {
     match held {
         Held::Test(p) => {
@@ -162,8 +157,8 @@ fn join_row(
     }
 }
 
-// Of the first n of these rows those of a case of the column of a class, and the tests that they open.
-fn join_rows<'a>(
+// Of the first n of these rows those of a case of the column of a class, and the tests that they open; how many of each.
+fn join_rows<'a, 'b>(
     s: &[u8],
     m: Map,
     t: &[u8],
@@ -172,30 +167,22 @@ fn join_rows<'a>(
     opened: &'a [u8; 192],
     class: usize,
     test: Test,
-) -> Joined
+    rows: &'b mut [u8; 32],
+    opens: &'b mut [u8; 32],
+) -> Counts
     requires { ⌜ Ready (now s) m (now t) × WholeRows (asRows (now from) n) × All (λ c. c < clauses (now s)) (take n (now from)) × (class < patternsMost) × InPool (now s) test ⌝ }
-    ensures { λ r. ⌜ JoinsTo r (joinOf (joinsTest (now (s .entry)) test) (liveIn (now (s .entry)) (now (opened .entry)) class) (take n (now (from .entry)))) (opensOf (joinsTest (now (s .entry)) test) (liveIn (now (s .entry)) (now (opened .entry)) class) (take n (now (from .entry)))) ⌝ }
+    requires { ⌜ (length (now rows) ≡ clausesMost) × (length (now opens) ≡ clausesMost) ⌝ }
+    ensures { λ r. ⌜ JoinsTo (asRows (now (rows .exit)) (r .rows)) (asRows (now (opens .exit)) (r .opens)) (joinOf (joinsTest (now (s .entry)) test) (liveIn (now (s .entry)) (now (opened .entry)) class) (take n (now (from .entry)))) (opensOf (joinsTest (now (s .entry)) test) (liveIn (now (s .entry)) (now (opened .entry)) class) (take n (now (from .entry)))) ⌝ }
 {
-    let mut rows = [0u8; 32];
-    let mut opens = [0u8; 32];
     let mut o = Counts { rows: 0, opens: 0 };
     let mut i: usize = 0;
     while i < n {
         let c = from[i];
         let held = test_at(t, opened, wide(c), class);
-        o = join_row(s, m, &mut rows, &mut opens, o, c, held, test);
+        o = join_row(s, m, rows, opens, o, c, held, test);
         i += 1;
     }
-    Joined {
-        rows: PerRow {
-            list: rows,
-            count: o.rows,
-        },
-        opens: PerRow {
-            list: opens,
-            count: o.opens,
-        },
-    }
+    o
 }
 
 // Each of the first n of these tests opened at this time.
@@ -227,8 +214,8 @@ fn open_all(s: &[u8], m: Map, t: &[u8], opens: &[u8; 32], n: usize, list: &mut [
 }
 
 // A case of the column of a class: the rows with a wildcard there and those whose tests belong to it, what these open to before the
-// other columns, and this one tested.
-pub fn case_matrix<'a>(
+// other columns, and this one tested. The rows are asked before their tests are marked as opened.
+pub fn case_matrix<'a, 'b>(
     s: &[u8],
     m: Map,
     t: &[u8],
@@ -236,32 +223,26 @@ pub fn case_matrix<'a>(
     n: usize,
     columns: &'a [u8; 192],
     k: usize,
-    tested: &'a [u8; 192],
     time: usize,
-    opened: &'a [u8; 192],
     class: usize,
     test: Test,
-) -> Matrix
+    new_rows: &'b mut [u8; 32],
+    new_columns: &'b mut [u8; 192],
+    tested: &'b mut [u8; 192],
+    opened: &'b mut [u8; 192],
+) -> Sizes
     requires { ⌜ Ready (now s) m (now t) × WholeMatrix (matrixOf (now rows) n (now columns) k (now tested) time (now opened)) × SoundOf (now s) (inNumbers (matrixOf (now rows) n (now columns) k (now tested) time (now opened))) × (isIn class (take k (now columns)) ≡ true) × InPool (now s) test ⌝ }
-    ensures { λ r. ⌜ StandsFor r (caseNumbered (now (s .entry)) class (meant (now (s .entry)) test) (inNumbers (matrixOf (now (rows .entry)) n (now (columns .entry)) k (now (tested .entry)) time (now (opened .entry))))) ⌝ }
+    requires { ⌜ (length (now «new_rows») ≡ clausesMost) × (length (now «new_columns») ≡ patternsMost) ⌝ }
+    ensures { λ r. ⌜ StandsFor (matrixOf (now («new_rows» .exit)) (r .rows) (now («new_columns» .exit)) (r .columns) (now (tested .exit)) (time + 1) (now (opened .exit))) (caseNumbered (now (s .entry)) class (meant (now (s .entry)) test) (inNumbers (matrixOf (now (rows .entry)) n (now (columns .entry)) k (now (tested .entry)) time (now (opened .entry))))) ⌝ }
 {
-    let joined = join_rows(s, m, t, rows, n, opened, class, test);
-    let some = joined.opens.count;
-    let mut y = Matrix {
-        rows: joined.rows,
-        columns: Classes {
-            list: [0; 192],
-            count: 0,
-        },
-        tested: Classes {
-            list: *tested,
-            count: time,
-        },
-        opened: *opened,
-    };
-    let front = open_all(s, m, t, &joined.opens.list, some, &mut y.columns.list);
-    y.columns.count = put_rest(&mut y.columns.list, front, columns, k, class);
-    y.tested.count = push(&mut y.tested.list, time, class);
-    mark(&mut y.opened, &joined.opens.list, some, time + 1);
-    y
+    let mut opens = [0u8; 32];
+    let o = join_rows(s, m, t, rows, n, opened, class, test, new_rows, &mut opens);
+    let front = open_all(s, m, t, &opens, o.opens, new_columns);
+    let all = put_rest(new_columns, front, columns, k, class);
+    push(tested, time, class);
+    mark(opened, &opens, o.opens, time + 1);
+    Sizes {
+        rows: o.rows,
+        columns: all,
+    }
 }

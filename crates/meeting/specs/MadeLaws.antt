@@ -1,8 +1,8 @@
 -- The laws of both passes together: the records of the second stand behind those of the first, and they are all there unless the
 -- number of cases reaches what there is room for. Rests on the laws of the passes and of stores.
-use mathlib.Core.Path.{_≡_, refl, sym, ap, ap₂, _∙_}
+use mathlib.Core.Path.{_≡_, sym, ap, _∙_}
 use mathlib.Core.Bool.{Bool, true, false}
-use mathlib.Core.List.{List, [], _∷_}
+use mathlib.Core.List.{List, []}
 use Prim.Native.Nat.{ℕ, _+_, _-_, _*_, _≤_, _<_, min}
 use native.Mathlib.Omega.{arith}
 use lib.Dec.{ltb}
@@ -11,27 +11,23 @@ use lib.Seq.{take-all}
 use Rattle.words.specs.Stored.{stored}
 use Rattle.words.specs.StoredLaws.{length-stored, stored-nil, stored-append, getD-stored-below, getD-stored-above}
 use Rattle.rules.specs.Limits.{patternsMost, nodesMost, bindingsMost, caseSize}
+use Rattle.rules.specs.SheetFile.{clauses}
 use Rattle.rules.specs.Splitting.{Met, casesOf}
 use Rattle.rules.specs.SplittingLaws.{All}
 use Rattle.matching.specs.Depth.{only}
 use Rattle.arena.specs.Arena.{casesStart, casesMost, bindingsStart, arenaEnd}
 use Rattle.arena.specs.WritingLaws.{Kept, kept-trans, kept-weaken}
 use Rattle.sheet.specs.declared.Map.{Map}
-use Rattle.matrix.specs.declared.Matrix.{Matrix}
 use Rattle.matrix.specs.declared.PerRow.{PerRow}
-use Rattle.matrix.specs.declared.Held.{Held}
-use Rattle.matrix.specs.declared.Held.the-variants.{Test as HeldTest, Wildcard}
 use Rattle.matrix.specs.Live.{liveIn}
 use Rattle.matrix.specs.HeldRows.{heldTests}
 use Rattle.matrix.specs.Lists.{numbersIn, HoldsRows}
 use Rattle.matrix.specs.Matrices.{TestIn}
 use Rattle.matrix.specs.MatricesLaws.{tests-in}
-use Rattle.matrix.specs.Numbered.{SoundOf, testsIn}
-use Rattle.matrix.specs.Reading.{heldIn, InTable}
+use Rattle.matrix.specs.Reading.{heldIn}
 use Rattle.matrix.specs.Ready.{Ready, TestKnown}
 use Rattle.matrix.specs.PuttingLaws.{all-map}
-use Rattle.matrix.specs.InNumbers.{inNumbers}
-use Rattle.matrix.specs.InNumbersLaws.{Alike, alike-rows, cells-in}
+use Rattle.matrix.specs.InNumbersLaws.{tests-read}
 use Rattle.meeting.specs.declared.tests.Longest.{Longest}
 use Rattle.meeting.specs.declared.Meeting.{Meeting}
 use Rattle.meeting.specs.Passes.{upTo, caseRecords}
@@ -115,29 +111,18 @@ module _ {s w w₁ : List ℕ} {first mid : ℕ} (ps : List ℕ) (l : Longest) (
               ∙ ap (stored w (casesStart + caseSize * first)) (sym (caseRecords-append (exactCases (columnOf s ps)) (tailCases (columnOf s ps))));
         }
 
--- ---- the column of a class in a sound matrix
-tests-alike : (f g : ℕ → Held) (cs : List ℕ) → All (Alike f g) cs → heldTests f cs ≡ heldTests g cs
-unfolding heldTests
-tests-alike f g [] h = refl
-tests-alike f g (c ∷ cs) h = ap₂ (λ (x : Held) (l : List ℕ). elim x [ HeldTest p ↦ p ∷ l | Wildcard ↦ l ]) (h .0) (tests-alike f g cs (h .1))
+-- ---- the column of a class, of rows that are clauses
+module _ {s : List ℕ} {m : Map} {t : List ℕ} (ready : Ready s m t) (rows : List ℕ) (low : All (λ c. c < clauses s) rows) (opened : List ℕ)
+    (class : ℕ) (known : class < patternsMost) (tests : PerRow) (are : HoldsRows tests (heldTests (heldIn t opened class) rows)) where
+  column-tests : numbersIn tests ≡ heldTests (liveIn s opened class) rows
+  column-tests = are .are ∙ tests-read ready rows low class known opened
 
-module _ {s : List ℕ} {m : Map} {t : List ℕ} (ready : Ready s m t) (x : Matrix) (sound : SoundOf s (inNumbers x)) (class : ℕ) (known : class < patternsMost) where
-  pub column-cells : All (InTable t class) (numbersIn (x .rows))
-  column-cells = cells-in ready (inNumbers x) sound class known
+  pub column-known : All (TestKnown s) (numbersIn tests)
+  column-known =
+      rw column-tests
+      (all-map (TestIn s class) (TestKnown s) (λ p h. record { known = h .known; test = h .test }) (heldTests (liveIn s opened class) rows)
+      (tests-in s opened class rows))
 
-  module _ (tests : PerRow) (are : HoldsRows tests (heldTests (heldIn t (x .opened) class) (numbersIn (x .rows)))) where
-    pub column-tests : numbersIn tests ≡ testsIn s class (inNumbers x)
-    unfolding testsIn
-    column-tests =
-        are .are
-        ∙ tests-alike (heldIn t (x .opened) class) (liveIn s (x .opened) class) (numbersIn (x .rows)) (alike-rows ready (inNumbers x) sound class known)
-
-    pub column-known : All (TestKnown s) (numbersIn tests)
-    unfolding testsIn
-    column-known =
-        rw column-tests
-        (all-map (TestIn s class) (TestKnown s) (λ p h. record { known = h .known; test = h .test }) (heldTests (liveIn s (x .opened) class) (numbersIn (x .rows)))
-        (tests-in s (x .opened) class (numbersIn (x .rows))))
-
-    pub column-meets : (first : ℕ) (w w' : List ℕ) (r : Meeting) → MeetsTo s (columnOf s (numbersIn tests)) first w w' r → MeetsTo s (columnOf s (testsIn s class (inNumbers x))) first w w' r
-    column-meets first w w' r a = rw (← column-tests) a
+  pub column-meets : (first : ℕ) (w w' : List ℕ) (r : Meeting) → MeetsTo s (columnOf s (numbersIn tests)) first w w' r
+      → MeetsTo s (columnOf s (heldTests (liveIn s opened class) rows)) first w w' r
+  column-meets first w w' r a = rw (← column-tests) a

@@ -3,7 +3,6 @@
 use crate::tests::Longest;
 use crate::tests::longer_of;
 use matrix::Held;
-use matrix::PerRow;
 use matrix::rows::put_row;
 use matrix::rows::test_at;
 use matrix::wide;
@@ -12,11 +11,12 @@ use sheet::records::pattern_at;
 ghost use mathlib.Core.Path.{_≡_};
 ghost use mathlib.Core.List.{_++_};
 ghost use Prim.Native.Nat.{_<_};
-ghost use lib.ListN.{take};
+ghost use lib.ListN.{length, take};
+ghost use Rattle.rules.specs.Limits.{clausesMost};
 ghost use Rattle.rules.specs.SplittingLaws.{All};
 ghost use Rattle.table.specs.Tabled.{Checked};
 ghost use Rattle.matrix.specs.HeldRows.{heldTests};
-ghost use Rattle.matrix.specs.Lists.{numbersIn, asRows, WholeRows, HoldsRows};
+ghost use Rattle.matrix.specs.Lists.{asRows, WholeRows, HoldsRows};
 ghost use Rattle.matrix.specs.Reading.{heldIn, InTable};
 ghost use Rattle.matrix.specs.Ready.{TestKnown};
 ghost use Rattle.meeting.specs.Rows.{heldTest, TestSmall, longestOf};
@@ -32,40 +32,40 @@ fn keep_test(list: &mut [u8; 32], count: usize, held: Held) -> usize
     }
 }
 
-// The tests of the first n of these rows in the column of a class, top down.
+// The tests of the first n of these rows in the column of a class, top down, in the list; how many there are.
 pub fn column_tests<'a>(
     t: &[u8],
     rows: &'a [u8; 32],
     n: usize,
     opened: &'a [u8; 192],
     class: usize,
-) -> PerRow
-    requires { ⌜ WholeRows (asRows (now rows) n) × All (InTable (now t) class) (take n (now rows)) ⌝ }
-    ensures { λ r. ⌜ HoldsRows r (heldTests (heldIn (now (t .entry)) (now (opened .entry)) class) (take n (now (rows .entry)))) ⌝ }
+    list: &mut [u8; 32],
+) -> usize
+    requires { ⌜ WholeRows (asRows (now rows) n) × All (InTable (now t) class) (take n (now rows)) × (length (now list) ≡ clausesMost) ⌝ }
+    ensures { λ r. ⌜ HoldsRows (asRows (now (list .exit)) r) (heldTests (heldIn (now (t .entry)) (now (opened .entry)) class) (take n (now (rows .entry)))) ⌝ }
 {
-    let mut list = [0u8; 32];
     let mut count: usize = 0;
     let mut i: usize = 0;
     while i < n {
-        count = keep_test(&mut list, count, test_at(t, opened, wide(rows[i]), class));
+        count = keep_test(list, count, test_at(t, opened, wide(rows[i]), class));
         i += 1;
     }
-    PerRow { list, count }
+    count
 }
 
-// The longest lengths of the lists among these tests.
-pub fn longest_of(s: &[u8], m: Map, tests: PerRow) -> Longest
-    requires { ⌜ Checked (now s) m × WholeRows tests × All (TestKnown (now s)) (numbersIn tests) ⌝ }
-    ensures { λ r. ⌜ r ≡ longestOf (now (s .entry)) (numbersIn tests) ⌝ }
+// The longest lengths of the lists among the first n of these tests.
+pub fn longest_of(s: &[u8], m: Map, tests: &[u8; 32], n: usize) -> Longest
+    requires { ⌜ Checked (now s) m × WholeRows (asRows (now tests) n) × All (TestKnown (now s)) (take n (now tests)) ⌝ }
+    ensures { λ r. ⌜ r ≡ longestOf (now (s .entry)) (take n (now (tests .entry))) ⌝ }
 {
     let mut l = Longest {
         tailless: 0,
         tails: 0,
     };
-    let mut i = tests.count;
+    let mut i = n;
     while 0 < i {
         i -= 1;
-        l = longer_of(pattern_at(s, m, wide(tests.list[i])), l);
+        l = longer_of(pattern_at(s, m, wide(tests[i])), l);
     }
     l
 }

@@ -13,20 +13,19 @@ mod tests;
 
 use column::column_tests;
 use column::longest_of;
-use matrix::Matrix;
-use matrix::PerRow;
 use meet::CASES_MOST;
 use rows::meet_rows;
 use sheet::Map;
 ghost use Prim.Native.Nat.{_<_, _≤_};
-ghost use lib.ListN.{length};
+ghost use lib.ListN.{length, take};
 ghost use Rattle.rules.specs.Limits.{patternsMost};
+ghost use Rattle.rules.specs.SheetFile.{clauses};
 ghost use Rattle.rules.specs.SplittingLaws.{All};
 ghost use Rattle.table.specs.Tabled.{Checked};
-ghost use Rattle.matrix.specs.Lists.{numbersIn, WholeRows};
-ghost use Rattle.matrix.specs.Numbered.{SoundOf, testsIn};
+ghost use Rattle.matrix.specs.Live.{liveIn};
+ghost use Rattle.matrix.specs.HeldRows.{heldTests};
+ghost use Rattle.matrix.specs.Lists.{asRows, WholeRows};
 ghost use Rattle.matrix.specs.Ready.{Ready, TestKnown};
-ghost use Rattle.matrix.specs.InNumbers.{inNumbers, WholeMatrix};
 ghost use Rattle.arena.specs.Arena.{casesMost, arenaEnd};
 ghost use Rattle.meeting.specs.Made.{columnOf, MeetsTo};
 
@@ -42,15 +41,15 @@ pub enum Meeting {
     TooMany,
 }
 
-// The cases of these tests, from case `first` on: those without a tail, then those with one.
-fn meet_both(s: &[u8], m: Map, tests: PerRow, work: &mut [u8], first: usize) -> Meeting
-    requires { ⌜ Checked (now s) m × WholeRows tests × All (TestKnown (now s)) (numbersIn tests) ⌝ }
+// The cases of the first n of these tests, from case `first` on: those without a tail, then those with one.
+fn meet_both(s: &[u8], m: Map, tests: &[u8; 32], n: usize, work: &mut [u8], first: usize) -> Meeting
+    requires { ⌜ Checked (now s) m × WholeRows (asRows (now tests) n) × All (TestKnown (now s)) (take n (now tests)) ⌝ }
     requires { ⌜ (arenaEnd ≤ length (now work)) × (first ≤ casesMost) ⌝ }
-    ensures { λ r. ⌜ MeetsTo (now (s .entry)) (columnOf (now (s .entry)) (numbersIn tests)) first (now (work .entry)) (now (work .exit)) r ⌝ }
+    ensures { λ r. ⌜ MeetsTo (now (s .entry)) (columnOf (now (s .entry)) (take n (now (tests .entry)))) first (now (work .entry)) (now (work .exit)) r ⌝ }
 {
-    let l = longest_of(s, m, tests);
-    let mid = meet_rows(s, m, tests, l, false, work, first);
-    let end = meet_rows(s, m, tests, l, true, work, mid);
+    let l = longest_of(s, m, tests, n);
+    let mid = meet_rows(s, m, tests, n, l, false, work, first);
+    let end = meet_rows(s, m, tests, n, l, true, work, mid);
     if end == CASES_MOST {
         return Meeting::TooMany;
     }
@@ -61,21 +60,23 @@ fn meet_both(s: &[u8], m: Map, tests: PerRow, work: &mut [u8], first: usize) -> 
     })
 }
 
-// The cases of the column of a class, from case `first` on.
-pub fn meet_cases(
+// The cases of the first n of these rows in the column of a class, from case `first` on.
+pub fn meet_cases<'a>(
     s: &[u8],
     m: Map,
     t: &[u8],
-    x: Matrix,
+    rows: &'a [u8; 32],
+    n: usize,
+    opened: &'a [u8; 192],
     class: usize,
     work: &mut [u8],
     first: usize,
 ) -> Meeting
-    requires { ⌜ Ready (now s) m (now t) × WholeMatrix x × SoundOf (now s) (inNumbers x) × (class < patternsMost) ⌝ }
+    requires { ⌜ Ready (now s) m (now t) × WholeRows (asRows (now rows) n) × All (λ c. c < clauses (now s)) (take n (now rows)) × (class < patternsMost) ⌝ }
     requires { ⌜ (arenaEnd ≤ length (now work)) × (first ≤ casesMost) ⌝ }
-    ensures { λ r. ⌜ MeetsTo (now (s .entry)) (columnOf (now (s .entry)) (testsIn (now (s .entry)) class (inNumbers x))) first (now (work .entry)) (now (work .exit)) r ⌝ }
+    ensures { λ r. ⌜ MeetsTo (now (s .entry)) (columnOf (now (s .entry)) (heldTests (liveIn (now (s .entry)) (now (opened .entry)) class) (take n (now (rows .entry))))) first (now (work .entry)) (now (work .exit)) r ⌝ }
 {
-    let n = x.rows.count;
-    let tests = column_tests(t, &x.rows.list, n, &x.opened, class);
-    meet_both(s, m, tests, work, first)
+    let mut tests = [0u8; 32];
+    let k = column_tests(t, rows, n, opened, class, &mut tests);
+    meet_both(s, m, &tests, k, work, first)
 }

@@ -5,17 +5,17 @@ use crate::tests::Longest;
 use crate::tests::list_test;
 use crate::tests::longest_with;
 use crate::tests::test_of;
-use matrix::PerRow;
 use matrix::wide;
 use sheet::Map;
 use sheet::records::pattern_at;
 ghost use mathlib.Core.Path.{_≡_};
 ghost use Prim.Native.Nat.{_-_, _≤_};
+ghost use lib.ListN.{take};
 ghost use Rattle.facts.specs.SheetFacts.{Laid};
 ghost use Rattle.sheet.specs.Sections.{mapOf};
 ghost use Rattle.rules.specs.SplittingLaws.{All};
 ghost use Rattle.table.specs.Tabled.{Checked};
-ghost use Rattle.matrix.specs.Lists.{numbersIn, WholeRows};
+ghost use Rattle.matrix.specs.Lists.{asRows, WholeRows};
 ghost use Rattle.matrix.specs.Ready.{TestKnown};
 ghost use Rattle.meeting.specs.SoFar.{Begun, Meets};
 ghost use Rattle.meeting.specs.Rows.{riseTo, meetTest, meetTests};
@@ -71,24 +71,25 @@ fn meet_test(
     meet(s, m, work, from, to, test_of(r))
 }
 
-// The pass: the cases met that these tests join, of those with a tail or of those without.
+// The pass: the cases met that the first n of these tests join, of those with a tail or of those without.
 pub fn meet_rows(
     s: &[u8],
     m: Map,
-    tests: PerRow,
+    tests: &[u8; 32],
+    n: usize,
     l: Longest,
     tail: bool,
     work: &mut [u8],
     from: usize,
 ) -> usize
-    requires { ⌜ Checked (now s) m × WholeRows tests × All (TestKnown (now s)) (numbersIn tests) × (l .tailless ≤ 65536) × (l .tails ≤ 65536) ⌝ }
+    requires { ⌜ Checked (now s) m × WholeRows (asRows (now tests) n) × All (TestKnown (now s)) (take n (now tests)) × (l .tailless ≤ 65536) × (l .tails ≤ 65536) ⌝ }
     requires { ⌜ Begun (now s) (now work) from from ⌝ }
-    ensures { λ r. ⌜ Meets (now (s .entry)) (now (work .entry)) from from (meetTests (now (s .entry)) from tail l (numbersIn tests)) r (now (work .exit)) ⌝ }
+    ensures { λ r. ⌜ Meets (now (s .entry)) (now (work .entry)) from from (meetTests (now (s .entry)) from tail l (take n (now (tests .entry)))) r (now (work .exit)) ⌝ }
 {
     let mut top = from;
     let mut i: usize = 0;
-    while i < tests.count {
-        top = meet_test(s, m, l, tail, wide(tests.list[i]), work, from, top);
+    while i < n {
+        top = meet_test(s, m, l, tail, wide(tests[i]), work, from, top);
         i += 1;
     }
     top

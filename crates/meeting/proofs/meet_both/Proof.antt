@@ -2,8 +2,8 @@
 use borrow.Author.Needs.{needs}
 use native.Mathlib.Omega.{arith}
 use mathlib.Core.Path.{refl}
+use lib.ListN.{take}
 use Rattle.words.specs.WordsLaws.{bytes-of-fits}
-use Rattle.matrix.specs.Lists.{numbersIn}
 use Rattle.meeting.specs.ColumnLaws.{longest-few}
 use Rattle.meeting.specs.MadeLaws.{pass-begins, second-begins, passes-past, passes-made}
 use Rattle.meeting.proofs.meet_both.Statement.{statement}
@@ -17,7 +17,7 @@ meet-rows-requires c κs =
     let s = c .before .before .before .before in
     let a = s .args in
     let l = c .before .longest-of in
-    let few = longest-few (bytes-of-fits (a .s .now) (c .before .before .before .shared-slice-known .given)) (s .pre .0 .0 .ok) (numbersIn (a .tests)) (s .pre .0 .2) (l .result) (l .ensures) in
+    let few = longest-few (bytes-of-fits (a .s .now) (c .before .before .before .shared-slice-known .given)) (s .pre .0 .0 .ok) (take (a .n) (a .tests .now)) (s .pre .0 .2) (l .result) (l .ensures) in
     ((s .pre .0 .0, s .pre .0 .1, s .pre .0 .2, few .0, few .1), pass-begins (a .s .now) (a .work .now) (a .first) (s .pre .1 .0) (s .pre .1 .1))
 
 meet-rows-requires-2 : tie.Need-meet-rows-requires-2
@@ -25,8 +25,8 @@ meet-rows-requires-2 c κs =
     let s = c .before .before .before .before .before .before .before .before in
     let a = s .args in
     let l = c .before .before .before .before .before .longest-of in
-    let few = longest-few (bytes-of-fits (a .s .now) (c .before .before .before .before .before .before .before .shared-slice-known .given)) (s .pre .0 .0 .ok) (numbersIn (a .tests)) (s .pre .0 .2) (l .result) (l .ensures) in
-    ((s .pre .0 .0, s .pre .0 .1, s .pre .0 .2, few .0, few .1), second-begins (numbersIn (a .tests)) (l .result) (l .ensures) (s .pre .1 .0) (s .pre .1 .1) (c .before .before .before .meet-rows .ensures))
+    let few = longest-few (bytes-of-fits (a .s .now) (c .before .before .before .before .before .before .before .shared-slice-known .given)) (s .pre .0 .0 .ok) (take (a .n) (a .tests .now)) (s .pre .0 .2) (l .result) (l .ensures) in
+    ((s .pre .0 .0, s .pre .0 .1, s .pre .0 .2, few .0, few .1), second-begins (take (a .n) (a .tests .now)) (l .result) (l .ensures) (s .pre .1 .0) (s .pre .1 .1) (c .before .before .before .meet-rows .ensures))
 
 same-length : tie.Need-same-length
 same-length c = search needs
@@ -36,14 +36,14 @@ returns c =
     let s = c .before .before .before .before .before .before .before .before .before .before .before .before in
     let a = s .args in
     let l = c .before .before .before .before .before .before .before .before .before .longest-of in
-    passes-past (numbersIn (a .tests)) (l .result) (l .ensures) (s .pre .1 .0) (s .pre .1 .1) (c .before .before .before .before .before .before .before .meet-rows .ensures) (c .before .before .before .meet-rows2 .ensures) (c .if1 .taken)
+    passes-past (take (a .n) (a .tests .now)) (l .result) (l .ensures) (s .pre .1 .0) (s .pre .1 .1) (c .before .before .before .before .before .before .before .meet-rows .ensures) (c .before .before .before .meet-rows2 .ensures) (c .if1 .taken)
 
-add-t14 : tie.Need-add-t14
-add-t14 c =
+add-t15 : tie.Need-add-t15
+add-t15 c =
     let s = c .before .before .before .before .before .before .before .before .before .before .before .before .before in
     let a = s .args in
     let l = c .before .before .before .before .before .before .before .before .before .before .longest-of in
-    let few = longest-few (bytes-of-fits (a .s .now) (c .before .before .before .before .before .before .before .before .before .before .before .before .shared-slice-known .given)) (s .pre .0 .0 .ok) (numbersIn (a .tests)) (s .pre .0 .2) (l .result) (l .ensures) in
+    let few = longest-few (bytes-of-fits (a .s .now) (c .before .before .before .before .before .before .before .before .before .before .before .before .shared-slice-known .given)) (s .pre .0 .0 .ok) (take (a .n) (a .tests .now)) (s .pre .0 .2) (l .result) (l .ensures) in
     omega (arith, few .0, few .1)
 
 same-length-2 : tie.Need-same-length-2
@@ -54,7 +54,7 @@ returns-2 c =
     let s = c .before .before .before .before .before .before .before .before .before .before .before .before .before in
     let a = s .args in
     let l = c .before .before .before .before .before .before .before .before .before .before .longest-of in
-    passes-made (numbersIn (a .tests)) (l .result) (l .ensures) (s .pre .1 .0) (s .pre .1 .1) (c .before .before .before .before .before .before .before .before .meet-rows .ensures) (c .before .before .before .before .meet-rows2 .ensures) (c .before .if1 .left) _ refl
+    passes-made (take (a .n) (a .tests .now)) (l .result) (l .ensures) (s .pre .1 .0) (s .pre .1 .1) (c .before .before .before .before .before .before .before .before .meet-rows .ensures) (c .before .before .before .before .meet-rows2 .ensures) (c .before .if1 .left) _ refl
 
 pub meet-both-spec : {M : Type 1} → statement M
 meet-both-spec =
@@ -65,6 +65,6 @@ meet-both-spec =
     meet-rows-requires-2
     same-length
     returns
-    add-t14
+    add-t15
     same-length-2
     returns-2)

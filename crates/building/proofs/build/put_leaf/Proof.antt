@@ -3,7 +3,7 @@ use native.Mathlib.Omega.{arith}
 use mathlib.Core.Path.{refl}
 use Prim.Native.Nat.{_+_, _-_}
 use lib.ListN.{set}
-use Rattle.building.specs.LeafLaws.{with-row, first-small, clause-small, leaf-top, leaf-step}
+use Rattle.building.specs.LeafLaws.{first-small, clause-small, leaf-top, leaf-step}
 use Rattle.building.proofs.build.put_leaf.Statement.{statement}
 use Rattle.building.proofs.build.put_leaf.Tie as tie
 use Rattle.building.proofs.build.put_leaf.Reads as reads
@@ -11,66 +11,55 @@ use Rattle.building.proofs.build.put_leaf.Lts as lts
 use Rattle.arena.proofs.writing.put_node.Reads as put-node-reads
 use Rattle.building.proofs.build.first_of.Reads as first-of-reads
 use Rattle.leaves.proofs.leaf_bindings.Reads as leaf-bindings-reads
-use Rattle.matrix.proofs.wide.Reads as wide-reads
 
--- src/build.rt:50:23
-element-copy-out-wide : tie.Need-element-copy-out-wide
-element-copy-out-wide c = search needs
-
--- src/build.rt:50:9
-wide-requires : tie.Need-wide-requires
-wide-requires c κs = search needs
-
--- src/build.rt:51:9
+-- src/build.rt:62:9
 leaf-bindings-requires : tie.Need-leaf-bindings-requires
-leaf-bindings-requires c κs = (c .before .before .before .before .before .before .before .pre .0 .ready, with-row (c .before .before .before .before .before .before .before .pre .0 .ready .checked .ok) (c .before .before .before .before .before .before .before .pre .0 .there), record { long = c .before .before .before .before .before .before .before .pre .0 .room .long; most = c .before .before .before .before .before .before .before .pre .0 .room .bindings-most })
+leaf-bindings-requires c κs = (c .before .before .before .before .pre .0, c .before .before .before .before .pre .1, record { long = c .before .before .before .before .pre .2 .long; most = c .before .before .before .before .pre .2 .bindings-most })
 
--- src/build.rt:52:17
+-- src/build.rt:63:17
 sub-count : tie.Need-sub-count
-sub-count c = (leaf-top (c .before .before .before .before .before .before .before .before .before .before .before .pre .0 .ready .checked .ok) (c .before .before .before .before .before .before .before .before .before .before .before .pre .0 .there) (c .before .before .before .before .before .before .before .before .before .before .before .args .work .now) (c .before .before .before .leaf-bindings .last .1 .1 .1 .1 .0) (c .before .before .before .before .before .before .before .before .before .before .before .args .tops .bindings) (c .before .before .before .leaf-bindings .result) (c .before .before .before .before .before .before .before .before .before .before .before .pre .0 .room .long) (c .before .before .before .before .before .before .before .before .before .before .before .pre .0 .room .bindings-most) (c .before .before .before .leaf-bindings .ensures)) .0
+sub-count c = (leaf-top (c .before .before .before .before .before .before .before .before .pre .0 .checked .ok) (c .before .before .before .before .before .before .before .before .pre .1) (c .before .before .before .before .before .before .before .before .args .opened .now) (c .before .before .before .before .before .before .before .before .pre .2) (c .before .before .before .leaf-bindings .ensures)) .0
 
--- src/build.rt:53:9
+-- src/build.rt:64:9
 first-of-requires : tie.Need-first-of-requires
 first-of-requires c κs = search needs
 
--- src/build.rt:54:35
+-- src/build.rt:69:9
 cast-put-node : tie.Need-cast-put-node
-cast-put-node c = omega (arith, clause-small (c .before .before .before .before .before .before .before .before .before .before .before .before .before .pre .0 .ready .checked .ok) (c .before .before .before .before .before .before .before .before .before .before .before .before .before .pre .0 .there) (c .before .before .before .before .before .before .before .wide .result) (c .before .before .before .before .before .before .before .wide .ensures))
+cast-put-node c = omega (arith, clause-small (c .before .before .before .before .before .before .before .before .before .before .pre .0 .checked .ok) (c .before .before .before .before .before .before .before .before .before .before .pre .1) (c .before .before .before .before .before .before .before .before .before .before .args .opened .now))
 
--- src/build.rt:54:50
+-- src/build.rt:70:9
 cast-put-node-2 : tie.Need-cast-put-node-2
-cast-put-node-2 c = omega (arith, first-small (c .before .before .before .before .before .before .before .before .before .before .before .before .before .pre .0 .ready .checked .ok) (c .before .before .before .before .before .before .before .before .before .before .before .before .before .pre .0 .there) (c .before .before .before .before .before .leaf-bindings .result - c .before .before .before .before .before .before .before .before .before .before .before .before .before .args .tops .bindings) (c .before .first-of .result) (c .before .before .before .before .before .before .before .before .before .before .before .before .before .args .tops .bindings) (c .before .first-of .ensures), c .before .before .before .before .before .before .before .before .before .before .before .before .before .pre .0 .room .bindings-most)
+cast-put-node-2 c = omega (arith, first-small (c .before .before .before .before .before .leaf-bindings .result - c .before .before .before .before .before .before .before .before .before .before .args .tops .bindings) (c .before .first-of .result) (c .before .before .before .before .before .before .before .before .before .before .args .tops .bindings) (c .before .first-of .ensures), c .before .before .before .before .before .before .before .before .before .before .pre .2 .bindings-most)
 
--- src/build.rt:54:64
+-- src/build.rt:71:9
 cast-put-node-3 : tie.Need-cast-put-node-3
-cast-put-node-3 c = omega (arith, leaf-top (c .before .before .before .before .before .before .before .before .before .before .before .before .before .pre .0 .ready .checked .ok) (c .before .before .before .before .before .before .before .before .before .before .before .before .before .pre .0 .there) (c .before .before .before .before .before .before .before .before .before .before .before .before .before .args .work .now) (c .before .before .before .before .before .leaf-bindings .last .1 .1 .1 .1 .0) (c .before .before .before .before .before .before .before .before .before .before .before .before .before .args .tops .bindings) (c .before .before .before .before .before .leaf-bindings .result) (c .before .before .before .before .before .before .before .before .before .before .before .before .before .pre .0 .room .long) (c .before .before .before .before .before .before .before .before .before .before .before .before .before .pre .0 .room .bindings-most) (c .before .before .before .before .before .leaf-bindings .ensures))
+cast-put-node-3 c = omega (arith, leaf-top (c .before .before .before .before .before .before .before .before .before .before .pre .0 .checked .ok) (c .before .before .before .before .before .before .before .before .before .before .pre .1) (c .before .before .before .before .before .before .before .before .before .before .args .opened .now) (c .before .before .before .before .before .before .before .before .before .before .pre .2) (c .before .before .before .before .before .leaf-bindings .ensures))
 
--- src/build.rt:54:5
+-- src/build.rt:65:5
 put-node-requires : tie.Need-put-node-requires
-put-node-requires c κs = (omega (arith, leaf-top (c .before .before .before .before .before .before .before .before .before .before .before .before .before .pre .0 .ready .checked .ok) (c .before .before .before .before .before .before .before .before .before .before .before .before .before .pre .0 .there) (c .before .before .before .before .before .before .before .before .before .before .before .before .before .args .work .now) (c .before .before .before .before .before .leaf-bindings .last .1 .1 .1 .1 .0) (c .before .before .before .before .before .before .before .before .before .before .before .before .before .args .tops .bindings) (c .before .before .before .before .before .leaf-bindings .result) (c .before .before .before .before .before .before .before .before .before .before .before .before .before .pre .0 .room .long) (c .before .before .before .before .before .before .before .before .before .before .before .before .before .pre .0 .room .bindings-most) (c .before .before .before .before .before .leaf-bindings .ensures), c .before .before .before .before .before .before .before .before .before .before .before .before .before .pre .0 .room .long), c .before .before .before .before .before .before .before .before .before .before .before .before .before .pre .1)
+put-node-requires c κs = (omega (arith, leaf-top (c .before .before .before .before .before .before .before .before .before .before .pre .0 .checked .ok) (c .before .before .before .before .before .before .before .before .before .before .pre .1) (c .before .before .before .before .before .before .before .before .before .before .args .opened .now) (c .before .before .before .before .before .before .before .before .before .before .pre .2) (c .before .before .before .before .before .leaf-bindings .ensures), c .before .before .before .before .before .before .before .before .before .before .pre .2 .long), c .before .before .before .before .before .before .before .before .before .before .pre .3)
 
--- src/build.rt:56:5
+-- src/build.rt:76:5
 array-write-leaves : tie.Need-array-write-leaves
-array-write-leaves c = clause-small (c .before .before .before .before .before .before .before .before .before .before .before .before .before .before .before .before .before .pre .0 .ready .checked .ok) (c .before .before .before .before .before .before .before .before .before .before .before .before .before .before .before .before .before .pre .0 .there) (c .before .before .before .before .before .before .before .before .before .before .before .wide .result) (c .before .before .before .before .before .before .before .before .before .before .before .wide .ensures)
+array-write-leaves c = clause-small (c .before .before .before .before .before .before .before .before .before .before .before .before .before .before .pre .0 .checked .ok) (c .before .before .before .before .before .before .before .before .before .before .before .before .before .before .pre .1) (c .before .before .before .before .before .before .before .before .before .before .before .before .before .before .args .opened .now)
 
--- src/build.rt:58:16
-add-t26 : tie.Need-add-t26
-add-t26 c = search needs
+-- src/build.rt:78:16
+add-t24 : tie.Need-add-t24
+add-t24 c = search needs
 
--- src/build.rt:45:1
+-- src/build.rt:48:1
 same-length : tie.Need-same-length
 same-length c = search needs
 
--- src/build.rt:45:1
+-- src/build.rt:48:1
 returns : tie.Need-returns
-returns c = leaf-step (c .before .before .before .before .before .before .before .before .before .before .before .before .before .before .before .before .before .before .pre .0 .ready .checked .ok) (c .before .before .before .before .before .before .before .before .before .before .before .before .before .before .before .before .before .before .pre .0 .there) (c .before .before .before .before .before .before .before .before .before .before .before .before .before .before .before .before .before .before .args .work .now) (c .before .before .before .before .before .before .before .before .before .before .leaf-bindings .last .1 .1 .1 .1 .0) (c .before .before .before .before .put-node .last .0) (c .before .before .before .before .before .before .before .before .before .before .before .before .before .before .before .before .before .before .args .tops) (record { nodes = c .before .before .before .before .before .before .before .before .before .before .before .before .before .before .before .before .before .before .args .tops .nodes + 1; cases = c .before .before .before .before .before .before .before .before .before .before .before .before .before .before .before .before .before .before .args .tops .cases; bindings = c .before .before .before .before .before .before .before .before .before .before .leaf-bindings .result; leaves = set (c .before .before .before .before .before .before .before .before .before .before .before .before .before .before .before .before .before .before .args .tops .leaves) (c .before .before .before .before .before .before .before .before .before .before .before .before .wide .result) 1 }) (c .before .before .before .before .before .before .before .before .before .before .before .before .wide .result) (c .before .before .before .before .before .before .before .before .before .before .leaf-bindings .result) (c .before .before .before .before .before .before .before .before .before .before .leaf-bindings .result - c .before .before .before .before .before .before .before .before .before .before .before .before .before .before .before .before .before .before .args .tops .bindings) (c .before .before .before .before .before .before .first-of .result) (c .before .before .before .before .before .before .before .before .before .before .before .before .before .before .before .before .before .before .pre .2) (c .before .before .before .before .before .before .before .before .before .before .before .before .before .before .before .before .before .before .pre .0 .room) (c .before .before .before .before .before .before .before .before .before .before .before .before .before .before .before .before .before .before .pre .1) (c .before .before .before .before .before .before .before .before .before .before .leaf-bindings .ensures) (c .before .before .before .before .before .before .before .before .before .before .before .before .wide .ensures) refl (c .before .before .before .before .before .before .first-of .ensures) (c .before .before .before .before .put-node .ensures) refl
+returns c = leaf-step (c .before .before .before .before .before .before .before .before .before .before .before .before .before .before .before .pre .0 .checked .ok) (c .before .before .before .before .before .before .before .before .before .before .before .before .before .before .before .pre .1) (c .before .before .before .before .before .before .before .before .before .before .before .before .before .before .before .args .opened .now) (c .before .before .before .before .before .before .before .before .before .before .before .before .before .before .before .args .work .now) (c .before .before .before .before .before .before .before .before .before .before .leaf-bindings .last .1 .1 .1 .1 .1 .1 .1 .0) (c .before .before .before .before .put-node .last .0) (c .before .before .before .before .before .before .before .before .before .before .before .before .before .before .before .args .tops) (record { nodes = c .before .before .before .before .before .before .before .before .before .before .before .before .before .before .before .args .tops .nodes + 1; cases = c .before .before .before .before .before .before .before .before .before .before .before .before .before .before .before .args .tops .cases; bindings = c .before .before .before .before .before .before .before .before .before .before .leaf-bindings .result; leaves = set (c .before .before .before .before .before .before .before .before .before .before .before .before .before .before .before .args .tops .leaves) (c .before .before .before .before .before .before .before .before .before .before .before .before .before .before .before .args .clause) 1 }) (c .before .before .before .before .before .before .before .before .before .before .leaf-bindings .result) (c .before .before .before .before .before .before .before .before .before .before .leaf-bindings .result - c .before .before .before .before .before .before .before .before .before .before .before .before .before .before .before .args .tops .bindings) (c .before .before .before .before .before .before .first-of .result) (c .before .before .before .before .before .before .before .before .before .before .before .before .before .before .before .pre .2) (c .before .before .before .before .before .before .before .before .before .before .before .before .before .before .before .pre .3) (c .before .before .before .before .before .before .before .before .before .before .leaf-bindings .ensures) refl (c .before .before .before .before .before .before .first-of .ensures) (c .before .before .before .before .put-node .ensures) refl
 
 pub put-leaf-spec : {M : Type 1} → statement M
 put-leaf-spec =
     tie.close
     (tie.spec
-    element-copy-out-wide
-    wide-requires
     leaf-bindings-requires
     sub-count
     first-of-requires
@@ -79,6 +68,6 @@ put-leaf-spec =
     cast-put-node-3
     put-node-requires
     array-write-leaves
-    add-t26
+    add-t24
     same-length
     returns)

@@ -12,11 +12,8 @@ cast-list c = search needs
 element-write-list : tie.Need-element-write-list
 element-write-list c = search needs
 
-add-result : tie.Need-add-result
-add-result c = search needs
-
 returns : tie.Need-returns
 returns c = let a = c .args in holds-push (a .list .now) (a .count) (a .class) (c .pre .0 .long) (c .pre .1)
 
 pub push-spec : {M : Type 1} → statement M
-push-spec = tie.close (tie.spec cast-list element-write-list add-result returns)
+push-spec = tie.close (tie.spec cast-list element-write-list returns)

@@ -28,7 +28,7 @@ abbrev μ-loop : tie.MeasureT-loop
 μ-loop t rows n opened class list₀ count₀ i₀ list count i = n - i
 
 loop-holds : tie.Need-loop-holds Inv-loop μ-loop
-loop-holds c = (search needs, search needs, record { long = refl; most = omega arith; are = refl }, refl)
+loop-holds c = (search needs, search needs, record { long = c .before .pre .2; most = omega arith; are = refl }, refl)
 
 element-copy-out-c : tie.Need-element-copy-out-c Inv-loop μ-loop
 element-copy-out-c c = omega (arith, c .before .before .before .pre .0 .most, c .before .before .before .pre .0 .long, c .loop-test .taken)

@@ -6,7 +6,7 @@ use borrow.Author.Tests.{not-true, not-false}
 use Rattle.matrix.specs.declared.Held.the-variants.{Test as HeldTest, Wildcard}
 use Rattle.matrix.specs.HeldRows.{joinsCase}
 use Rattle.matrix.specs.Lists.{asRows}
-use Rattle.matrix.specs.Meant.{meant, asJoined}
+use Rattle.matrix.specs.Meant.{meant}
 use Rattle.matrix.specs.SplitLaws.{joined-not, joined-test, joined-wild, held-test}
 use Rattle.matrix.proofs.splitting.join_row.Statement.{statement}
 use Rattle.matrix.proofs.splitting.join_row.Tie as tie
@@ -30,7 +30,7 @@ returns c =
     let s = c .before .before .before .before .before .before in
     let a = s .args in
     let e : a .held ≡ HeldTest (c .before .before .before .held .given .0 .0) = search needs in
-    joined-not (joinsCase (a .s .now) (meant (a .s .now) (a .test))) (asJoined (a .rows .now) (a .opens .now) (a .o)) (a .held) (a .c) (s .pre .1 .0) (s .pre .1 .1) e (sym (c .before .covers .ensures) ∙ not-true (c .before .covers .result) (c .if1 .taken))
+    joined-not (joinsCase (a .s .now) (meant (a .s .now) (a .test))) (asRows (a .rows .now) (a .o .rows)) (asRows (a .opens .now) (a .o .opens)) (a .held) (a .c) (s .pre .1 .0) (s .pre .1 .1) e (sym (c .before .covers .ensures) ∙ not-true (c .before .covers .result) (c .if1 .taken))
 
 put-row-requires : tie.Need-put-row-requires
 put-row-requires c κs = let s = c .before .before .before .before .before .before .before in (s .pre .1 .0, s .pre .1 .2)
@@ -61,7 +61,7 @@ returns-2 c =
     let row = c .before .before .put-row in
     let test = c .put-row2 in
     let covers = c .before .before .before .before .before .covers in
-    joined-test (joinsCase (a .s .now) (meant (a .s .now) (a .test))) (asJoined (a .rows .now) (a .opens .now) (a .o)) (a .held) (a .c) {p = p} (asRows (row .last .0) (row .result)) (asRows (test .last .0) (test .result)) (row .ensures) (test .ensures) e
+    joined-test (joinsCase (a .s .now) (meant (a .s .now) (a .test))) (asRows (a .rows .now) (a .o .rows)) (asRows (a .opens .now) (a .o .opens)) (a .held) (a .c) {p = p} (asRows (row .last .0) (row .result)) (asRows (test .last .0) (test .result)) (row .ensures) (test .ensures) e
     (sym (covers .ensures) ∙ not-false (covers .result) (c .before .before .before .before .if1 .left))
 
 returns-3 : tie.Need-returns-3
@@ -69,7 +69,7 @@ returns-3 c =
     let s = c .before .before .before .before .before in
     let a = s .args in
     let e : a .held ≡ Wildcard = search needs in
-    joined-wild (joinsCase (a .s .now) (meant (a .s .now) (a .test))) (asJoined (a .rows .now) (a .opens .now) (a .o)) (a .held) (a .c) (asRows (c .put-row3 .last .0) (c .put-row3 .result)) (c .put-row3 .ensures) (s .pre .1 .1) e
+    joined-wild (joinsCase (a .s .now) (meant (a .s .now) (a .test))) (asRows (a .rows .now) (a .o .rows)) (asRows (a .opens .now) (a .o .opens)) (a .held) (a .c) (asRows (c .put-row3 .last .0) (c .put-row3 .result)) (c .put-row3 .ensures) (s .pre .1 .1) e
 
 pub join-row-spec : {M : Type 1} → statement M
 join-row-spec =

@@ -2,7 +2,7 @@
 use borrow.Author.Needs.{needs}
 use mathlib.Core.Path.{_≡_, refl, sym, ap, _∙_}
 use mathlib.Core.List.{List, _++_}
-use Prim.Native.Nat.{ℕ, _+_, _-_, _<_, _≤_}
+use Prim.Native.Nat.{ℕ, _+_, _-_, _≤_}
 use native.Mathlib.Omega.{arith}
 use lib.ListN.{getD, take, length-append}
 use lib.Seq.{slice}
@@ -30,7 +30,7 @@ abbrev μ-loop : tie.MeasureT-loop
 μ-loop t rows n opened class list₀ count₀ i₀ list count i = n - i
 
 loop-holds : tie.Need-loop-holds Inv-loop μ-loop
-loop-holds c = (search needs, search needs, record { long = refl; most = omega arith; are = refl }, refl)
+loop-holds c = (search needs, search needs, record { long = c .before .pre .2; most = omega arith; are = refl }, refl)
 
 element-copy-out-wide : tie.Need-element-copy-out-wide Inv-loop μ-loop
 element-copy-out-wide c = let s = c .before .before .before .before in omega (arith, s .pre .0 .most, s .pre .0 .long, c .before .loop-test .taken)

@@ -14,19 +14,19 @@ use Rattle.meeting.proofs.column.longest_of.Statement.{statement}
 use Rattle.meeting.proofs.column.longest_of.Tie as tie
 
 abbrev Inv-loop : tie.InvT-loop
-Inv-loop s m tests l₀ i₀ l i = (i ≤ tests .count) × (l ≡ longestOf s (slice i (tests .count) (tests .list)))
+Inv-loop s m tests n l₀ i₀ l i = (i ≤ n) × (l ≡ longestOf s (slice i n tests))
 
 abbrev μ-loop : tie.MeasureT-loop
-μ-loop s m tests l₀ i₀ l i = i
+μ-loop s m tests n l₀ i₀ l i = i
 
 loop-holds : tie.Need-loop-holds Inv-loop μ-loop
-loop-holds c = (search needs, longest-starts (c .before .args .s .now) (c .before .args .t3 .list) (c .before .args .t3 .count))
+loop-holds c = (search needs, longest-starts (c .before .args .s .now) (c .before .args .tests .now) (c .before .args .n))
 
 sub-i : tie.Need-sub-i Inv-loop μ-loop
 sub-i c = search needs
 
 element-copy-out-wide : tie.Need-element-copy-out-wide Inv-loop μ-loop
-element-copy-out-wide c = omega (arith, c .before .before .before .pre .1 .most)
+element-copy-out-wide c = let s = c .before .before .before in omega (arith, s .pre .1 .long, s .pre .1 .most)
 
 wide-requires : tie.Need-wide-requires Inv-loop μ-loop
 wide-requires c κs = search needs
@@ -36,7 +36,7 @@ pattern-at-requires c κs =
     let s = c .before .before .before .before .before in
     let a = s .args in
     let l = c .before .before .before .loop in
-    let known = all-at (TestKnown (a .s .now)) (a .t3 .list) (a .t3 .count) (l .i - 1) (omega arith) (omega (arith, s .pre .1 .long, s .pre .1 .most)) (s .pre .2) in
+    let known = all-at (TestKnown (a .s .now)) (a .tests .now) (a .n) (l .i - 1) (omega arith) (omega (arith, s .pre .1 .long, s .pre .1 .most)) (s .pre .2) in
     (s .pre .0 .ok .is-laid, s .pre .0 .is-map, rw (c .wide .ensures) (known .known))
 
 longer-of-requires : tie.Need-longer-of-requires Inv-loop μ-loop
@@ -53,7 +53,7 @@ loop-again c =
     let a = s .args in
     let l = c .before .before .before .before .before .loop in (
       search needs,
-      longest-step (s .pre .0 .ok) (a .t3 .list) (a .t3 .count) (l .i) (omega (arith, s .pre .1 .long, s .pre .1 .most)) (omega arith) (l .inv .0) (s .pre .2)
+      longest-step (s .pre .0 .ok) (a .tests .now) (a .n) (l .i) (omega (arith, s .pre .1 .long, s .pre .1 .most)) (omega arith) (l .inv .0) (s .pre .2)
           (c .before .before .wide .result) (c .before .before .wide .ensures) (c .before .pattern-at .result) (c .before .pattern-at .ensures) (l .l) (c .longer-of .result) (l .inv .1) (c .longer-of .ensures),
     )
 
@@ -61,7 +61,7 @@ returns : tie.Need-returns Inv-loop μ-loop
 returns c =
     let a = c .before .before .before .args in
     let l = c .before .loop in
-    longest-ends (a .s .now) (a .t3 .list) (a .t3 .count) (l .i) (l .l) (omega arith) (l .inv .1)
+    longest-ends (a .s .now) (a .tests .now) (a .n) (l .i) (l .l) (omega arith) (l .inv .1)
 
 pub longest-of-spec : {M : Type 1} → statement M
 longest-of-spec =

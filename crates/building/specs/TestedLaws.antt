@@ -1,0 +1,75 @@
+-- The classes tested are in one array for the whole building. A call writes behind the first ones, which stay; so the matrix of its
+-- caller stands for the same one before and after it.
+use mathlib.Core.Path.{_≡_, refl, sym, ap, subst, _∙_}
+use mathlib.Core.List.{List, [], _∷_, _++_}
+use Prim.Native.Nat.{ℕ, _+_, _≤_}
+use native.Mathlib.Omega.{arith}
+use lib.ListN.{length, take}
+use lib.Seq.{take-take, take-at, length-take-le}
+use Rattle.rules.specs.Limits.{patternsMost}
+use Rattle.sheet.specs.declared.Map.{Map}
+use Rattle.matrix.specs.declared.Matrix.{Matrix}
+use Rattle.matrix.specs.Lists.{classesIn, numbersIn, asClasses}
+use Rattle.matrix.specs.Numbered.{Numbered, SoundOf, chosenIn}
+use Rattle.matrix.specs.InNumbers.{inNumbers, WholeMatrix, StandsFor, defaultRead}
+use Rattle.building.specs.Steps.{StillTested, AskedColumn}
+
+-- ---- the array
+pub still : {time : ℕ} {l : List ℕ} → length l ≡ patternsMost → StillTested time l l
+still h = record { long = h; same = refl }
+
+pub still-on : {time : ℕ} {l l' l'' : List ℕ} → StillTested time l l' → StillTested time l' l'' → StillTested time l l''
+still-on a b = record { long = b .long; same = b .same ∙ a .same }
+
+-- by a call that leaves one more of them
+pub still-fewer : {time : ℕ} {l l' : List ℕ} → StillTested (time + 1) l l' → StillTested time l l'
+still-fewer {time} {l} {l'} a =
+    record {
+      long = a .long;
+      same = sym (take-take time (time + 1) l' (omega arith)) ∙ ap (take time) (a .same) ∙ take-take time (time + 1) l (omega arith);
+    }
+
+-- ---- a matrix, with the classes tested in another array
+abbrev pub testedIn : Matrix → List ℕ → Matrix
+testedIn x l = record { rows = x .rows; columns = x .columns; tested = asClasses l (x .tested .count); opened = x .opened }
+
+pub still-numbers : (x : Matrix) {l : List ℕ} → StillTested (x .tested .count) (x .tested .list) l → inNumbers (testedIn x l) ≡ inNumbers x
+still-numbers x kept =
+    ap {B = Numbered} (λ (z : List ℕ). record { rows = numbersIn (x .rows); columns = classesIn (x .columns); tested = z; opened = x .opened }) (kept .same)
+
+module _ {s : List ℕ} {m : Map} {t : List ℕ} {x : Matrix} {k : ℕ} (col : AskedColumn s m t x k) {l : List ℕ}
+    (kept : StillTested (x .tested .count) (x .tested .list) l) where
+  pub still-column : AskedColumn s m t (testedIn x l) k
+  still-column =
+      let whole = col .there .whole in
+      record {
+        ready = col .ready;
+        there = record {
+          whole = record {
+            whole-rows = whole .whole-rows;
+            whole-columns = whole .whole-columns;
+            whole-tested = record { long = kept .long; most = whole .whole-tested .most; are = refl };
+            long-opened = whole .long-opened;
+          };
+          sound = subst (λ (M : Numbered). SoundOf s M) (sym (still-numbers x kept)) (col .there .sound);
+          some-row = col .there .some-row;
+        };
+        chosen = ap (chosenIn s) (still-numbers x kept) ∙ col .chosen;
+      }
+
+  pub still-default : {d : Matrix} → StandsFor d (defaultRead t k (inNumbers (testedIn x l))) → StandsFor d (defaultRead t k (inNumbers x))
+  still-default stands = record { whole = stands .whole; are = stands .are ∙ ap (defaultRead t k) (still-numbers x kept) }
+
+-- ---- a class more
+pub still-more : {x y : Matrix} (k : ℕ) → WholeMatrix x → WholeMatrix y → y .tested .count ≡ x .tested .count + 1
+    → (inNumbers y) .tested ≡ (inNumbers x) .tested ++ k ∷ [] → StillTested (x .tested .count) (x .tested .list) (y .tested .list)
+still-more {x} {y} k before after one-more are =
+    let time = x .tested .count in
+    let l = x .tested .list in
+    record {
+      long = after .whole-tested .long;
+      same =
+          sym (take-take time (y .tested .count) (y .tested .list) (omega arith))
+          ∙ ap (take time) are
+          ∙ take-at (take time l) (k ∷ []) time (length-take-le time l (omega (arith, before .whole-tested .long, before .whole-tested .most)));
+    }
