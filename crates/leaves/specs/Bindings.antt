@@ -2,7 +2,7 @@
 -- there is room for it; past the room only their number goes on, to one more than the room. Rests on the table's classes.
 use mathlib.Core.Path.{_≡_}
 use mathlib.Core.Bool.{Bool, false}
-use mathlib.Core.List.{List, [], _∷_, _++_, map}
+use mathlib.Core.List.{List, [], _∷_, _++_}
 use Prim.Native.Nat.{ℕ, _+_, _*_, _≤_, _<_, min}
 use lib.Dec.{ltb}
 use lib.ListN.{length, getD, take}
@@ -10,18 +10,17 @@ use Rattle.words.specs.Words.{wordBytes, pick}
 use Rattle.words.specs.Stored.{stored}
 use Rattle.rules.specs.Limits.{patternsMost, bindingsMost, bindingSize}
 use Rattle.rules.specs.SheetFile.{patternsAt, childrenAt, patterns, clauses, patternA, patternFirst, patternCount, root}
-use Rattle.rules.specs.Rows.{Binding}
 use Rattle.rules.specs.SplittingLaws.{All}
 use Rattle.facts.specs.SheetFacts.{Parent, Owns, Accepted}
 use Rattle.table.specs.Standing.{classOf}
-use Rattle.table.specs.Seen.{binds, bindsOf, bindsOfEach, bindingAt}
+use Rattle.table.specs.Seen.{binds, bindsOf, bindsOfEach}
 use Rattle.table.specs.Tabled.{Tabled}
 use Rattle.arena.specs.Arena.{bindingsStart, arenaEnd}
 use Rattle.matrix.specs.declared.Matrix.{Matrix}
 use Rattle.matrix.specs.InNumbers.{inNumbers}
 use Rattle.matrix.specs.Lists.{asClasses, Whole, WholeRows}
 use Rattle.matrix.specs.Numbered.{SoundOf}
-use Rattle.matrix.specs.Bound.{openedNumbers, boundNumbers}
+use Rattle.matrix.specs.Bound.{openedNumbers}
 use Rattle.leaves.specs.declared.Given.{Given}
 
 -- a number of bindings, told up to one more than there is room for
@@ -64,12 +63,9 @@ ownOf named p = pick named (p ∷ []) []
 abbrev pub leafNumbers : List ℕ → List ℕ → List ℕ → ℕ → List ℕ
 leafNumbers s opened tested c = bindsOf s (root s c) ++ openedNumbers s opened c 0 tested
 
--- the clause of its first row, and what that row binds
+-- the clause of a matrix's first row
 abbrev pub firstClause : Matrix → ℕ
 firstClause x = getD (x .rows .list) 0 0
-
-abbrev pub leafBindings : List ℕ → Matrix → List Binding
-leafBindings s x = map (bindingAt s) (boundNumbers s (inNumbers x) (firstClause x))
 
 -- ---- what is asked
 -- the arena, and a number of bindings that can be told

@@ -35,7 +35,7 @@ use Rattle.matrix.specs.declared.Matrix.{Matrix}
 use Rattle.matrix.specs.Live.{openedTest, IsClass}
 use Rattle.matrix.specs.LiveLaws.{cell-some}
 use Rattle.matrix.specs.Bound.{numbersHeld, openedNumbers}
-use Rattle.matrix.specs.Matrices.{Rising}
+use Rattle.matrix.specs.InNumbersLaws.{rising-below}
 use Rattle.matrix.specs.ReadingLaws.{all-at, slice-on, slice-end}
 use Rattle.matrix.specs.Ready.{Ready}
 use Rattle.matrix.specs.Lists.{numbersIn, classesIn}
@@ -265,12 +265,8 @@ module _ (s opened list : List ℕ) (count c : ℕ) (most : count ≤ length lis
 
 -- ---- a leaf
 module _ (s : List ℕ) (x : Matrix) (with : WithRow s x) where
-  pub row-clause : (c : ℕ) → c ≡ firstClause x → c < clauses s
-  row-clause c e = rw e (all-at (λ k. k < clauses s) (x .rows .list) (x .rows .count) 0 (with .some-row) (omega (arith, with .rows)) (rising-below (numbersIn (x .rows)) 0 (with .sound .rising)))
-    where
-      rising-below : (cs : List ℕ) (from : ℕ) → Rising (clauses s) from cs → All (λ k. k < clauses s) cs
-      rising-below [] from r = tt
-      rising-below (c ∷ cs) from r = (r .1, rising-below cs (c + 1) (r .2))
+  row-clause : (c : ℕ) → c ≡ firstClause x → c < clauses s
+  row-clause c e = rw e (all-at (λ k. k < clauses s) (x .rows .list) (x .rows .count) 0 (with .some-row) (omega (arith, with .rows)) (rising-below (clauses s) 0 (numbersIn (x .rows)) (with .sound .rising)))
 
   -- the sheet's patterns are numbers of classes
   pub leaf-asked : patterns s ≤ patternsMost → (c : ℕ) → c ≡ firstClause x → LeafAsked s c (x .tested .list) (x .tested .count)
