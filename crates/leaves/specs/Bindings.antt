@@ -1,27 +1,27 @@
 -- Bindings put into the arena one after the other, by the numbers of their patterns: each as its name and the class of its path, while
 -- there is room for it; past the room only their number goes on, to one more than the room. Rests on the table's classes.
 use mathlib.Core.Path.{_≡_}
-use mathlib.Core.List.{List, [], _∷_, _++_, map}
+use mathlib.Core.Bool.{Bool, false}
+use mathlib.Core.List.{List, [], _∷_, _++_}
 use Prim.Native.Nat.{ℕ, _+_, _*_, _≤_, _<_, min}
 use lib.Dec.{ltb}
 use lib.ListN.{length, getD, take}
 use Rattle.words.specs.Words.{wordBytes, pick}
 use Rattle.words.specs.Stored.{stored}
 use Rattle.rules.specs.Limits.{patternsMost, bindingsMost, bindingSize}
-use Rattle.rules.specs.SheetFile.{patternsAt, childrenAt, patterns, clauses, patternA, root}
-use Rattle.rules.specs.Rows.{Binding}
+use Rattle.rules.specs.SheetFile.{patternsAt, childrenAt, patterns, clauses, patternA, patternFirst, patternCount, root}
 use Rattle.rules.specs.SplittingLaws.{All}
-use Rattle.facts.specs.SheetFacts.{Owns, Accepted}
-use Rattle.sheet.specs.declared.records.Run.{Run}
+use Rattle.facts.specs.SheetFacts.{Parent, Owns, Accepted}
 use Rattle.table.specs.Standing.{classOf}
-use Rattle.table.specs.Seen.{binds, bindsOf, bindsOfEach, bindingAt}
+use Rattle.table.specs.Seen.{binds, bindsOf, bindsOfEach}
 use Rattle.table.specs.Tabled.{Tabled}
 use Rattle.arena.specs.Arena.{bindingsStart, arenaEnd}
 use Rattle.matrix.specs.declared.Matrix.{Matrix}
 use Rattle.matrix.specs.InNumbers.{inNumbers}
 use Rattle.matrix.specs.Lists.{asClasses, Whole, WholeRows}
 use Rattle.matrix.specs.Numbered.{SoundOf}
-use Rattle.matrix.specs.Bound.{openedNumbers, boundNumbers}
+use Rattle.matrix.specs.Bound.{openedNumbers}
+use Rattle.leaves.specs.declared.Given.{Given}
 
 -- a number of bindings, told up to one more than there is room for
 abbrev pub capped : ℕ → ℕ
@@ -55,20 +55,17 @@ boundAll s x (q ∷ qs) = boundAll s (boundOne s x q) qs
 
 -- ---- a pattern
 -- the binding of its own name, if it has one
-abbrev pub ownBinds : List ℕ → ℕ → List ℕ
-ownBinds s p = pick (binds s p) (p ∷ []) []
+abbrev pub ownOf : Bool → ℕ → List ℕ
+ownOf named p = pick named (p ∷ []) []
 
 -- ---- a leaf
 -- what the leaf of clause c binds, where these columns were tested: what boundNumbers says of a matrix
 abbrev pub leafNumbers : List ℕ → List ℕ → List ℕ → ℕ → List ℕ
 leafNumbers s opened tested c = bindsOf s (root s c) ++ openedNumbers s opened c 0 tested
 
--- the clause of its first row, and what that row binds
+-- the clause of a matrix's first row
 abbrev pub firstClause : Matrix → ℕ
 firstClause x = getD (x .rows .list) 0 0
-
-abbrev pub leafBindings : List ℕ → Matrix → List Binding
-leafBindings s x = map (bindingAt s) (boundNumbers s (inNumbers x) (firstClause x))
 
 -- ---- what is asked
 -- the arena, and a number of bindings that can be told
@@ -88,10 +85,18 @@ pub record Entries (s : List ℕ) (p j n : ℕ) : Type 0 where
   pub known : p < patterns s
   pub owns : (i : ℕ) → j ≤ i → i < j + n → Owns s p i
 
--- what is seen inside of p are the children in the run, so that p binds its own name and what those bind
-pub record SeenInside (s : List ℕ) (p : ℕ) (run : Run) : Type 0 where
-  pub entries : Entries s p (run .first) (run .count)
-  pub binds-these : bindsOf s p ≡ ownBinds s p ++ bindsOfEach s (run .first) (run .count)
+-- what a constructor, pair or tuple has of its children
+pub record Parts (s : List ℕ) (p first count : ℕ) : Type 0 where
+  pub known : p < patterns s
+  pub parent : Parent s p
+  pub nameless : binds s p ≡ false
+  pub is-first : first ≡ patternFirst s p
+  pub is-count : count ≡ patternCount s p
+
+-- p binds its own name and what the children given bind
+pub record Gives (s : List ℕ) (p : ℕ) (g : Given) : Type 0 where
+  pub entries : Entries s p (g .first) (g .count)
+  pub these : bindsOf s p ≡ ownOf (g .named) p ++ bindsOfEach s (g .first) (g .count)
 
 -- a clause of the sheet, and columns that were tested
 pub record LeafAsked (s : List ℕ) (c : ℕ) (tested : List ℕ) (n : ℕ) : Type 0 where

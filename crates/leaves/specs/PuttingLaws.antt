@@ -1,13 +1,13 @@
 -- What is put at each way through the code, over plain values as it has them: a pattern's bindings by its kind, those of its children one
 -- after the other, what a test opened. Rests on what is seen at a pattern, one level at a time.
 use mathlib.Core.Path.{_≡_, refl, sym, ap, ap₂, _∙_}
-use mathlib.Core.Logic.{_⊎_, inl, inr, ⊎-elim}
+use mathlib.Core.Logic.{_⊎_, inl, inr}
 use mathlib.Core.Bool.{Bool, true, false}
 use mathlib.Core.List.{List, [], _∷_, _++_, append-nil}
 use Prim.Native.Nat.{ℕ, suc, _+_, _-_, _*_, _≤_, _<_}
 use native.Mathlib.Omega.{arith}
-use borrow.Author.Tests.{eq-eqb, ne-eqb, eqb-true, eqb-false, leb-true, leb-false}
-use lib.Dec.{eqb, leb}
+use borrow.Author.Tests.{eq-eqb, ne-eqb, eqb-true, eqb-false}
+use lib.Dec.{eqb}
 use lib.ListN.{length, getD, take}
 use lib.Seq.{slice}
 use Rattle.words.specs.Words.{pick}
@@ -27,19 +27,21 @@ use Rattle.sheet.specs.Shape.{childrenFirst, childrenCount, childrenOf}
 use Rattle.sheet.specs.CollectLaws.{run-owned}
 use Rattle.table.specs.Standing.{kindOf, ownerOf, isTest, cellOf}
 use Rattle.table.specs.StandingLaws.{child-owner, owner-below}
-use Rattle.table.specs.Seen.{insideOf, binds, bindsOf, bindsOfEach, openedBinds}
-use Rattle.table.specs.SeenLaws.{test-of-text-or-list, no-test-of-plain, test-kind, binds-a-name, binds-no-name, binds-of-test, binds-of-name, binds-of-parts, opened-binds-none, opened-binds-each, binds-each-none, binds-each-some}
+use Rattle.table.specs.Seen.{insideOf, bindsOf, bindsOfEach, openedBinds}
+use Rattle.table.specs.SeenLaws.{no-test-of-plain, binds-a-name, binds-no-name, binds-of-test, binds-of-name, binds-of-parts, opened-binds-each, binds-discard, binds-variable, binds-text-or-list, binds-each-none, binds-each-some}
 use Rattle.table.specs.Table.{cellsAt}
 use Rattle.table.specs.Tabled.{Tabled}
 use Rattle.matrix.specs.declared.Matrix.{Matrix}
 use Rattle.matrix.specs.Live.{openedTest, IsClass}
 use Rattle.matrix.specs.LiveLaws.{cell-some}
 use Rattle.matrix.specs.Bound.{numbersHeld, openedNumbers}
-use Rattle.matrix.specs.Matrices.{Rising}
+use Rattle.matrix.specs.InNumbersLaws.{rising-below}
 use Rattle.matrix.specs.ReadingLaws.{all-at, slice-on, slice-end}
 use Rattle.matrix.specs.Ready.{Ready}
 use Rattle.matrix.specs.Lists.{numbersIn, classesIn}
-use Rattle.leaves.specs.Bindings.{Bound, bound, boundOne, boundAll, ownBinds, leafNumbers, firstClause, Room, Started, Entries, SeenInside, LeafAsked, WithRow}
+use Rattle.leaves.specs.declared.Given.{Given}
+use Rattle.leaves.specs.Bindings.{Bound, bound, boundOne, boundAll, ownOf, leafNumbers, firstClause, Room, Started, Entries, Parts, Gives, LeafAsked, WithRow}
+use Rattle.leaves.specs.declared.Given.{Given}
 use Rattle.leaves.specs.BindingsLaws.{bound-none, bound-single, bound-append, bound-top, bound-length}
 
 -- ---- the store, by its answers
@@ -74,111 +76,101 @@ started {s = s} {m = m} ready =
     record { ok = ready .checked .ok; tabled = ready .tabled; from-patterns = at .at-patterns; from-children = at .at-children }
 
 -- ---- the bindings of pattern p, by what was read of it
-module _ (s : List ℕ) (ok : Accepted s) (p : ℕ) (h : p < patterns s) where
+module _ (s : List ℕ) (ok : Accepted s) (p : ℕ) where
   sh : Shaped s
   sh = ok .is-shaped
 
   few : Counted s
   few = ok .is-counted
 
-  -- its own, then what is inside; of a test neither
-  own-test : isTest s p ≡ true → bindsOf s p ≡ ownBinds s p
-  own-test e = binds-of-test sh few p h e ∙ sym (pick-false (binds s p) (p ∷ []) [] (binds-no-name s p (inr (test-kind s p e))))
-
-  own-parts : isTest s p ≡ false → bindsOf s p ≡ ownBinds s p ++ openedBinds s p
-  own-parts e = go (binds s p) refl
-    where
-      go : (b : Bool) → binds s p ≡ b → bindsOf s p ≡ ownBinds s p ++ openedBinds s p
-      go true x = binds-of-name sh few p h e x ∙ rw x
-      go false x = binds-of-parts sh few p h e x ∙ rw x
-
-  -- nothing is seen inside
-  none-inside : bindsOf s p ≡ ownBinds s p → SeenInside s p (record { first = 0; count = 0 })
-  none-inside e =
+  -- its own name at most
+  own-gives : p < patterns s → (named : Bool) → bindsOf s p ≡ ownOf named p → Gives s p (record { named = named; first = 0; count = 0 })
+  own-gives h named e =
       record {
         entries = record { known = h; owns = λ i from to. absurd (omega arith) };
-        binds-these = e ∙ sym (ap (λ (l : List ℕ). ownBinds s p ++ l) (binds-each-none s 0) ∙ append-nil (ownBinds s p));
+        these = e ∙ sym (ap (λ (l : List ℕ). ownOf named p ++ l) (binds-each-none s 0) ∙ append-nil (ownOf named p));
       }
 
-  parts-inside : Parent s p → isTest s p ≡ false → SeenInside s p (record { first = patternFirst s p; count = patternCount s p })
-  parts-inside parent e =
+  -- and all its children
+  all-give : p < patterns s → Parent s p → (named : Bool) (first count : ℕ) → first ≡ patternFirst s p → count ≡ patternCount s p → bindsOf s p ≡ ownOf named p ++ openedBinds s p
+      → Gives s p (record { named = named; first = first; count = count })
+  all-give h parent named first count is-first is-count e =
       record {
-        entries = record { known = h; owns = λ i from to. record { parent = parent; from = from; to = to } };
-        binds-these = own-parts e ∙ ap (λ (l : List ℕ). ownBinds s p ++ l) (opened-binds-each sh few p h parent);
+        entries = record { known = h; owns = λ i from to. record { parent = parent; from = omega (arith, is-first); to = omega (arith, is-first, is-count) } };
+        these = e ∙ ap (λ (l : List ℕ). ownOf named p ++ l) (opened-binds-each sh few p h parent ∙ ap₂ (bindsOfEach s) (sym is-first) (sym is-count));
       }
 
-  module _ (r : PatternRecord) (is : r ≡ patternOf s p) where
+  pub nothing-more : (g : Given) → Gives s p g → g .count ≡ 0 → bindsOf s p ≡ ownOf (g .named) p
+  nothing-more g x e =
+      x .these ∙ ap (λ (l : List ℕ). ownOf (g .named) p ++ l) (ap (bindsOfEach s (g .first)) e ∙ binds-each-none s (g .first)) ∙ append-nil (ownOf (g .named) p)
+
+  -- ---- by its kind
+  module _ (h : p < patterns s) (r : PatternRecord) (is : r ≡ patternOf s p) where
     kind-is : r .kind ≡ patternKind s p
     kind-is = ap (λ (x : PatternRecord). x .kind) is
 
-    first-is : r .first ≡ patternFirst s p
-    first-is = ap (λ (x : PatternRecord). x .first) is
+    pub variable-gives : r .kind ≡ 1 → Gives s p (record { named = true; first = 0; count = 0 })
+    variable-gives k = own-gives h true (binds-variable sh few p h (sym kind-is ∙ k))
 
-    count-is : r .count ≡ patternCount s p
-    count-is = ap (λ (x : PatternRecord). x .count) is
+    pub assign-gives : r .kind ≡ 2 → Gives s p (record { named = true; first = r .first; count = r .count })
+    assign-gives k =
+        let e = sym kind-is ∙ k in
+        all-give h (assign-parent s p e) true (r .first) (r .count) (ap (λ (x : PatternRecord). x .first) is) (ap (λ (x : PatternRecord). x .count) is)
+        (binds-of-name sh few p h (no-test-of-plain s p (omega arith)) (binds-a-name s p (omega arith) (omega arith)))
 
-    pub name-own : 1 ≤ r .kind → r .kind < 3 → ownBinds s p ≡ p ∷ []
-    name-own low high = pick-true (binds s p) (p ∷ []) [] (binds-a-name s p (omega (arith, kind-is)) (omega (arith, kind-is)))
+    pub parts-here : 7 ≤ r .kind → r .kind < 10 → Parts s p (r .first) (r .count)
+    parts-here low high =
+        record {
+          known = h;
+          parent = many-parent s p (omega (arith, kind-is)) (omega (arith, kind-is));
+          nameless = binds-no-name s p (inr (omega (arith, kind-is)));
+          is-first = ap (λ (x : PatternRecord). x .first) is;
+          is-count = ap (λ (x : PatternRecord). x .count) is;
+        }
 
-    pub no-name-own : (r .kind < 1) ⊎ (2 < r .kind) → ownBinds s p ≡ []
-    no-name-own k = pick-false (binds s p) (p ∷ []) [] (binds-no-name s p (⊎-elim (λ e. inl (omega (arith, kind-is))) (λ e. inr (omega (arith, kind-is))) k))
-
-    these-inside : Parent s p → isTest s p ≡ false → SeenInside s p (record { first = r .first; count = r .count })
-    these-inside parent e = rw (first-is, count-is) (parts-inside parent e)
-
-    pub assign-inside : r .kind ≡ 2 → SeenInside s p (record { first = r .first; count = r .count })
-    assign-inside k = these-inside (assign-parent s p (sym kind-is ∙ k)) (no-test-of-plain s p (omega (arith, kind-is)))
-
-    pub plain-inside : (r .kind ≡ 2 → ⊥) → r .kind < 7 → SeenInside s p (record { first = 0; count = 0 })
-    plain-inside n l = none-inside (go (leb (patternKind s p) 2) refl)
+    pub others-give : (r .kind ≡ 1 → ⊥) → (r .kind ≡ 2 → ⊥) → (r .kind < 7) ⊎ (9 < r .kind) → Gives s p (record { named = false; first = 0; count = 0 })
+    others-give n1 n2 (inr high) = absurd (omega (arith, kind-is, sh .pattern-kind p h))
+    others-give n1 n2 (inl low) = own-gives h false (go (eqb (r .kind) 0) refl)
       where
-        go : (b : Bool) → leb (patternKind s p) 2 ≡ b → bindsOf s p ≡ ownBinds s p
-        go true e =
-            let plain : patternKind s p ≤ 1 = omega (arith, kind-is, leb-true (patternKind s p) 2 e) in
-            own-parts (no-test-of-plain s p (omega arith)) ∙ ap (λ (l : List ℕ). ownBinds s p ++ l) (opened-binds-none sh few p h (inl plain)) ∙ append-nil (ownBinds s p)
-        go false e = own-test (test-of-text-or-list s p (omega (arith, leb-false (patternKind s p) 2 e)) (omega (arith, kind-is)))
+        go : (b : Bool) → eqb (r .kind) 0 ≡ b → bindsOf s p ≡ []
+        go true e = binds-discard sh few p h (sym kind-is ∙ eqb-true (r .kind) 0 e)
+        go false e = binds-text-or-list sh few p h (omega (arith, kind-is, eqb-false (r .kind) 0 e)) (omega (arith, kind-is))
 
-    module _ (low : 7 ≤ r .kind) where
-      parent-here : Parent s p
-      parent-here = many-parent s p (omega (arith, kind-is)) (sh .pattern-kind p h)
+  -- ---- of a constructor, pair or tuple
+  module _ (first count : ℕ) (x : Parts s p first count) where
+    open-parts : isTest s p ≡ false → bindsOf s p ≡ openedBinds s p
+    open-parts e = binds-of-parts sh few p (x .known) e (x .nameless)
 
-      pub childless-inside : r .count ≡ 0 → SeenInside s p (record { first = 0; count = 0 })
-      childless-inside e = none-inside (go (isTest s p) refl)
-        where
-          go : (b : Bool) → isTest s p ≡ b → bindsOf s p ≡ ownBinds s p
-          go true x = own-test x
-          go false x =
-              own-parts x
-              ∙ ap (λ (l : List ℕ). ownBinds s p ++ l) (opened-binds-each sh few p h parent-here ∙ ap (bindsOfEach s (patternFirst s p)) (sym count-is ∙ e) ∙ binds-each-none s (patternFirst s p))
-              ∙ append-nil (ownBinds s p)
+    pub none-give : count ≡ 0 → Gives s p (record { named = false; first = 0; count = 0 })
+    none-give e = own-gives (x .known) false (go (isTest s p) refl)
+      where
+        go : (b : Bool) → isTest s p ≡ b → bindsOf s p ≡ []
+        go true y = binds-of-test sh few p (x .known) y
+        go false y =
+            open-parts y ∙ opened-binds-each sh few p (x .known) (x .parent) ∙ ap (bindsOfEach s (patternFirst s p)) (sym (x .is-count) ∙ e) ∙ binds-each-none s (patternFirst s p)
 
-      module _ (some : r .count ≡ 0 → ⊥) where
-        pub first-owned : Owns s p (r .first)
-        first-owned = record { parent = parent-here; from = omega (arith, first-is); to = omega (arith, first-is, count-is) }
+    module _ (some : count ≡ 0 → ⊥) where
+      pub first-owned : Owns s p first
+      first-owned = record { parent = x .parent; from = omega (arith, x .is-first); to = omega (arith, x .is-first, x .is-count) }
 
-        -- the test that the first child is inside of, as it was read
-        module _ (owner : ℕ) (read : owner ≡ ownerOf s (child s (r .first))) where
-          owner-is : owner ≡ pick (isTest s p) (p + 1) (ownerOf s p)
-          owner-is = read ∙ child-owner sh p (r .first) h first-owned few
+      -- the test that the first child is inside of, as it was read
+      module _ (owner : ℕ) (read : owner ≡ ownerOf s (child s first)) where
+        owner-is : owner ≡ pick (isTest s p) (p + 1) (ownerOf s p)
+        owner-is = read ∙ child-owner sh p first (x .known) first-owned few
 
-          pub test-inside : owner ≡ p + 1 → SeenInside s p (record { first = 0; count = 0 })
-          test-inside e = none-inside (go (isTest s p) refl)
-            where
-              go : (b : Bool) → isTest s p ≡ b → bindsOf s p ≡ ownBinds s p
-              go true x = own-test x
-              go false x = absurd (omega (arith, e, owner-is ∙ pick-false (isTest s p) (p + 1) (ownerOf s p) x, owner-below sh few p h))
+        pub test-gives : owner ≡ p + 1 → Gives s p (record { named = false; first = 0; count = 0 })
+        test-gives e = own-gives (x .known) false (go (isTest s p) refl)
+          where
+            go : (b : Bool) → isTest s p ≡ b → bindsOf s p ≡ []
+            go true y = binds-of-test sh few p (x .known) y
+            go false y = absurd (omega (arith, e, owner-is ∙ pick-false (isTest s p) (p + 1) (ownerOf s p) y, owner-below sh few p (x .known)))
 
-          pub open-inside : (owner ≡ p + 1 → ⊥) → SeenInside s p (record { first = r .first; count = r .count })
-          open-inside n = go (isTest s p) refl
-            where
-              go : (b : Bool) → isTest s p ≡ b → SeenInside s p (record { first = r .first; count = r .count })
-              go true x = absurd (n (owner-is ∙ pick-true (isTest s p) (p + 1) (ownerOf s p) x))
-              go false x = these-inside parent-here x
-
-  -- nothing but its own
-  pub nothing-inside : (run : Run) → SeenInside s p run → run .count ≡ 0 → bindsOf s p ≡ ownBinds s p
-  nothing-inside run x e =
-      x .binds-these ∙ ap (λ (l : List ℕ). ownBinds s p ++ l) (ap (bindsOfEach s (run .first)) e ∙ binds-each-none s (run .first)) ∙ append-nil (ownBinds s p)
+        pub parts-give : (owner ≡ p + 1 → ⊥) → Gives s p (record { named = false; first = first; count = count })
+        parts-give n = go (isTest s p) refl
+          where
+            go : (b : Bool) → isTest s p ≡ b → Gives s p (record { named = false; first = first; count = count })
+            go true y = absurd (n (owner-is ∙ pick-true (isTest s p) (p + 1) (ownerOf s p) y))
+            go false y = all-give (x .known) (x .parent) false first count (x .is-first) (x .is-count) (open-parts y)
 
 -- ---- children one after the other
 -- what the children bind after the first k of n, from entry j on
@@ -273,12 +265,8 @@ module _ (s opened list : List ℕ) (count c : ℕ) (most : count ≤ length lis
 
 -- ---- a leaf
 module _ (s : List ℕ) (x : Matrix) (with : WithRow s x) where
-  pub row-clause : (c : ℕ) → c ≡ firstClause x → c < clauses s
-  row-clause c e = rw e (all-at (λ k. k < clauses s) (x .rows .list) (x .rows .count) 0 (with .some-row) (omega (arith, with .rows)) (rising-below (numbersIn (x .rows)) 0 (with .sound .rising)))
-    where
-      rising-below : (cs : List ℕ) (from : ℕ) → Rising (clauses s) from cs → All (λ k. k < clauses s) cs
-      rising-below [] from r = tt
-      rising-below (c ∷ cs) from r = (r .1, rising-below cs (c + 1) (r .2))
+  row-clause : (c : ℕ) → c ≡ firstClause x → c < clauses s
+  row-clause c e = rw e (all-at (λ k. k < clauses s) (x .rows .list) (x .rows .count) 0 (with .some-row) (omega (arith, with .rows)) (rising-below (clauses s) 0 (numbersIn (x .rows)) (with .sound .rising)))
 
   -- the sheet's patterns are numbers of classes
   pub leaf-asked : patterns s ≤ patternsMost → (c : ℕ) → c ≡ firstClause x → LeafAsked s c (x .tested .list) (x .tested .count)

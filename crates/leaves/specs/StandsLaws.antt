@@ -31,7 +31,7 @@ use Rattle.matrix.specs.Matrices.{rowsAt}
 use Rattle.matrix.specs.Bound.{boundNumbers}
 use Rattle.matrix.specs.BoundLaws.{leaf-numbers}
 use Rattle.matrix.specs.ReadingLaws.{slice-on}
-use Rattle.leaves.specs.Bindings.{capped, Bound, bound, bindingRecord, boundOne, boundAll, Room, firstClause, leafBindings, WithRow}
+use Rattle.leaves.specs.Bindings.{capped, Bound, bound, bindingRecord, boundOne, boundAll, leafNumbers, firstClause, Room, WithRow}
 use Rattle.leaves.specs.BindingsLaws.{bound-top, bound-length}
 
 -- byte k is before the bindings from `top` on, or behind the arena
@@ -106,7 +106,7 @@ module _ (s : List ℕ) where
       ∙ stored-append w at next (bindingRecord s q) rest (omega (arith, record-length q))
       ∙ ap (stored w at) (record-is q qs)
 
--- ---- all that is promised, of bindings bs
+-- ---- all that is promised, of bindings bs: what `leaf_bindings` answers and leaves
 pub record LeafBound (s : List ℕ) (bs : List Binding) (w : List ℕ) (top : ℕ) (w' : List ℕ) (r : ℕ) : Type 0 where
   pub count : r ≡ capped (top + length bs)
   pub kept : Kept nodesMost casesMost top w w'
@@ -129,14 +129,10 @@ all-bound s qs w top w' r room e =
     }
 
 -- ---- a leaf
-module _ (s : List ℕ) (ok : Accepted s) (x : Matrix) (with : WithRow s x) where
-  -- "a leaf of the first row, with its bindings in the order they were collected"
-  pub leaf-is : leafOf (rowsAt s (classesIn (x .tested)) (numbersIn (x .rows))) ≡ leaf (firstClause x) (leafBindings s x)
-  leaf-is =
-      let first = slice-on (x .rows .list) 0 (x .rows .count) (with .some-row) (omega (arith, with .rows)) in
-      leaf-numbers ok (inNumbers x) (with .sound) (firstClause x) (slice 1 (x .rows .count) (x .rows .list)) first
-
-  -- THEOREM: what `leaf_bindings` answers and leaves
-  pub leaf-bound : (w : List ℕ) (top : ℕ) (w' : List ℕ) (r : ℕ) → Room w top → bound w' r ≡ boundAll s (bound w top) (boundNumbers s (inNumbers x) (firstClause x))
-      → LeafBound s (leafBindings s x) w top w' r
-  leaf-bound w top w' r room e = all-bound s (boundNumbers s (inNumbers x) (firstClause x)) w top w' r room e
+-- "a leaf of the first row, with its bindings in the order they were collected"
+pub leaf-is : (s : List ℕ) (ok : Accepted s) (x : Matrix) (with : WithRow s x)
+    → leafOf (rowsAt s (classesIn (x .tested)) (numbersIn (x .rows))) ≡ leaf (firstClause x) (map (bindingAt s) (leafNumbers s (x .opened) (classesIn (x .tested)) (firstClause x)))
+unfolding boundNumbers
+leaf-is s ok x with =
+    let first = slice-on (x .rows .list) 0 (x .rows .count) (with .some-row) (omega (arith, with .rows)) in
+    leaf-numbers ok (inNumbers x) (with .sound) (firstClause x) (slice 1 (x .rows .count) (x .rows .list)) first

@@ -6,7 +6,6 @@ use sheet::Map;
 use sheet::limits::CHILD_SIZE;
 use sheet::limits::PATTERN_SIZE;
 use sheet::records::PatternRecord;
-use sheet::records::Run;
 use sheet::records::children_of;
 use sheet::records::pattern_from;
 use sheet::records::root_at;
@@ -27,7 +26,7 @@ ghost use Rattle.table.specs.Tabled.{Tabled};
 ghost use Rattle.matrix.specs.Live.{openedTest};
 ghost use Rattle.matrix.specs.Bound.{numbersHeld};
 ghost use Rattle.matrix.specs.Ready.{Ready};
-ghost use Rattle.leaves.specs.Bindings.{bound, boundOne, boundAll, ownBinds, leafNumbers, Room, Started, Entries, SeenInside, LeafAsked};
+ghost use Rattle.leaves.specs.Bindings.{bound, boundOne, boundAll, ownOf, leafNumbers, Room, Started, Entries, Parts, Gives, LeafAsked};
 
 // The room for bindings. Where there are more, their number is told as one more than it.
 pub const BINDINGS_MOST: usize = 4096;
@@ -62,43 +61,84 @@ fn put_binding(s: &[u8], records: usize, t: &[u8], p: usize, work: &mut [u8], to
     top + 1
 }
 
-// Pattern p's own binding: a variable and an assign have one.
-fn put_own(s: &[u8], records: usize, t: &[u8], p: usize, work: &mut [u8], top: usize) -> usize
-    requires { ⌜ Accepted (now s) × Tabled (now s) (now t) × (records ≡ patternsAt (now s)) × (p < patterns (now s)) × Room (now work) top ⌝ }
-    ensures { λ r. ⌜ bound (now (work .exit)) r ≡ boundAll (now (s .entry)) (bound (now (work .entry)) top) (ownBinds (now (s .entry)) p) ⌝ }
+// What a pattern gives to its row's bindings: its own name, if it has one, and what its `count` children from entry `first` on give.
+struct Given {
+    named: bool,
+    first: usize,
+    count: usize,
+}
+
+// What a constructor, pair or tuple gives: what its children give, but a test nothing until it is opened. A test is what its children
+// are inside of.
+fn parts_given(s: &[u8], list: usize, t: &[u8], p: usize, first: usize, count: usize) -> Given
+    requires { ⌜ Accepted (now s) × Tabled (now s) (now t) × (list ≡ childrenAt (now s)) × Parts (now s) p first count ⌝ }
+    ensures { λ r. ⌜ Gives (now (s .entry)) p r ⌝ }
+{
+    let nothing = Given {
+        named: false,
+        first: 0,
+        count: 0,
+    };
+    if count == 0 {
+        return nothing;
+    }
+    if at(t, OWNER + child_in(s, list, first)) == p + 1 {
+        return nothing;
+    }
+    Given {
+        named: false,
+        first,
+        count,
+    }
+}
+
+// One decision over kinds 0 to 9.
+fn gives(s: &[u8], records: usize, list: usize, t: &[u8], p: usize) -> Given
+    requires { ⌜ Started (now s) (now t) records list × (p < patterns (now s)) ⌝ }
+    ensures { λ r. ⌜ Gives (now (s .entry)) p r ⌝ }
 {
     let r = pattern_in(s, records, p);
     let kind = r.kind;
     match kind {
-        1 | 2 => put_binding(s, records, t, p, work, top),
-        _ => top,
+        1 => Given {
+            named: true,
+            first: 0,
+            count: 0,
+        },
+        2 => Given {
+            named: true,
+            first: r.first,
+            count: r.count,
+        },
+        7 | 8 | 9 => parts_given(s, list, t, p, r.first, r.count),
+        _ => Given {
+            named: false,
+            first: 0,
+            count: 0,
+        },
     }
 }
 
-// What is seen inside of pattern p: its children, but of a test nothing until it is opened. A test is what its children are inside of.
-fn seen_inside(s: &[u8], records: usize, list: usize, t: &[u8], p: usize) -> Run
-    requires { ⌜ Started (now s) (now t) records list × (p < patterns (now s)) ⌝ }
-    ensures { λ r. ⌜ SeenInside (now (s .entry)) p r ⌝ }
+// Pattern p's own binding, if it is named.
+fn put_own(
+    s: &[u8],
+    records: usize,
+    t: &[u8],
+    p: usize,
+    named: bool,
+    work: &mut [u8],
+    top: usize,
+) -> usize
+    requires { ⌜ Accepted (now s) × Tabled (now s) (now t) × (records ≡ patternsAt (now s)) × (p < patterns (now s)) × Room (now work) top ⌝ }
+    ensures { λ r. ⌜ bound (now (work .exit)) r ≡ boundAll (now (s .entry)) (bound (now (work .entry)) top) (ownOf named p) ⌝ }
 {
-    let r = pattern_in(s, records, p);
-    let first = r.first;
-    let count = r.count;
-    if r.kind == 2 {
-        return Run { first, count };
+    if named {
+        return put_binding(s, records, t, p, work, top);
     }
-    if r.kind < 7 {
-        return Run { first: 0, count: 0 };
-    }
-    if count == 0 {
-        return Run { first: 0, count: 0 };
-    }
-    if at(t, OWNER + child_in(s, list, first)) == p + 1 {
-        return Run { first: 0, count: 0 };
-    }
-    Run { first, count }
+    top
 }
 
-// The bindings of pattern p: its own, then those seen inside it.
+// The bindings of pattern p: its own, then those of its children.
 fn put_bindings(
     s: &[u8],
     records: usize,
@@ -111,12 +151,12 @@ fn put_bindings(
     requires { ⌜ Started (now s) (now t) records list × (p < patterns (now s)) × Room (now work) top ⌝ }
     ensures { λ r. ⌜ bound (now (work .exit)) r ≡ boundAll (now (s .entry)) (bound (now (work .entry)) top) (bindsOf (now (s .entry)) p) ⌝ }
 {
-    let next = put_own(s, records, t, p, work, top);
-    let run = seen_inside(s, records, list, t, p);
-    if run.count == 0 {
+    let g = gives(s, records, list, t, p);
+    let next = put_own(s, records, t, p, g.named, work, top);
+    if g.count == 0 {
         return next;
     }
-    put_all_bindings(s, records, list, t, p, run.first, run.count, work, next)
+    put_all_bindings(s, records, list, t, p, g.first, g.count, work, next)
 }
 
 // The bindings of n children of `parent` from entry j on. A child has a larger number than its parent, so that the two functions end.
@@ -153,12 +193,12 @@ fn put_root(s: &[u8], m: Map, t: &[u8], c: usize, work: &mut [u8], top: usize) -
     let records = m.at.patterns;
     let list = m.at.children;
     let p = root_at(s, m, c);
-    let own = put_own(s, records, t, p, work, top);
-    let run = seen_inside(s, records, list, t, p);
-    if run.count == 0 {
+    let g = gives(s, records, list, t, p);
+    let own = put_own(s, records, t, p, g.named, work, top);
+    if g.count == 0 {
         return own;
     }
-    put_all_bindings(s, records, list, t, p, run.first, run.count, work, own)
+    put_all_bindings(s, records, list, t, p, g.first, g.count, work, own)
 }
 
 // What clause c's test in the column of the class opened, if it was opened as that column was tested, after `time` others.

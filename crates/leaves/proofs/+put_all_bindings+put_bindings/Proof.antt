@@ -5,8 +5,8 @@ use native.Mathlib.Omega.{arith}
 use lib.ListN.{length}
 use Rattle.rules.specs.SheetFile.{child}
 use Rattle.table.specs.Seen.{bindsOf, bindsOfEach}
-use Rattle.leaves.specs.Bindings.{bound, boundAll, ownBinds, Room}
-use Rattle.leaves.specs.PuttingLaws.{put-run, put-more, put-turn, put-nothing, length-after, room-after, nothing-inside, eachFrom, each-first, each-more, each-none, entry-below}
+use Rattle.leaves.specs.Bindings.{bound, boundAll, ownOf, Room}
+use Rattle.leaves.specs.PuttingLaws.{put-run, put-more, put-turn, put-nothing, length-after, room-after, nothing-more, eachFrom, each-first, each-more, each-none, entry-below}
 use borrow.Fn.Kinds.{In}
 use borrow.Fn.PlainCycle.{Measures, is, falls, and}
 use Rattle.leaves.proofs.put_all_bindings.Reads as put-all-bindings
@@ -16,8 +16,8 @@ use Rattle.leaves.proofs.put_bindings.Reads as put-bindings
 use Rattle.leaves.proofs.put_bindings.Kinds as put-bindings-kinds
 use Rattle.leaves.proofs.+put_all_bindings+put_bindings.Lts-put_bindings as put-bindings-lts
 use Rattle.leaves.proofs.child_in.Reads as child-in-reads
+use Rattle.leaves.proofs.gives.Reads as gives-reads
 use Rattle.leaves.proofs.put_own.Reads as put-own-reads
-use Rattle.leaves.proofs.seen_inside.Reads as seen-inside-reads
 use Rattle.leaves.proofs.+put_all_bindings+put_bindings.{statement}
 use Rattle.leaves.proofs.+put_all_bindings+put_bindings.Tie.{close}
 
@@ -161,97 +161,97 @@ put-all-bindings-returns t c =
     put-nothing s (bound (loop .work) (loop .next)) (eachFrom s (a .args .j) (a .args .n) (loop .k)) (each-none s (a .args .j) (a .args .n) (loop .k) (omega (arith, c .loop-test .left, loop .inv .0)))
     ∙ loop .inv .3
 
-put-bindings-put-own-requires : (t : ℕ) → put-bindings-lts.Need-put-own-requires (
+put-bindings-gives-requires : (t : ℕ) → put-bindings-lts.Need-gives-requires (
+  gives-reads.Asked,
+  gives-reads.Learnt,
   put-own-reads.Asked,
   put-own-reads.Learnt,
-  seen-inside-reads.Asked,
-  seen-inside-reads.Learnt,
+  put-all-bindings-below t,
+  put-all-bindings.Post,
+) (put-bindings-at t) put-bindings.Post
+put-bindings-gives-requires t c κs = let a = c .before .before .before in (a .pre .1 .0, a .pre .1 .1)
+
+put-bindings-put-own-requires : (t : ℕ) → put-bindings-lts.Need-put-own-requires (
+  gives-reads.Asked,
+  gives-reads.Learnt,
+  put-own-reads.Asked,
+  put-own-reads.Learnt,
   put-all-bindings-below t,
   put-all-bindings.Post,
 ) (put-bindings-at t) put-bindings.Post
 put-bindings-put-own-requires t c κs =
-    let a = c .before .before .before .before in
+    let a = c .before .before .before .before .before in
     (a .pre .1 .0 .ok, a .pre .1 .0 .tabled, a .pre .1 .0 .from-patterns, a .pre .1 .1, a .pre .1 .2)
 
-put-bindings-seen-inside-requires : (t : ℕ) → put-bindings-lts.Need-seen-inside-requires (
-  put-own-reads.Asked,
-  put-own-reads.Learnt,
-  seen-inside-reads.Asked,
-  seen-inside-reads.Learnt,
-  put-all-bindings-below t,
-  put-all-bindings.Post,
-) (put-bindings-at t) put-bindings.Post
-put-bindings-seen-inside-requires t c κs = let a = c .before .before .before .before .before .before .before in (a .pre .1 .0, a .pre .1 .1)
-
 put-bindings-same-length : (t : ℕ) → put-bindings-lts.Need-same-length (
+  gives-reads.Asked,
+  gives-reads.Learnt,
   put-own-reads.Asked,
   put-own-reads.Learnt,
-  seen-inside-reads.Asked,
-  seen-inside-reads.Learnt,
   put-all-bindings-below t,
   put-all-bindings.Post,
 ) (put-bindings-at t) put-bindings.Post
 put-bindings-same-length t c = search needs
 
 put-bindings-returns : (t : ℕ) → put-bindings-lts.Need-returns (
+  gives-reads.Asked,
+  gives-reads.Learnt,
   put-own-reads.Asked,
   put-own-reads.Learnt,
-  seen-inside-reads.Asked,
-  seen-inside-reads.Learnt,
   put-all-bindings-below t,
   put-all-bindings.Post,
 ) (put-bindings-at t) put-bindings.Post
 put-bindings-returns t c =
     let a = c .before .before .before .before .before .before .before .before .before .before in
     let s = a .args .s .now in
-    let own = c .before .before .before .before .before .put-own in
-    let run = c .before .before .seen-inside in
-    put-run s (bound (a .args .work .now) (a .args .top)) (bound (own .last .1 .1 .1 .1 .0) (own .result)) (ownBinds s (a .args .p)) (bindsOf s (a .args .p))
-    (nothing-inside s (a .pre .1 .0 .ok) (a .args .p) (a .pre .1 .1) (run .result) (run .ensures) (c .if1 .taken)) (own .ensures)
+    let g = c .before .before .before .before .before .before .gives in
+    let own = c .before .before .before .before .put-own in
+    put-run s (bound (a .args .work .now) (a .args .top)) (bound (own .last .1 .1 .1 .1 .1 .0) (own .result)) (ownOf (g .result .named) (a .args .p)) (bindsOf s (a .args .p))
+    (nothing-more s (a .pre .1 .0 .ok) (a .args .p) (g .result) (g .ensures) (c .if1 .taken)) (own .ensures)
 
 put-bindings-put-all-bindings-requires : (t : ℕ) → put-bindings-lts.Need-put-all-bindings-requires (
+  gives-reads.Asked,
+  gives-reads.Learnt,
   put-own-reads.Asked,
   put-own-reads.Learnt,
-  seen-inside-reads.Asked,
-  seen-inside-reads.Learnt,
   put-all-bindings-below t,
   put-all-bindings.Post,
 ) (put-bindings-at t) put-bindings.Post
 put-bindings-put-all-bindings-requires t c κs =
     let a = c .before .before .before .before .before .before .before .before .before .before .before in
     let s = a .args .s .now in
-    let own = c .before .before .before .before .before .before .put-own in
-    let run = c .before .before .before .seen-inside in (
+    let g = c .before .before .before .before .before .before .before .gives in
+    let own = c .before .before .before .before .before .put-own in (
       omega (arith, a .pre .0, a .pre .1 .1, a .pre .1 .0 .ok .is-counted .patterns-most),
-      (a .pre .1 .0, run .ensures .entries, room-after s (a .args .work .now) (own .last .1 .1 .1 .1 .0) (a .args .top) (own .result) (ownBinds s (a .args .p)) (a .pre .1 .2) (own .ensures)),
+      (a .pre .1 .0, g .ensures .entries, room-after s (a .args .work .now) (own .last .1 .1 .1 .1 .1 .0) (a .args .top) (own .result) (ownOf (g .result .named) (a .args .p)) (a .pre .1 .2) (own .ensures)),
     )
 
 put-bindings-same-length-2 : (t : ℕ) → put-bindings-lts.Need-same-length-2 (
+  gives-reads.Asked,
+  gives-reads.Learnt,
   put-own-reads.Asked,
   put-own-reads.Learnt,
-  seen-inside-reads.Asked,
-  seen-inside-reads.Learnt,
   put-all-bindings-below t,
   put-all-bindings.Post,
 ) (put-bindings-at t) put-bindings.Post
 put-bindings-same-length-2 t c = search needs
 
 put-bindings-returns-2 : (t : ℕ) → put-bindings-lts.Need-returns-2 (
+  gives-reads.Asked,
+  gives-reads.Learnt,
   put-own-reads.Asked,
   put-own-reads.Learnt,
-  seen-inside-reads.Asked,
-  seen-inside-reads.Learnt,
   put-all-bindings-below t,
   put-all-bindings.Post,
 ) (put-bindings-at t) put-bindings.Post
 put-bindings-returns-2 t c =
     let a = c .before .before .before .before .before .before .before .before .before .before .before .before .before .before in
     let s = a .args .s .now in
-    let own = c .before .before .before .before .before .before .before .before .before .put-own in
-    let run = c .before .before .before .before .before .before .seen-inside in
+    let g = c .before .before .before .before .before .before .before .before .before .before .gives in
+    let own = c .before .before .before .before .before .before .before .before .put-own in
     let put = c .before .before .put-all-bindings in
-    put-more s (bound (a .args .work .now) (a .args .top)) (bound (own .last .1 .1 .1 .1 .0) (own .result)) (bound (put .last .1 .1 .1 .1 .1 .1 .1 .0) (put .result))
-    (ownBinds s (a .args .p)) (bindsOfEach s (run .result .first) (run .result .count)) (bindsOf s (a .args .p)) (run .ensures .binds-these) (own .ensures) (put .ensures)
+    put-more s (bound (a .args .work .now) (a .args .top)) (bound (own .last .1 .1 .1 .1 .1 .0) (own .result)) (bound (put .last .1 .1 .1 .1 .1 .1 .1 .0) (put .result))
+    (ownOf (g .result .named) (a .args .p)) (bindsOfEach s (g .result .first) (g .result .count)) (bindsOf s (a .args .p)) (g .ensures .these) (own .ensures) (put .ensures)
 
 pub +put-all-bindings+put-bindings-spec : {M : Type 1} → statement M
 +put-all-bindings+put-bindings-spec =
@@ -275,17 +275,17 @@ pub +put-all-bindings+put-bindings-spec : {M : Type 1} → statement M
     (put-all-bindings-same-length t)
     (put-all-bindings-returns t))
     λ t. put-bindings-lts.spec (
+      gives-reads.Asked,
+      gives-reads.Learnt,
       put-own-reads.Asked,
       put-own-reads.Learnt,
-      seen-inside-reads.Asked,
-      seen-inside-reads.Learnt,
       put-all-bindings-below t,
       put-all-bindings.Post,
     )
     (put-bindings-at t)
     put-bindings.Post
+    (put-bindings-gives-requires t)
     (put-bindings-put-own-requires t)
-    (put-bindings-seen-inside-requires t)
     (put-bindings-same-length t)
     (put-bindings-returns t)
     (put-bindings-put-all-bindings-requires t)

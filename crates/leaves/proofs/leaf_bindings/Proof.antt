@@ -1,5 +1,4 @@
 -- `leaf_bindings`: the bindings of the root, then those that each column tested opened.
-use borrow.Author.Needs.{needs}
 use mathlib.Core.Path.{_≡_, refl, _∙_}
 use Prim.Native.Nat.{_+_, _-_, _≤_}
 use native.Mathlib.Omega.{arith}
