@@ -37,7 +37,6 @@ pub fn write_nodes(
     ensures { λ r. ⌜ ((h : WritingAsked (now (w .entry)) nodes cases x clauses) → Written (h .ready .table) (hoistAll clauses (h .tree)) (now (tree .entry)) (now (tree .exit)) (now (classes .exit)) r) ⌝ }
 {
     let second = NODE_SIZE * (nodes + x.hoists);
-    let third = second + CASE_SIZE * cases;
     let node = x.node;
     let leaf = x.leaf;
     let mut shift = [0u8; 1025];
@@ -58,7 +57,7 @@ pub fn write_nodes(
         &shift,
         tree,
         second,
-        third,
+        second + CASE_SIZE * cases,
         &mut number,
         classes,
         f,

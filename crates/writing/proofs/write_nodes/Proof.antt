@@ -15,21 +15,21 @@ mul-second c =
     let s = c .before .before .before in
     let z = sizes (s .args .w .now) (s .args .nodes) (s .args .cases) (s .args .x) (s .args .clauses) (s .pre .0) (s .args .classes .now) (s .pre .2) in omega (arith, z .0, z .1)
 
-mul-third : tie.Need-mul-third
-mul-third c =
-    let s = c .before .before .before in
-    let z = sizes (s .args .w .now) (s .args .nodes) (s .args .cases) (s .args .x) (s .args .clauses) (s .pre .0) (s .args .classes .now) (s .pre .2) in omega (arith, z .0, z .1)
-
-add-third : tie.Need-add-third
-add-third c =
-    let s = c .before .before .before in
-    let z = sizes (s .args .w .now) (s .args .nodes) (s .args .cases) (s .args .x) (s .args .clauses) (s .pre .0) (s .args .classes .now) (s .pre .2) in omega (arith, z .0, z .1)
-
 find-shift-requires : tie.Need-find-shift-requires
 find-shift-requires c κs =
     let s = c .before .before .before .before .before .before .before in
     let z = sizes (s .args .w .now) (s .args .nodes) (s .args .cases) (s .args .x) (s .args .clauses) (s .pre .0) (s .args .classes .now) (s .pre .2) in
     (shift-asked (s .args .w .now) (s .args .nodes) (s .args .cases) (s .args .x) (s .args .clauses) (s .pre .0) (s .args .classes .now) (s .pre .2), omega (arith, z .0))
+
+mul-put-nodes : tie.Need-mul-put-nodes
+mul-put-nodes c =
+    let s = c .before .before .before .before .before .before .before .before .before .before .before .before in
+    let z = sizes (s .args .w .now) (s .args .nodes) (s .args .cases) (s .args .x) (s .args .clauses) (s .pre .0) (s .args .classes .now) (s .pre .2) in omega (arith, z .0, z .1)
+
+add-put-nodes : tie.Need-add-put-nodes
+add-put-nodes c =
+    let s = c .before .before .before .before .before .before .before .before .before .before .before .before in
+    let z = sizes (s .args .w .now) (s .args .nodes) (s .args .cases) (s .args .x) (s .args .clauses) (s .pre .0) (s .args .classes .now) (s .pre .2) in omega (arith, z .0, z .1)
 
 put-nodes-requires : tie.Need-put-nodes-requires
 put-nodes-requires c κs =
@@ -52,9 +52,9 @@ write-nodes-spec =
     (tie.spec
     add-second
     mul-second
-    mul-third
-    add-third
     find-shift-requires
+    mul-put-nodes
+    add-put-nodes
     put-nodes-requires
     same-length
     returns)
