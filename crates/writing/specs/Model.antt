@@ -11,7 +11,8 @@ use Rattle.rules.specs.Limits.{clausesMost, patternsMost, nodesMost, bindingsMo
 use Rattle.rules.specs.TreeFile.{firstOf, nodeBytes}
 use Rattle.arena.specs.Arena.{casesStart, casesMost, bindingsStart, arenaEnd, nodeKind, nodeWord, caseKind, caseNumber, caseLength, caseChild, bindingName, bindingPath}
 use Rattle.arena.specs.RecordsLaws.{caseFields}
-use Rattle.scopes.specs.WriterLaws.{standsAt}
+use Rattle.scopes.specs.Marks.{SwitchInside}
+use Rattle.scopes.specs.WriterLaws.{hoistsBefore, hoistsAt, standsAt}
 use Rattle.writing.specs.declared.nodes.Tops.{Tops}
 use Rattle.writing.specs.Uses.{Uses, usesOf, Counted, withClass, numberIn}
 
@@ -65,18 +66,49 @@ nodeIn node c = getD node c 0
 abbrev pub clauseNode : Places → ℕ → ℕ
 clauseNode x = nodeIn (x .node)
 
+-- where node k comes to stand, by a table of how far nodes are moved
+abbrev pub movedBy : List ℕ → ℕ → ℕ
+movedBy shift k = k + getD shift k 0
+
+-- a table of zeros for the hoists of so many clauses
+pub record ShiftAsked (node : ℕ → ℕ) (clauses : ℕ) (shift : List ℕ) : Type 0 where
+  pub few : clauses ≤ clausesMost
+  pub scopes : (c : ℕ) → c < clauses → node c ≤ nodesMost
+  pub long : length shift ≡ nodesMost + 1
+  pub none-yet : (k : ℕ) → k ≤ nodesMost → getD shift k 0 ≡ 0
+
+pub record HoistsCounted (node : ℕ → ℕ) (clauses : ℕ) (shift : List ℕ) : Type 0 where
+  pub long : length shift ≡ nodesMost + 1
+  pub count-is : (k : ℕ) → k ≤ nodesMost → getD shift k 0 ≡ hoistsAt node clauses k
+
+-- the sum of the first k of a table
+unfoldable pub sumOf : List ℕ → ℕ → ℕ
+sumOf l zero = 0
+sumOf l (suc k) = sumOf l k + getD l k 0
+
+pub record SumsAsked (nodes : ℕ) (shift : List ℕ) : Type 0 where
+  pub most : nodes ≤ nodesMost
+  pub long : length shift ≡ nodesMost + 1
+  pub small : (k : ℕ) → k ≤ nodes + 1 → sumOf shift k ≤ clausesMost
+
+pub record SummedUp (nodes : ℕ) (before after : List ℕ) : Type 0 where
+  pub sum-is : (k : ℕ) → k ≤ nodes → getD after k 0 ≡ sumOf before k
+
+-- each of so many nodes is moved by the hoists before it, and what follows the last by all of them
+pub record Shifted (node : ℕ → ℕ) (clauses nodes : ℕ) (shift : List ℕ) : Type 0 where
+  pub shift-is : (k : ℕ) → k ≤ nodes → getD shift k 0 ≡ hoistsBefore node clauses k
+
 -- case i of the arena with this child
 abbrev pub movedCase : List ℕ → ℕ → ℕ → List ℕ
 movedCase w i child = caseFields (caseKind w i) (caseNumber w i) (caseLength w i) child
 
-unfoldable pub movedCases : List ℕ → (ℕ → ℕ) → ℕ → ℕ → ℕ → List ℕ
-unfolding standsAt
-movedCases w node n i zero = []
-movedCases w node n i (suc m) = movedCase w i (standsAt node n (caseChild w i)) ++ movedCases w node n (i + 1) m
+-- by where each node comes to stand
+unfoldable pub movedCases : List ℕ → (ℕ → ℕ) → ℕ → ℕ → List ℕ
+movedCases w stand i zero = []
+movedCases w stand i (suc m) = movedCase w i (stand (caseChild w i)) ++ movedCases w stand (i + 1) m
 
-unfoldable pub movedDefault : (ℕ → ℕ) → ℕ → ℕ → ℕ
-unfolding standsAt
-movedDefault node n default = pick (eqb default 0) 0 (standsAt node n (default - 1) + 1)
+unfoldable pub movedDefault : (ℕ → ℕ) → ℕ → ℕ
+movedDefault stand default = pick (eqb default 0) 0 (stand (default - 1) + 1)
 
 pub record CasesAsked (w : List ℕ) (first count : ℕ) : Type 0 where
   pub room : arenaEnd ≤ length w
@@ -153,8 +185,10 @@ pub record Within (f : Reach) : Type 0 where
   pub cases-most : f .cases ≤ casesMost
   pub bindings-most : f .bindings ≤ bindingsMost
 
-pub record HoistsAsked (w : List ℕ) (k : ℕ) (x : Places) (clauses at : ℕ) (tree : List ℕ) (f : Reach) : Type 0 where
+pub record HoistsAsked (w : List ℕ) (k : ℕ) (x : Places) (clauses : ℕ) (shift : List ℕ) (at : ℕ) (tree : List ℕ) (f : Reach) : Type 0 where
   pub few : clauses ≤ clausesMost
+  pub node : k < nodesMost
+  pub none-here : getD shift k 0 ≡ getD shift (k + 1) 0 → (c : ℕ) → c < clauses → clauseNode x c ≡ k → ⊥
   pub leaf : (c : ℕ) → c < clauses → clauseNode x c ≡ k → LeafSound w (getD (x .leaf) c 0)
   pub tree-room : treeRoom ≤ length tree
   pub start : at ≤ bindingsStart
@@ -165,18 +199,18 @@ pub record HoistsAsked (w : List ℕ) (k : ℕ) (x : Places) (clauses at : ℕ) 
 abbrev pub switchUses : List ℕ → ℕ → Reach → Uses
 switchUses w k f = withClass (f .uses) (nodeWord w k 0)
 
-unfoldable pub switchBytes : List ℕ → (ℕ → ℕ) → ℕ → ℕ → Reach → List ℕ
+unfoldable pub switchBytes : List ℕ → (ℕ → ℕ) → ℕ → Reach → List ℕ
 unfolding nodeBytes movedDefault withClass
-switchBytes w node n k f =
-    nodeBytes (nodeKind w k) (numberIn (switchUses w k f) (nodeWord w k 0)) (f .cases) (nodeWord w k 2) (nodeWord w k 3) (movedDefault node n (nodeWord w k 4))
+switchBytes w stand k f =
+    nodeBytes (nodeKind w k) (numberIn (switchUses w k f) (nodeWord w k 0)) (f .cases) (nodeWord w k 2) (nodeWord w k 3) (movedDefault stand (nodeWord w k 4))
 
-unfoldable pub switchOut : List ℕ → ℕ → (ℕ → ℕ) → ℕ → ℕ → Out → Out
+unfoldable pub switchOut : List ℕ → ℕ → (ℕ → ℕ) → ℕ → Out → Out
 unfolding switchBytes movedCases withClass
-switchOut w at node n k o =
+switchOut w at stand k o =
     let f = o .tops in
     let m = nodeWord w k 2 + nodeWord w k 3 in
     record {
-      tree = stored (stored (o .tree) (nodeSize * f .nodes) (switchBytes w node n k f)) (at + caseSize * f .cases) (movedCases w node n (nodeWord w k 1) m);
+      tree = stored (stored (o .tree) (nodeSize * f .nodes) (switchBytes w stand k f)) (at + caseSize * f .cases) (movedCases w stand (nodeWord w k 1) m);
       tops = record { nodes = f .nodes + 1; cases = f .cases + m; bindings = f .bindings; uses = switchUses w k f };
     }
 
@@ -187,37 +221,36 @@ pub record SwitchSound (w : List ℕ) (k : ℕ) : Type 0 where
   pub cases : CasesAsked w (nodeWord w k 1) (nodeWord w k 2 + nodeWord w k 3)
   pub default : nodeWord w k 4 ≤ nodesMost
 
-pub record SwitchNodeAsked (w : List ℕ) (k clauses : ℕ) (tree : List ℕ) (f : Reach) : Type 0 where
+pub record SwitchNodeAsked (w : List ℕ) (k : ℕ) (tree : List ℕ) (f : Reach) : Type 0 where
   pub sound : SwitchSound w k
-  pub few : clauses ≤ clausesMost
   pub tree-room : treeRoom ≤ length tree
   pub counted : Counted (f .uses)
   pub nodes-fit : f .nodes < nodesMost
   pub cases-fit : f .cases + (nodeWord w k 2 + nodeWord w k 3) ≤ casesMost
 
-pub record SwitchAsked (w : List ℕ) (k clauses at : ℕ) (tree : List ℕ) (f : Reach) : Type 0 where
-  pub asked : SwitchNodeAsked w k clauses tree f
+pub record SwitchAsked (w : List ℕ) (k at : ℕ) (tree : List ℕ) (f : Reach) : Type 0 where
+  pub asked : SwitchNodeAsked w k tree f
   pub start : at ≤ casesStart
 
-pub record PutSwitchNode (w : List ℕ) (node : ℕ → ℕ) (clauses k : ℕ) (f : Reach) (before after : List ℕ) (r : Uses) : Type 0 where
+pub record PutSwitchNode (w : List ℕ) (stand : ℕ → ℕ) (k : ℕ) (f : Reach) (before after : List ℕ) (r : Uses) : Type 0 where
   pub uses-are : r ≡ switchUses w k f
-  pub bytes-are : after ≡ stored before (nodeSize * f .nodes) (switchBytes w node clauses k f)
+  pub bytes-are : after ≡ stored before (nodeSize * f .nodes) (switchBytes w stand k f)
 
 -- ---- nodes
-unfoldable pub ownOut : List ℕ → ℕ → ℕ → (ℕ → ℕ) → ℕ → ℕ → Out → Out
+unfoldable pub ownOut : List ℕ → ℕ → ℕ → (ℕ → ℕ) → ℕ → Out → Out
 unfolding boundOut switchOut
-ownOut w cases-at bindings-at node n k o = pick (eqb (nodeKind w k) 2) (boundOut w bindings-at k 2 0 o) (switchOut w cases-at node n k o)
+ownOut w cases-at bindings-at stand k o = pick (eqb (nodeKind w k) 2) (boundOut w bindings-at k 2 0 o) (switchOut w cases-at stand k o)
 
-pub record OwnAsked (w : List ℕ) (k clauses cases-at bindings-at : ℕ) (tree : List ℕ) (f : Reach) : Type 0 where
+pub record OwnAsked (w : List ℕ) (k cases-at bindings-at : ℕ) (tree : List ℕ) (f : Reach) : Type 0 where
   pub room : arenaEnd ≤ length w
   pub node : k < nodesMost
   pub leaf : nodeKind w k ≡ 2 → BoundAsked w k bindings-at tree f
-  pub switch : (nodeKind w k ≡ 2 → ⊥) → SwitchAsked w k clauses cases-at tree f
+  pub switch : (nodeKind w k ≡ 2 → ⊥) → SwitchAsked w k cases-at tree f
 
 -- node k with the hoists above it
 unfoldable pub nodeOut : List ℕ → ℕ → ℕ → Places → ℕ → ℕ → Out → Out
-unfolding hoistsOut ownOut
-nodeOut w cases-at bindings-at x n k o = ownOut w cases-at bindings-at (clauseNode x) n k (hoistsOut w bindings-at x k 0 n o)
+unfolding hoistsOut ownOut standsAt
+nodeOut w cases-at bindings-at x n k o = ownOut w cases-at bindings-at (standsAt (clauseNode x) n) k (hoistsOut w bindings-at x k 0 n o)
 
 -- the m nodes from k on
 unfoldable pub nodesOut : List ℕ → ℕ → ℕ → Places → ℕ → ℕ → ℕ → Out → Out
@@ -232,6 +265,7 @@ pub record ArenaSound (w : List ℕ) (nodes : ℕ) (x : Places) (clauses : ℕ) 
   pub few : clauses ≤ clausesMost
   pub leaf : (k : ℕ) → k < nodes → nodeKind w k ≡ 2 → LeafSound w k
   pub switch : (k : ℕ) → k < nodes → (nodeKind w k ≡ 2 → ⊥) → SwitchSound w k
+  pub below : (k : ℕ) → k < nodes → (nodeKind w k ≡ 2 → ⊥) → SwitchInside w k nodes
   pub hoist : (c : ℕ) → c < clauses → clauseNode x c < nodes → LeafSound w (getD (x .leaf) c 0)
 
 -- a file with room for all that a tree may have
@@ -240,16 +274,18 @@ pub record FileRoom (cases-at bindings-at : ℕ) (tree : List ℕ) : Type 0 wher
   pub cases-start : cases-at ≤ casesStart
   pub bindings-start : bindings-at ≤ bindingsStart
 
-pub record NodeAsked (w : List ℕ) (k : ℕ) (x : Places) (clauses cases-at bindings-at : ℕ) (tree : List ℕ) (f : Reach) : Type 0 where
+pub record NodeAsked (w : List ℕ) (k : ℕ) (x : Places) (clauses : ℕ) (shift : List ℕ) (cases-at bindings-at : ℕ) (tree : List ℕ) (f : Reach) : Type 0 where
   pub nodes : ℕ
   pub sound : ArenaSound w nodes x clauses
+  pub shifted : Shifted (clauseNode x) clauses nodes shift
   pub inside : k < nodes
   pub file : FileRoom cases-at bindings-at tree
   pub counted : Counted (f .uses)
   pub within : Within (nodeOut w cases-at bindings-at x clauses k (outOf tree f) .tops)
 
-pub record NodesAsked (w : List ℕ) (nodes : ℕ) (x : Places) (clauses cases-at bindings-at : ℕ) (tree : List ℕ) (f : Reach) : Type 0 where
+pub record NodesAsked (w : List ℕ) (nodes : ℕ) (x : Places) (clauses : ℕ) (shift : List ℕ) (cases-at bindings-at : ℕ) (tree : List ℕ) (f : Reach) : Type 0 where
   pub sound : ArenaSound w nodes x clauses
+  pub shifted : Shifted (clauseNode x) clauses nodes shift
   pub file : FileRoom cases-at bindings-at tree
   pub counted : Counted (f .uses)
   pub within : Within (nodesOut w cases-at bindings-at x clauses 0 nodes (outOf tree f) .tops)

@@ -1,30 +1,29 @@
 -- Laws for the loops of the writing functions: what is left of a run, at each turn, is the rest of the whole run.
 -- And the frames: how far each function moves the tops, and that the path numbers stay counted.
-use mathlib.Core.Path.{_≡_, refl, sym, ap, _∙_, subst}
+use mathlib.Core.Path.{_≡_, refl, sym, ap, ap₂, _∙_, subst}
 use mathlib.Core.Bool.{Bool, true, false}
 use mathlib.Core.List.{List, _++_}
 use Prim.Native.Nat.{ℕ, zero, suc, _+_, _-_, _*_, _≤_, _<_}
 use native.Mathlib.Omega.{arith}
-use native.Mathlib.Nat.{add-zero, zero-add, sub-zero}
+use native.Mathlib.Nat.{add-zero, sub-zero}
 use lib.ListN.{length, getD, set}
-use lib.Dec.{eqb, ltb}
+use lib.Dec.{eqb}
 use borrow.Author.Tests.{eq-eqb, ne-eqb, eqb-true, eqb-false}
 use Rattle.words.specs.Words.{wordBytes, pick}
 use Rattle.words.specs.WordsLaws.{pick-true, pick-false}
 use Rattle.words.specs.Stored.{stored}
 use Rattle.words.specs.StoredLaws.{length-stored, stored-nil, stored-append}
-use Rattle.rules.specs.Limits.{clausesMost, patternsMost, nodesMost, nodeSize, caseSize, bindingSize}
-use Rattle.rules.specs.Rows.{bit}
-use Rattle.rules.specs.Searching.{times}
-use Rattle.rules.specs.SearchingLaws.{times-yes, times-no, times-end, times-most}
+use Rattle.rules.specs.Limits.{patternsMost, nodeSize, caseSize, bindingSize}
 use Rattle.rules.specs.TreeFile.{firstOf, nodeBytes}
 use Rattle.arena.specs.Arena.{nodeKind, nodeWord, caseKind, caseNumber, caseLength, caseChild, bindingName, bindingPath}
 use Rattle.arena.specs.RecordsLaws.{caseFields}
 use Rattle.arena.specs.ReadingLaws.{kind-stored, words-stored, fields-stored}
-use Rattle.scopes.specs.WriterLaws.{hoistsBefore, standsAt}
+use Rattle.scopes.specs.Marks.{SwitchInside}
+use Rattle.scopes.specs.WriterLaws.{standsAt}
 use Rattle.writing.specs.Uses.{Uses, Counted, withClass, numberIn}
 use Rattle.writing.specs.UsesLaws.{counted-with, use-some}
-use Rattle.writing.specs.Model.{Places, Reach, boundBinding, boundBytes, boundUses, BindingAsked, BindingsAsked, PutBinding, PutBindings, clauseNode, movedCase, movedCases, movedDefault, CasesAsked, Out, outOf, boundOut, hoistOut, hoistsOut, LeafSound, BoundAsked, NextHoist, Within, HoistsAsked, switchBytes, switchOut, PutSwitchNode, ownOut, OwnAsked, nodeOut, nodesOut, NodeAsked, NodesAsked}
+use Rattle.writing.specs.ShiftLaws.{no-hoists}
+use Rattle.writing.specs.Model.{Places, Reach, boundBinding, boundBytes, boundUses, BindingAsked, BindingsAsked, PutBinding, PutBindings, clauseNode, movedBy, Shifted, movedCase, movedCases, movedDefault, CasesAsked, Out, outOf, boundOut, hoistOut, hoistsOut, LeafSound, BoundAsked, NextHoist, Within, HoistsAsked, switchBytes, switchOut, PutSwitchNode, ownOut, OwnAsked, nodeOut, nodesOut, NodeAsked, NodesAsked}
 
 -- ---- bindings
 pub binding-asked : (w : List ℕ) (first count i : ℕ) → BindingsAsked w first count → i < count → BindingAsked w (first + i)
@@ -111,66 +110,56 @@ pub used-some : (u v : Uses) (class : ℕ) → v ≡ withClass u class → Count
 used-some u v class e h l = rw e (use-some u class h l)
 
 -- ---- cases
-hoists-left-next : (f : ℕ → Bool) (n c m total : ℕ) → c < n → m + times f c (n - c) ≡ total → m + bit (f c) + times f (c + 1) (n - (c + 1)) ≡ total
-unfolding bit
-hoists-left-next f n c m total l h = go (f c) refl
-  where
-    go : (b : Bool) → f c ≡ b → m + bit (f c) + times f (c + 1) (n - (c + 1)) ≡ total
-    go true e = rw e (omega (arith, times-yes f c n l e))
-    go false e = rw e (omega (arith, times-no f c n l e))
-
-hoists-before-few : (node : ℕ → ℕ) (n k : ℕ) → hoistsBefore node n k ≤ n
-unfolding hoistsBefore
-hoists-before-few node n k = times-most (λ c. ltb (node c) k) 0 n
-
-pub few-before : (node : ℕ → ℕ) (n k r : ℕ) → r ≡ hoistsBefore node n k → r ≤ n
-few-before node n k r e = omega (arith, hoists-before-few node n k)
-
-pub stands-small : (node : ℕ → ℕ) (n k : ℕ) → standsAt node n k ≤ k + n
-unfolding standsAt
-stands-small node n k = omega (arith, hoists-before-few node n k)
-
-pub moved-small : (node : ℕ → ℕ) (n default : ℕ) → default ≤ nodesMost → n ≤ clausesMost → movedDefault node n default ≤ nodesMost + clausesMost
-unfolding movedDefault
-moved-small node n default l m = go (eqb default 0) refl
-  where
-    go : (b : Bool) → eqb default 0 ≡ b → pick (eqb default 0) 0 (standsAt node n (default - 1) + 1) ≤ nodesMost + clausesMost
-    go true e = rw e (omega arith)
-    go false e = let z = eqb-false default 0 e in rw e (omega (arith, stands-small node n (default - 1)))
-
-pub record CasesLeft (w : List ℕ) (node : ℕ → ℕ) (n first count at : ℕ) (before tree : List ℕ) (i : ℕ) : Type 0 where
+pub record CasesLeft (w : List ℕ) (stand : ℕ → ℕ) (first count at : ℕ) (before tree : List ℕ) (i : ℕ) : Type 0 where
   pub inside : i ≤ count
   pub long : length tree ≡ length before
-  pub bytes-left : stored tree (at + caseSize * i) (movedCases w node n (first + i) (count - i)) ≡ stored before at (movedCases w node n first count)
+  pub bytes-left : stored tree (at + caseSize * i) (movedCases w stand (first + i) (count - i)) ≡ stored before at (movedCases w stand first count)
 
-module _ (w : List ℕ) (node : ℕ → ℕ) (n first count at : ℕ) (before : List ℕ) where
-  pub cases-start : CasesLeft w node n first count at before before 0
+module _ (w : List ℕ) (stand : ℕ → ℕ) (first count at : ℕ) (before : List ℕ) where
+  pub cases-start : CasesLeft w stand first count at before before 0
   cases-start =
       let z : at + caseSize * 0 ≡ at = omega arith in
       record { inside = omega arith; long = refl; bytes-left = rw (z, add-zero first, sub-zero count) }
 
-  pub cases-next : (tree : List ℕ) (i child moved : ℕ) (tree₂ : List ℕ) → CasesLeft w node n first count at before tree i → i < count → child ≡ caseChild w (first + i)
-      → moved ≡ standsAt node n child → tree₂ ≡ stored tree (at + caseSize * i) (movedCase w (first + i) moved) → CasesLeft w node n first count at before tree₂ (i + 1)
+  pub cases-next : (tree : List ℕ) (i child moved : ℕ) (tree₂ : List ℕ) → CasesLeft w stand first count at before tree i → i < count → child ≡ caseChild w (first + i)
+      → moved ≡ stand child → tree₂ ≡ stored tree (at + caseSize * i) (movedCase w (first + i) moved) → CasesLeft w stand first count at before tree₂ (i + 1)
   unfolding movedCases caseFields
   cases-next tree i child moved tree₂ h l e f g =
       let d : count - i ≡ suc (count - (i + 1)) = omega arith in
       let q : first + i + 1 ≡ first + (i + 1) = omega arith in
       let x : at + caseSize * i + 8 ≡ at + caseSize * (i + 1) = omega arith in
-      let here = movedCase w (first + i) (standsAt node n (caseChild w (first + i))) in
-      let g₂ : tree₂ ≡ stored tree (at + caseSize * i) here = g ∙ ap (λ z. stored tree (at + caseSize * i) (movedCase w (first + i) z)) (f ∙ ap (standsAt node n) e) in
+      let here = movedCase w (first + i) (stand (caseChild w (first + i))) in
+      let g₂ : tree₂ ≡ stored tree (at + caseSize * i) here = g ∙ ap (λ z. stored tree (at + caseSize * i) (movedCase w (first + i) z)) (f ∙ ap stand e) in
       record {
         inside = omega arith;
         long = ap length g₂ ∙ length-stored tree (at + caseSize * i) here ∙ h .long;
         bytes-left =
             rw (g₂, ← q)
-            (stored-append tree (at + caseSize * i) (at + caseSize * (i + 1)) here (movedCases w node n (first + i + 1) (count - (i + 1))) x ∙ (rw d at (h .bytes-left)));
+            (stored-append tree (at + caseSize * i) (at + caseSize * (i + 1)) here (movedCases w stand (first + i + 1) (count - (i + 1))) x ∙ (rw d at (h .bytes-left)));
       }
 
-  pub cases-end : (tree : List ℕ) (i : ℕ) → CasesLeft w node n first count at before tree i → count ≤ i → tree ≡ stored before at (movedCases w node n first count)
+  pub cases-end : (tree : List ℕ) (i : ℕ) → CasesLeft w stand first count at before tree i → count ≤ i → tree ≡ stored before at (movedCases w stand first count)
   unfolding movedCases
   cases-end tree i h l =
       let d : count - i ≡ 0 = omega arith in
       sym (stored-nil tree (at + caseSize * i)) ∙ (rw d at (h .bytes-left))
+
+-- where two answers of where nodes stand are the same for the children, so are the references
+moved-cases-same : (w : List ℕ) (f g : ℕ → ℕ) (i n : ℕ) → ((j : ℕ) → j < n → f (caseChild w (i + j)) ≡ g (caseChild w (i + j))) → movedCases w f i n ≡ movedCases w g i n
+unfolding movedCases
+moved-cases-same w f g i zero h = refl
+moved-cases-same w f g i (suc n) h =
+    let z = add-zero i in
+    ap₂ (λ x y. movedCase w i x ++ y) (rw z at (h 0 (omega arith)))
+    (moved-cases-same w f g (i + 1) n (λ j l. let e : i + 1 + j ≡ i + (j + 1) = omega arith in rw e (h (j + 1) (omega arith))))
+
+moved-default-same : (f g : ℕ → ℕ) (default : ℕ) → ((default ≡ 0 → ⊥) → f (default - 1) ≡ g (default - 1)) → movedDefault f default ≡ movedDefault g default
+unfolding movedDefault
+moved-default-same f g default h = go (eqb default 0) refl
+  where
+    go : (b : Bool) → eqb default 0 ≡ b → pick (eqb default 0) 0 (f (default - 1) + 1) ≡ pick (eqb default 0) 0 (g (default - 1) + 1)
+    go true e = rw e
+    go false e = rw (e, h (eqb-false default 0 e))
 
 -- a case's record, store by store
 pub case-put : (w : List ℕ) (i : ℕ) (l : List ℕ) (at kind number count child : ℕ) {t₁ t₂ t₃ : List ℕ} → kind ≡ caseKind w i → number ≡ caseNumber w i → count ≡ caseLength w i
@@ -183,35 +172,14 @@ case-put w i l at kind number count child {t₁} {t₂} {t₃} p q r e f g =
     fields-stored l at kind number count child (kind-stored l at kind) (words-stored first (at + 2) number count e f₂) g
     ∙ (λ j. stored l at (caseFields (p j) (q j) (r j) child))
 
--- ---- the loop over the clauses before a node
-module _ (node : ℕ → ℕ) (n k : ℕ) where
-  pub before-start : 0 + times (λ d. ltb (node d) k) 0 (n - 0) ≡ hoistsBefore node n k
-  unfolding hoistsBefore
-  before-start = rw (zero-add, sub-zero)
-
-  pub before-next : (c m r : ℕ) → c < n → r ≡ bit (ltb (node c) k) → m + times (λ d. ltb (node d) k) c (n - c) ≡ hoistsBefore node n k
-      → m + r + times (λ d. ltb (node d) k) (c + 1) (n - (c + 1)) ≡ hoistsBefore node n k
-  before-next c m r l e h = rw e (hoists-left-next (λ d. ltb (node d) k) n c m (hoistsBefore node n k) l h)
-
-  pub before-end : (c m : ℕ) → n ≤ c → m + times (λ d. ltb (node d) k) c (n - c) ≡ hoistsBefore node n k → m ≡ hoistsBefore node n k
-  before-end c m l h = omega (arith, times-end (λ d. ltb (node d) k) c n l)
-
--- the test of one clause, by the number that was read
-pub before-bit : (node : ℕ → ℕ) (k c a r : ℕ) → a ≡ node c → r ≡ bit (ltb a k) → r ≡ bit (ltb (node c) k)
-before-bit node k c a r p e = e ∙ ap (λ z. bit (ltb z k)) p
-
-pub bit-small : (b : Bool) → bit b ≤ 1
-unfolding bit
-bit-small true = omega arith
-bit-small false = omega arith
-
-pub moved-none : (node : ℕ → ℕ) (n default : ℕ) → default ≡ 0 → movedDefault node n default ≡ 0
+-- ---- a default
+pub moved-none : (stand : ℕ → ℕ) (default : ℕ) → default ≡ 0 → movedDefault stand default ≡ 0
 unfolding movedDefault
-moved-none node n default e = pick-true (eqb default 0) 0 (standsAt node n (default - 1) + 1) (eq-eqb default 0 e)
+moved-none stand default e = pick-true (eqb default 0) 0 (stand (default - 1) + 1) (eq-eqb default 0 e)
 
-pub moved-some : (node : ℕ → ℕ) (n default : ℕ) → (default ≡ 0 → ⊥) → movedDefault node n default ≡ standsAt node n (default - 1) + 1
+pub moved-some : (stand : ℕ → ℕ) (default : ℕ) → (default ≡ 0 → ⊥) → movedDefault stand default ≡ stand (default - 1) + 1
 unfolding movedDefault
-moved-some node n default e = pick-false (eqb default 0) 0 (standsAt node n (default - 1) + 1) (ne-eqb default 0 e)
+moved-some stand default e = pick-false (eqb default 0) 0 (stand (default - 1) + 1) (ne-eqb default 0 e)
 
 -- ---- records with their runs
 pub first-none : (count first : ℕ) → count ≡ 0 → 0 ≡ firstOf count first
@@ -236,19 +204,19 @@ pub bound-put : (w : List ℕ) (at leaf kind child : ℕ) (t : List ℕ) (f : Re
 unfolding boundOut
 bound-put w at leaf kind child t f clause from count first uses e₀ e₁ e₂ e₃ e₄ p = rw (p .bytes-are, p .uses-are, e₄, e₃, e₂, e₁, e₀)
 
-pub switch-node-put : (w : List ℕ) (node : ℕ → ℕ) (n k : ℕ) (t : List ℕ) (f : Reach) (path cases tails default : ℕ) (uses : Uses) (number kind : ℕ) {t₁ : List ℕ}
-    → path ≡ nodeWord w k 0 → cases ≡ nodeWord w k 2 → tails ≡ nodeWord w k 3 → default ≡ movedDefault node n (nodeWord w k 4)
+pub switch-node-put : (w : List ℕ) (stand : ℕ → ℕ) (k : ℕ) (t : List ℕ) (f : Reach) (path cases tails default : ℕ) (uses : Uses) (number kind : ℕ) {t₁ : List ℕ}
+    → path ≡ nodeWord w k 0 → cases ≡ nodeWord w k 2 → tails ≡ nodeWord w k 3 → default ≡ movedDefault stand (nodeWord w k 4)
     → uses ≡ withClass (f .uses) path → number ≡ getD (uses .number) path 0 → kind ≡ nodeKind w k
-    → t₁ ≡ stored t (nodeSize * f .nodes) (nodeBytes kind (number - 1) (f .cases) cases tails default) → PutSwitchNode w node n k f t t₁ uses
+    → t₁ ≡ stored t (nodeSize * f .nodes) (nodeBytes kind (number - 1) (f .cases) cases tails default) → PutSwitchNode w stand k f t t₁ uses
 unfolding switchBytes
-switch-node-put w node n k t f path cases tails default uses number kind e₀ e₂ e₃ e₄ u m q g =
+switch-node-put w stand k t f path cases tails default uses number kind e₀ e₂ e₃ e₄ u m q g =
     record { uses-are = u ∙ ap (withClass (f .uses)) e₀; bytes-are = rw (g, q, m, u, e₄, e₃, e₂, e₀) }
 
-pub switch-put : (w : List ℕ) (at : ℕ) (node : ℕ → ℕ) (n k : ℕ) (t : List ℕ) (f : Reach) (first count : ℕ) (uses : Uses) {t₁ t₂ : List ℕ} → first ≡ nodeWord w k 1
-    → count ≡ nodeWord w k 2 + nodeWord w k 3 → PutSwitchNode w node n k f t t₁ uses → t₂ ≡ stored t₁ (at + caseSize * f .cases) (movedCases w node n first count)
-    → outOf t₂ (record { nodes = f .nodes + 1; cases = f .cases + count; bindings = f .bindings; uses = uses }) ≡ switchOut w at node n k (outOf t f)
+pub switch-put : (w : List ℕ) (at : ℕ) (stand : ℕ → ℕ) (k : ℕ) (t : List ℕ) (f : Reach) (first count : ℕ) (uses : Uses) {t₁ t₂ : List ℕ} → first ≡ nodeWord w k 1
+    → count ≡ nodeWord w k 2 + nodeWord w k 3 → PutSwitchNode w stand k f t t₁ uses → t₂ ≡ stored t₁ (at + caseSize * f .cases) (movedCases w stand first count)
+    → outOf t₂ (record { nodes = f .nodes + 1; cases = f .cases + count; bindings = f .bindings; uses = uses }) ≡ switchOut w at stand k (outOf t f)
 unfolding switchOut
-switch-put w at node n k t f first count uses e₁ e₂ p g = rw (g, p .bytes-are, p .uses-are, e₂, e₁)
+switch-put w at stand k t f first count uses e₁ e₂ p g = rw (g, p .bytes-are, p .uses-are, e₂, e₁)
 
 pub cases-asked-as : (w : List ℕ) (first count a b : ℕ) → first ≡ a → count ≡ b → CasesAsked w a b → CasesAsked w first count
 cases-asked-as w first count a b e f h = rw (e, f) h
@@ -305,9 +273,9 @@ bound-grows : (w : List ℕ) (at leaf kind child : ℕ) (o : Out) → Grown (o .
 unfolding boundOut
 bound-grows w at leaf kind child o = record { nodes-grow = omega arith; cases-grow = omega arith; bindings-grow = omega arith }
 
-switch-grows : (w : List ℕ) (at : ℕ) (node : ℕ → ℕ) (n k : ℕ) (o : Out) → Grown (o .tops) (switchOut w at node n k o .tops)
+switch-grows : (w : List ℕ) (at : ℕ) (stand : ℕ → ℕ) (k : ℕ) (o : Out) → Grown (o .tops) (switchOut w at stand k o .tops)
 unfolding switchOut
-switch-grows w at node n k o = record { nodes-grow = omega arith; cases-grow = omega arith; bindings-grow = omega arith }
+switch-grows w at stand k o = record { nodes-grow = omega arith; cases-grow = omega arith; bindings-grow = omega arith }
 
 hoist-grows : (w : List ℕ) (at : ℕ) (x : Places) (k c : ℕ) (o : Out) → Grown (o .tops) (hoistOut w at x k c o .tops)
 hoist-grows w at x k c o =
@@ -387,7 +355,7 @@ module _ (w : List ℕ) (at : ℕ) (x : Places) (k clauses : ℕ) (before : List
         left = sym (hoists-to 0 r (outOf before f) n) ∙ ap (λ z. hoistsOut w at x k 0 z (outOf before f)) (sub-zero clauses);
       }
 
-  module _ (a : HoistsAsked w k x clauses at before f) (tree : List ℕ) (g : Reach) (c : ℕ) (h : HoistsLeft w at x k clauses before f tree g c) (l : c < clauses) where
+  module _ (shift : List ℕ) (a : HoistsAsked w k x clauses shift at before f) (tree : List ℕ) (g : Reach) (c : ℕ) (h : HoistsLeft w at x k clauses before f tree g c) (l : c < clauses) where
     abbrev next : Out
     next = boundOut w at (getD (x .leaf) c 0) 3 (g .nodes + 1) (outOf tree g)
 
@@ -437,15 +405,21 @@ module _ (w : List ℕ) (at : ℕ) (x : Places) (k clauses : ℕ) (before : List
   unfolding hoistsOut
   hoists-end tree g c h l = let d : clauses - c ≡ 0 = omega arith in rw d at (h .left)
 
+  -- with no clause hoisted there nothing is written
+  pub hoists-none : Counted (f .uses) → ((c : ℕ) → c < clauses → clauseNode x c ≡ k → ⊥) → outOf before f ≡ hoistsOut w at x k 0 clauses (outOf before f)
+  hoists-none h none =
+      hoists-end before f clauses
+      (hoists-start clauses h (record { from = omega arith; most = omega arith; passed = λ d m q e. none d q e; here = λ l. absurd (omega arith) })) (omega arith)
+
 bound-counted : (w : List ℕ) (at leaf kind child : ℕ) (o : Out) → BindingsAsked w (nodeWord w leaf 1) (nodeWord w leaf 2) → Counted (o .tops .uses)
     → Counted (boundOut w at leaf kind child o .tops .uses)
 unfolding boundOut
 bound-counted w at leaf kind child o a h = counted-bound w (nodeWord w leaf 1) (nodeWord w leaf 2) (o .tops .uses) a h
 
-switch-counted : (w : List ℕ) (at : ℕ) (node : ℕ → ℕ) (n k : ℕ) (o : Out) → Counted (o .tops .uses) → nodeWord w k 0 < patternsMost
-    → Counted (switchOut w at node n k o .tops .uses)
+switch-counted : (w : List ℕ) (at : ℕ) (stand : ℕ → ℕ) (k : ℕ) (o : Out) → Counted (o .tops .uses) → nodeWord w k 0 < patternsMost
+    → Counted (switchOut w at stand k o .tops .uses)
 unfolding switchOut
-switch-counted w at node n k o h l = counted-with (o .tops .uses) (nodeWord w k 0) h l
+switch-counted w at stand k o h l = counted-with (o .tops .uses) (nodeWord w k 0) h l
 
 hoists-counted : (w : List ℕ) (at : ℕ) (x : Places) (k c n m : ℕ) (o : Out) → c + n ≤ m → ((d : ℕ) → d < m → clauseNode x d ≡ k → LeafSound w (getD (x .leaf) d 0))
     → Counted (o .tops .uses) → Counted (hoistsOut w at x k c n o .tops .uses)
@@ -457,32 +431,52 @@ hoists-counted w at x k c (suc n) m o l s h =
     (λ e. counted-bound w (nodeWord w (getD (x .leaf) c 0) 1) (nodeWord w (getD (x .leaf) c 0) 2) (o .tops .uses) (s c (omega arith) e .bindings) h) h)
 
 -- ---- a node
-module _ (w : List ℕ) (cases-at bindings-at : ℕ) (node : ℕ → ℕ) (n k : ℕ) (o : Out) where
-  pub own-leaf : nodeKind w k ≡ 2 → ownOut w cases-at bindings-at node n k o ≡ boundOut w bindings-at k 2 0 o
-  unfolding ownOut
-  own-leaf e = pick-true (eqb (nodeKind w k) 2) (boundOut w bindings-at k 2 0 o) (switchOut w cases-at node n k o) (eq-eqb (nodeKind w k) 2 e)
+-- by the table of how far nodes are moved, a node is written with its references where their nodes come to stand
+pub own-moved : (w : List ℕ) (cases-at bindings-at : ℕ) (node : ℕ → ℕ) (n nodes k : ℕ) (shift : List ℕ) (o : Out) → Shifted node n nodes shift
+    → ((nodeKind w k ≡ 2 → ⊥) → SwitchInside w k nodes) → ownOut w cases-at bindings-at (movedBy shift) k o ≡ ownOut w cases-at bindings-at (standsAt node n) k o
+unfolding ownOut switchOut switchBytes standsAt
+own-moved w cases-at bindings-at node n nodes k shift o s b = go (eqb (nodeKind w k) 2) refl
+  where
+    same : (j : ℕ) → j ≤ nodes → movedBy shift j ≡ standsAt node n j
+    same j l = ap (λ z. j + z) (s .shift-is j l)
 
-  pub own-switch : (nodeKind w k ≡ 2 → ⊥) → ownOut w cases-at bindings-at node n k o ≡ switchOut w cases-at node n k o
-  unfolding ownOut
-  own-switch e = pick-false (eqb (nodeKind w k) 2) (boundOut w bindings-at k 2 0 o) (switchOut w cases-at node n k o) (ne-eqb (nodeKind w k) 2 e)
+    go : (t : Bool) → eqb (nodeKind w k) 2 ≡ t
+        → pick (eqb (nodeKind w k) 2) (boundOut w bindings-at k 2 0 o) (switchOut w cases-at (movedBy shift) k o)
+        ≡ pick (eqb (nodeKind w k) 2) (boundOut w bindings-at k 2 0 o) (switchOut w cases-at (standsAt node n) k o)
+    go true e = rw e
+    go false e =
+        let i = b (eqb-false (nodeKind w k) 2 e) in
+        let cases = moved-cases-same w (movedBy shift) (standsAt node n) (nodeWord w k 1) (nodeWord w k 2 + nodeWord w k 3)
+        (λ j l. same (caseChild w (nodeWord w k 1 + j)) (omega (arith, i .cases .children j l))) in
+        let default = moved-default-same (movedBy shift) (standsAt node n) (nodeWord w k 4) (λ z. same (nodeWord w k 4 - 1) (omega (arith, i .default))) in
+        rw (e, cases, default)
 
-  by-own : (P : Out → Type 0) → (nodeKind w k ≡ 2 → P (boundOut w bindings-at k 2 0 o)) → ((nodeKind w k ≡ 2 → ⊥) → P (switchOut w cases-at node n k o))
-      → P (ownOut w cases-at bindings-at node n k o)
+module _ (w : List ℕ) (cases-at bindings-at : ℕ) (stand : ℕ → ℕ) (k : ℕ) (o : Out) where
+  pub own-leaf : nodeKind w k ≡ 2 → ownOut w cases-at bindings-at stand k o ≡ boundOut w bindings-at k 2 0 o
+  unfolding ownOut
+  own-leaf e = pick-true (eqb (nodeKind w k) 2) (boundOut w bindings-at k 2 0 o) (switchOut w cases-at stand k o) (eq-eqb (nodeKind w k) 2 e)
+
+  pub own-switch : (nodeKind w k ≡ 2 → ⊥) → ownOut w cases-at bindings-at stand k o ≡ switchOut w cases-at stand k o
+  unfolding ownOut
+  own-switch e = pick-false (eqb (nodeKind w k) 2) (boundOut w bindings-at k 2 0 o) (switchOut w cases-at stand k o) (ne-eqb (nodeKind w k) 2 e)
+
+  by-own : (P : Out → Type 0) → (nodeKind w k ≡ 2 → P (boundOut w bindings-at k 2 0 o)) → ((nodeKind w k ≡ 2 → ⊥) → P (switchOut w cases-at stand k o))
+      → P (ownOut w cases-at bindings-at stand k o)
   by-own P f g = go (eqb (nodeKind w k) 2) refl
     where
-      go : (b : Bool) → eqb (nodeKind w k) 2 ≡ b → P (ownOut w cases-at bindings-at node n k o)
+      go : (b : Bool) → eqb (nodeKind w k) 2 ≡ b → P (ownOut w cases-at bindings-at stand k o)
       go true e = let z = eqb-true (nodeKind w k) 2 e in rw (own-leaf z) (f z)
       go false e = let z = eqb-false (nodeKind w k) 2 e in rw (own-switch z) (g z)
 
-  own-grows : Grown (o .tops) (ownOut w cases-at bindings-at node n k o .tops)
-  own-grows = by-own (λ z. Grown (o .tops) (z .tops)) (λ e. bound-grows w bindings-at k 2 0 o) (λ e. switch-grows w cases-at node n k o)
+  own-grows : Grown (o .tops) (ownOut w cases-at bindings-at stand k o .tops)
+  own-grows = by-own (λ z. Grown (o .tops) (z .tops)) (λ e. bound-grows w bindings-at k 2 0 o) (λ e. switch-grows w cases-at stand k o)
 
 node-grows : (w : List ℕ) (cases-at bindings-at : ℕ) (x : Places) (n k : ℕ) (o : Out) → Grown (o .tops) (nodeOut w cases-at bindings-at x n k o .tops)
 unfolding nodeOut
 node-grows w cases-at bindings-at x n k o =
     let up = hoistsOut w bindings-at x k 0 n o in
-    grown-trans (o .tops) (up .tops) (ownOut w cases-at bindings-at (clauseNode x) n k up .tops) (hoists-grow w bindings-at x k 0 n o)
-    (own-grows w cases-at bindings-at (clauseNode x) n k up)
+    grown-trans (o .tops) (up .tops) (ownOut w cases-at bindings-at (standsAt (clauseNode x) n) k up .tops) (hoists-grow w bindings-at x k 0 n o)
+    (own-grows w cases-at bindings-at (standsAt (clauseNode x) n) k up)
 
 nodes-grow : (w : List ℕ) (cases-at bindings-at : ℕ) (x : Places) (n k m : ℕ) (o : Out) → Grown (o .tops) (nodesOut w cases-at bindings-at x n k m o .tops)
 unfolding nodesOut
@@ -492,26 +486,29 @@ nodes-grow w cases-at bindings-at x n k (suc m) o =
     grown-trans (o .tops) (next .tops) (nodesOut w cases-at bindings-at x n (k + 1) m next .tops) (node-grows w cases-at bindings-at x n k o)
     (nodes-grow w cases-at bindings-at x n (k + 1) m next)
 
-module _ (w : List ℕ) (k : ℕ) (x : Places) (clauses cases-at bindings-at : ℕ) (tree : List ℕ) (f : Reach) (a : NodeAsked w k x clauses cases-at bindings-at tree f) where
+module _ (w : List ℕ) (k : ℕ) (x : Places) (clauses : ℕ) (shift : List ℕ) (cases-at bindings-at : ℕ) (tree : List ℕ) (f : Reach)
+    (a : NodeAsked w k x clauses shift cases-at bindings-at tree f) where
   abbrev lifted : Out
   lifted = hoistsOut w bindings-at x k 0 clauses (outOf tree f)
 
-  own-within : Within (ownOut w cases-at bindings-at (clauseNode x) clauses k lifted .tops)
+  own-within : Within (ownOut w cases-at bindings-at (standsAt (clauseNode x) clauses) k lifted .tops)
   unfolding nodeOut
   own-within = a .within
 
   leaves-sound : (c : ℕ) → c < clauses → clauseNode x c ≡ k → LeafSound w (getD (x .leaf) c 0)
   leaves-sound c l e = a .sound .hoist c l (omega (arith, a .inside))
 
-  pub hoists-asked : HoistsAsked w k x clauses bindings-at tree f
+  pub hoists-asked : HoistsAsked w k x clauses shift bindings-at tree f
   hoists-asked =
       record {
         few = a .sound .few;
+        node = omega (arith, a .inside, a .sound .most);
+        none-here = no-hoists (clauseNode x) clauses (a .nodes) shift (a .shifted) k (a .inside);
         leaf = leaves-sound;
         tree-room = a .file .tree-room;
         start = a .file .bindings-start;
         counted = a .counted;
-        within = within-before (lifted .tops) (ownOut w cases-at bindings-at (clauseNode x) clauses k lifted .tops) (own-grows w cases-at bindings-at (clauseNode x) clauses k lifted) own-within;
+        within = within-before (lifted .tops) (ownOut w cases-at bindings-at (standsAt (clauseNode x) clauses) k lifted .tops) (own-grows w cases-at bindings-at (standsAt (clauseNode x) clauses) k lifted) own-within;
       }
 
   module _ (tree₂ : List ℕ) (g : Reach) (m : length tree₂ ≡ length tree) (e : outOf tree₂ g ≡ lifted) where
@@ -519,17 +516,17 @@ module _ (w : List ℕ) (k : ℕ) (x : Places) (clauses cases-at bindings-at : �
     g-counted =
         subst (λ z. Counted (z .tops .uses)) (sym e) (hoists-counted w bindings-at x k 0 clauses clauses (outOf tree f) (omega arith) leaves-sound (a .counted))
 
-    g-within : Within (ownOut w cases-at bindings-at (clauseNode x) clauses k (outOf tree₂ g) .tops)
-    g-within = subst (λ z. Within (ownOut w cases-at bindings-at (clauseNode x) clauses k z .tops)) (sym e) own-within
+    g-within : Within (ownOut w cases-at bindings-at (standsAt (clauseNode x) clauses) k (outOf tree₂ g) .tops)
+    g-within = subst (λ z. Within (ownOut w cases-at bindings-at (standsAt (clauseNode x) clauses) k z .tops)) (sym e) own-within
 
-    pub own-asked : OwnAsked w k clauses cases-at bindings-at tree₂ g
+    pub own-asked : OwnAsked w k cases-at bindings-at tree₂ g
     unfolding boundOut switchOut
     own-asked =
         record {
           room = a .sound .room;
           node = omega (arith, a .inside, a .sound .most);
           leaf = λ q.
-              let n = subst (λ z. Within (z .tops)) (own-leaf w cases-at bindings-at (clauseNode x) clauses k (outOf tree₂ g) q) g-within in
+              let n = subst (λ z. Within (z .tops)) (own-leaf w cases-at bindings-at (standsAt (clauseNode x) clauses) k (outOf tree₂ g) q) g-within in
               record {
                 sound = a .sound .leaf k (a .inside) q;
                 tree-room = omega (arith, a .file .tree-room);
@@ -539,11 +536,10 @@ module _ (w : List ℕ) (k : ℕ) (x : Places) (clauses cases-at bindings-at : �
                 bindings-fit = n .bindings-most;
               };
           switch = λ q.
-              let n = subst (λ z. Within (z .tops)) (own-switch w cases-at bindings-at (clauseNode x) clauses k (outOf tree₂ g) q) g-within in
+              let n = subst (λ z. Within (z .tops)) (own-switch w cases-at bindings-at (standsAt (clauseNode x) clauses) k (outOf tree₂ g) q) g-within in
               record {
                 asked = record {
                   sound = a .sound .switch k (a .inside) q;
-                  few = a .sound .few;
                   tree-room = omega (arith, a .file .tree-room);
                   counted = g-counted;
                   nodes-fit = omega (arith, n .nodes-most);
@@ -556,8 +552,8 @@ module _ (w : List ℕ) (k : ℕ) (x : Places) (clauses cases-at bindings-at : �
   node-counted : Counted (nodeOut w cases-at bindings-at x clauses k (outOf tree f) .tops .uses)
   unfolding nodeOut
   node-counted =
-      by-own w cases-at bindings-at (clauseNode x) clauses k lifted (λ z. Counted (z .tops .uses))
-      (λ q. bound-counted w bindings-at k 2 0 lifted (a .sound .leaf k (a .inside) q .bindings) up) (λ q. switch-counted w cases-at (clauseNode x) clauses k lifted up (a .sound .switch k (a .inside) q .path))
+      by-own w cases-at bindings-at (standsAt (clauseNode x) clauses) k lifted (λ z. Counted (z .tops .uses))
+      (λ q. bound-counted w bindings-at k 2 0 lifted (a .sound .leaf k (a .inside) q .bindings) up) (λ q. switch-counted w cases-at (standsAt (clauseNode x) clauses) k lifted up (a .sound .switch k (a .inside) q .path))
     where
       up : Counted (lifted .tops .uses)
       up = hoists-counted w bindings-at x k 0 clauses clauses (outOf tree f) (omega arith) leaves-sound (a .counted)
@@ -578,16 +574,17 @@ module _ (w : List ℕ) (nodes : ℕ) (x : Places) (clauses cases-at bindings-at
   unfolding nodesOut
   nodes-on k o l = let d : nodes - k ≡ suc (nodes - (k + 1)) = omega arith in rw d
 
-  module _ (a : NodesAsked w nodes x clauses cases-at bindings-at before f) (tree : List ℕ) (g : Reach) (k : ℕ)
+  module _ (shift : List ℕ) (a : NodesAsked w nodes x clauses shift cases-at bindings-at before f) (tree : List ℕ) (g : Reach) (k : ℕ)
       (h : NodesLeft w nodes x clauses cases-at bindings-at before f tree g k) (l : k < nodes) where
     abbrev turn : Out
     turn = nodeOut w cases-at bindings-at x clauses k (outOf tree g)
 
-    pub node-asked : NodeAsked w k x clauses cases-at bindings-at tree g
+    pub node-asked : NodeAsked w k x clauses shift cases-at bindings-at tree g
     node-asked =
         record {
           nodes = nodes;
           sound = a .sound;
+          shifted = a .shifted;
           inside = l;
           file = record {
             tree-room = omega (arith, a .file .tree-room, h .long);
@@ -606,7 +603,7 @@ module _ (w : List ℕ) (nodes : ℕ) (x : Places) (clauses cases-at bindings-at
     nodes-next tree₂ g₂ m e =
         record {
           inside = omega arith;
-          counted = subst (λ z. Counted (z .tops .uses)) (sym e) (node-counted w k x clauses cases-at bindings-at tree g node-asked);
+          counted = subst (λ z. Counted (z .tops .uses)) (sym e) (node-counted w k x clauses shift cases-at bindings-at tree g node-asked);
           long = m ∙ h .long;
           left = ap (nodesOut w cases-at bindings-at x clauses (k + 1) (nodes - (k + 1))) e ∙ sym (nodes-on k (outOf tree g) l) ∙ h .left;
         }

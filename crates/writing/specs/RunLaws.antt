@@ -157,14 +157,14 @@ hoists-cover all f bs k b i (suc n) m l g =
     go false e on past = subst (λ z. Covers all (z .paths)) (sym (hoistsPiece-past f bs k b i n e)) past
 
 -- ---- a default where it comes to stand
-moved-there : (node : ℕ → ℕ) (n j m : ℕ) → m ≡ suc j → movedDefault node n m ≡ suc (standsAt node n j)
+moved-there : (node : ℕ → ℕ) (n j m : ℕ) → m ≡ suc j → movedDefault (standsAt node n) m ≡ suc (standsAt node n j)
 moved-there node n j m e =
     let q : m - 1 ≡ j = omega arith in
-    moved-some node n m (λ z. omega arith) ∙ ap (λ z. standsAt node n z + 1) q ∙ add-one (standsAt node n j)
+    moved-some (standsAt node n) m (λ z. omega arith) ∙ ap (λ z. standsAt node n z + 1) q ∙ add-one (standsAt node n j)
 
-moved-default-is : (node : ℕ → ℕ) (n j : ℕ) (d : Tree) (m : ℕ) → m ≡ defaultField j d → movedDefault node n m ≡ defaultField (standsAt node n j) d
+moved-default-is : (node : ℕ → ℕ) (n j : ℕ) (d : Tree) (m : ℕ) → m ≡ defaultField j d → movedDefault (standsAt node n) m ≡ defaultField (standsAt node n j) d
 unfolding defaultField
-moved-default-is node n j absent m e = moved-none node n m e
+moved-default-is node n j absent m e = moved-none (standsAt node n) m e
 moved-default-is node n j (leaf c bs) m e = moved-there node n j m e
 moved-default-is node n j (hoist c bs a) m e = moved-there node n j m e
 moved-default-is node n j (switch p cs d) m e = moved-there node n j m e
@@ -368,7 +368,7 @@ module _ (all table : List Path) (cases-at bindings-at : ℕ) where
 
     -- ---- a switch
     moved-cases : (node : ℕ → ℕ) (n : ℕ) (cs : Cases) (i k : ℕ) → Stands w (casesStart + caseSize * i) (ownCases k cs)
-        → movedCases w node n i (howMany cs) ≡ shiftedCases table node n k cs
+        → movedCases w (standsAt node n) i (howMany cs) ≡ shiftedCases table node n k cs
     unfolding movedCases shiftedCases howMany
     moved-cases node n cnil i k s = refl
     moved-cases node n (ccons t at a cs) i k s =
@@ -383,7 +383,7 @@ module _ (all table : List Path) (cases-at bindings-at : ℕ) where
 
       switch-after : (kind : ℕ) (p : Path) (cases tails : ℕ) (cs : Cases) (d : Tree) (o : Out) (there rest : List Path) → SwitchFacts w all k kind p cases tails cs d
           → Stand all (o .tops .uses) there → table ≡ firstUses there (p ∷ rest)
-          → switchOut w cases-at (clauseNode x) n k o ≡ after o (switchPiece table node n k (o .tops .cases) kind p cases tails cs d)
+          → switchOut w cases-at (standsAt (clauseNode x) n) k o ≡ after o (switchPiece table node n k (o .tops .cases) kind p cases tails cs d)
       unfolding switchOut switchBytes after switchPiece withClasses classNumbers bindingsBytes
       switch-after kind p cases tails cs d o there rest h s e =
           let f = o .tops in
@@ -394,11 +394,11 @@ module _ (all table : List Path) (cases-at bindings-at : ℕ) where
           ∙ sym (number-first-use there rest p)
           ∙ ap (λ z. pathNumber z p) (sym e) in
           let first : f .cases ≡ firstOf (cases + tails) (f .cases) = first-some (cases + tails) (f .cases) (λ z. omega (arith, h .some-case, h .count)) in
-          let default : movedDefault node n (nodeWord w k 4) ≡ defaultField (standsAt node n (k + 1 + nodesInOf cs)) d = moved-default-is node n (k + 1 + nodesInOf cs) d (nodeWord w k 4) (h .default-is) in
+          let default : movedDefault (standsAt node n) (nodeWord w k 4) ≡ defaultField (standsAt node n (k + 1 + nodesInOf cs)) d = moved-default-is node n (k + 1 + nodesInOf cs) d (nodeWord w k 4) (h .default-is) in
           let many : nodeWord w k 2 + nodeWord w k 3 ≡ cases + tails = ap₂ (λ y z. y + z) (h .cases-are) (h .tails-are) in
-          let own : movedCases w node n (nodeWord w k 1) (nodeWord w k 2 + nodeWord w k 3) ≡ shiftedCases table node n (k + 1) cs =
-          ap (movedCases w node n (nodeWord w k 1)) (many ∙ sym (h .count)) ∙ moved-cases node n cs (nodeWord w k 1) (k + 1) (h .own) in
-          let bytes : nodeBytes (nodeKind w k) (numberIn (withClass (f .uses) (nodeWord w k 0)) (nodeWord w k 0)) (f .cases) (nodeWord w k 2) (nodeWord w k 3) (movedDefault node n (nodeWord w k 4))
+          let own : movedCases w (standsAt node n) (nodeWord w k 1) (nodeWord w k 2 + nodeWord w k 3) ≡ shiftedCases table node n (k + 1) cs =
+          ap (movedCases w (standsAt node n) (nodeWord w k 1)) (many ∙ sym (h .count)) ∙ moved-cases node n cs (nodeWord w k 1) (k + 1) (h .own) in
+          let bytes : nodeBytes (nodeKind w k) (numberIn (withClass (f .uses) (nodeWord w k 0)) (nodeWord w k 0)) (f .cases) (nodeWord w k 2) (nodeWord w k 3) (movedDefault (standsAt node n) (nodeWord w k 4))
           ≡ nodeBytes kind (pathNumber table p) (firstOf (cases + tails) (f .cases)) cases tails (defaultField (standsAt node n (k + 1 + nodesInOf cs)) d) =
           λ l. nodeBytes (h .kind-is l) (number l) (first l) (h .cases-are l) (h .tails-are l) (default l) in
           let done = stored (stored (o .tree) (nodeSize * f .nodes) (nodeBytes kind (pathNumber table p) (firstOf (cases + tails) (f .cases)) cases tails (defaultField (standsAt node n (k + 1 + nodesInOf cs)) d))) j
@@ -416,16 +416,16 @@ module _ (all table : List Path) (cases-at bindings-at : ℕ) where
 
       own-after : (most : ℕ) (s : Tree) (o : Out) (there rest : List Path) → Own w all most k s → Stand all (o .tops .uses) there
           → table ≡ firstUses there (mine (o .tops .cases) (o .tops .bindings) s .paths ++ rest)
-          → ownOut w cases-at bindings-at (clauseNode x) n k o ≡ after o (mine (o .tops .cases) (o .tops .bindings) s)
+          → ownOut w cases-at bindings-at (standsAt (clauseNode x) n) k o ≡ after o (mine (o .tops .cases) (o .tops .bindings) s)
       unfolding Own ownPiece boundPiece switchPiece
       own-after most absent o there rest h s e = absurd h
       own-after most (leaf c bs) o there rest h s e =
-          own-leaf w cases-at bindings-at (clauseNode x) n k o (h .0 .kind-is) ∙ bound-after k 2 0 most c bs o there rest (h .0) s (h .1) e
+          own-leaf w cases-at bindings-at (standsAt (clauseNode x) n) k o (h .0 .kind-is) ∙ bound-after k 2 0 most c bs o there rest (h .0) s (h .1) e
       own-after most (hoist c bs a) o there rest h s e = absurd h
       own-after most (switch p cs d) o there rest h s e =
-          own-switch w cases-at bindings-at (clauseNode x) n k o (λ z. omega (arith, h .kind-is)) ∙ switch-after 0 p (howMany cs) 0 cs d o there rest h s e
+          own-switch w cases-at bindings-at (standsAt (clauseNode x) n) k o (λ z. omega (arith, h .kind-is)) ∙ switch-after 0 p (howMany cs) 0 cs d o there rest h s e
       own-after most (listswitch p cs ts d) o there rest h s e =
-          own-switch w cases-at bindings-at (clauseNode x) n k o (λ z. omega (arith, h .kind-is)) ∙ switch-after 1 p (howMany cs) (howMany ts) (joined cs ts) d o there rest h s e
+          own-switch w cases-at bindings-at (standsAt (clauseNode x) n) k o (λ z. omega (arith, h .kind-is)) ∙ switch-after 1 p (howMany cs) (howMany ts) (joined cs ts) d o there rest h s e
 
       own-covers : (most c b : ℕ) (s : Tree) → Own w all most k s → Covers all (mine c b s .paths)
       unfolding Own ownPiece boundPiece switchPiece
@@ -478,7 +478,7 @@ module _ (all table : List Path) (cases-at bindings-at : ℕ) where
             let mine-same : mine (f .cases + up .cases) b s ≡ me = ap (λ z. mine z b s) same in
             let lifted : hoistsOut w bindings-at x k 0 n o ≡ after o up =
             above-after o there (me .paths ++ rest) q st (first-paths (up .paths) (me .paths) there rest e) (fitting-first f up me fit) in
-            ap (ownOut w cases-at bindings-at (clauseNode x) n k) lifted
+            ap (ownOut w cases-at bindings-at (standsAt (clauseNode x) n) k) lifted
             ∙ own-after most s (after o up) (firstUses there (up .paths)) rest h (after-stand o up there st (above-covers (f .bindings)))
             (left-paths (up .paths) (me .paths) there rest e ∙ ap (λ z. firstUses (firstUses there (up .paths)) (z .paths ++ rest)) (sym mine-same))
             ∙ ap (after (after o up)) mine-same

@@ -7,8 +7,9 @@ use mathlib.Core.List.{List, [], _∷_, _++_, append-nil, map}
 use Prim.Native.Nat.{ℕ, zero, suc, _+_, _*_, _≤_, _<_}
 use native.Mathlib.Omega.{arith}
 use native.Mathlib.Nat.{add-zero, zero-add}
-use lib.ListN.{length, getD}
+use lib.ListN.{length, getD, replicate, length-replicate, getD-replicate}
 use lib.Dec.{eqb}
+use Rattle.words.specs.Words.{pick}
 use Rattle.words.specs.WordsLaws.{pick-true, pick-false}
 use Rattle.words.specs.Stored.{stored}
 use Rattle.words.specs.StoredLaws.{stored-append}
@@ -21,7 +22,7 @@ use Rattle.filing.specs.StandingLaws.{Stands}
 use Rattle.filing.specs.LengthLaws.{length-nodesFrom, length-casesFrom}
 use Rattle.filing.specs.PathsLaws.{Covers, covers-first, covers-rest, covers-left, covers-right}
 use Rattle.filing.specs.BoundLaws.{table-used}
-use Rattle.hoisting.specs.Descent.{wrapBy}
+use Rattle.hoisting.specs.Descent.{wrapBy, isScope}
 use Rattle.hoisting.specs.OnceLaws.{nodesIn-hoistAll}
 use Rattle.arena.specs.Arena.{casesMost, bindingsStart, arenaEnd, nodeKind, nodeWord, bindingPath}
 use Rattle.arena.specs.RecordsLaws.{first-binding, rest-bindings}
@@ -39,7 +40,7 @@ use Rattle.writing.specs.Pieces.{Piece, treePiece, overPiece}
 use Rattle.writing.specs.PiecesLaws.{howMany-hoisted, hoisted-piece}
 use Rattle.writing.specs.Uses.{usesOf, withClasses, classNumbers, Stand}
 use Rattle.writing.specs.UsesLaws.{class-small, stand-withs, stand-count, unused, stand-unused, paths-of-classes, list-inside, list-known}
-use Rattle.writing.specs.Model.{Places, placesOf, Reach, reachOf, clauseNode, outOf, nodesOut, LeafSound, SwitchSound, Within, ArenaSound, NodesAsked}
+use Rattle.writing.specs.Model.{Places, placesOf, Reach, reachOf, clauseNode, outOf, nodesOut, LeafSound, SwitchSound, Within, ShiftAsked, Shifted, ArenaSound, NodesAsked}
 use Rattle.writing.specs.RunLaws.{HoistLeaf, Own, after, Fitting, over-covers, nodes-after}
 use Rattle.writing.specs.Written.{WritingAsked, Written}
 
@@ -297,6 +298,7 @@ module _ (w : List ℕ) (nodes cases : ℕ) (x : Scopes) (clauses : ℕ) (h : Wr
         few = h .few;
         leaf = λ k l e. sound-leaf k (omega (arith, h .node-count)) e;
         switch = λ k l e. sound-switch k (omega (arith, h .node-count)) e;
+        below = λ k l e. node-inside w a (h .ready) k (omega (arith, h .node-count)) nodes (omega (arith, h .node-count)) .switch e;
         hoist = λ c l q.
             let m : clauseNode places c < nodesIn a = omega (arith, h .node-count) in
             let g = hoist-leaf c l m in
@@ -357,11 +359,13 @@ module _ (w : List ℕ) (nodes cases : ℕ) (x : Scopes) (clauses : ℕ) (h : Wr
       ∙ ap (after all table cases-at bindings-at (outOf t (nothingYet list))) (sym whole-piece)
 
   -- THEOREM: what the loop asks
-  pub nodes-asked : (t : List ℕ) → treeRoom ≤ length t → NodesAsked w nodes places clauses cases-at bindings-at t (nothingYet list)
+  pub nodes-asked : (t shift : List ℕ) → treeRoom ≤ length t → Shifted (clauseNode places) clauses nodes shift
+      → NodesAsked w nodes places clauses shift cases-at bindings-at t (nothingYet list)
   unfolding after treePiece
-  nodes-asked t room =
+  nodes-asked t shift room moved =
       record {
         sound = arena-sound;
+        shifted = moved;
         file = record {
           tree-room = room;
           cases-start = omega (arith, whole-nodes, h .nodes-most);
@@ -376,6 +380,24 @@ module _ (w : List ℕ) (nodes cases : ℕ) (x : Scopes) (clauses : ℕ) (h : Wr
               bindings-most = omega (arith, h .bindings-most);
             });
       }
+
+  -- a table of zeros takes the hoists
+  pub shift-asked : ShiftAsked (clauseNode places) clauses (replicate 1025 0)
+  unfolding scopeNode scopeNumber
+  shift-asked =
+      record {
+        few = h .few;
+        scopes = λ c l. omega (arith, h .scoped .node c l, scope-most c);
+        long = length-replicate {A = ℕ} 1025 0;
+        none-yet = λ k l. getD-replicate 1025 k 0 0 (omega arith);
+      }
+    where
+      scope-most : (c : ℕ) → scopeNode c a ≤ nodesMost
+      scope-most c = go (hasLeaf c a) refl
+        where
+          go : (b : Bool) → hasLeaf c a ≡ b → pick (hasLeaf c a) (scopeNumber c 0 a) nodesMost ≤ nodesMost
+          go true e = rw e (omega (arith, descent-in (isScope c) c 0 a e (h .ready .plain) .1, h .ready .nodes .nodes-most))
+          go false e = rw e (omega arith)
 
   -- the three sections as one store
   sections : (t : List ℕ) → after all table cases-at bindings-at (outOf t (nothingYet list)) (treePiece table 0 0 0 whole) .tree

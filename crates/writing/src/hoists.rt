@@ -1,8 +1,8 @@
 // The hoists that stand above a node, in the order of their clauses.
-// One pass over the clauses finds those hoisted there; nothing is written or moved for the others.
-use crate::cases::as_count;
+// A node with none is known by how far it and the next node are moved. For another one pass over the clauses finds those hoisted there.
 use crate::nodes::Tops;
 use crate::nodes::put_bound;
+use crate::shift::as_count;
 ghost use mathlib.Core.Path.{_≡_};
 ghost use Prim.Native.Nat.{_+_, _≤_};
 ghost use Rattle.rules.specs.Limits.{clausesMost};
@@ -47,15 +47,19 @@ pub fn put_hoists(
     node: &[u16; 32],
     leaf: &[u16; 32],
     clauses: usize,
+    shift: &[u8; 1025],
     tree: &mut [u8],
     start: usize,
     number: &mut [u8; 192],
     list: &mut [u8; 192],
     f: Tops,
 ) -> Tops
-    requires { ⌜ HoistsAsked (now w) k (placesOf (now node) (now leaf)) clauses start (now tree) (reachOf (now number) (now list) f) ⌝ }
+    requires { ⌜ HoistsAsked (now w) k (placesOf (now node) (now leaf)) clauses (now shift) start (now tree) (reachOf (now number) (now list) f) ⌝ }
     ensures { λ r. ⌜ outOf (now (tree .exit)) (reachOf (now (number .exit)) (now (list .exit)) r) ≡ hoistsOut (now (w .entry)) start (placesOf (now (node .entry)) (now (leaf .entry))) k 0 clauses (outOf (now (tree .entry)) (reachOf (now (number .entry)) (now (list .entry)) f)) ⌝ }
 {
+    if shift[k] == shift[k + 1] {
+        return f;
+    }
     let mut g = f;
     let mut c = next_hoist(node, 0, clauses, k);
     while c < clauses {

@@ -1,11 +1,13 @@
 // The nodes, cases and bindings of the tree file, from the tree in the arena and the scopes of its clauses.
 // One pass over the arena's nodes: above each node the hoists that its scopes put there, then the node, with its references moved to
-// where nodes come to stand. The tables by clause and by class are lent from one function to the next; only counts go by value.
+// where nodes come to stand, which is found first. The tables by clause, by node and by class are lent from one function to the next;
+// only counts go by value.
 use arena::CASE_SIZE;
 use arena::NODE_SIZE;
 use nodes::Tops;
 use nodes::put_nodes;
 use scopes::Scopes;
+use shift::find_shift;
 ghost use mathlib.Core.Path.{_≡_};
 ghost use Prim.Native.Nat.{_≤_};
 ghost use lib.ListN.{length};
@@ -17,6 +19,7 @@ pub mod bindings;
 pub mod cases;
 pub mod hoists;
 pub mod nodes;
+pub mod shift;
 pub mod uses;
 
 // The three sections from 0 on, of the tree with so many nodes and cases before it is hoisted. The answer is how many nodes, cases
@@ -34,9 +37,10 @@ pub fn write_nodes(
     ensures { λ r. ⌜ ((h : WritingAsked (now (w .entry)) nodes cases x clauses) → Written (h .ready .table) (hoistAll clauses (h .tree)) (now (tree .entry)) (now (tree .exit)) (now (classes .exit)) r) ⌝ }
 {
     let second = NODE_SIZE * (nodes + x.hoists);
-    let third = second + CASE_SIZE * cases;
     let node = x.node;
     let leaf = x.leaf;
+    let mut shift = [0u8; 1025];
+    find_shift(&node, clauses, nodes, &mut shift);
     let mut number = [0u8; 192];
     let f = Tops {
         nodes: 0,
@@ -50,9 +54,10 @@ pub fn write_nodes(
         &node,
         &leaf,
         clauses,
+        &shift,
         tree,
         second,
-        third,
+        second + CASE_SIZE * cases,
         &mut number,
         classes,
         f,

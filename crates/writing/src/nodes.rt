@@ -17,7 +17,7 @@ ghost use mathlib.Core.Path.{_≡_};
 ghost use Prim.Native.Nat.{_+_, _<_};
 ghost use Rattle.rules.specs.TreeFile.{firstOf};
 ghost use Rattle.writing.specs.Uses.{usesOf};
-ghost use Rattle.writing.specs.Model.{nodeIn, placesOf, reachOf, BoundAsked, SwitchNodeAsked, PutSwitchNode, SwitchAsked, OwnAsked, NodeAsked, NodesAsked, outOf, boundOut, switchOut, ownOut, nodeOut, nodesOut};
+ghost use Rattle.writing.specs.Model.{movedBy, placesOf, reachOf, BoundAsked, SwitchNodeAsked, PutSwitchNode, SwitchAsked, OwnAsked, NodeAsked, NodesAsked, outOf, boundOut, switchOut, ownOut, nodeOut, nodesOut};
 
 // How many nodes, cases and bindings are written, and how many paths have a number.
 pub struct Tops {
@@ -73,20 +73,19 @@ pub fn put_bound(
 fn put_switch_node(
     w: &[u8],
     k: usize,
-    node: &[u16; 32],
-    clauses: usize,
+    shift: &[u8; 1025],
     tree: &mut [u8],
     number: &mut [u8; 192],
     list: &mut [u8; 192],
     f: Tops,
 ) -> usize
-    requires { ⌜ SwitchNodeAsked (now w) k clauses (now tree) (reachOf (now number) (now list) f) ⌝ }
-    ensures { λ r. ⌜ PutSwitchNode (now (w .entry)) (nodeIn (now (node .entry))) clauses k (reachOf (now (number .entry)) (now (list .entry)) f) (now (tree .entry)) (now (tree .exit)) (usesOf (now (number .exit)) (now (list .exit)) r) ⌝ }
+    requires { ⌜ SwitchNodeAsked (now w) k (now tree) (reachOf (now number) (now list) f) ⌝ }
+    ensures { λ r. ⌜ PutSwitchNode (now (w .entry)) (movedBy (now (shift .entry))) k (reachOf (now (number .entry)) (now (list .entry)) f) (now (tree .entry)) (now (tree .exit)) (usesOf (now (number .exit)) (now (list .exit)) r) ⌝ }
 {
     let path = node_word(w, k, 0) as usize;
     let cases = node_word(w, k, 2);
     let tails = node_word(w, k, 3);
-    let default = moved_default(node, clauses, node_word(w, k, 4) as usize) as u16;
+    let default = moved_default(shift, node_word(w, k, 4) as usize);
     let paths = used(number, list, f.paths, path);
     let own = wide(number[path]) - 1;
     let kind = node_kind(w, k);
@@ -98,31 +97,22 @@ fn put_switch_node(
 fn put_switch(
     w: &[u8],
     k: usize,
-    node: &[u16; 32],
-    clauses: usize,
+    shift: &[u8; 1025],
     tree: &mut [u8],
     start: usize,
     number: &mut [u8; 192],
     list: &mut [u8; 192],
     f: Tops,
 ) -> Tops
-    requires { ⌜ SwitchAsked (now w) k clauses start (now tree) (reachOf (now number) (now list) f) ⌝ }
-    ensures { λ r. ⌜ outOf (now (tree .exit)) (reachOf (now (number .exit)) (now (list .exit)) r) ≡ switchOut (now (w .entry)) start (nodeIn (now (node .entry))) clauses k (outOf (now (tree .entry)) (reachOf (now (number .entry)) (now (list .entry)) f)) ⌝ }
+    requires { ⌜ SwitchAsked (now w) k start (now tree) (reachOf (now number) (now list) f) ⌝ }
+    ensures { λ r. ⌜ outOf (now (tree .exit)) (reachOf (now (number .exit)) (now (list .exit)) r) ≡ switchOut (now (w .entry)) start (movedBy (now (shift .entry))) k (outOf (now (tree .entry)) (reachOf (now (number .entry)) (now (list .entry)) f)) ⌝ }
 {
     let at = children_of(w, k);
     let first = at.first;
     let count = at.count;
-    let paths = put_switch_node(w, k, node, clauses, tree, number, list, f);
+    let paths = put_switch_node(w, k, shift, tree, number, list, f);
     let top = f.cases;
-    put_cases(
-        w,
-        first,
-        count,
-        node,
-        clauses,
-        tree,
-        start + CASE_SIZE * top,
-    );
+    put_cases(w, first, count, shift, tree, start + CASE_SIZE * top);
     Tops {
         nodes: f.nodes + 1,
         cases: top + count,
@@ -134,8 +124,7 @@ fn put_switch(
 fn put_own(
     w: &[u8],
     k: usize,
-    node: &[u16; 32],
-    clauses: usize,
+    shift: &[u8; 1025],
     tree: &mut [u8],
     cases: usize,
     bindings: usize,
@@ -143,13 +132,13 @@ fn put_own(
     list: &mut [u8; 192],
     f: Tops,
 ) -> Tops
-    requires { ⌜ OwnAsked (now w) k clauses cases bindings (now tree) (reachOf (now number) (now list) f) ⌝ }
-    ensures { λ r. ⌜ outOf (now (tree .exit)) (reachOf (now (number .exit)) (now (list .exit)) r) ≡ ownOut (now (w .entry)) cases bindings (nodeIn (now (node .entry))) clauses k (outOf (now (tree .entry)) (reachOf (now (number .entry)) (now (list .entry)) f)) ⌝ }
+    requires { ⌜ OwnAsked (now w) k cases bindings (now tree) (reachOf (now number) (now list) f) ⌝ }
+    ensures { λ r. ⌜ outOf (now (tree .exit)) (reachOf (now (number .exit)) (now (list .exit)) r) ≡ ownOut (now (w .entry)) cases bindings (movedBy (now (shift .entry))) k (outOf (now (tree .entry)) (reachOf (now (number .entry)) (now (list .entry)) f)) ⌝ }
 {
     if node_kind(w, k) == 2 {
         return put_bound(w, k, 2, 0, tree, bindings, number, list, f);
     }
-    put_switch(w, k, node, clauses, tree, cases, number, list, f)
+    put_switch(w, k, shift, tree, cases, number, list, f)
 }
 
 // Node k with the hoists above it.
@@ -159,6 +148,7 @@ pub fn put_one(
     node: &[u16; 32],
     leaf: &[u16; 32],
     clauses: usize,
+    shift: &[u8; 1025],
     tree: &mut [u8],
     cases: usize,
     bindings: usize,
@@ -166,11 +156,23 @@ pub fn put_one(
     list: &mut [u8; 192],
     f: Tops,
 ) -> Tops
-    requires { ⌜ NodeAsked (now w) k (placesOf (now node) (now leaf)) clauses cases bindings (now tree) (reachOf (now number) (now list) f) ⌝ }
+    requires { ⌜ NodeAsked (now w) k (placesOf (now node) (now leaf)) clauses (now shift) cases bindings (now tree) (reachOf (now number) (now list) f) ⌝ }
     ensures { λ r. ⌜ outOf (now (tree .exit)) (reachOf (now (number .exit)) (now (list .exit)) r) ≡ nodeOut (now (w .entry)) cases bindings (placesOf (now (node .entry)) (now (leaf .entry))) clauses k (outOf (now (tree .entry)) (reachOf (now (number .entry)) (now (list .entry)) f)) ⌝ }
 {
-    let g = put_hoists(w, k, node, leaf, clauses, tree, bindings, number, list, f);
-    put_own(w, k, node, clauses, tree, cases, bindings, number, list, g)
+    let g = put_hoists(
+        w,
+        k,
+        node,
+        leaf,
+        clauses,
+        shift,
+        tree,
+        bindings,
+        number,
+        list,
+        f,
+    );
+    put_own(w, k, shift, tree, cases, bindings, number, list, g)
 }
 
 // All nodes, in order.
@@ -180,6 +182,7 @@ pub fn put_nodes(
     node: &[u16; 32],
     leaf: &[u16; 32],
     clauses: usize,
+    shift: &[u8; 1025],
     tree: &mut [u8],
     cases: usize,
     bindings: usize,
@@ -187,7 +190,7 @@ pub fn put_nodes(
     list: &mut [u8; 192],
     f: Tops,
 ) -> Tops
-    requires { ⌜ NodesAsked (now w) nodes (placesOf (now node) (now leaf)) clauses cases bindings (now tree) (reachOf (now number) (now list) f) ⌝ }
+    requires { ⌜ NodesAsked (now w) nodes (placesOf (now node) (now leaf)) clauses (now shift) cases bindings (now tree) (reachOf (now number) (now list) f) ⌝ }
     ensures { λ r. ⌜ outOf (now (tree .exit)) (reachOf (now (number .exit)) (now (list .exit)) r) ≡ nodesOut (now (w .entry)) cases bindings (placesOf (now (node .entry)) (now (leaf .entry))) clauses 0 nodes (outOf (now (tree .entry)) (reachOf (now (number .entry)) (now (list .entry)) f)) ⌝ }
 {
     let mut g = f;
@@ -199,6 +202,7 @@ pub fn put_nodes(
             node,
             leaf,
             clauses,
+            shift,
             tree,
             cases,
             bindings,

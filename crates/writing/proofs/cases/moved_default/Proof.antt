@@ -1,34 +1,36 @@
 -- `writing::cases::moved_default` meets its contract: no default stays none, and any other is moved with its node.
 use borrow.Author.Needs.{needs}
 use native.Mathlib.Omega.{arith}
-use mathlib.Core.Path.{sym, ap, _∙_}
-use Prim.Native.Nat.{_+_, _-_}
-use Rattle.writing.specs.Model.{nodeIn}
-use Rattle.writing.specs.ModelLaws.{moved-none, moved-some, stands-small}
+use mathlib.Core.Path.{sym}
+use Rattle.writing.specs.Model.{movedBy}
+use Rattle.writing.specs.ModelLaws.{moved-none, moved-some}
 use Rattle.writing.proofs.cases.moved_default.Statement.{statement}
 use Rattle.writing.proofs.cases.moved_default.Tie as tie
 
 returns : tie.Need-returns
-returns c = sym (moved-none (nodeIn (c .before .args .node .now)) (c .before .args .clauses) (c .before .args .default) (c .if1 .taken))
+returns c = sym (moved-none (movedBy (c .before .args .shift .now)) (c .before .args .default) (c .if1 .taken))
 
-sub-stands-at : tie.Need-sub-stands-at
-sub-stands-at c = search needs
+sub-move-by : tie.Need-sub-move-by
+sub-move-by c = search needs
 
-stands-at-requires : tie.Need-stands-at-requires
-stands-at-requires c κs = omega (arith, c .before .pre .0, c .before .pre .1)
+element-copy-out-move-by : tie.Need-element-copy-out-move-by
+element-copy-out-move-by c = search needs
 
-add-result : tie.Need-add-result
-add-result c = omega (arith, c .stands-at .ensures, stands-small (nodeIn (c .before .before .args .node .now)) (c .before .before .args .clauses) (c .before .before .args .default - 1), c .before .before .pre .0, c .before .before .pre .1)
+move-by-requires : tie.Need-move-by-requires
+move-by-requires c κs = search needs
 
 returns-2 : tie.Need-returns-2
-returns-2 c = ap (λ z. z + 1) (c .stands-at .ensures) ∙ sym (moved-some (nodeIn (c .before .before .args .node .now)) (c .before .before .args .clauses) (c .before .before .args .default) (c .before .if1 .left))
+returns-2 c =
+    let a = c .before .before .before .args in
+    let n = c .before .before .if1 .left in
+    omega (arith, c .move-by .ensures, moved-some (movedBy (a .shift .now)) (a .default) n, n)
 
 pub moved-default-spec : {M : Type 1} → statement M
 moved-default-spec =
     tie.close
     (tie.spec
     returns
-    sub-stands-at
-    stands-at-requires
-    add-result
+    sub-move-by
+    element-copy-out-move-by
+    move-by-requires
     returns-2)

@@ -1,21 +1,22 @@
 -- `writing::nodes::put_one` meets its contract: the hoists above the node, then the node.
 use borrow.Author.Needs.{needs}
 use mathlib.Core.Path.{ap, _∙_}
-use Rattle.writing.specs.Model.{nodeIn, placesOf, reachOf, ownOut, nodeOut}
-use Rattle.writing.specs.ModelLaws.{hoists-asked, own-asked}
+use Rattle.scopes.specs.WriterLaws.{standsAt}
+use Rattle.writing.specs.Model.{nodeIn, placesOf, reachOf, outOf, ownOut, nodeOut}
+use Rattle.writing.specs.ModelLaws.{hoists-asked, own-asked, own-moved}
 use Rattle.writing.proofs.nodes.put_one.Statement.{statement}
 use Rattle.writing.proofs.nodes.put_one.Tie as tie
 
 put-hoists-requires : tie.Need-put-hoists-requires
 put-hoists-requires c κs =
     let s = c .before .before .before .before .before in
-    hoists-asked (s .args .w .now) (s .args .k) (placesOf (s .args .node .now) (s .args .leaf .now)) (s .args .clauses) (s .args .cases) (s .args .bindings) (s .args .tree .now) (reachOf (s .args .number .now) (s .args .list .now) (s .args .f)) (s .pre)
+    hoists-asked (s .args .w .now) (s .args .k) (placesOf (s .args .node .now) (s .args .leaf .now)) (s .args .clauses) (s .args .shift .now) (s .args .cases) (s .args .bindings) (s .args .tree .now) (reachOf (s .args .number .now) (s .args .list .now) (s .args .f)) (s .pre)
 
 put-own-requires : tie.Need-put-own-requires
 put-own-requires c κs =
     let s = c .before .before .before .before .before .before .before .before .before .before .before in
     let put-hoists = c .before .before .before .before .before .put-hoists in
-    own-asked (s .args .w .now) (s .args .k) (placesOf (s .args .node .now) (s .args .leaf .now)) (s .args .clauses) (s .args .cases) (s .args .bindings) (s .args .tree .now) (reachOf (s .args .number .now) (s .args .list .now) (s .args .f)) (s .pre) (put-hoists .last .1 .1 .1 .1 .1 .0) (reachOf (put-hoists .last .1 .1 .1 .1 .1 .1 .1 .0) (put-hoists .last .1 .1 .1 .1 .1 .1 .1 .1 .0) (put-hoists .result)) (put-hoists .kept .1 .1 .1 .1 .1 .0) (put-hoists .ensures)
+    own-asked (s .args .w .now) (s .args .k) (placesOf (s .args .node .now) (s .args .leaf .now)) (s .args .clauses) (s .args .shift .now) (s .args .cases) (s .args .bindings) (s .args .tree .now) (reachOf (s .args .number .now) (s .args .list .now) (s .args .f)) (s .pre) (put-hoists .last .1 .1 .1 .1 .1 .1 .0) (reachOf (put-hoists .last .1 .1 .1 .1 .1 .1 .1 .1 .0) (put-hoists .last .1 .1 .1 .1 .1 .1 .1 .1 .1 .0) (put-hoists .result)) (put-hoists .kept .1 .1 .1 .1 .1 .1 .0) (put-hoists .ensures)
 
 same-length : tie.Need-same-length
 same-length c = search needs
@@ -26,7 +27,11 @@ returns c =
     let s = c .before .before .before .before .before .before .before .before .before .before .before .before .before .before in
     let put-hoists = c .before .before .before .before .before .before .before .before .put-hoists in
     let put-own = c .before .before .put-own in
-    put-own .ensures ∙ ap (ownOut (s .args .w .now) (s .args .cases) (s .args .bindings) (nodeIn (s .args .node .now)) (s .args .clauses) (s .args .k)) (put-hoists .ensures)
+    let stand = standsAt (nodeIn (s .args .node .now)) (s .args .clauses) in
+    let lifted = outOf (put-hoists .last .1 .1 .1 .1 .1 .1 .0) (reachOf (put-hoists .last .1 .1 .1 .1 .1 .1 .1 .1 .0) (put-hoists .last .1 .1 .1 .1 .1 .1 .1 .1 .1 .0) (put-hoists .result)) in
+    put-own .ensures
+    ∙ own-moved (s .args .w .now) (s .args .cases) (s .args .bindings) (nodeIn (s .args .node .now)) (s .args .clauses) (s .pre .nodes) (s .args .k) (s .args .shift .now) lifted (s .pre .shifted) (s .pre .sound .below (s .args .k) (s .pre .inside))
+    ∙ ap (ownOut (s .args .w .now) (s .args .cases) (s .args .bindings) stand (s .args .k)) (put-hoists .ensures)
 
 pub put-one-spec : {M : Type 1} → statement M
 put-one-spec =

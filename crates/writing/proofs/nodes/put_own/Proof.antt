@@ -1,7 +1,7 @@
 -- `writing::nodes::put_own` meets its contract: a leaf, or a switch.
 use borrow.Author.Needs.{needs}
 use mathlib.Core.Path.{sym, _∙_}
-use Rattle.writing.specs.Model.{nodeIn, reachOf, outOf}
+use Rattle.writing.specs.Model.{movedBy, reachOf, outOf}
 use Rattle.writing.specs.ModelLaws.{own-leaf, own-switch}
 use Rattle.writing.proofs.nodes.put_own.Statement.{statement}
 use Rattle.writing.proofs.nodes.put_own.Tie as tie
@@ -27,7 +27,7 @@ returns c =
     let node-kind = c .before .before .before .before .before .before .before .node-kind in
     let if1 = c .before .before .before .before .before .before .if1 in
     let put-bound = c .before .before .put-bound in
-    put-bound .ensures ∙ sym (own-leaf (s .args .w .now) (s .args .cases) (s .args .bindings) (nodeIn (s .args .node .now)) (s .args .clauses) (s .args .k) (outOf (s .args .tree .now) (reachOf (s .args .number .now) (s .args .list .now) (s .args .f))) (sym (node-kind .ensures) ∙ if1 .taken))
+    put-bound .ensures ∙ sym (own-leaf (s .args .w .now) (s .args .cases) (s .args .bindings) (movedBy (s .args .shift .now)) (s .args .k) (outOf (s .args .tree .now) (reachOf (s .args .number .now) (s .args .list .now) (s .args .f))) (sym (node-kind .ensures) ∙ if1 .taken))
 
 put-switch-requires : tie.Need-put-switch-requires
 put-switch-requires c κs =
@@ -45,7 +45,7 @@ returns-2 c =
     let node-kind = c .before .before .before .before .before .before .before .node-kind in
     let if1 = c .before .before .before .before .before .before .if1 in
     let put-switch = c .before .before .put-switch in
-    put-switch .ensures ∙ sym (own-switch (s .args .w .now) (s .args .cases) (s .args .bindings) (nodeIn (s .args .node .now)) (s .args .clauses) (s .args .k) (outOf (s .args .tree .now) (reachOf (s .args .number .now) (s .args .list .now) (s .args .f))) (λ e. if1 .left (node-kind .ensures ∙ e)))
+    put-switch .ensures ∙ sym (own-switch (s .args .w .now) (s .args .cases) (s .args .bindings) (movedBy (s .args .shift .now)) (s .args .k) (outOf (s .args .tree .now) (reachOf (s .args .number .now) (s .args .list .now) (s .args .f))) (λ e. if1 .left (node-kind .ensures ∙ e)))
 
 pub put-own-spec : {M : Type 1} → statement M
 put-own-spec =

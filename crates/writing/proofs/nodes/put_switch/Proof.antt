@@ -3,7 +3,7 @@ use borrow.Author.Needs.{needs}
 use native.Mathlib.Omega.{arith}
 use mathlib.Core.Path.{ap}
 use Rattle.writing.specs.Uses.{usesOf}
-use Rattle.writing.specs.Model.{nodeIn, reachOf}
+use Rattle.writing.specs.Model.{movedBy, reachOf}
 use Rattle.writing.specs.ModelLaws.{switch-put, cases-asked-as}
 use Rattle.writing.proofs.nodes.put_switch.Statement.{statement}
 use Rattle.writing.proofs.nodes.put_switch.Tie as tie
@@ -33,15 +33,15 @@ put-cases-requires c κs =
     let s = c .before .before .before .before .before .before .before .before .before .before in
     let children-of = c .before .before .before .before .before .before .before .children-of in
     let put-switch-node = c .before .before .before .put-switch-node in
-    (cases-asked-as (s .args .w .now) (children-of .result .first) (children-of .result .count) _ _ (ap (λ z. z .first) (children-of .ensures)) (ap (λ z. z .count) (children-of .ensures)) (s .pre .asked .sound .cases), s .pre .asked .few, omega (arith, s .pre .asked .cases-fit, s .pre .start, s .pre .asked .tree-room, put-switch-node .kept .1 .1 .1 .1 .0, ap (λ z. z .count) (children-of .ensures)))
+    (cases-asked-as (s .args .w .now) (children-of .result .first) (children-of .result .count) _ _ (ap (λ z. z .first) (children-of .ensures)) (ap (λ z. z .count) (children-of .ensures)) (s .pre .asked .sound .cases), omega (arith, s .pre .asked .cases-fit, s .pre .start, s .pre .asked .tree-room, put-switch-node .kept .1 .1 .1 .0, ap (λ z. z .count) (children-of .ensures)))
 
-add-t22 : tie.Need-add-t22
-add-t22 c =
+add-t21 : tie.Need-add-t21
+add-t21 c =
     let s = c .before .before .before .before .before .before .before .before .before .before .before .before .before .before in
     omega (arith, s .pre .asked .nodes-fit)
 
-add-t23 : tie.Need-add-t23
-add-t23 c =
+add-t22 : tie.Need-add-t22
+add-t22 c =
     let s = c .before .before .before .before .before .before .before .before .before .before .before .before .before .before in
     let children-of = c .before .before .before .before .before .before .before .before .before .before .before .children-of in
     omega (arith, s .pre .asked .cases-fit, ap (λ z. z .count) (children-of .ensures))
@@ -55,7 +55,7 @@ returns c =
     let children-of = c .before .before .before .before .before .before .before .before .before .before .before .children-of in
     let put-switch-node = c .before .before .before .before .before .before .before .put-switch-node in
     let put-cases = c .before .before .before .put-cases in
-    switch-put (s .args .w .now) (s .args .start) (nodeIn (s .args .node .now)) (s .args .clauses) (s .args .k) (s .args .tree .now) (reachOf (s .args .number .now) (s .args .list .now) (s .args .f)) (children-of .result .first) (children-of .result .count) (usesOf (put-switch-node .last .1 .1 .1 .1 .1 .0) (put-switch-node .last .1 .1 .1 .1 .1 .1 .0) (put-switch-node .result)) (ap (λ z. z .first) (children-of .ensures)) (ap (λ z. z .count) (children-of .ensures)) (put-switch-node .ensures) (put-cases .ensures)
+    switch-put (s .args .w .now) (s .args .start) (movedBy (s .args .shift .now)) (s .args .k) (s .args .tree .now) (reachOf (s .args .number .now) (s .args .list .now) (s .args .f)) (children-of .result .first) (children-of .result .count) (usesOf (put-switch-node .last .1 .1 .1 .1 .0) (put-switch-node .last .1 .1 .1 .1 .1 .0) (put-switch-node .result)) (ap (λ z. z .first) (children-of .ensures)) (ap (λ z. z .count) (children-of .ensures)) (put-switch-node .ensures) (put-cases .ensures)
 
 pub put-switch-spec : {M : Type 1} → statement M
 put-switch-spec =
@@ -66,7 +66,7 @@ put-switch-spec =
     mul-put-cases
     add-put-cases
     put-cases-requires
+    add-t21
     add-t22
-    add-t23
     same-length
     returns)

@@ -3,8 +3,8 @@ use borrow.Author.Needs.{needs}
 use native.Mathlib.Omega.{arith}
 use mathlib.Core.Path.{ap, _∙_}
 use Rattle.writing.specs.Uses.{usesOf}
-use Rattle.writing.specs.Model.{nodeIn, reachOf, movedDefault}
-use Rattle.writing.specs.ModelLaws.{switch-node-put, used-some, moved-small}
+use Rattle.writing.specs.Model.{movedBy, reachOf, movedDefault}
+use Rattle.writing.specs.ModelLaws.{switch-node-put, used-some}
 use Rattle.writing.proofs.nodes.put_switch_node.Statement.{statement}
 use Rattle.writing.proofs.nodes.put_switch_node.Tie as tie
 
@@ -38,14 +38,7 @@ moved-default-requires : tie.Need-moved-default-requires
 moved-default-requires c κs =
     let s = c .before .before .before .before .before .before in
     let node-word4 = c .node-word4 in
-    omega (arith, s .pre .few, s .pre .sound .default, node-word4 .ensures)
-
-cast-default : tie.Need-cast-default
-cast-default c =
-    let s = c .before .before .before .before .before .before .before in
-    let node-word4 = c .before .node-word4 in
-    let moved-default = c .moved-default in
-    omega (arith, moved-default .ensures, moved-small (nodeIn (s .args .node .now)) (s .args .clauses) (node-word4 .result) (omega (arith, s .pre .sound .default, node-word4 .ensures)) (s .pre .few))
+    omega (arith, s .pre .sound .default, node-word4 .ensures)
 
 used-requires : tie.Need-used-requires
 used-requires c κs =
@@ -100,7 +93,7 @@ returns c =
     let wide = c .before .before .before .before .before .before .wide in
     let node-kind = c .before .before .before .before .before .node-kind in
     let put-node = c .before .before .put-node in
-    switch-node-put (s .args .w .now) (nodeIn (s .args .node .now)) (s .args .clauses) (s .args .k) (s .args .tree .now) (reachOf (s .args .number .now) (s .args .list .now) (s .args .f)) (node-word .result) (node-word2 .result) (node-word3 .result) (moved-default .result) (usesOf (used .last .0) (used .last .1 .0) (used .result)) (wide .result) (node-kind .result) (node-word .ensures) (node-word2 .ensures) (node-word3 .ensures) (moved-default .ensures ∙ ap (movedDefault (nodeIn (s .args .node .now)) (s .args .clauses)) (node-word4 .ensures)) (used .ensures) (wide .ensures) (node-kind .ensures) (put-node .ensures)
+    switch-node-put (s .args .w .now) (movedBy (s .args .shift .now)) (s .args .k) (s .args .tree .now) (reachOf (s .args .number .now) (s .args .list .now) (s .args .f)) (node-word .result) (node-word2 .result) (node-word3 .result) (moved-default .result) (usesOf (used .last .0) (used .last .1 .0) (used .result)) (wide .result) (node-kind .result) (node-word .ensures) (node-word2 .ensures) (node-word3 .ensures) (moved-default .ensures ∙ ap (movedDefault (movedBy (s .args .shift .now))) (node-word4 .ensures)) (used .ensures) (wide .ensures) (node-kind .ensures) (put-node .ensures)
 
 pub put-switch-node-spec : {M : Type 1} → statement M
 put-switch-node-spec =
@@ -113,7 +106,6 @@ put-switch-node-spec =
     node-word-requires-4
     cast-moved-default
     moved-default-requires
-    cast-default
     used-requires
     element-copy-out-wide
     wide-requires
