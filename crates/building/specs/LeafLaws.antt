@@ -1,6 +1,6 @@
 -- The leaf of a matrix in which no column is chosen, as the code puts it; and a matrix for whose tree there is no node more.
 -- Rests on the bindings put by the crate leaves.
-use mathlib.Core.Path.{_≡_, refl, sym, ap, subst, _∙_}
+use mathlib.Core.Path.{_≡_, refl, sym, ap, _∙_}
 use mathlib.Core.Bool.{true, false, false≢true}
 use mathlib.Core.List.{List, map}
 use Prim.Native.Nat.{ℕ, zero, suc, _+_, _-_, _*_, _≤_, _<_}
@@ -9,7 +9,7 @@ use lib.ListN.{length, take, set}
 use Rattle.words.specs.Stored.{stored}
 use Rattle.rules.specs.Limits.{clausesMost, nodesMost, bindingsMost, nodeSize}
 use Rattle.rules.specs.Rows.{Binding}
-use Rattle.rules.specs.Building.{Tree, leaf}
+use Rattle.rules.specs.Building.{leaf}
 use Rattle.rules.specs.Hoisting.{nodesIn}
 use Rattle.rules.specs.TreeFile.{firstOf, nodeBytes, casesIn}
 use Rattle.facts.specs.SheetFacts.{Accepted}
@@ -27,7 +27,6 @@ use Rattle.matrix.specs.Bound.{boundNumbers}
 use Rattle.matrix.specs.InNumbers.{inNumbers, Readable, chosenRead}
 use Rattle.matrix.specs.InNumbersLaws.{chosen-read, readable}
 use Rattle.matrix.specs.TreesLaws.{some-tree, tree-leaf}
-use Rattle.arena.specs.Arena.{arenaEnd}
 use Rattle.leaves.specs.Bindings.{bound, boundAll, leafNumbers, LeafAsked, firstClause, WithRow}
 use Rattle.leaves.specs.PuttingLaws.{leaf-asked}
 use Rattle.leaves.specs.StandsLaws.{all-bound, leaf-is}

@@ -1,5 +1,7 @@
 // The tree of a matrix: a leaf where no column is chosen, else a switch with the trees of its cases and of its default.
 // One more column is tested at each call, and there are no more columns than patterns: 192 less the columns tested falls.
+// A matrix is lent by its parts, so that none is copied: its rows, its columns, the classes tested and what is opened, with how many there
+// are of each. The classes tested are in one array for the whole building: a call writes behind those of its caller, and leaves them.
 use crate::tops::Built;
 use crate::tops::Tops;
 use arena::NODES_MOST;
@@ -110,7 +112,7 @@ fn put_switch(work: &mut [u8], k: usize, class: usize, first: usize, met: CasesM
     );
 }
 
-// A case of the column of class k.
+// The tree of the case of this test, of the column of class k.
 fn build_case<'a>(
     s: &[u8],
     m: Map,
@@ -225,8 +227,7 @@ fn build_switch<'a>(
     do_build_tree(s, m, t, &wild, &rest, tested, opened, d, w, next)
 }
 
-// The tree of the matrix of these parts, which has a row, from the tops on. The classes tested are in one array for the whole
-// building: a call writes behind those of its own matrix.
+// The tree of the matrix of these parts, which has a row, from the tops on.
 pub fn do_build_tree<'a>(
     s: &[u8],
     m: Map,
