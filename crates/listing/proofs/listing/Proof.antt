@@ -21,43 +21,33 @@ accepted c =
     let e : c .before .before .before .check .result ≡ Checked.Accepted m = search needs in
     accepted-is (a .t .now) m (bytes-of-fits (a .t .now) (c .before .before .before .before .before .before .before .before .before .shared-slice-known .given)) (sym (c .before .before .before .check .ensures) ∙ e)
 
--- src/lib.rt:26:5
 zero-all-requires : tie.Need-zero-all-requires
 zero-all-requires c κs = search needs
 
--- src/lib.rt:27:32
 check-requires : tie.Need-check-requires
 check-requires c κs = search needs
 
--- src/lib.rt:27:27
 enum-known-m : tie.Need-enum-known-m
 enum-known-m c = search needs
 
--- src/lib.rt:28:9
 enum-told : tie.Need-enum-told
 enum-told c = search needs
 
--- src/lib.rt:28:9
 same-length : tie.Need-same-length
 same-length c = search needs
 
--- src/lib.rt:28:9
 returns : tie.Need-returns
 returns c = call-refused _ _ _ (refused-is (c .before .before .before .before .before .before .before .before .before .args .t .now) (sym (c .before .before .check .ensures) ∙ c .enum-told .given .1)) (c .before .before .before .before .before .zero-all .ensures)
 
--- src/lib.rt:30:9
 put-listing-requires : tie.Need-put-listing-requires
 put-listing-requires c κs = record { mapped = accepted (c .before) .map-is; rules = accepted (c .before) .sound .is-ruled }
 
--- src/lib.rt:32:9
 zero-all-requires-2 : tie.Need-zero-all-requires-2
 zero-all-requires-2 c κs = search needs
 
--- src/lib.rt:33:9
 same-length-2 : tie.Need-same-length-2
 same-length-2 c = search needs
 
--- src/lib.rt:33:9
 returns-2 : tie.Need-returns-2
 returns-2 c =
     let first = c .before .before .before .before .before .before .before .before .before .before .before .before .before .before .before .before .before .before .before .args .out .now in
@@ -66,11 +56,9 @@ returns-2 c =
     let h = c .before .before .before .before .if1 .taken in
     call-listed _ _ _ (accepted (c .before .before .before .before .before .before .before .before .before) .fits) Listed.Full (ap answers (full-in first empty w h)) (none-in first empty w h _ (c .before .before .zero-all2 .ensures))
 
--- src/lib.rt:23:1
 same-length-3 : tie.Need-same-length-3
 same-length-3 c = search needs
 
--- src/lib.rt:23:1
 returns-3 : tie.Need-returns-3
 returns-3 c =
     let first = c .before .before .before .before .before .before .before .before .before .before .before .before .before .before .before .args .out .now in

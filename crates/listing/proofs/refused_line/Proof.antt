@@ -7,23 +7,18 @@ use Rattle.listing.proofs.refused_line.Lts as lts
 use Rattle.listing.proofs.lines.put_refused.Reads as put-refused-reads
 use Rattle.words.proofs.zero_all.Reads as zero-all-reads
 
--- src/lib.rt:42:5
 zero-all-requires : tie.Need-zero-all-requires
 zero-all-requires c κs = search needs
 
--- src/lib.rt:43:9
 put-refused-requires : tie.Need-put-refused-requires
 put-refused-requires c κs = search needs
 
--- src/lib.rt:45:9
 zero-all-requires-2 : tie.Need-zero-all-requires-2
 zero-all-requires-2 c κs = search needs
 
--- src/lib.rt:46:9
 same-length : tie.Need-same-length
 same-length c = search needs
 
--- src/lib.rt:46:9
 returns : tie.Need-returns
 returns c =
     let first = c .before .before .before .before .before .before .before .before .before .before .before .before .before .before .args .out .now in
@@ -31,11 +26,9 @@ returns c =
     let empty = c .before .before .before .before .before .before .before .before .before .before .before .zero-all .ensures in
     line-call _ _ _ _ _ (no-count-in first empty w (c .before .before .before .before .if1 .taken)) (none-in first empty w (c .before .before .before .before .if1 .taken) _ (c .before .before .zero-all2 .ensures))
 
--- src/lib.rt:39:1
 same-length-2 : tie.Need-same-length-2
 same-length-2 c = search needs
 
--- src/lib.rt:39:1
 returns-2 : tie.Need-returns-2
 returns-2 c =
     let first = c .before .before .before .before .before .before .before .before .before .before .args .out .now in

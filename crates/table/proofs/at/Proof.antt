@@ -5,15 +5,12 @@ use Rattle.table.proofs.at.Tie as tie
 use Rattle.table.proofs.at.Reads as reads
 use Rattle.table.proofs.at.Lts as lts
 
--- src/lib.rt:42:5
 shared-slice-read-result : tie.Need-shared-slice-read-result
 shared-slice-read-result c = search needs
 
--- src/lib.rt:42:5
 cast-result : tie.Need-cast-result
 cast-result c = omega (arith, c .shared-slice-known .given (c .before .args .i))
 
--- src/lib.rt:38:1
 returns : tie.Need-returns
 returns c = search needs
 

@@ -46,91 +46,72 @@ whole c =
     let a = c .before .before .before .args in
     ap₂ (λ (u v : ℕ). firstBefore (textAt (a .t .now) (indicesAt + 12 * a .a) u) (textAt (a .t .now) (indicesAt + 12 * a .b) v)) (c .before .at .ensures) (c .at2 .ensures)
 
--- src/lib.rt:298:19
 add-at : tie.Need-add-at Inv-loop μ-loop
 add-at c = search needs
 
--- src/lib.rt:298:9
 at-requires : tie.Need-at-requires Inv-loop μ-loop
 at-requires c κs = search needs
 
--- src/lib.rt:299:19
 add-at-2 : tie.Need-add-at-2 Inv-loop μ-loop
 add-at-2 c = search needs
 
--- src/lib.rt:299:9
 at-requires-2 : tie.Need-at-requires-2 Inv-loop μ-loop
 at-requires-2 c κs = search needs
 
--- src/lib.rt:301:5
 loop-holds : tie.Need-loop-holds Inv-loop μ-loop
 loop-holds c =
     let w = rows c in
     let a = c .before .before .before .args in
     (omega arith, omega arith, before-begins (a .t .now) (indicesAt + 12 * a .a) (indicesAt + 12 * a .b) (c .before .at .result) (c .at2 .result) (w .first-inside) (w .second-inside))
 
--- src/lib.rt:303:13
 returns : tie.Need-returns Inv-loop μ-loop
 returns c =
     let w = rows (c .before .before .before) in
     let a = c .before .before .before .before .before .before .args in
     second-ends (a .t .now) (indicesAt + 12 * a .a) (indicesAt + 12 * a .b) (c .before .before .before .before .at .result) (c .before .before .before .at2 .result) (w .first-inside) (w .second-inside) (c .before .before .loop .i) (c .before .before .loop .inv .2) (c .before .loop-test .taken) (c .if1 .taken) ∙ whole (c .before .before .before)
 
--- src/lib.rt:305:29
 mul-p : tie.Need-mul-p Inv-loop μ-loop
 mul-p c = let w = rows (c .before .before .before) in omega arith
 
--- src/lib.rt:305:19
 add-p : tie.Need-add-p Inv-loop μ-loop
 add-p c = let w = rows (c .before .before .before) in omega arith
 
--- src/lib.rt:305:19
 add-p-2 : tie.Need-add-p-2 Inv-loop μ-loop
 add-p-2 c = let w = rows (c .before .before .before) in omega arith
 
--- src/lib.rt:305:17
 shared-slice-read-p : tie.Need-shared-slice-read-p Inv-loop μ-loop
 shared-slice-read-p c = let w = rows (c .before .before .before .before) in omega (arith, w .first-inside)
 
--- src/lib.rt:306:29
 mul-q : tie.Need-mul-q Inv-loop μ-loop
 mul-q c = let w = rows (c .before .before .before .before) in omega arith
 
--- src/lib.rt:306:19
 add-q : tie.Need-add-q Inv-loop μ-loop
 add-q c = let w = rows (c .before .before .before .before) in omega arith
 
--- src/lib.rt:306:19
 add-q-2 : tie.Need-add-q-2 Inv-loop μ-loop
 add-q-2 c = let w = rows (c .before .before .before .before) in omega arith
 
--- src/lib.rt:306:17
 shared-slice-read-q : tie.Need-shared-slice-read-q Inv-loop μ-loop
 shared-slice-read-q c = let w = rows (c .before .before .before .before .before) in omega (arith, w .second-inside)
 
--- src/lib.rt:308:13
 returns-2 : tie.Need-returns-2 Inv-loop μ-loop
 returns-2 c =
     let w = rows (c .before .before .before .before .before .before) in
     let a = c .before .before .before .before .before .before .before .before .before .args in
     before-less (a .t .now) (indicesAt + 12 * a .a) (indicesAt + 12 * a .b) (c .before .before .before .before .before .before .before .at .result) (c .before .before .before .before .before .before .at2 .result) (w .first-inside) (w .second-inside) (c .before .before .before .before .before .loop .i) (c .before .before .before .before .before .loop .inv .2) (c .before .before .before .before .loop-test .taken) (c .before .before .before .before .before .loop .inv .1) (c .before .before .before .if1 .left) (c .if2 .taken) ∙ whole (c .before .before .before .before .before .before)
 
--- src/lib.rt:311:13
 returns-3 : tie.Need-returns-3 Inv-loop μ-loop
 returns-3 c =
     let w = rows (c .before .before .before .before .before .before .before) in
     let a = c .before .before .before .before .before .before .before .before .before .before .args in
     before-more (a .t .now) (indicesAt + 12 * a .a) (indicesAt + 12 * a .b) (c .before .before .before .before .before .before .before .before .at .result) (c .before .before .before .before .before .before .before .at2 .result) (w .first-inside) (w .second-inside) (c .before .before .before .before .before .before .loop .i) (c .before .before .before .before .before .before .loop .inv .2) (c .before .before .before .before .before .loop-test .taken) (c .before .before .before .before .before .before .loop .inv .1) (c .before .before .before .before .if1 .left) (c .if3 .taken) ∙ whole (c .before .before .before .before .before .before .before)
 
--- src/lib.rt:313:9
 add-i : tie.Need-add-i Inv-loop μ-loop
 add-i c = search needs
 
--- src/lib.rt:301:5
 loop-less : tie.Need-loop-less Inv-loop μ-loop
 loop-less c = search needs
 
--- src/lib.rt:301:5
 loop-again : tie.Need-loop-again Inv-loop μ-loop
 loop-again c =
     let w = rows (c .before .before .before .before .before .before .before) in
@@ -138,7 +119,6 @@ loop-again c =
     let l = c .before .before .before .before .before .before .loop in
     (omega arith, omega (arith, c .before .before .before .before .if1 .left), before-goes-on (a .t .now) (indicesAt + 12 * a .a) (indicesAt + 12 * a .b) (c .before .before .before .before .before .before .before .before .at .result) (c .before .before .before .before .before .before .before .at2 .result) (w .first-inside) (w .second-inside) (l .i) (l .inv .2) (c .before .before .before .before .before .loop-test .taken) (l .inv .1) (c .before .before .before .before .if1 .left) (c .before .if2 .left) (c .if3 .left))
 
--- src/lib.rt:293:1
 returns-4 : tie.Need-returns-4 Inv-loop μ-loop
 returns-4 c =
     let w = rows (c .before .before) in

@@ -14,34 +14,27 @@ Inv-loop t p from q₀ q = (q ≤ p) × LowestFrom t p q
 abbrev μ-loop : tie.MeasureT-loop
 μ-loop t p from q₀ q = p - q
 
--- src/lib.rt:201:5
 loop-holds : tie.Need-loop-holds Inv-loop μ-loop
 loop-holds c = let start = c .before in (start .pre .1 .0, class-begins (start .args .t .now) (start .args .p) (start .args .from) (start .pre .1 .0) (start .pre .1 .1))
 
--- src/lib.rt:202:12
 same-step-requires : tie.Need-same-step-requires Inv-loop μ-loop
 same-step-requires c κs =
     let start = c .before .before .before in
     let q = c .before .loop .q in
     (start .pre .0 .0, omega arith, start .pre .0 .1, start .pre .0 .2 q (omega arith), start .pre .0 .2 (start .args .p) (omega arith))
 
--- src/lib.rt:203:13
 returns : tie.Need-returns Inv-loop μ-loop
 returns c = let a = c .before .before .before .before .before .args in class-found (a .t .now) (a .p) (c .before .before .before .loop .q) (c .before .before .before .loop .inv .1) (c .before .same-step .result) (c .before .before .loop-test .taken) (c .before .same-step .ensures) (c .if1 .taken)
 
--- src/lib.rt:205:9
 add-q : tie.Need-add-q Inv-loop μ-loop
 add-q c = search needs
 
--- src/lib.rt:201:5
 loop-less : tie.Need-loop-less Inv-loop μ-loop
 loop-less c = search needs
 
--- src/lib.rt:201:5
 loop-again : tie.Need-loop-again Inv-loop μ-loop
 loop-again c = let a = c .before .before .before .before .before .args in (omega arith, class-goes-on (a .t .now) (a .p) (c .before .before .before .loop .q) (c .before .before .before .loop .inv .1) (c .before .same-step .result) (c .before .before .loop-test .taken) (c .before .same-step .ensures) (c .if1 .left))
 
--- src/lib.rt:196:1
 returns-2 : tie.Need-returns-2 Inv-loop μ-loop
 returns-2 c = let a = c .before .before .before .args in class-is-own (a .t .now) (a .p) (c .before .loop .q) (c .before .loop .inv .1) (omega arith)
 

@@ -35,17 +35,14 @@ filled-as e f = rw e f
 zeroed : (c : tie.After-zero-all Inv-loop μ-loop) → c .zero-all .last .0 ≡ zeros tableSize
 zeroed c = c .zero-all .ensures ∙ ap zeros (c .before .before .before .before .pre .1)
 
--- src/lib.rt:309:5
 zero-all-requires : tie.Need-zero-all-requires Inv-loop μ-loop
 zero-all-requires c κs = search needs
 
--- src/lib.rt:310:5
 put-roots-requires : tie.Need-put-roots-requires Inv-loop μ-loop
 put-roots-requires c κs =
     let start = c .before .before .before .before .before .before .before in
     (start .pre .0, ap length (zeroed (c .before .before .before)) ∙ length-replicate {A = ℕ} tableSize 0)
 
--- src/lib.rt:312:5
 loop-holds : tie.Need-loop-holds Inv-loop μ-loop
 loop-holds c =
     let start = c .before .before .before .before .before .before .before .before .before .before in
@@ -54,35 +51,29 @@ loop-holds c =
     let e = roots .ensures ∙ ap (λ (t : List ℕ). rootedEach s t 0 (clauses s)) (zeroed (c .before .before .before .before .before .before)) in
     (omega arith, filled-as e (roots-filled (start .pre .0 .ok)))
 
--- src/lib.rt:313:9
 fill-at-requires : tie.Need-fill-at-requires Inv-loop μ-loop
 fill-at-requires c κs =
     let start = c .before .before .before .before .before .before .before .before .before .before .before .before .before .before in
     (start .pre .0, omega (arith, its start .of-patterns), c .before .before .before .loop .inv .1)
 
--- src/lib.rt:314:9
 add-p : tie.Need-add-p Inv-loop μ-loop
 add-p c = search needs
 
--- src/lib.rt:312:5
 loop-less : tie.Need-loop-less Inv-loop μ-loop
 loop-less c =
     let start = c .before .before .before .before .before .before .before .before .before .before .before .before .before .before .before .before .before in
     omega (arith, its start .of-patterns)
 
--- src/lib.rt:312:5
 loop-again : tie.Need-loop-again Inv-loop μ-loop
 loop-again c =
     let start = c .before .before .before .before .before .before .before .before .before .before .before .before .before .before .before .before .before in
     (omega (arith, its start .of-patterns), c .before .before .fill-at .ensures)
 
--- src/lib.rt:305:1
 same-length : tie.Need-same-length Inv-loop μ-loop
 same-length c =
     let start = c .before .before .before .before .before .before .before .before .before .before .before .before .before in
     c .before .before .loop .inv .1 .long ∙ sym (start .pre .1)
 
--- src/lib.rt:305:1
 returns : tie.Need-returns Inv-loop μ-loop
 returns c =
     let start = c .before .before .before .before .before .before .before .before .before .before .before .before .before in

@@ -42,17 +42,14 @@ with-test c =
     let pre = c .before .before .before .before .before .before .before .before .before .before .before .before .pre in
     filled-as (c .put-test .ensures) (test-filled (pre .0 .ok) (pre .1) (with-indices (c .before .before .before .before)))
 
--- src/lib.rt:298:5
 put-class-requires : tie.Need-put-class-requires
 put-class-requires c κs = let pre = c .before .before .before .pre in ranged (pre .0 .ok) (pre .1) (pre .2) (omega arith)
 
--- src/lib.rt:299:5
 put-indices-requires : tie.Need-put-indices-requires
 put-indices-requires c κs =
     let pre = c .before .before .before .before .before .before .before .pre in
     row-below (pre .0 .ok) (pre .1) (with-class (c .before .before .before)) (omega arith)
 
--- src/lib.rt:300:5
 put-test-requires : tie.Need-put-test-requires
 put-test-requires c κs =
     let start = c .before .before .before .before .before .before .before .before .before .before .before in
@@ -60,18 +57,15 @@ put-test-requires c κs =
     let filled = with-indices (c .before .before .before) in
     (pre .0, filled .long, pre .1, placed-here (pre .0 .ok) (pre .1) filled (omega arith), filled .classed (start .args .p) (pre .1) (omega arith))
 
--- src/lib.rt:301:5
 place-children-requires : tie.Need-place-children-requires
 place-children-requires c κs =
     let pre = c .before .before .before .before .before .before .before .before .before .before .before .before .before .before .before .pre in
     let filled = with-test (c .before .before .before) in
     (pre .0, filled .long, pre .1, placed-here (pre .0 .ok) (pre .1) filled (omega arith))
 
--- src/lib.rt:294:1
 same-length : tie.Need-same-length
 same-length c = search needs
 
--- src/lib.rt:294:1
 returns : tie.Need-returns
 returns c =
     let pre = c .before .before .before .before .before .before .before .before .before .before .before .before .before .before .before .before .before .before .pre in

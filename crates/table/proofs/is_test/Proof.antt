@@ -12,39 +12,30 @@ use Rattle.sheet.proofs.records.type_at.Reads as type-at-reads
 use Rattle.table.proofs.at.Reads as at-reads
 use Rattle.table.proofs.one_constructor.Reads as one-constructor-reads
 
--- src/lib.rt:249:9
 pattern-at-requires : tie.Need-pattern-at-requires
 pattern-at-requires c κs = search needs
 
--- src/lib.rt:250:34
 add-at : tie.Need-add-at
 add-at c = search needs
 
--- src/lib.rt:250:28
 at-requires : tie.Need-at-requires
 at-requires c κs = search needs
 
--- src/lib.rt:250:9
 type-at-requires : tie.Need-type-at-requires
 type-at-requires c κs = let start = c .before .before .before .before in (start .pre .0 .ok .is-laid, start .pre .0 .is-map, omega (arith, c .at .ensures, start .pre .3, type-known (start .pre .0 .ok) (start .args .p) (start .pre .2)))
 
--- src/lib.rt:254:15
 one-constructor-requires : tie.Need-one-constructor-requires
 one-constructor-requires c κs = search needs
 
--- src/lib.rt:245:1
 returns : tie.Need-returns
 returns c = let start = c .before .before .before .before .before .before .before in constructor-tests (start .args .s .now) (start .args .p) (c .before .before .before .before .pattern-at .result) (c .before .before .before .before .pattern-at .ensures) (c .before .before .type-at .result) (c .before .before .before .at .result) (c .one-constructor .result) (c .before .before .before .at .ensures ∙ start .pre .3) (c .before .before .type-at .ensures) (c .one-constructor .ensures) (c .before .match .keys1)
 
--- src/lib.rt:245:1
 returns-2 : tie.Need-returns-2
 returns-2 c = let start = c .before .before .before .before .before .before .before .before in text-or-list-tests (start .args .s .now) (start .args .p) (c .before .before .before .before .before .pattern-at .result) (c .before .before .before .before .before .pattern-at .ensures) (omega arith) (omega arith)
 
--- src/lib.rt:245:1
 returns-3 : tie.Need-returns-3
 returns-3 c = let start = c .before .before .before .before .before .before .before in plain-tests-not (start .args .s .now) (start .args .p) (c .before .before .before .before .pattern-at .result) (c .before .before .before .before .pattern-at .ensures) (omega arith)
 
--- src/lib.rt:245:1
 returns-4 : tie.Need-returns-4
 returns-4 c = let start = c .before .before .before .before .before .before .before .before in pair-tests-not (start .args .s .now) (start .args .p) (c .before .before .before .before .before .pattern-at .result) (c .before .before .before .before .before .pattern-at .ensures) (omega arith) (c .before .before .match .rest .1)
 

@@ -5,11 +5,9 @@ use Rattle.table.proofs.one_constructor.Tie as tie
 use Rattle.table.proofs.one_constructor.Reads as reads
 use Rattle.table.proofs.one_constructor.Lts as lts
 
--- src/lib.rt:91:9
 returns : tie.Need-returns
 returns c = other-kind (c .before .before .args .ty .kind) (c .before .before .args .ty .count) (c .if1 .taken)
 
--- src/lib.rt:87:1
 returns-2 : tie.Need-returns-2
 returns-2 c = data-kind (c .before .before .before .args .ty .kind) (c .before .before .before .args .ty .count) (c .before .if1 .left)
 

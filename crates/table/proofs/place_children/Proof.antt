@@ -41,125 +41,96 @@ reading c =
       is-owner = start .pre .3 .owner;
     }
 
--- src/lib.rt:125:9
 pattern-at-requires : tie.Need-pattern-at-requires
 pattern-at-requires c κs = search needs
 
--- src/lib.rt:126:22
 add-at : tie.Need-add-at
 add-at c = search needs
 
--- src/lib.rt:126:9
 at-requires : tie.Need-at-requires
 at-requires c κs = search needs
 
--- src/lib.rt:127:19
 add-owner : tie.Need-add-owner
 add-owner c = search needs
 
--- src/lib.rt:127:17
 slice-read-owner : tie.Need-slice-read-owner
 slice-read-owner c = search needs
 
--- src/lib.rt:128:9
 type-at-requires : tie.Need-type-at-requires
 type-at-requires c κs =
     let start = c .before .before .before .before .before .before in
     (start .pre .0 .ok .is-laid, start .pre .0 .is-map, omega (arith, c .before .at .ensures, start .pre .3 .type, type-known (start .pre .0 .ok) (start .args .p) (start .pre .2)))
 
--- src/lib.rt:131:30
 child-at-requires : tie.Need-child-at-requires
 child-at-requires c κs = let rd = reading (c .before .before) in (rd .checked .ok .is-laid, rd .checked .is-map, assign-entry rd (c .before .match .keys1))
 
--- src/lib.rt:131:14
 put-child-requires : tie.Need-put-child-requires
 put-child-requires c κs =
     let rd = reading (c .before .before .before) in
     let w = assign-put rd (c .before .before .match .keys1) (c .child-at .result) (c .child-at .ensures) in
     (rd .long, w .0, w .1, omega arith, omega (arith, its-type (c .before .before .before), type-small rd))
 
--- src/lib.rt:132:65
 add-put-children : tie.Need-add-put-children
 add-put-children c = omega (arith, known-small (reading (c .before .before)))
 
--- src/lib.rt:132:64
 cast-put-children : tie.Need-cast-put-children
 cast-put-children c = omega (arith, known-small (reading (c .before .before)))
 
--- src/lib.rt:132:14
 put-children-requires : tie.Need-put-children-requires
 put-children-requires c κs = let rd = reading (c .before .before) in (rd .checked, rd .long, list-of-parts rd (c .before .match .keys2))
 
--- src/lib.rt:133:14
 place-tailed-requires : tie.Need-place-tailed-requires
 place-tailed-requires c κs = let rd = reading (c .before .before) in (reading-owned rd, c .before .match .keys3, its-type (c .before .before))
 
--- src/lib.rt:134:14
 place-fields-requires : tie.Need-place-fields-requires
 place-fields-requires c κs = let rd = reading (c .before .before) in (rd, c .before .match .keys4)
 
--- src/lib.rt:135:14
 put-children-requires-2 : tie.Need-put-children-requires-2
 put-children-requires-2 c κs = let rd = reading (c .before .before) in (rd .checked, rd .long, pair-of-parts rd (c .before .match .keys5))
 
--- src/lib.rt:136:14
 put-children-requires-3 : tie.Need-put-children-requires-3
 put-children-requires-3 c κs = let rd = reading (c .before .before) in (rd .checked, rd .long, tuple-of-parts rd (c .before .match .keys6))
 
--- src/lib.rt:121:1
 same-length : tie.Need-same-length
 same-length c = search needs
 
--- src/lib.rt:121:1
 returns : tie.Need-returns
 returns c =
     assign-placed (reading (c .before .before .before .before .before .before)) (c .before .before .before .before .before .match .keys1) (c .before .before .put-child .last .0) (c .before .before .before .child-at .result) (c .before .before .before .before .before .before .before .before .at .result) (c .before .before .before .child-at .ensures) (its-type (c .before .before .before .before .before .before)) (c .before .before .put-child .ensures)
 
--- src/lib.rt:121:1
 same-length-2 : tie.Need-same-length-2
 same-length-2 c = search needs
 
--- src/lib.rt:121:1
 returns-2 : tie.Need-returns-2
 returns-2 c = list-placed (reading (c .before .before .before .before .before)) (c .before .before .put-children .last .1 .1 .0) (c .before .before .before .before .match .keys2) (c .before .before .put-children .ensures)
 
--- src/lib.rt:121:1
 same-length-3 : tie.Need-same-length-3
 same-length-3 c = search needs
 
--- src/lib.rt:121:1
 returns-3 : tie.Need-returns-3
 returns-3 c = tailed-placed (reading (c .before .before .before .before .before)) (c .before .before .place-tailed .last .1 .1 .0) (c .before .before .before .before .match .keys3) (c .before .before .place-tailed .ensures)
 
--- src/lib.rt:121:1
 same-length-4 : tie.Need-same-length-4
 same-length-4 c = search needs
 
--- src/lib.rt:121:1
 returns-4 : tie.Need-returns-4
 returns-4 c = constructor-placed (reading (c .before .before .before .before .before)) (c .before .before .place-fields .last .1 .1 .0) (c .before .before .before .before .match .keys4) (c .before .before .place-fields .ensures)
 
--- src/lib.rt:121:1
 same-length-5 : tie.Need-same-length-5
 same-length-5 c = search needs
 
--- src/lib.rt:121:1
 returns-5 : tie.Need-returns-5
 returns-5 c = pair-placed (reading (c .before .before .before .before .before)) (c .before .before .put-children2 .last .1 .1 .0) (c .before .before .before .before .match .keys5) (c .before .before .put-children2 .ensures)
 
--- src/lib.rt:121:1
 same-length-6 : tie.Need-same-length-6
 same-length-6 c = search needs
 
--- src/lib.rt:121:1
 returns-6 : tie.Need-returns-6
 returns-6 c = tuple-placed (reading (c .before .before .before .before .before)) (c .before .before .put-children3 .last .1 .1 .0) (c .before .before .before .before .match .keys6) (c .before .before .put-children3 .ensures)
 
--- src/lib.rt:121:1
 same-length-7 : tie.Need-same-length-7
 same-length-7 c = search needs
 
--- src/lib.rt:121:1
 returns-7 : tie.Need-returns-7
 returns-7 c = let n = c .match .rest in none-placed (reading (c .before)) (n .0 .0 .0 .0 .0 .1) (n .0 .0 .0 .0 .1) (n .0 .0 .0 .1) (n .0 .0 .1) (n .0 .1) (n .1)
 

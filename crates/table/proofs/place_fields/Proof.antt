@@ -12,29 +12,23 @@ use Rattle.sheet.proofs.records.constructor_at.Reads as constructor-at-reads
 use Rattle.table.proofs.one_constructor.Reads as one-constructor-reads
 use Rattle.table.proofs.put_children.Reads as put-children-reads
 
--- src/lib.rt:101:34
 add-constructor-at : tie.Need-add-constructor-at
 add-constructor-at c = let start = c .before .before .before .before in omega (arith, constructor-known (start .pre .0) (start .pre .1), start .pre .0 .checked .ok .is-counted .constructors-most)
 
--- src/lib.rt:101:9
 constructor-at-requires : tie.Need-constructor-at-requires
 constructor-at-requires c κs = let start = c .before .before .before .before in (start .pre .0 .checked .ok .is-laid, start .pre .0 .checked .is-map, constructor-known (start .pre .0) (start .pre .1))
 
--- src/lib.rt:102:8
 one-constructor-requires : tie.Need-one-constructor-requires
 one-constructor-requires c κs = search needs
 
--- src/lib.rt:103:9
 put-children-requires : tie.Need-put-children-requires
 put-children-requires c κs =
     let start = c .before .before .before .before .before .before .before .before in
     (start .pre .0 .checked, start .pre .0 .long, fields-of-parts (start .pre .0) (c .before .before .before .constructor-at .result) (c .before .before .before .constructor-at .ensures) (start .pre .1))
 
--- src/lib.rt:104:9
 same-length : tie.Need-same-length
 same-length c = search needs
 
--- src/lib.rt:104:9
 returns : tie.Need-returns
 returns c =
     let start = c .before .before .before .before .before .before .before .before .before .before .before in
@@ -42,25 +36,20 @@ returns c =
     let one = c .before .before .before .before .before .one-constructor in
     fields-placed (start .pre .0) (run .result) (run .ensures) (one .result) (c .before .before .put-children .last .1 .1 .0) (start .args .owner) (one .ensures) (sym (pick-true (one .result) (start .args .owner) (start .args .p + 1) (c .before .before .before .before .if1 .taken))) (c .before .before .put-children .ensures)
 
--- src/lib.rt:106:55
 add-put-children : tie.Need-add-put-children
 add-put-children c = let start = c .before .before .before .before .before .before .before .before in omega (arith, known-small (start .pre .0))
 
--- src/lib.rt:106:54
 cast-put-children : tie.Need-cast-put-children
 cast-put-children c = let start = c .before .before .before .before .before .before .before .before in omega (arith, known-small (start .pre .0))
 
--- src/lib.rt:106:5
 put-children-requires-2 : tie.Need-put-children-requires-2
 put-children-requires-2 c κs =
     let start = c .before .before .before .before .before .before .before .before in
     (start .pre .0 .checked, start .pre .0 .long, fields-of-parts (start .pre .0) (c .before .before .before .constructor-at .result) (c .before .before .before .constructor-at .ensures) (start .pre .1))
 
--- src/lib.rt:97:1
 same-length-2 : tie.Need-same-length-2
 same-length-2 c = search needs
 
--- src/lib.rt:97:1
 returns-2 : tie.Need-returns-2
 returns-2 c =
     let start = c .before .before .before .before .before .before .before .before .before .before .before in

@@ -11,50 +11,39 @@ use Rattle.sheet.proofs.records.child_at.Reads as child-at-reads
 use Rattle.table.proofs.put_child.Reads as put-child-reads
 use Rattle.table.proofs.put_children.Reads as put-children-reads
 
--- src/lib.rt:114:13
 sub-n : tie.Need-sub-n
 sub-n c = let start = c .before .before .before in omega (arith, tail-some (start .pre .0) (start .pre .1))
 
--- src/lib.rt:115:31
 add-child-at : tie.Need-add-child-at
 add-child-at c = let start = c .before .before .before .before in omega (arith, tail-entry (start .pre .0) (start .pre .1), start .pre .0 .checked .ok .is-counted .children-most)
 
--- src/lib.rt:115:9
 child-at-requires : tie.Need-child-at-requires
 child-at-requires c κs = let start = c .before .before .before .before in (start .pre .0 .checked .ok .is-laid, start .pre .0 .checked .is-map, tail-entry (start .pre .0) (start .pre .1))
 
--- src/lib.rt:116:50
 add-put-children : tie.Need-add-put-children
 add-put-children c = let start = c .before .before .before .before .before .before in omega (arith, known-small (start .pre .0))
 
--- src/lib.rt:116:49
 cast-put-children : tie.Need-cast-put-children
 cast-put-children c = let start = c .before .before .before .before .before .before in omega (arith, known-small (start .pre .0))
 
--- src/lib.rt:116:5
 put-children-requires : tie.Need-put-children-requires
 put-children-requires c κs = let start = c .before .before .before .before .before .before in (start .pre .0 .checked, start .pre .0 .long, elements (start .pre .0) (start .pre .1))
 
--- src/lib.rt:117:40
 add-put-child : tie.Need-add-put-child
 add-put-child c = let start = c .before .before .before .before .before .before .before .before .before .before in omega (arith, known-small (start .pre .0))
 
--- src/lib.rt:117:39
 cast-put-child : tie.Need-cast-put-child
 cast-put-child c = let start = c .before .before .before .before .before .before .before .before .before .before in omega (arith, known-small (start .pre .0))
 
--- src/lib.rt:117:5
 put-child-requires : tie.Need-put-child-requires
 put-child-requires c κs =
     let start = c .before .before .before .before .before .before .before .before .before .before in
     let w = tail-put (start .pre .0) (start .pre .1) (c .before .before .before .before .before .child-at .result) (c .before .before .before .before .before .child-at .ensures) in
     (ap length (c .before .before .before .put-children .ensures) ∙ length-placedEach _ _ _ _ _ _ _ _ _ ∙ start .pre .0 .long, w .0, w .1, w .2, omega (arith, start .pre .2, type-small (start .pre .0)))
 
--- src/lib.rt:110:1
 same-length : tie.Need-same-length
 same-length c = search needs
 
--- src/lib.rt:110:1
 returns : tie.Need-returns
 returns c =
     let start = c .before .before .before .before .before .before .before .before .before .before .before .before .before in

@@ -8,79 +8,60 @@ use Rattle.table.proofs.put_child.Tie as tie
 use Rattle.table.proofs.put_child.Reads as reads
 use Rattle.table.proofs.put_child.Lts as lts
 
--- src/lib.rt:50:20
 add-clause : tie.Need-add-clause
 add-clause c = search needs
 
--- src/lib.rt:50:18
 slice-read-clause : tie.Need-slice-read-clause
 slice-read-clause c = search needs
 
--- src/lib.rt:51:20
 cast-t : tie.Need-cast-t
 cast-t c = search needs
 
--- src/lib.rt:51:7
 add-t : tie.Need-add-t
 add-t c = search needs
 
--- src/lib.rt:51:5
 slice-write-t : tie.Need-slice-write-t
 slice-write-t c = search needs
 
--- src/lib.rt:52:7
 add-t-2 : tie.Need-add-t-2
 add-t-2 c = search needs
 
--- src/lib.rt:52:5
 slice-write-t-2 : tie.Need-slice-write-t-2
 slice-write-t-2 c = simp length-set (omega arith)
 
--- src/lib.rt:53:20
 cast-t-2 : tie.Need-cast-t-2
 cast-t-2 c = search needs
 
--- src/lib.rt:53:7
 add-t-3 : tie.Need-add-t-3
 add-t-3 c = search needs
 
--- src/lib.rt:53:5
 slice-write-t-3 : tie.Need-slice-write-t-3
 slice-write-t-3 c = simp length-set (omega arith)
 
--- src/lib.rt:54:19
 cast-t-3 : tie.Need-cast-t-3
 cast-t-3 c = search needs
 
--- src/lib.rt:54:7
 add-t-4 : tie.Need-add-t-4
 add-t-4 c = search needs
 
--- src/lib.rt:54:5
 slice-write-t-4 : tie.Need-slice-write-t-4
 slice-write-t-4 c = simp length-set (omega arith)
 
--- src/lib.rt:55:7
 add-t-5 : tie.Need-add-t-5
 add-t-5 c = search needs
 
--- src/lib.rt:55:5
 slice-write-t-5 : tie.Need-slice-write-t-5
 slice-write-t-5 c = simp length-set (omega arith)
 
--- src/lib.rt:56:7
 add-t-6 : tie.Need-add-t-6
 add-t-6 c = search needs
 
--- src/lib.rt:56:5
 slice-write-t-6 : tie.Need-slice-write-t-6
 slice-write-t-6 c = simp length-set (omega arith)
 
--- src/lib.rt:46:1
 same-length : tie.Need-same-length
 same-length c = simp length-set
 
--- src/lib.rt:46:1
 returns : tie.Need-returns
 unfolding placed
 returns c = refl

@@ -22,47 +22,39 @@ Inv-loop s m t₀ p n step e stride owner r i₀ t i =
 abbrev μ-loop : tie.MeasureT-loop
 μ-loop s m t₀ p n step e stride owner r i₀ t i = n - i
 
--- src/lib.rt:78:9
 pattern-at-requires : tie.Need-pattern-at-requires Inv-loop μ-loop
 pattern-at-requires c κs = let start = c .before .before in (start .pre .0 .ok .is-laid, start .pre .0 .is-map, start .pre .2 .known)
 
--- src/lib.rt:80:5
 loop-holds : tie.Need-loop-holds Inv-loop μ-loop
 loop-holds c =
     let a = c .before .before .before .args in
     (omega arith, c .before .before .before .pre .1, ap (placedEach (a .s .now) (a .t .now) (a .p) (a .step) (a .e) (a .stride) (a .owner) 0) (sub-zero (a .n)))
 
--- src/lib.rt:81:40
 add-child-at : tie.Need-add-child-at Inv-loop μ-loop
 add-child-at c =
     let start = c .before .before .before .before .before .before .before in
     omega (arith, first-is (start .args .s .now) (start .args .p) (c .before .before .before .before .pattern-at .result) (c .before .before .before .before .pattern-at .ensures), parts-entry (start .pre .0) (start .pre .2) (c .before .before .before .loop .i) (c .before .before .loop-test .taken), start .pre .0 .ok .is-counted .children-most)
 
--- src/lib.rt:81:25
 child-at-requires : tie.Need-child-at-requires Inv-loop μ-loop
 child-at-requires c κs =
     let start = c .before .before .before .before .before .before .before in
     (start .pre .0 .ok .is-laid, start .pre .0 .is-map, omega (arith, first-is (start .args .s .now) (start .args .p) (c .before .before .before .before .pattern-at .result) (c .before .before .before .before .pattern-at .ensures), parts-entry (start .pre .0) (start .pre .2) (c .before .before .before .loop .i) (c .before .before .loop-test .taken)))
 
--- src/lib.rt:81:82
 mul-entry-at : tie.Need-mul-entry-at Inv-loop μ-loop
 mul-entry-at c =
     let start = c .before .before .before .before .before .before .before .before in
     omega (arith, parts-type (start .pre .0) (start .pre .2) (c .before .before .before .before .loop .i) (c .before .before .before .loop-test .taken), start .pre .0 .ok .is-counted .entries-most)
 
--- src/lib.rt:81:78
 add-entry-at : tie.Need-add-entry-at Inv-loop μ-loop
 add-entry-at c =
     let start = c .before .before .before .before .before .before .before .before in
     omega (arith, parts-type (start .pre .0) (start .pre .2) (c .before .before .before .before .loop .i) (c .before .before .before .loop-test .taken), start .pre .0 .ok .is-counted .entries-most)
 
--- src/lib.rt:81:63
 entry-at-requires : tie.Need-entry-at-requires Inv-loop μ-loop
 entry-at-requires c κs =
     let start = c .before .before .before .before .before .before .before .before in
     (start .pre .0 .ok .is-laid, start .pre .0 .is-map, parts-type (start .pre .0) (start .pre .2) (c .before .before .before .before .loop .i) (c .before .before .before .loop-test .taken))
 
--- src/lib.rt:81:9
 put-child-requires : tie.Need-put-child-requires Inv-loop μ-loop
 put-child-requires c κs =
     let start = c .before .before .before .before .before .before .before .before .before in
@@ -71,15 +63,12 @@ put-child-requires c κs =
     let w = parts-put (start .pre .0) (start .pre .2) (l .i) (c .before .child-at .result) (c .entry-at .result) (r .result) (c .before .before .before .before .loop-test .taken) (r .ensures) (c .before .child-at .ensures) (c .entry-at .ensures) in
     (l .inv .1, w .0, w .1, w .2, w .3)
 
--- src/lib.rt:82:9
 add-i : tie.Need-add-i Inv-loop μ-loop
 add-i c = search needs
 
--- src/lib.rt:80:5
 loop-less : tie.Need-loop-less Inv-loop μ-loop
 loop-less c = search needs
 
--- src/lib.rt:80:5
 loop-again : tie.Need-loop-again Inv-loop μ-loop
 loop-again c =
     let start = c .before .before .before .before .before .before .before .before .before .before .before .before in
@@ -96,11 +85,9 @@ loop-again c =
           ∙ l .inv .2,
     )
 
--- src/lib.rt:74:1
 same-length : tie.Need-same-length Inv-loop μ-loop
 same-length c = search needs
 
--- src/lib.rt:74:1
 returns : tie.Need-returns Inv-loop μ-loop
 returns c =
     let a = c .before .before .before .before .before .args in

@@ -23,99 +23,75 @@ low : (c : tie.Start) (above : ℕ) → above ≡ aboveIn (c .args .t .now) (c .
     × ((q : ℕ) → q < getD (c .args .t .now) (classAt + above) 0 → sameStepIn (c .args .t .now) q (c .args .p) ≡ false)
 low c above e = rw e (c .pre .class-below, c .pre .none-below)
 
--- src/lib.rt:215:23
 add-at : tie.Need-add-at
 add-at c = search needs
 
--- src/lib.rt:215:9
 at-requires : tie.Need-at-requires
 at-requires c κs = search needs
 
--- src/lib.rt:216:19
 add-class : tie.Need-add-class
 add-class c = let start = c .before .before .before in omega (arith, c .at .ensures, start .pre .above (start .args .p) (omega arith))
 
--- src/lib.rt:216:17
 slice-read-class : tie.Need-slice-read-class
 slice-read-class c = let start = c .before .before .before .before in omega (arith, c .before .at .ensures, start .pre .above (start .args .p) (omega arith), start .pre .long)
 
--- src/lib.rt:217:19
 add-depth : tie.Need-add-depth
 add-depth c = let start = c .before .before .before .before in omega (arith, c .before .at .ensures, start .pre .above (start .args .p) (omega arith))
 
--- src/lib.rt:217:17
 slice-read-depth : tie.Need-slice-read-depth
 slice-read-depth c = let start = c .before .before .before .before .before in omega (arith, c .before .before .at .ensures, start .pre .above (start .args .p) (omega arith), start .pre .long)
 
--- src/lib.rt:218:10
 add-if1 : tie.Need-add-if1
 add-if1 c = search needs
 
--- src/lib.rt:218:8
 slice-read-if1 : tie.Need-slice-read-if1
 slice-read-if1 c = search needs
 
--- src/lib.rt:219:11
 add-t : tie.Need-add-t
 add-t c = search needs
 
--- src/lib.rt:219:9
 slice-write-t : tie.Need-slice-write-t
 slice-write-t c = search needs
 
--- src/lib.rt:220:11
 add-t-2 : tie.Need-add-t-2
 add-t-2 c = search needs
 
--- src/lib.rt:220:9
 slice-write-t-2 : tie.Need-slice-write-t-2
 slice-write-t-2 c = simp length-set (omega arith)
 
--- src/lib.rt:221:9
 same-length : tie.Need-same-length
 same-length c = simp length-set
 
--- src/lib.rt:221:9
 returns : tie.Need-returns
 returns c = let start = c .before .before .before .before .before .before .before in classed-same (start .args .t .now) (start .args .p) (c .before .before .before .before .at .result) (c .before .before .before .before .at .ensures) (c .if1 .taken)
 
--- src/lib.rt:226:33
 cast-class-of : tie.Need-cast-class-of
 cast-class-of c = let start = c .before .before .before .before .before .before .before .before in omega (arith, low start (c .before .before .before .before .before .at .result) (c .before .before .before .before .before .at .ensures) .0, start .pre .known)
 
--- src/lib.rt:223:9
 class-of-requires : tie.Need-class-of-requires
 class-of-requires c κs = let start = c .before .before .before .before .before .before .before .before in ((start .pre .long, start .pre .known, start .pre .above), low start (c .before .before .before .before .before .at .result) (c .before .before .before .before .before .at .ensures))
 
--- src/lib.rt:224:20
 cast-t : tie.Need-cast-t
 cast-t c = let start = c .before .before .before .before .before .before .before .before .before in omega (arith, c .class-of .ensures, classIn-most (start .args .t .now) (start .args .p), start .pre .known)
 
--- src/lib.rt:224:7
 add-t-3 : tie.Need-add-t-3
 add-t-3 c = search needs
 
--- src/lib.rt:224:5
 slice-write-t-3 : tie.Need-slice-write-t-3
 slice-write-t-3 c = search needs
 
--- src/lib.rt:225:20
 add-t-4 : tie.Need-add-t-4
 add-t-4 c = let start = c .before .before .before .before .before .before .before .before .before in omega (arith, deep start (c .before .before .before .before .before .before .at .result) (c .before .before .before .before .before .before .at .ensures))
 
--- src/lib.rt:225:7
 add-t-5 : tie.Need-add-t-5
 add-t-5 c = search needs
 
--- src/lib.rt:225:5
 slice-write-t-4 : tie.Need-slice-write-t-4
 slice-write-t-4 c = simp length-set (omega arith)
 
--- src/lib.rt:211:1
 same-length-2 : tie.Need-same-length-2
 same-length-2 c = simp length-set
 
--- src/lib.rt:211:1
 returns-2 : tie.Need-returns-2
 returns-2 c = let start = c .before .before .before .before .before .before .before .before .before in classed-step (start .args .t .now) (start .args .p) (c .before .before .before .before .before .before .at .result) (c .before .before .before .before .before .before .at .ensures) (c .before .before .if1 .left) (c .class-of .result) (c .class-of .ensures)
 

@@ -22,75 +22,57 @@ abbrev μ-loop : tie.MeasureT-loop
 row : (c : tie.After-at2 Inv-loop μ-loop) → Row (c .before .before .before .before .before .args .p) (c .before .before .at .result) (c .at2 .result)
 row c = row-known (c .before .before .before .before .before .pre) (c .before .before .at .ensures) (c .at2 .ensures)
 
--- src/lib.rt:233:23
 add-at : tie.Need-add-at Inv-loop μ-loop
 add-at c = search needs
 
--- src/lib.rt:233:9
 at-requires : tie.Need-at-requires Inv-loop μ-loop
 at-requires c κs = search needs
 
--- src/lib.rt:234:23
 add-at-2 : tie.Need-add-at-2 Inv-loop μ-loop
 add-at-2 c = search needs
 
--- src/lib.rt:234:9
 at-requires-2 : tie.Need-at-requires-2 Inv-loop μ-loop
 at-requires-2 c κs = search needs
 
--- src/lib.rt:235:17
 add-own : tie.Need-add-own Inv-loop μ-loop
 add-own c = search needs
 
--- src/lib.rt:235:15
 slice-read-own : tie.Need-slice-read-own Inv-loop μ-loop
 slice-read-own c = search needs
 
--- src/lib.rt:237:5
 loop-holds : tie.Need-loop-holds Inv-loop μ-loop
 loop-holds c = let start = c .before .before .before .before .before .before in (omega arith, start .pre .ranged .long, sym (stored-nil (start .args .t .now) (1536 + 12 * start .args .p)))
 
--- src/lib.rt:238:47
 mul-t : tie.Need-mul-t Inv-loop μ-loop
 mul-t c = let w = row (c .before .before .before) in omega arith
 
--- src/lib.rt:238:37
 add-t : tie.Need-add-t Inv-loop μ-loop
 add-t c = let w = row (c .before .before .before) in omega arith
 
--- src/lib.rt:238:37
 add-t-2 : tie.Need-add-t-2 Inv-loop μ-loop
 add-t-2 c = let w = row (c .before .before .before) in omega arith
 
--- src/lib.rt:238:35
 slice-read-t : tie.Need-slice-read-t Inv-loop μ-loop
 slice-read-t c = let w = row (c .before .before .before .before) in omega arith
 
--- src/lib.rt:238:21
 mul-t-2 : tie.Need-mul-t-2 Inv-loop μ-loop
 mul-t-2 c = let w = row (c .before .before .before .before) in omega arith
 
--- src/lib.rt:238:11
 add-t-3 : tie.Need-add-t-3 Inv-loop μ-loop
 add-t-3 c = let w = row (c .before .before .before .before) in omega arith
 
--- src/lib.rt:238:11
 add-t-4 : tie.Need-add-t-4 Inv-loop μ-loop
 add-t-4 c = let w = row (c .before .before .before .before) in omega arith
 
--- src/lib.rt:238:9
 slice-write-t : tie.Need-slice-write-t Inv-loop μ-loop
 slice-write-t c = let w = row (c .before .before .before .before) in omega arith
 
--- src/lib.rt:239:9
 add-i : tie.Need-add-i Inv-loop μ-loop
 add-i c = search needs
 
--- src/lib.rt:237:5
 loop-less : tie.Need-loop-less Inv-loop μ-loop
 loop-less c = search needs
 
--- src/lib.rt:237:5
 loop-again : tie.Need-loop-again Inv-loop μ-loop
 loop-again c =
     let start = c .before .before .before .before .before .before .before .before .before in
@@ -98,27 +80,21 @@ loop-again c =
     let l = c .before .before .loop in
     (omega arith, simp length-set (l .inv .1), copied-more (start .args .t .now) (1536 + 12 * c .before .before .before .before .before .before .at .result) (1536 + 12 * start .args .p) (c .before .before .before .before .at2 .result) (start .pre .ranged .long) (omega arith) (omega arith) (l .t) (l .i) (c .before .loop-test .taken) (l .inv .2))
 
--- src/lib.rt:241:17
 mul-t-3 : tie.Need-mul-t-3 Inv-loop μ-loop
 mul-t-3 c = let w = row (c .before .before .before) in omega arith
 
--- src/lib.rt:241:7
 add-t-5 : tie.Need-add-t-5 Inv-loop μ-loop
 add-t-5 c = let w = row (c .before .before .before) in omega arith
 
--- src/lib.rt:241:7
 add-t-6 : tie.Need-add-t-6 Inv-loop μ-loop
 add-t-6 c = let w = row (c .before .before .before) in omega arith
 
--- src/lib.rt:241:5
 slice-write-t-2 : tie.Need-slice-write-t-2 Inv-loop μ-loop
 slice-write-t-2 c = let w = row (c .before .before .before) in omega arith
 
--- src/lib.rt:229:1
 same-length : tie.Need-same-length Inv-loop μ-loop
 same-length c = let start = c .before .before .before .before .before .before .before .before in simp length-set (c .before .loop .inv .1 ∙ sym (start .pre .ranged .long))
 
--- src/lib.rt:229:1
 returns : tie.Need-returns Inv-loop μ-loop
 returns c =
     let start = c .before .before .before .before .before .before .before .before in

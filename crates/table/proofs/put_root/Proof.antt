@@ -8,43 +8,33 @@ use Rattle.table.proofs.put_root.Tie as tie
 use Rattle.table.proofs.put_root.Reads as reads
 use Rattle.table.proofs.put_root.Lts as lts
 
--- src/lib.rt:276:7
 add-t : tie.Need-add-t
 add-t c = search needs
 
--- src/lib.rt:276:5
 slice-write-t : tie.Need-slice-write-t
 slice-write-t c = search needs
 
--- src/lib.rt:277:19
 cast-t : tie.Need-cast-t
 cast-t c = search needs
 
--- src/lib.rt:277:7
 add-t-2 : tie.Need-add-t-2
 add-t-2 c = search needs
 
--- src/lib.rt:277:5
 slice-write-t-2 : tie.Need-slice-write-t-2
 slice-write-t-2 c = simp length-set (omega arith)
 
--- src/lib.rt:278:21
 cast-t-2 : tie.Need-cast-t-2
 cast-t-2 c = search needs
 
--- src/lib.rt:278:7
 add-t-3 : tie.Need-add-t-3
 add-t-3 c = search needs
 
--- src/lib.rt:278:5
 slice-write-t-3 : tie.Need-slice-write-t-3
 slice-write-t-3 c = simp length-set (omega arith)
 
--- src/lib.rt:272:1
 same-length : tie.Need-same-length
 same-length c = simp length-set
 
--- src/lib.rt:272:1
 returns : tie.Need-returns
 unfolding rooted
 returns c = refl

@@ -25,15 +25,12 @@ abbrev μ-loop : tie.MeasureT-loop
 its : (c : tie.Start Inv-loop μ-loop) → Mapped (c .args .s .now) (c .args .m)
 its c = mapped (c .args .s .now) (c .args .m) (c .pre .0 .is-map)
 
--- src/lib.rt:286:5
 loop-holds : tie.Need-loop-holds Inv-loop μ-loop
 loop-holds c = let start = c .before .before in (omega arith, start .pre .1, ap (rootedEach (start .args .s .now) (start .args .t .now) 0) (sub-zero (clauses (start .args .s .now))))
 
--- src/lib.rt:287:21
 root-at-requires : tie.Need-root-at-requires Inv-loop μ-loop
 root-at-requires c κs = let start = c .before .before .before .before .before .before in (start .pre .0 .ok .is-laid, start .pre .0 .is-map, omega (arith, its start .of-clauses))
 
--- src/lib.rt:287:9
 put-root-requires : tie.Need-put-root-requires Inv-loop μ-loop
 put-root-requires c κs =
     let start = c .before .before .before .before .before .before .before in
@@ -46,15 +43,12 @@ put-root-requires c κs =
       omega (arith, its start .of-subject, ok .is-typed .subject-type, ok .is-counted .types-most),
     )
 
--- src/lib.rt:288:9
 add-c : tie.Need-add-c Inv-loop μ-loop
 add-c c = search needs
 
--- src/lib.rt:286:5
 loop-less : tie.Need-loop-less Inv-loop μ-loop
 loop-less c = let start = c .before .before .before .before .before .before .before .before .before .before in omega (arith, its start .of-clauses)
 
--- src/lib.rt:286:5
 loop-again : tie.Need-loop-again Inv-loop μ-loop
 loop-again c =
     let start = c .before .before .before .before .before .before .before .before .before .before in
@@ -68,11 +62,9 @@ loop-again c =
           ∙ l .inv .2,
     )
 
--- src/lib.rt:281:1
 same-length : tie.Need-same-length Inv-loop μ-loop
 same-length c = let start = c .before .before .before .before .before in (c .before .before .loop .inv .1 ∙ sym (start .pre .1))
 
--- src/lib.rt:281:1
 returns : tie.Need-returns Inv-loop μ-loop
 returns c =
     let start = c .before .before .before .before .before in

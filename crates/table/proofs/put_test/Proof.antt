@@ -17,63 +17,48 @@ inside c =
     let start = c .before .before .before .before .before .before .before .before .before in
     cell-inside (start .pre .0) (start .pre .2) (start .pre .3) (start .pre .4) (c .before .before .at .result) (c .at2 .result) (c .before .before .at .ensures) (c .at2 .ensures)
 
--- src/lib.rt:264:8
 is-test-requires : tie.Need-is-test-requires
 is-test-requires c κs = let start = c .before .before .before in (start .pre .0, start .pre .1, start .pre .2, start .pre .3 .type)
 
--- src/lib.rt:265:28
 add-at : tie.Need-add-at
 add-at c = search needs
 
--- src/lib.rt:265:13
 at-requires : tie.Need-at-requires
 at-requires c κs = search needs
 
--- src/lib.rt:266:27
 add-at-2 : tie.Need-add-at-2
 add-at-2 c = search needs
 
--- src/lib.rt:266:13
 at-requires-2 : tie.Need-at-requires-2
 at-requires-2 c κs = search needs
 
--- src/lib.rt:267:43
 add-t : tie.Need-add-t
 add-t c = let start = c .before .before .before .before .before .before .before .before .before in omega (arith, start .pre .2, start .pre .0 .ok .is-counted .patterns-most)
 
--- src/lib.rt:267:42
 cast-t : tie.Need-cast-t
 cast-t c = let start = c .before .before .before .before .before .before .before .before .before in omega (arith, start .pre .2, start .pre .0 .ok .is-counted .patterns-most)
 
--- src/lib.rt:267:18
 mul-t : tie.Need-mul-t
 mul-t c = omega (arith, inside c)
 
--- src/lib.rt:267:11
 add-t-2 : tie.Need-add-t-2
 add-t-2 c = omega (arith, inside c)
 
--- src/lib.rt:267:11
 add-t-3 : tie.Need-add-t-3
 add-t-3 c = omega (arith, inside c)
 
--- src/lib.rt:267:9
 slice-write-t : tie.Need-slice-write-t
 slice-write-t c = let start = c .before .before .before .before .before .before .before .before .before in omega (arith, inside c, start .pre .1)
 
--- src/lib.rt:260:1
 same-length : tie.Need-same-length
 same-length c = search needs
 
--- src/lib.rt:260:1
 returns : tie.Need-returns
 returns c = let start = c .before .before .before .before .before .before .before .before .before in tested-yes (start .args .t .now) (start .args .p) (isTest (start .args .s .now) (start .args .p)) (c .before .before .before .before .before .is-test .result) (c .before .before .at .result) (c .at2 .result) (c .before .before .before .before .before .is-test .ensures) (c .before .before .before .before .if1 .taken) (c .before .before .at .ensures) (c .at2 .ensures)
 
--- src/lib.rt:260:1
 same-length-2 : tie.Need-same-length-2
 same-length-2 c = search needs
 
--- src/lib.rt:260:1
 returns-2 : tie.Need-returns-2
 returns-2 c = let start = c .before .before .before .before .before in tested-no (start .args .t .now) (start .args .p) (isTest (start .args .s .now) (start .args .p)) (c .before .is-test .result) (c .before .is-test .ensures) (c .if1 .left)
 

@@ -98,7 +98,6 @@ do-build-tree-below t =
     (falls 5 do-build-tree-kinds.ps _<_ μ-do-build-tree t)
     do-build-tree.Pre
 
--- src/build.rt:135:9
 build-case-case-matrix-requires : (t : ℕ) → build-case-lts.Need-case-matrix-requires (
   case-matrix-reads.Asked,
   case-matrix-reads.Learnt,
@@ -107,7 +106,6 @@ build-case-case-matrix-requires : (t : ℕ) → build-case-lts.Need-case-matrix-
 ) (build-case-at t) build-case.Post
 build-case-case-matrix-requires t c κs = ((c .before .before .before .before .before .before .before .before .pre .1 .col .ready, c .before .before .before .before .before .before .before .before .pre .1 .col .there .whole, c .before .before .before .before .before .before .before .before .pre .1 .col .there .sound, column-in (c .before .before .before .before .before .before .before .before .pre .1 .col), c .before .before .before .before .before .before .before .before .pre .1 .pool), (refl, refl))
 
--- src/build.rt:151:5
 build-case-do-build-tree-requires : (t : ℕ) → build-case-lts.Need-do-build-tree-requires (
   case-matrix-reads.Asked,
   case-matrix-reads.Learnt,
@@ -116,7 +114,6 @@ build-case-do-build-tree-requires : (t : ℕ) → build-case-lts.Need-do-build-t
 ) (build-case-at t) build-case.Post
 build-case-do-build-tree-requires t c κs = (omega (arith, c .before .before .before .before .before .before .before .before .before .before .before .before .before .before .pre .0, tested-room (c .before .before .before .before .before .before .before .before .before .before .before .before .before .before .pre .1 .col), case-more (c .before .before .before .before .before .before .before .before .before .before .before .before .before .before .pre .1 .col) (matrixOf (c .before .before .before .before .before .case-matrix .last .1 .1 .1 .1 .1 .1 .1 .1 .1 .1 .0) (c .before .before .before .before .before .case-matrix .last .1 .1 .1 .1 .1 .1 .1 .1 .1 .1 .1 .0) (c .before .before .before .before .before .case-matrix .last .1 .1 .1 .1 .1 .0) (c .before .before .before .before .before .case-matrix .last .1 .1 .1 .1 .1 .1 .0) (c .before .before .before .before .before .case-matrix .result)) (meant (c .before .before .before .before .before .before .before .before .before .before .before .before .before .before .args .s .now) (c .before .before .before .before .before .before .before .before .before .before .before .before .before .before .args .test)) (c .before .before .before .before .before .case-matrix .ensures .whole) (c .before .before .before .before .before .case-matrix .ensures .are)), case-asked (c .before .before .before .before .before .before .before .before .before .before .before .before .before .before .pre .1) (matrixOf (c .before .before .before .before .before .case-matrix .last .1 .1 .1 .1 .1 .1 .1 .1 .1 .1 .0) (c .before .before .before .before .before .case-matrix .last .1 .1 .1 .1 .1 .1 .1 .1 .1 .1 .1 .0) (c .before .before .before .before .before .case-matrix .last .1 .1 .1 .1 .1 .0) (c .before .before .before .before .before .case-matrix .last .1 .1 .1 .1 .1 .1 .0) (c .before .before .before .before .before .case-matrix .result)) (c .before .before .before .before .before .case-matrix .ensures))
 
--- src/build.rt:113:1
 build-case-same-length : (t : ℕ) → build-case-lts.Need-same-length (
   case-matrix-reads.Asked,
   case-matrix-reads.Learnt,
@@ -125,7 +122,6 @@ build-case-same-length : (t : ℕ) → build-case-lts.Need-same-length (
 ) (build-case-at t) build-case.Post
 build-case-same-length t c = c .before .before .do-build-tree .kept .1 .1 .1 .1 .1 .1 .1 .1 .0
 
--- src/build.rt:113:1
 build-case-returns : (t : ℕ) → build-case-lts.Need-returns (
   case-matrix-reads.Asked,
   case-matrix-reads.Learnt,
@@ -165,7 +161,6 @@ cased-at t c =
 
 -- [end helpers]
 
--- src/build.rt:188:17
 build-cases-sub-count : (t : ℕ) → build-cases-lts.Need-sub-count (
   case-at-reads.Asked,
   case-at-reads.Learnt,
@@ -176,7 +171,6 @@ build-cases-sub-count : (t : ℕ) → build-cases-lts.Need-sub-count (
 ) (build-cases-at t) build-cases.Post build-cases-Inv-loop build-cases-μ-loop
 build-cases-sub-count t c = omega (arith, (c .before .before .before .before .pre .1 .1) .begun .to-come)
 
--- src/build.rt:191:5
 build-cases-loop-holds : (t : ℕ) → build-cases-lts.Need-loop-holds (
   case-at-reads.Asked,
   case-at-reads.Learnt,
@@ -187,7 +181,6 @@ build-cases-loop-holds : (t : ℕ) → build-cases-lts.Need-loop-holds (
 ) (build-cases-at t) build-cases.Post build-cases-Inv-loop build-cases-μ-loop
 build-cases-loop-holds t c = (omega arith, refl, still (c .before .before .before .before .pre .1 .0 .there .whole .whole-tested .long), loop-begin (c .before .before .before .before .pre .1 .0) (c .before .before .before .before .pre .1 .1))
 
--- src/build.rt:192:34
 build-cases-add-case-at : (t : ℕ) → build-cases-lts.Need-add-case-at (
   case-at-reads.Asked,
   case-at-reads.Learnt,
@@ -198,7 +191,6 @@ build-cases-add-case-at : (t : ℕ) → build-cases-lts.Need-add-case-at (
 ) (build-cases-at t) build-cases.Post build-cases-Inv-loop build-cases-μ-loop
 build-cases-add-case-at t c = omega (arith, turn-room (turn-at t (c .before)))
 
--- src/build.rt:192:13
 build-cases-case-at-requires : (t : ℕ) → build-cases-lts.Need-case-at-requires (
   case-at-reads.Asked,
   case-at-reads.Learnt,
@@ -209,7 +201,6 @@ build-cases-case-at-requires : (t : ℕ) → build-cases-lts.Need-case-at-requir
 ) (build-cases-at t) build-cases.Post build-cases-Inv-loop build-cases-μ-loop
 build-cases-case-at-requires t c κs = ((turn-room (turn-at t (c .before))) .2, (turn-room (turn-at t (c .before))) .0)
 
--- src/build.rt:194:25
 build-cases-add-put-child : (t : ℕ) → build-cases-lts.Need-add-put-child (
   case-at-reads.Asked,
   case-at-reads.Learnt,
@@ -220,7 +211,6 @@ build-cases-add-put-child : (t : ℕ) → build-cases-lts.Need-add-put-child (
 ) (build-cases-at t) build-cases.Post build-cases-Inv-loop build-cases-μ-loop
 build-cases-add-put-child t c = omega (arith, turn-room (turn-at t (c .before .before .before)))
 
--- src/build.rt:194:36
 build-cases-cast-put-child : (t : ℕ) → build-cases-lts.Need-cast-put-child (
   case-at-reads.Asked,
   case-at-reads.Learnt,
@@ -231,7 +221,6 @@ build-cases-cast-put-child : (t : ℕ) → build-cases-lts.Need-cast-put-child (
 ) (build-cases-at t) build-cases.Post build-cases-Inv-loop build-cases-μ-loop
 build-cases-cast-put-child t c = omega (arith, turn-room (turn-at t (c .before .before .before .before)))
 
--- src/build.rt:194:9
 build-cases-put-child-requires : (t : ℕ) → build-cases-lts.Need-put-child-requires (
   case-at-reads.Asked,
   case-at-reads.Learnt,
@@ -242,7 +231,6 @@ build-cases-put-child-requires : (t : ℕ) → build-cases-lts.Need-put-child-re
 ) (build-cases-at t) build-cases.Post build-cases-Inv-loop build-cases-μ-loop
 build-cases-put-child-requires t c κs = ((turn-room (turn-at t (c .before .before .before .before))) .2, (turn-room (turn-at t (c .before .before .before .before))) .0)
 
--- src/build.rt:195:13
 build-cases-build-case-requires : (t : ℕ) → build-cases-lts.Need-build-case-requires (
   case-at-reads.Asked,
   case-at-reads.Learnt,
@@ -253,7 +241,6 @@ build-cases-build-case-requires : (t : ℕ) → build-cases-lts.Need-build-case-
 ) (build-cases-at t) build-cases.Post build-cases-Inv-loop build-cases-μ-loop
 build-cases-build-case-requires t c κs = (omega (arith, c .before .before .before .before .before .before .before .before .before .before .before .before .before .before .before .pre .0), turn-asked (turn-at t (c .before .before .before .before .before .before .before .before .before)) (c .before .before .before .before .before .before .before .case-at .result .test) (ap (λ (z : Case). z .test) (c .before .before .before .before .before .before .before .case-at .ensures)) (c .before .before .before .before .put-child .last .0) (c .before .before .before .before .put-child .ensures))
 
--- src/build.rt:212:13
 build-cases-same-length : (t : ℕ) → build-cases-lts.Need-same-length (
   case-at-reads.Asked,
   case-at-reads.Learnt,
@@ -264,7 +251,6 @@ build-cases-same-length : (t : ℕ) → build-cases-lts.Need-same-length (
 ) (build-cases-at t) build-cases.Post build-cases-Inv-loop build-cases-μ-loop
 build-cases-same-length t c = (c .before .before .before .before .build-case .kept .1 .1 .1 .1 .1 .1 .1 .1 .1 .1 .0) ∙ (c .before .before .before .before .before .before .before .before .before .put-child .kept .0) ∙ (c .before .before .before .before .before .before .before .before .before .before .before .before .before .before .before .loop .inv .1)
 
--- src/build.rt:212:13
 build-cases-returns : (t : ℕ) → build-cases-lts.Need-returns (
   case-at-reads.Asked,
   case-at-reads.Learnt,
@@ -275,7 +261,6 @@ build-cases-returns : (t : ℕ) → build-cases-lts.Need-returns (
 ) (build-cases-at t) build-cases.Post build-cases-Inv-loop build-cases-μ-loop
 build-cases-returns t c = (turn-over (turn-at t (c .before .before .before .before .before .before .before .before .before .before .before .before .before .before)) (c .before .before .before .before .before .before .before .before .before .before .before .before .case-at .result .test) (ap (λ (z : Case). z .test) (c .before .before .before .before .before .before .before .before .before .before .before .before .case-at .ensures)) (c .before .before .before .before .before .before .before .before .before .put-child .last .0) (c .before .before .before .before .before .before .before .before .before .put-child .ensures) (c .before .before .before .before .build-case .last .1 .1 .1 .1 .1 .1 .1 .1 .1 .1 .0) (c .before .before .before .before .build-case .result) (c .before .before .before .before .build-case .ensures .0) (not-true (c .before .before .before .before .build-case .result .fits) (c .if1 .taken)), still-on (c .before .before .before .before .before .before .before .before .before .before .before .before .before .before .before .loop .inv .2) (c .before .before .before .before .build-case .ensures .1))
 
--- src/build.rt:215:9
 build-cases-add-i : (t : ℕ) → build-cases-lts.Need-add-i (
   case-at-reads.Asked,
   case-at-reads.Learnt,
@@ -286,7 +271,6 @@ build-cases-add-i : (t : ℕ) → build-cases-lts.Need-add-i (
 ) (build-cases-at t) build-cases.Post build-cases-Inv-loop build-cases-μ-loop
 build-cases-add-i t c = omega (arith, turn-room (turn-at t (c .before .before .before .before .before .before .before .before .before .before .before .before .before .before .before)))
 
--- src/build.rt:191:5
 build-cases-loop-less : (t : ℕ) → build-cases-lts.Need-loop-less (
   case-at-reads.Asked,
   case-at-reads.Learnt,
@@ -297,7 +281,6 @@ build-cases-loop-less : (t : ℕ) → build-cases-lts.Need-loop-less (
 ) (build-cases-at t) build-cases.Post build-cases-Inv-loop build-cases-μ-loop
 build-cases-loop-less t c = omega (arith, c .before .before .before .before .before .before .before .before .before .before .before .before .before .before .before .loop-test .taken)
 
--- src/build.rt:191:5
 build-cases-loop-again : (t : ℕ) → build-cases-lts.Need-loop-again (
   case-at-reads.Asked,
   case-at-reads.Learnt,
@@ -308,7 +291,6 @@ build-cases-loop-again : (t : ℕ) → build-cases-lts.Need-loop-again (
 ) (build-cases-at t) build-cases.Post build-cases-Inv-loop build-cases-μ-loop
 build-cases-loop-again t c = (omega (arith, c .before .before .before .before .before .before .before .before .before .before .before .before .before .before .before .loop-test .taken), (c .before .before .before .before .before .build-case .kept .1 .1 .1 .1 .1 .1 .1 .1 .1 .1 .0) ∙ (c .before .before .before .before .before .before .before .before .before .before .put-child .kept .0) ∙ (c .before .before .before .before .before .before .before .before .before .before .before .before .before .before .before .before .loop .inv .1), still-on (c .before .before .before .before .before .before .before .before .before .before .before .before .before .before .before .before .loop .inv .2) (c .before .before .before .before .before .build-case .ensures .1), turn-done (turn-at t (c .before .before .before .before .before .before .before .before .before .before .before .before .before .before .before)) (c .before .before .before .before .before .before .before .before .before .before .before .before .before .case-at .result .test) (ap (λ (z : Case). z .test) (c .before .before .before .before .before .before .before .before .before .before .before .before .before .case-at .ensures)) (c .before .before .before .before .before .before .before .before .before .before .put-child .last .0) (c .before .before .before .before .before .before .before .before .before .before .put-child .ensures) (c .before .before .before .before .before .build-case .last .1 .1 .1 .1 .1 .1 .1 .1 .1 .1 .0) (c .before .before .before .before .before .build-case .result) (c .before .before .before .before .before .build-case .ensures .0) (not-false (c .before .before .before .before .before .build-case .result .fits) (c .before .if1 .left)))
 
--- src/build.rt:168:1
 build-cases-same-length-2 : (t : ℕ) → build-cases-lts.Need-same-length-2 (
   case-at-reads.Asked,
   case-at-reads.Learnt,
@@ -319,7 +301,6 @@ build-cases-same-length-2 : (t : ℕ) → build-cases-lts.Need-same-length-2 (
 ) (build-cases-at t) build-cases.Post build-cases-Inv-loop build-cases-μ-loop
 build-cases-same-length-2 t c = c .before .loop .inv .1
 
--- src/build.rt:168:1
 build-cases-returns-2 : (t : ℕ) → build-cases-lts.Need-returns-2 (
   case-at-reads.Asked,
   case-at-reads.Learnt,
@@ -330,7 +311,6 @@ build-cases-returns-2 : (t : ℕ) → build-cases-lts.Need-returns-2 (
 ) (build-cases-at t) build-cases.Post build-cases-Inv-loop build-cases-μ-loop
 build-cases-returns-2 t c = (loop-end (c .before .before .before .before .before .before .pre .1 .0) (c .before .before .before .before .before .before .pre .1 .1) (c .before .loop .i) (c .before .loop .w) (c .before .loop .tops) (record { fits = true; tops = c .before .loop .tops }) (c .before .loop .inv .3) (c .loop-test .left) refl, c .before .loop .inv .2)
 
--- src/build.rt:240:9
 build-switch-meet-cases-requires : (t : ℕ) → build-switch-lts.Need-meet-cases-requires (
   meet-cases-reads.Asked,
   meet-cases-reads.Learnt,
@@ -345,7 +325,6 @@ build-switch-meet-cases-requires : (t : ℕ) → build-switch-lts.Need-meet-case
 ) (build-switch-at t) build-switch.Post
 build-switch-meet-cases-requires t c κs = (((c .before .before .before .before .pre .1 .0) .ready, (c .before .before .before .before .pre .1 .0) .there .whole .whole-rows, rows-known (c .before .before .before .before .pre .1 .0), column-known (c .before .before .before .before .pre .1 .0)), ((c .before .before .before .before .pre .1 .1) .long, omega (arith, (c .before .before .before .before .pre .1 .1) .cases-most)))
 
--- src/build.rt:241:22
 build-switch-enum-known-meeting : (t : ℕ) → build-switch-lts.Need-enum-known-meeting (
   meet-cases-reads.Asked,
   meet-cases-reads.Learnt,
@@ -360,7 +339,6 @@ build-switch-enum-known-meeting : (t : ℕ) → build-switch-lts.Need-enum-known
 ) (build-switch-at t) build-switch.Post
 build-switch-enum-known-meeting t c = search needs
 
--- src/build.rt:242:9
 build-switch-enum-told : (t : ℕ) → build-switch-lts.Need-enum-told (
   meet-cases-reads.Asked,
   meet-cases-reads.Learnt,
@@ -375,7 +353,6 @@ build-switch-enum-told : (t : ℕ) → build-switch-lts.Need-enum-told (
 ) (build-switch-at t) build-switch.Post
 build-switch-enum-told t c = search needs
 
--- src/build.rt:242:9
 build-switch-same-length : (t : ℕ) → build-switch-lts.Need-same-length (
   meet-cases-reads.Asked,
   meet-cases-reads.Learnt,
@@ -390,7 +367,6 @@ build-switch-same-length : (t : ℕ) → build-switch-lts.Need-same-length (
 ) (build-switch-at t) build-switch.Post
 build-switch-same-length t c = c .before .before .before .before .meet-cases .kept .1 .1 .1 .1 .1 .1 .1 .0
 
--- src/build.rt:242:9
 build-switch-returns : (t : ℕ) → build-switch-lts.Need-returns (
   meet-cases-reads.Asked,
   meet-cases-reads.Learnt,
@@ -405,7 +381,6 @@ build-switch-returns : (t : ℕ) → build-switch-lts.Need-returns (
 ) (build-switch-at t) build-switch.Post
 build-switch-returns t c = (no-room (c .before .before .before .before .before .before .before .before .before .pre .1 .0) (c .before .before .before .before .before .before .before .before .before .args .w .now) (c .before .before .before .before .meet-cases .last .1 .1 .1 .1 .1 .1 .1 .0) (record { fits = false; tops = c .before .before .before .before .before .before .before .before .before .args .tops }) (c .before .before .before .before .meet-cases .result) (c .enum-told .given .1) (c .before .before .before .before .meet-cases .ensures) refl, still ((c .before .before .before .before .before .before .before .before .before .pre .1 .0) .there .whole .whole-tested .long))
 
--- src/build.rt:245:5
 build-switch-add-from : (t : ℕ) → build-switch-lts.Need-add-from (
   meet-cases-reads.Asked,
   meet-cases-reads.Learnt,
@@ -420,7 +395,6 @@ build-switch-add-from : (t : ℕ) → build-switch-lts.Need-add-from (
 ) (build-switch-at t) build-switch.Post
 build-switch-add-from t c = omega (arith, c .before .before .before .before .before .before .before .before .before .before .before .pre .1 .2)
 
--- src/build.rt:247:9
 build-switch-build-cases-requires : (t : ℕ) → build-switch-lts.Need-build-cases-requires (
   meet-cases-reads.Asked,
   meet-cases-reads.Learnt,
@@ -435,7 +409,6 @@ build-switch-build-cases-requires : (t : ℕ) → build-switch-lts.Need-build-ca
 ) (build-switch-at t) build-switch.Post
 build-switch-build-cases-requires t c κs = (omega (arith, c .before .before .before .before .before .before .before .before .before .before .before .before .before .pre .0), ((c .before .before .before .before .before .before .before .before .before .before .before .before .before .pre .1 .0), switch-open (opened-at t (c .before .before .before))))
 
--- src/build.rt:264:9
 build-switch-same-length-2 : (t : ℕ) → build-switch-lts.Need-same-length-2 (
   meet-cases-reads.Asked,
   meet-cases-reads.Learnt,
@@ -450,7 +423,6 @@ build-switch-same-length-2 : (t : ℕ) → build-switch-lts.Need-same-length-2 (
 ) (build-switch-at t) build-switch.Post
 build-switch-same-length-2 t c = (c .before .before .before .before .build-cases .kept .1 .1 .1 .1 .1 .1 .1 .1 .1 .0) ∙ (c .before .before .before .before .before .before .before .before .before .before .before .before .before .meet-cases .kept .1 .1 .1 .1 .1 .1 .1 .0)
 
--- src/build.rt:264:9
 build-switch-returns-2 : (t : ℕ) → build-switch-lts.Need-returns-2 (
   meet-cases-reads.Asked,
   meet-cases-reads.Learnt,
@@ -465,7 +437,6 @@ build-switch-returns-2 : (t : ℕ) → build-switch-lts.Need-returns-2 (
 ) (build-switch-at t) build-switch.Post
 build-switch-returns-2 t c = (switch-cases-over (opened-at t (c .before .before .before .before .before .before .before .before)) (c .before .before .before .before .build-cases .last .1 .1 .1 .1 .1 .1 .1 .1 .1 .0) (c .before .before .before .before .build-cases .result) (not-true (c .before .before .before .before .build-cases .result .fits) (c .if1 .taken)) (c .before .before .before .before .build-cases .ensures .0), c .before .before .before .before .build-cases .ensures .1)
 
--- src/build.rt:269:9
 build-switch-default-matrix-requires : (t : ℕ) → build-switch-lts.Need-default-matrix-requires (
   meet-cases-reads.Asked,
   meet-cases-reads.Learnt,
@@ -480,7 +451,6 @@ build-switch-default-matrix-requires : (t : ℕ) → build-switch-lts.Need-defau
 ) (build-switch-at t) build-switch.Post
 build-switch-default-matrix-requires t c κs = (column-splits (still-column (c .before .before .before .before .before .before .before .before .before .before .before .before .before .before .before .before .before .before .before .before .before .before .pre .1 .0) (c .before .before .before .before .before .before .before .before .build-cases .ensures .1)), (refl, refl))
 
--- src/build.rt:283:9
 build-switch-put-switch-requires : (t : ℕ) → build-switch-lts.Need-put-switch-requires (
   meet-cases-reads.Asked,
   meet-cases-reads.Learnt,
@@ -495,7 +465,6 @@ build-switch-put-switch-requires : (t : ℕ) → build-switch-lts.Need-put-switc
 ) (build-switch-at t) build-switch.Post
 build-switch-put-switch-requires t c κs = let a = switch-node-asked (cased-at t (c .before .before .before)) in ((a .0, a .1, a .2, omega arith), switch-met-asked (cased-at t (c .before .before .before)))
 
--- src/build.rt:284:9
 build-switch-same-length-3 : (t : ℕ) → build-switch-lts.Need-same-length-3 (
   meet-cases-reads.Asked,
   meet-cases-reads.Learnt,
@@ -510,7 +479,6 @@ build-switch-same-length-3 : (t : ℕ) → build-switch-lts.Need-same-length-3 (
 ) (build-switch-at t) build-switch.Post
 build-switch-same-length-3 t c = (c .before .before .put-switch .kept .0) ∙ (c .before .before .before .before .before .before .before .before .before .before .before .before .before .before .before .build-cases .kept .1 .1 .1 .1 .1 .1 .1 .1 .1 .0) ∙ (c .before .before .before .before .before .before .before .before .before .before .before .before .before .before .before .before .before .before .before .before .before .before .before .before .meet-cases .kept .1 .1 .1 .1 .1 .1 .1 .0)
 
--- src/build.rt:284:9
 build-switch-returns-3 : (t : ℕ) → build-switch-lts.Need-returns-3 (
   meet-cases-reads.Asked,
   meet-cases-reads.Learnt,
@@ -525,7 +493,6 @@ build-switch-returns-3 : (t : ℕ) → build-switch-lts.Need-returns-3 (
 ) (build-switch-at t) build-switch.Post
 build-switch-returns-3 t c = (switch-done (cased-at t (c .before .before .before .before .before .before)) (c .before .before .put-switch .last .0) 0 (c .before .before .put-switch .ensures) (c .before .before .before .before .if2 .taken) refl, (still-on (c .before .before .before .before .before .before .before .before .before .before .before .before .before .before .before .build-cases .ensures .1) (default-still (still-column (c .before .before .before .before .before .before .before .before .before .before .before .before .before .before .before .before .before .before .before .before .before .before .before .before .before .before .before .before .before .pre .1 .0) (c .before .before .before .before .before .before .before .before .before .before .before .before .before .before .before .build-cases .ensures .1)) (matrixOf (c .before .before .before .before .before .before .default-matrix .last .1 .1 .1 .1 .1 .1 .1 .0) (c .before .before .before .before .before .before .default-matrix .last .1 .1 .1 .1 .1 .1 .1 .1 .0) (c .before .before .before .before .before .before .default-matrix .last .1 .1 .1 .0) (c .before .before .before .before .before .before .before .before .before .before .before .before .before .before .before .before .before .before .before .before .before .before .before .before .before .before .before .before .before .args .opened .now) (c .before .before .before .before .before .before .default-matrix .result)) (c .before .before .before .before .before .before .default-matrix .ensures))))
 
--- src/build.rt:286:53
 build-switch-add-put-switch : (t : ℕ) → build-switch-lts.Need-add-put-switch (
   meet-cases-reads.Asked,
   meet-cases-reads.Learnt,
@@ -540,7 +507,6 @@ build-switch-add-put-switch : (t : ℕ) → build-switch-lts.Need-add-put-switch
 ) (build-switch-at t) build-switch.Post
 build-switch-add-put-switch t c = omega (arith, switch-node-asked (cased-at t (c .before .before .before .before)))
 
--- src/build.rt:286:5
 build-switch-put-switch-requires-2 : (t : ℕ) → build-switch-lts.Need-put-switch-requires-2 (
   meet-cases-reads.Asked,
   meet-cases-reads.Learnt,
@@ -555,7 +521,6 @@ build-switch-put-switch-requires-2 : (t : ℕ) → build-switch-lts.Need-put-swi
 ) (build-switch-at t) build-switch.Post
 build-switch-put-switch-requires-2 t c κs = let a = switch-node-asked (cased-at t (c .before .before .before .before)) in ((a .0, a .1, a .2, a .3), switch-met-asked (cased-at t (c .before .before .before .before)))
 
--- src/build.rt:287:5
 build-switch-do-build-tree-requires : (t : ℕ) → build-switch-lts.Need-do-build-tree-requires (
   meet-cases-reads.Asked,
   meet-cases-reads.Learnt,
@@ -570,7 +535,6 @@ build-switch-do-build-tree-requires : (t : ℕ) → build-switch-lts.Need-do-bui
 ) (build-switch-at t) build-switch.Post
 build-switch-do-build-tree-requires t c κs = (omega (arith, c .before .before .before .before .before .before .before .before .before .before .before .before .before .before .before .before .before .before .before .before .before .before .before .before .before .before .before .before .before .before .before .before .before .before .pre .0, tested-room (c .before .before .before .before .before .before .before .before .before .before .before .before .before .before .before .before .before .before .before .before .before .before .before .before .before .before .before .before .before .before .before .before .before .before .pre .1 .0), default-more (still-column (c .before .before .before .before .before .before .before .before .before .before .before .before .before .before .before .before .before .before .before .before .before .before .before .before .before .before .before .before .before .before .before .before .before .before .pre .1 .0) (c .before .before .before .before .before .before .before .before .before .before .before .before .before .before .before .before .before .before .before .before .build-cases .ensures .1)) (matrixOf (c .before .before .before .before .before .before .before .before .before .before .before .default-matrix .last .1 .1 .1 .1 .1 .1 .1 .0) (c .before .before .before .before .before .before .before .before .before .before .before .default-matrix .last .1 .1 .1 .1 .1 .1 .1 .1 .0) (c .before .before .before .before .before .before .before .before .before .before .before .default-matrix .last .1 .1 .1 .0) (c .before .before .before .before .before .before .before .before .before .before .before .before .before .before .before .before .before .before .before .before .before .before .before .before .before .before .before .before .before .before .before .before .before .before .args .opened .now) (c .before .before .before .before .before .before .before .before .before .before .before .default-matrix .result)) (c .before .before .before .before .before .before .before .before .before .before .before .default-matrix .ensures)), switch-asked (cased-at t (c .before .before .before .before .before .before .before .before .before .before .before)) (c .before .before .before .before .before .before .put-switch2 .last .0) ((c .before .before .before .before .before .before .before .before .before .before .before .before .before .before .before .before .before .before .before .before .build-cases .result .tops .nodes) + 1) (c .before .before .before .before .before .before .put-switch2 .ensures) (c .before .before .before .before .before .before .before .before .before .if2 .left))
 
--- src/build.rt:221:1
 build-switch-same-length-4 : (t : ℕ) → build-switch-lts.Need-same-length-4 (
   meet-cases-reads.Asked,
   meet-cases-reads.Learnt,
@@ -585,7 +549,6 @@ build-switch-same-length-4 : (t : ℕ) → build-switch-lts.Need-same-length-4 (
 ) (build-switch-at t) build-switch.Post
 build-switch-same-length-4 t c = (c .before .before .do-build-tree .kept .1 .1 .1 .1 .1 .1 .1 .1 .0) ∙ (c .before .before .before .before .before .before .before .before .before .put-switch2 .kept .0) ∙ (c .before .before .before .before .before .before .before .before .before .before .before .before .before .before .before .before .before .before .before .before .before .before .before .build-cases .kept .1 .1 .1 .1 .1 .1 .1 .1 .1 .0) ∙ (c .before .before .before .before .before .before .before .before .before .before .before .before .before .before .before .before .before .before .before .before .before .before .before .before .before .before .before .before .before .before .before .before .meet-cases .kept .1 .1 .1 .1 .1 .1 .1 .0)
 
--- src/build.rt:221:1
 build-switch-returns-4 : (t : ℕ) → build-switch-lts.Need-returns-4 (
   meet-cases-reads.Asked,
   meet-cases-reads.Learnt,
@@ -600,7 +563,6 @@ build-switch-returns-4 : (t : ℕ) → build-switch-lts.Need-returns-4 (
 ) (build-switch-at t) build-switch.Post
 build-switch-returns-4 t c = (switch-default (cased-at t (c .before .before .before .before .before .before .before .before .before .before .before .before .before .before)) (c .before .before .before .before .before .before .before .before .before .put-switch2 .last .0) ((c .before .before .before .before .before .before .before .before .before .before .before .before .before .before .before .before .before .before .before .before .before .before .before .build-cases .result .tops .nodes) + 1) (c .before .before .before .before .before .before .before .before .before .put-switch2 .ensures) (c .before .before .do-build-tree .last .1 .1 .1 .1 .1 .1 .1 .1 .0) (c .before .before .do-build-tree .result) (c .before .before .before .before .before .before .before .before .before .before .before .before .if2 .left) refl (c .before .before .do-build-tree .ensures .0), still-on (still-on (c .before .before .before .before .before .before .before .before .before .before .before .before .before .before .before .before .before .before .before .before .before .before .before .build-cases .ensures .1) (default-still (still-column (c .before .before .before .before .before .before .before .before .before .before .before .before .before .before .before .before .before .before .before .before .before .before .before .before .before .before .before .before .before .before .before .before .before .before .before .before .before .pre .1 .0) (c .before .before .before .before .before .before .before .before .before .before .before .before .before .before .before .before .before .before .before .before .before .before .before .build-cases .ensures .1)) (matrixOf (c .before .before .before .before .before .before .before .before .before .before .before .before .before .before .default-matrix .last .1 .1 .1 .1 .1 .1 .1 .0) (c .before .before .before .before .before .before .before .before .before .before .before .before .before .before .default-matrix .last .1 .1 .1 .1 .1 .1 .1 .1 .0) (c .before .before .before .before .before .before .before .before .before .before .before .before .before .before .default-matrix .last .1 .1 .1 .0) (c .before .before .before .before .before .before .before .before .before .before .before .before .before .before .before .before .before .before .before .before .before .before .before .before .before .before .before .before .before .before .before .before .before .before .before .before .before .args .opened .now) (c .before .before .before .before .before .before .before .before .before .before .before .before .before .before .default-matrix .result)) (c .before .before .before .before .before .before .before .before .before .before .before .before .before .before .default-matrix .ensures))) (still-fewer (default-more (still-column (c .before .before .before .before .before .before .before .before .before .before .before .before .before .before .before .before .before .before .before .before .before .before .before .before .before .before .before .before .before .before .before .before .before .before .before .before .before .pre .1 .0) (c .before .before .before .before .before .before .before .before .before .before .before .before .before .before .before .before .before .before .before .before .before .before .before .build-cases .ensures .1)) (matrixOf (c .before .before .before .before .before .before .before .before .before .before .before .before .before .before .default-matrix .last .1 .1 .1 .1 .1 .1 .1 .0) (c .before .before .before .before .before .before .before .before .before .before .before .before .before .before .default-matrix .last .1 .1 .1 .1 .1 .1 .1 .1 .0) (c .before .before .before .before .before .before .before .before .before .before .before .before .before .before .default-matrix .last .1 .1 .1 .0) (c .before .before .before .before .before .before .before .before .before .before .before .before .before .before .before .before .before .before .before .before .before .before .before .before .before .before .before .before .before .before .before .before .before .before .before .before .before .args .opened .now) (c .before .before .before .before .before .before .before .before .before .before .before .before .before .before .default-matrix .result)) (c .before .before .before .before .before .before .before .before .before .before .before .before .before .before .default-matrix .ensures)) (c .before .before .do-build-tree .ensures .1)))
 
--- src/build.rt:323:9
 do-build-tree-returns : (t : ℕ) → do-build-tree-lts.Need-returns (
   highest-occurrence-reads.Asked,
   highest-occurrence-reads.Learnt,
@@ -613,7 +575,6 @@ do-build-tree-returns : (t : ℕ) → do-build-tree-lts.Need-returns (
 ) (do-build-tree-at t) do-build-tree.Post
 do-build-tree-returns t c = (full-builds (c .before .before .before .before .before .pre .1 .ready .checked .ok) (c .before .before .before .before .before .pre .1 .there) (c .before .before .before .before .before .args .w .now) (c .before .before .before .before .before .args .w .now) (c .before .before .before .before .before .args .tops) (record { fits = false; tops = c .before .before .before .before .before .args .tops }) (c .if1 .taken) refl, still ((c .before .before .before .before .before .pre .1 .there) .whole .whole-tested .long))
 
--- src/build.rt:325:9
 do-build-tree-highest-occurrence-requires :
     (t : ℕ) → do-build-tree-lts.Need-highest-occurrence-requires (
       highest-occurrence-reads.Asked,
@@ -627,7 +588,6 @@ do-build-tree-highest-occurrence-requires :
     ) (do-build-tree-at t) do-build-tree.Post
 do-build-tree-highest-occurrence-requires t c κs = let r = asked-readable (c .before .before .before .before .before .pre .1) in (r .whole .whole-rows, r .whole .whole-columns, r .cells)
 
--- src/build.rt:326:24
 do-build-tree-enum-known-choice : (t : ℕ) → do-build-tree-lts.Need-enum-known-choice (
   highest-occurrence-reads.Asked,
   highest-occurrence-reads.Learnt,
@@ -640,7 +600,6 @@ do-build-tree-enum-known-choice : (t : ℕ) → do-build-tree-lts.Need-enum-know
 ) (do-build-tree-at t) do-build-tree.Post
 do-build-tree-enum-known-choice t c = search needs
 
--- src/build.rt:327:43
 do-build-tree-enum-told : (t : ℕ) → do-build-tree-lts.Need-enum-told (
   highest-occurrence-reads.Asked,
   highest-occurrence-reads.Learnt,
@@ -653,7 +612,6 @@ do-build-tree-enum-told : (t : ℕ) → do-build-tree-lts.Need-enum-told (
 ) (do-build-tree-at t) do-build-tree.Post
 do-build-tree-enum-told t c = search needs
 
--- src/build.rt:327:43
 do-build-tree-element-copy-out-wide : (t : ℕ) → do-build-tree-lts.Need-element-copy-out-wide (
   highest-occurrence-reads.Asked,
   highest-occurrence-reads.Learnt,
@@ -666,7 +624,6 @@ do-build-tree-element-copy-out-wide : (t : ℕ) → do-build-tree-lts.Need-eleme
 ) (do-build-tree-at t) do-build-tree.Post
 do-build-tree-element-copy-out-wide t c = search needs
 
--- src/build.rt:327:38
 do-build-tree-wide-requires : (t : ℕ) → do-build-tree-lts.Need-wide-requires (
   highest-occurrence-reads.Asked,
   highest-occurrence-reads.Learnt,
@@ -679,7 +636,6 @@ do-build-tree-wide-requires : (t : ℕ) → do-build-tree-lts.Need-wide-requires
 ) (do-build-tree-at t) do-build-tree.Post
 do-build-tree-wide-requires t c κs = search needs
 
--- src/build.rt:327:13
 do-build-tree-put-leaf-requires : (t : ℕ) → do-build-tree-lts.Need-put-leaf-requires (
   highest-occurrence-reads.Asked,
   highest-occurrence-reads.Learnt,
@@ -692,7 +648,6 @@ do-build-tree-put-leaf-requires : (t : ℕ) → do-build-tree-lts.Need-put-leaf-
 ) (do-build-tree-at t) do-build-tree.Post
 do-build-tree-put-leaf-requires t c κs = (c .before .before .before .before .before .before .before .before .before .before .before .before .pre .1 .ready, clause-asked (c .before .before .before .before .before .before .before .before .before .before .before .before .pre .1 .ready .checked .ok) (c .before .before .before .before .before .before .before .before .before .before .before .before .pre .1 .there) (c .before .before .wide .result) (c .before .before .wide .ensures), c .before .before .before .before .before .before .before .before .before .before .before .before .pre .1 .room, (node-left (c .before .before .before .before .before .before .before .before .before .before .before .before .pre .1 .room .nodes-most) (c .before .before .before .before .before .before .before .if1 .left)))
 
--- src/build.rt:328:9
 do-build-tree-same-length : (t : ℕ) → do-build-tree-lts.Need-same-length (
   highest-occurrence-reads.Asked,
   highest-occurrence-reads.Learnt,
@@ -705,7 +660,6 @@ do-build-tree-same-length : (t : ℕ) → do-build-tree-lts.Need-same-length (
 ) (do-build-tree-at t) do-build-tree.Post
 do-build-tree-same-length t c = c .before .before .put-leaf .kept .1 .1 .1 .1 .1 .1 .1 .0
 
--- src/build.rt:328:9
 do-build-tree-returns-2 : (t : ℕ) → do-build-tree-lts.Need-returns-2 (
   highest-occurrence-reads.Asked,
   highest-occurrence-reads.Learnt,
@@ -718,7 +672,6 @@ do-build-tree-returns-2 : (t : ℕ) → do-build-tree-lts.Need-returns-2 (
 ) (do-build-tree-at t) do-build-tree.Post
 do-build-tree-returns-2 t c = (leaf-builds (c .before .before .before .before .before .before .before .before .before .before .before .before .before .before .before .pre .1 .ready .checked .ok) (c .before .before .before .before .before .before .before .before .before .before .before .before .before .before .before .pre .1 .there) (c .before .before .before .before .before .before .before .before .before .before .before .before .before .before .before .args .w .now) (c .before .before .put-leaf .last .1 .1 .1 .1 .1 .1 .1 .0) (c .before .before .before .before .before .before .before .before .before .before .before .before .before .before .before .args .tops) (c .before .before .put-leaf .result) (record { fits = true; tops = c .before .before .put-leaf .result }) (c .before .before .before .before .before .wide .result) (asked-chosen (c .before .before .before .before .before .before .before .before .before .before .before .before .before .before .before .pre .1) (c .before .before .before .before .before .before .before .before .before .highest-occurrence .result) (c .before .before .before .before .before .before .before .before .before .highest-occurrence .ensures) (c .before .before .before .before .before .before .before .enum-told .given .1)) (c .before .before .before .before .before .wide .ensures) refl (c .before .before .put-leaf .ensures), still ((c .before .before .before .before .before .before .before .before .before .before .before .before .before .before .before .pre .1 .there) .whole .whole-tested .long))
 
--- src/build.rt:333:5
 do-build-tree-build-switch-requires : (t : ℕ) → do-build-tree-lts.Need-build-switch-requires (
   highest-occurrence-reads.Asked,
   highest-occurrence-reads.Learnt,
@@ -731,7 +684,6 @@ do-build-tree-build-switch-requires : (t : ℕ) → do-build-tree-lts.Need-build
 ) (do-build-tree-at t) do-build-tree.Post
 do-build-tree-build-switch-requires t c κs = (omega (arith, c .before .before .before .before .before .before .before .before .before .before .before .pre .0), (record { ready = c .before .before .before .before .before .before .before .before .before .before .before .pre .1 .ready; there = (c .before .before .before .before .before .before .before .before .before .before .before .pre .1 .there); chosen = asked-chosen (c .before .before .before .before .before .before .before .before .before .before .before .pre .1) (c .before .before .before .before .before .highest-occurrence .result) (c .before .before .before .before .before .highest-occurrence .ensures) (c .before .before .before .choice .given .1) }, c .before .before .before .before .before .before .before .before .before .before .before .pre .1 .room, (node-left (c .before .before .before .before .before .before .before .before .before .before .before .pre .1 .room .nodes-most) (c .before .before .before .before .before .before .if1 .left))))
 
--- src/build.rt:305:1
 do-build-tree-same-length-2 : (t : ℕ) → do-build-tree-lts.Need-same-length-2 (
   highest-occurrence-reads.Asked,
   highest-occurrence-reads.Learnt,
@@ -744,7 +696,6 @@ do-build-tree-same-length-2 : (t : ℕ) → do-build-tree-lts.Need-same-length-2
 ) (do-build-tree-at t) do-build-tree.Post
 do-build-tree-same-length-2 t c = c .before .before .build-switch .kept .1 .1 .1 .1 .1 .1 .1 .1 .1 .0
 
--- src/build.rt:305:1
 do-build-tree-returns-3 : (t : ℕ) → do-build-tree-lts.Need-returns-3 (
   highest-occurrence-reads.Asked,
   highest-occurrence-reads.Learnt,

@@ -4,11 +4,9 @@ use Rattle.building.proofs.build.first_of.Tie as tie
 use Rattle.building.proofs.build.first_of.Reads as reads
 use Rattle.building.proofs.build.first_of.Lts as lts
 
--- src/build.rt:39:9
 returns : tie.Need-returns
 returns c = first-none (c .before .args .count) (c .before .args .first) (c .if1 .taken)
 
--- src/build.rt:35:1
 returns-2 : tie.Need-returns-2
 returns-2 c = first-some (c .before .args .count) (c .before .args .first) (c .if1 .left)
 

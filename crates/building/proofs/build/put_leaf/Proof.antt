@@ -12,47 +12,36 @@ use Rattle.arena.proofs.writing.put_node.Reads as put-node-reads
 use Rattle.building.proofs.build.first_of.Reads as first-of-reads
 use Rattle.leaves.proofs.leaf_bindings.Reads as leaf-bindings-reads
 
--- src/build.rt:62:9
 leaf-bindings-requires : tie.Need-leaf-bindings-requires
 leaf-bindings-requires c κs = (c .before .before .before .before .pre .0, c .before .before .before .before .pre .1, record { long = c .before .before .before .before .pre .2 .long; most = c .before .before .before .before .pre .2 .bindings-most })
 
--- src/build.rt:63:17
 sub-count : tie.Need-sub-count
 sub-count c = (leaf-top (c .before .before .before .before .before .before .before .before .pre .0 .checked .ok) (c .before .before .before .before .before .before .before .before .pre .1) (c .before .before .before .before .before .before .before .before .args .opened .now) (c .before .before .before .before .before .before .before .before .pre .2) (c .before .before .before .leaf-bindings .ensures)) .0
 
--- src/build.rt:64:9
 first-of-requires : tie.Need-first-of-requires
 first-of-requires c κs = search needs
 
--- src/build.rt:69:9
 cast-put-node : tie.Need-cast-put-node
 cast-put-node c = omega (arith, clause-small (c .before .before .before .before .before .before .before .before .before .before .pre .0 .checked .ok) (c .before .before .before .before .before .before .before .before .before .before .pre .1) (c .before .before .before .before .before .before .before .before .before .before .args .opened .now))
 
--- src/build.rt:70:9
 cast-put-node-2 : tie.Need-cast-put-node-2
 cast-put-node-2 c = omega (arith, first-small (c .before .before .before .before .before .leaf-bindings .result - c .before .before .before .before .before .before .before .before .before .before .args .tops .bindings) (c .before .first-of .result) (c .before .before .before .before .before .before .before .before .before .before .args .tops .bindings) (c .before .first-of .ensures), c .before .before .before .before .before .before .before .before .before .before .pre .2 .bindings-most)
 
--- src/build.rt:71:9
 cast-put-node-3 : tie.Need-cast-put-node-3
 cast-put-node-3 c = omega (arith, leaf-top (c .before .before .before .before .before .before .before .before .before .before .pre .0 .checked .ok) (c .before .before .before .before .before .before .before .before .before .before .pre .1) (c .before .before .before .before .before .before .before .before .before .before .args .opened .now) (c .before .before .before .before .before .before .before .before .before .before .pre .2) (c .before .before .before .before .before .leaf-bindings .ensures))
 
--- src/build.rt:65:5
 put-node-requires : tie.Need-put-node-requires
 put-node-requires c κs = (omega (arith, leaf-top (c .before .before .before .before .before .before .before .before .before .before .pre .0 .checked .ok) (c .before .before .before .before .before .before .before .before .before .before .pre .1) (c .before .before .before .before .before .before .before .before .before .before .args .opened .now) (c .before .before .before .before .before .before .before .before .before .before .pre .2) (c .before .before .before .before .before .leaf-bindings .ensures), c .before .before .before .before .before .before .before .before .before .before .pre .2 .long), c .before .before .before .before .before .before .before .before .before .before .pre .3)
 
--- src/build.rt:76:5
 array-write-leaves : tie.Need-array-write-leaves
 array-write-leaves c = clause-small (c .before .before .before .before .before .before .before .before .before .before .before .before .before .before .pre .0 .checked .ok) (c .before .before .before .before .before .before .before .before .before .before .before .before .before .before .pre .1) (c .before .before .before .before .before .before .before .before .before .before .before .before .before .before .args .opened .now)
 
--- src/build.rt:78:16
 add-t24 : tie.Need-add-t24
 add-t24 c = search needs
 
--- src/build.rt:48:1
 same-length : tie.Need-same-length
 same-length c = search needs
 
--- src/build.rt:48:1
 returns : tie.Need-returns
 returns c = leaf-step (c .before .before .before .before .before .before .before .before .before .before .before .before .before .before .before .pre .0 .checked .ok) (c .before .before .before .before .before .before .before .before .before .before .before .before .before .before .before .pre .1) (c .before .before .before .before .before .before .before .before .before .before .before .before .before .before .before .args .opened .now) (c .before .before .before .before .before .before .before .before .before .before .before .before .before .before .before .args .work .now) (c .before .before .before .before .before .before .before .before .before .before .leaf-bindings .last .1 .1 .1 .1 .1 .1 .1 .0) (c .before .before .before .before .put-node .last .0) (c .before .before .before .before .before .before .before .before .before .before .before .before .before .before .before .args .tops) (record { nodes = c .before .before .before .before .before .before .before .before .before .before .before .before .before .before .before .args .tops .nodes + 1; cases = c .before .before .before .before .before .before .before .before .before .before .before .before .before .before .before .args .tops .cases; bindings = c .before .before .before .before .before .before .before .before .before .before .leaf-bindings .result; leaves = set (c .before .before .before .before .before .before .before .before .before .before .before .before .before .before .before .args .tops .leaves) (c .before .before .before .before .before .before .before .before .before .before .before .before .before .before .before .args .clause) 1 }) (c .before .before .before .before .before .before .before .before .before .before .leaf-bindings .result) (c .before .before .before .before .before .before .before .before .before .before .leaf-bindings .result - c .before .before .before .before .before .before .before .before .before .before .before .before .before .before .before .args .tops .bindings) (c .before .before .before .before .before .before .first-of .result) (c .before .before .before .before .before .before .before .before .before .before .before .before .before .before .before .pre .2) (c .before .before .before .before .before .before .before .before .before .before .before .before .before .before .before .pre .3) (c .before .before .before .before .before .before .before .before .before .before .leaf-bindings .ensures) refl (c .before .before .before .before .before .before .first-of .ensures) (c .before .before .before .before .put-node .ensures) refl
 

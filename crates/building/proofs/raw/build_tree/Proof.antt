@@ -7,19 +7,15 @@ use Rattle.building.proofs.raw.build_tree.Lts as lts
 use Rattle.building.proofs.build.do_build_tree.Reads as do-build-tree-reads
 use Rattle.matrix.proofs.splitting.first_matrix.Reads as first-matrix-reads
 
--- src/raw.rt:19:13
 first-matrix-requires : tie.Need-first-matrix-requires
 first-matrix-requires c κs = search needs
 
--- src/raw.rt:27:5
 do-build-tree-requires : tie.Need-do-build-tree-requires
 do-build-tree-requires c κs = raw-asked (c .before .before .before .before .before .before .before .before .before .before .before .pre .0) (c .before .before .before .before .before .before .before .first-matrix .result) (c .before .before .before .before .before .before .before .first-matrix .ensures) (c .before .before .before .before .before .before .before .before .before .before .before .args .work .now) (c .before .before .before .before .before .before .before .before .before .before .before .pre .1)
 
--- src/raw.rt:15:1
 same-length : tie.Need-same-length
 same-length c = search needs
 
--- src/raw.rt:15:1
 returns : tie.Need-returns
 returns c = raw-builds (c .before .before .before .before .before .before .before .before .before .before .before .before .before .before .pre .0) (c .before .before .before .before .before .before .before .before .before .before .first-matrix .result) (c .before .before .before .before .before .before .before .before .before .before .first-matrix .ensures) (c .before .before .before .before .before .before .before .before .before .before .before .before .before .before .args .work .now) (c .before .before .before .before .before .before .before .before .before .before .before .before .before .before .pre .1) (c .before .before .do-build-tree .last .1 .1 .1 .1 .1 .1 .1 .1 .0) (c .before .before .do-build-tree .result) (c .before .before .do-build-tree .ensures .0)
 

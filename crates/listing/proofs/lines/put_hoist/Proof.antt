@@ -7,31 +7,24 @@ use Rattle.listing.proofs.lines.put_hoist.Lts as lts
 use Rattle.listing.proofs.parts.put_bindings.Reads as put-bindings-reads
 use Rattle.listing.proofs.texts.put_numbered.Reads as put-numbered-reads
 
--- src/lines.rt:71:44
 slice-aggregate-put-numbered : tie.Need-slice-aggregate-put-numbered
 slice-aggregate-put-numbered c = search needs
 
--- src/lines.rt:71:9
 put-numbered-requires : tie.Need-put-numbered-requires
 put-numbered-requires c κs = search needs
 
--- src/lines.rt:72:51
 slice-aggregate-put-numbered-2 : tie.Need-slice-aggregate-put-numbered-2
 slice-aggregate-put-numbered-2 c = search needs
 
--- src/lines.rt:72:9
 put-numbered-requires-2 : tie.Need-put-numbered-requires-2
 put-numbered-requires-2 c κs = search needs
 
--- src/lines.rt:73:5
 put-bindings-requires : tie.Need-put-bindings-requires
 put-bindings-requires c κs = search needs
 
--- src/lines.rt:58:1
 same-length : tie.Need-same-length
 same-length c = search needs
 
--- src/lines.rt:58:1
 returns : tie.Need-returns
 returns c = writes-then (c .before .before .before .before .before .before .before .before .before .before .before .put-numbered .ensures) (writes-then (c .before .before .before .before .before .before .put-numbered2 .ensures) (c .before .before .put-bindings .ensures))
 

@@ -7,23 +7,18 @@ use Rattle.listing.proofs.lines.put_leaf.Lts as lts
 use Rattle.listing.proofs.parts.put_bindings.Reads as put-bindings-reads
 use Rattle.listing.proofs.texts.put_numbered.Reads as put-numbered-reads
 
--- src/lines.rt:54:37
 slice-aggregate-put-numbered : tie.Need-slice-aggregate-put-numbered
 slice-aggregate-put-numbered c = search needs
 
--- src/lines.rt:54:9
 put-numbered-requires : tie.Need-put-numbered-requires
 put-numbered-requires c κs = search needs
 
--- src/lines.rt:55:5
 put-bindings-requires : tie.Need-put-bindings-requires
 put-bindings-requires c κs = search needs
 
--- src/lines.rt:42:1
 same-length : tie.Need-same-length
 same-length c = search needs
 
--- src/lines.rt:42:1
 returns : tie.Need-returns
 returns c = writes-then (c .before .before .before .before .before .before .put-numbered .ensures) (c .before .before .put-bindings .ensures)
 

@@ -10,37 +10,29 @@ use Rattle.listing.proofs.texts.put.Reads as put-reads
 use Rattle.listing.proofs.texts.put_decimal.Reads as put-decimal-reads
 use Rattle.tree.proofs.reading.node_at.Reads as node-at-reads
 
--- src/lines.rt:119:9
 node-at-requires : tie.Need-node-at-requires
 node-at-requires c κs = (c .before .before .pre .0, c .before .before .pre .1)
 
--- src/lines.rt:120:39
 cast-put-decimal : tie.Need-cast-put-decimal
 cast-put-decimal c = search needs
 
--- src/lines.rt:120:9
 put-decimal-requires : tie.Need-put-decimal-requires
 put-decimal-requires c κs = search needs
 
--- src/lines.rt:121:9
 put-requires : tie.Need-put-requires
 put-requires c κs = search needs
 
--- src/lines.rt:122:9
 put-node-requires : tie.Need-put-node-requires
 put-node-requires c κs =
     let w = c .before .before .before .before .before .before .before .before .before .before .before .before in
     (w .pre .0, node-inside (w .pre .0) (w .args .k) (w .pre .1) _ (c .before .before .before .before .before .before .before .before .before .node-at .ensures))
 
--- src/lines.rt:123:5
 put-requires-2 : tie.Need-put-requires-2
 put-requires-2 c κs = search needs
 
--- src/lines.rt:115:1
 same-length : tie.Need-same-length
 same-length c = search needs
 
--- src/lines.rt:115:1
 returns : tie.Need-returns
 returns c =
     let w = c .before .before .before .before .before .before .before .before .before .before .before .before .before .before .before .before .before .before .before in

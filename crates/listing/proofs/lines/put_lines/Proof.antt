@@ -17,39 +17,30 @@ Inv-loop out₀ at t m end₀ k₀ out end k = (k ≤ m .nodes .count) × Begun 
 abbrev μ-loop : tie.MeasureT-loop
 μ-loop out₀ at t m end₀ k₀ out end k = m .nodes .count - k
 
--- src/lines.rt:133:5
 loop-holds : tie.Need-loop-holds Inv-loop μ-loop
 loop-holds c = (search needs, begun _ _ _ _ (lines-start _ _))
 
--- src/lines.rt:134:9
 put-line-requires : tie.Need-put-line-requires Inv-loop μ-loop
 put-line-requires c κs = (c .before .before .before .before .before .before .pre, c .before .if1 .taken)
 
--- src/lines.rt:136:13
 same-length : tie.Need-same-length Inv-loop μ-loop
 same-length c = (begun-more (c .before .before .before .before .before .before .before .loop .inv .1) (c .before .before .before .put-line .ensures) _ (lines-next _ _ _ (c .before .before .before .before .before .if1 .taken))) .as-long
 
--- src/lines.rt:136:13
 returns : tie.Need-returns Inv-loop μ-loop
 returns c = begun-full (begun-more (c .before .before .before .before .before .before .before .loop .inv .1) (c .before .before .before .put-line .ensures) _ (lines-next _ _ _ (c .before .before .before .before .before .if1 .taken))) (c .if2 .taken)
 
--- src/lines.rt:138:9
 add-k : tie.Need-add-k Inv-loop μ-loop
 add-k c = search needs
 
--- src/lines.rt:133:5
 loop-less : tie.Need-loop-less Inv-loop μ-loop
 loop-less c = search needs
 
--- src/lines.rt:133:5
 loop-again : tie.Need-loop-again Inv-loop μ-loop
 loop-again c = (search needs, begun-more (c .before .before .before .before .before .before .before .loop .inv .1) (c .before .before .before .put-line .ensures) _ (lines-next _ _ _ (c .before .before .before .before .before .if1 .taken)))
 
--- src/lines.rt:127:1
 same-length-2 : tie.Need-same-length-2 Inv-loop μ-loop
 same-length-2 c = c .before .before .loop .inv .1 .as-long
 
--- src/lines.rt:127:1
 returns-2 : tie.Need-returns-2 Inv-loop μ-loop
 returns-2 c = begun-all (c .before .before .loop .inv .1) (lines-none _ _ _ (c .if1 .left))
 

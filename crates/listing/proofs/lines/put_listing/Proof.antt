@@ -8,31 +8,24 @@ use Rattle.listing.proofs.lines.put_listing.Lts as lts
 use Rattle.listing.proofs.lines.put_lines.Reads as put-lines-reads
 use Rattle.listing.proofs.lines.put_two_numbers.Reads as put-two-numbers-reads
 
--- src/lines.rt:156:17
 cast-nodes : tie.Need-cast-nodes
 cast-nodes c = search needs
 
--- src/lines.rt:157:20
 cast-bindings : tie.Need-cast-bindings
 cast-bindings c = search needs
 
--- src/lines.rt:158:36
 slice-aggregate-put-two-numbers : tie.Need-slice-aggregate-put-two-numbers
 slice-aggregate-put-two-numbers c = search needs
 
--- src/lines.rt:158:9
 put-two-numbers-requires : tie.Need-put-two-numbers-requires
 put-two-numbers-requires c κs = search needs
 
--- src/lines.rt:159:5
 put-lines-requires : tie.Need-put-lines-requires
 put-lines-requires c κs = search needs
 
--- src/lines.rt:152:1
 same-length : tie.Need-same-length
 same-length c = search needs
 
--- src/lines.rt:152:1
 returns : tie.Need-returns
 returns c = writes-as (writes-then (c .before .before .before .before .before .before .put-two-numbers .ensures) (c .before .before .put-lines .ensures)) (listing-is (c .before .before .before .before .before .before .before .before .before .before .before .before .before .pre .mapped))
 

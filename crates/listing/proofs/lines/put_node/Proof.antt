@@ -24,115 +24,91 @@ is-leaf c = search needs
 is-hoist : (c : tie.After-known-told4) → c .before .before .before .before .before .args .node ≡ Node.Hoist (c .before .node4 .given .0 .0) (c .before .node4 .given .0 .1 .0) (c .before .node4 .given .0 .1 .1 .0) (c .before .node4 .given .0 .1 .1 .1 .0)
 is-hoist c = search needs
 
--- src/lines.rt:82:13
 enum-known-node : tie.Need-enum-known-node
 enum-known-node c = search needs
 
--- src/lines.rt:87:41
 slice-aggregate-put-text : tie.Need-slice-aggregate-put-text
 slice-aggregate-put-text c = search needs
 
--- src/lines.rt:87:17
 put-text-requires : tie.Need-put-text-requires
 put-text-requires c κs = search needs
 
--- src/lines.rt:88:53
 cast-put-switch : tie.Need-cast-put-switch
 cast-put-switch c = search needs
 
--- src/lines.rt:88:13
 put-switch-requires : tie.Need-put-switch-requires
 put-switch-requires c κs =
     let w = c .before .before .before .before .before .before .before .before .before .before .before in
     let i = subst (NodeInside (w .args .m)) (is-switch (c .before .before .before .before .before .before)) (w .pre .1) in
     (w .pre .0, i .0, i .1)
 
--- src/lines.rt:91:13
 enum-known-node-2 : tie.Need-enum-known-node-2
 enum-known-node-2 c = search needs
 
--- src/lines.rt:97:41
 slice-aggregate-put-text-2 : tie.Need-slice-aggregate-put-text-2
 slice-aggregate-put-text-2 c = search needs
 
--- src/lines.rt:97:17
 put-text-requires-2 : tie.Need-put-text-requires-2
 put-text-requires-2 c κs = search needs
 
--- src/lines.rt:98:23
 cast-all : tie.Need-cast-all
 cast-all c = search needs
 
--- src/lines.rt:98:40
 cast-all-2 : tie.Need-cast-all-2
 cast-all-2 c = search needs
 
--- src/lines.rt:98:23
 add-all : tie.Need-add-all
 add-all c = search needs
 
--- src/lines.rt:99:13
 put-switch-requires-2 : tie.Need-put-switch-requires-2
 put-switch-requires-2 c κs =
     let w = c .before .before .before .before .before .before .before .before .before .before .before in
     let i = subst (NodeInside (w .args .m)) (is-list-switch (c .before .before .before .before .before .before)) (w .pre .1) in
     (w .pre .0, i .0, i .1)
 
--- src/lines.rt:102:13
 enum-known-node-3 : tie.Need-enum-known-node-3
 enum-known-node-3 c = search needs
 
--- src/lines.rt:105:14
 put-leaf-requires : tie.Need-put-leaf-requires
 put-leaf-requires c κs =
     let w = c .before .before .before .before .before .before in
     (w .pre .0, subst (NodeInside (w .args .m)) (is-leaf (c .before)) (w .pre .1))
 
--- src/lines.rt:107:13
 enum-known-node-4 : tie.Need-enum-known-node-4
 enum-known-node-4 c = search needs
 
--- src/lines.rt:111:14
 put-hoist-requires : tie.Need-put-hoist-requires
 put-hoist-requires c κs =
     let w = c .before .before .before .before .before .before in
     (w .pre .0, subst (NodeInside (w .args .m)) (is-hoist (c .before)) (w .pre .1))
 
--- src/lines.rt:76:1
 same-length : tie.Need-same-length
 same-length c = search needs
 
--- src/lines.rt:76:1
 returns : tie.Need-returns
 returns c =
     writes-as (writes-then (c .before .before .before .before .before .before .put-text .ensures) (c .before .before .put-switch .ensures))
     (ap (nodeRead (c .before .before .before .before .before .before .before .before .before .before .before .before .before .before .args .t .now)) (sym (is-switch (c .before .before .before .before .before .before .before .before .before))))
 
--- src/lines.rt:76:1
 same-length-2 : tie.Need-same-length-2
 same-length-2 c = search needs
 
--- src/lines.rt:76:1
 returns-2 : tie.Need-returns-2
 returns-2 c =
     writes-as (writes-then (c .before .before .before .before .before .before .put-text2 .ensures) (c .before .before .put-switch2 .ensures))
     (ap (nodeRead (c .before .before .before .before .before .before .before .before .before .before .before .before .before .before .args .t .now)) (sym (is-list-switch (c .before .before .before .before .before .before .before .before .before))))
 
--- src/lines.rt:76:1
 same-length-3 : tie.Need-same-length-3
 same-length-3 c = search needs
 
--- src/lines.rt:76:1
 returns-3 : tie.Need-returns-3
 returns-3 c =
     writes-as (c .before .before .put-leaf .ensures)
     (ap (nodeRead (c .before .before .before .before .before .before .before .before .before .args .t .now)) (sym (is-leaf (c .before .before .before .before))))
 
--- src/lines.rt:76:1
 same-length-4 : tie.Need-same-length-4
 same-length-4 c = search needs
 
--- src/lines.rt:76:1
 returns-4 : tie.Need-returns-4
 returns-4 c =
     writes-as (c .before .before .put-hoist .ensures)

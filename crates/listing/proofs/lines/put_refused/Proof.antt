@@ -7,19 +7,15 @@ use Rattle.listing.proofs.lines.put_refused.Reads as reads
 use Rattle.listing.proofs.lines.put_refused.Lts as lts
 use Rattle.listing.proofs.lines.put_two_numbers.Reads as put-two-numbers-reads
 
--- src/lines.rt:165:26
 slice-aggregate-put-two-numbers : tie.Need-slice-aggregate-put-two-numbers
 slice-aggregate-put-two-numbers c = search needs
 
--- src/lines.rt:165:5
 put-two-numbers-requires : tie.Need-put-two-numbers-requires
 put-two-numbers-requires c κs = search needs
 
--- src/lines.rt:162:1
 same-length : tie.Need-same-length
 same-length c = search needs
 
--- src/lines.rt:162:1
 returns : tie.Need-returns
 returns c = writes-as (c .before .before .put-two-numbers .ensures) (refused-line-is _ _)
 

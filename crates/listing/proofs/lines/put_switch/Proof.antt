@@ -9,27 +9,21 @@ use Rattle.listing.proofs.parts.put_default.Reads as put-default-reads
 use Rattle.listing.proofs.parts.put_path.Reads as put-path-reads
 use Rattle.listing.proofs.texts.put.Reads as put-reads
 
--- src/lines.rt:36:9
 put-requires : tie.Need-put-requires
 put-requires c κs = search needs
 
--- src/lines.rt:37:9
 put-path-requires : tie.Need-put-path-requires
 put-path-requires c κs = search needs
 
--- src/lines.rt:38:9
 put-cases-requires : tie.Need-put-cases-requires
 put-cases-requires c κs = search needs
 
--- src/lines.rt:39:5
 put-default-requires : tie.Need-put-default-requires
 put-default-requires c κs = search needs
 
--- src/lines.rt:23:1
 same-length : tie.Need-same-length
 same-length c = search needs
 
--- src/lines.rt:23:1
 returns : tie.Need-returns
 returns c = writes-then (c .before .before .before .before .before .before .before .before .before .before .before .before .before .before .put .ensures) (writes-then (c .before .before .before .before .before .before .before .before .before .before .put-path .ensures) (writes-then (c .before .before .before .before .before .before .put-cases .ensures) (c .before .before .put-default .ensures)))
 

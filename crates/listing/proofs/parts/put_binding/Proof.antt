@@ -10,35 +10,27 @@ use Rattle.listing.proofs.texts.put.Reads as put-reads
 use Rattle.listing.proofs.texts.put_numbered.Reads as put-numbered-reads
 use Rattle.tree.proofs.reading.binding_at.Reads as binding-at-reads
 
--- src/parts.rt:163:9
 binding-at-requires : tie.Need-binding-at-requires
 binding-at-requires c κs = search needs
 
--- src/parts.rt:164:38
 slice-aggregate-put-numbered : tie.Need-slice-aggregate-put-numbered
 slice-aggregate-put-numbered c = search needs
 
--- src/parts.rt:164:9
 put-numbered-requires : tie.Need-put-numbered-requires
 put-numbered-requires c κs = search needs
 
--- src/parts.rt:165:9
 put-requires : tie.Need-put-requires
 put-requires c κs = search needs
 
--- src/parts.rt:166:33
 cast-put-path : tie.Need-cast-put-path
 cast-put-path c = search needs
 
--- src/parts.rt:166:5
 put-path-requires : tie.Need-put-path-requires
 put-path-requires c κs = (c .before .before .before .before .before .before .before .before .before .before .before .before .before .before .pre .0, binding-inside _ _ _ (c .before .before .before .before .before .before .before .before .before .before .before .binding-at .ensures) (c .before .before .before .before .before .before .before .before .before .before .before .before .before .before .pre .0) (c .before .before .before .before .before .before .before .before .before .before .before .before .before .before .pre .1))
 
--- src/parts.rt:159:1
 same-length : tie.Need-same-length
 same-length c = search needs
 
--- src/parts.rt:159:1
 returns : tie.Need-returns
 returns c = writes-as (writes-then (c .before .before .before .before .before .before .before .before .before .before .before .put-numbered .ensures) (writes-then (c .before .before .before .before .before .before .before .put .ensures) (c .before .before .put-path .ensures)))
     (binding-line _ _ _ (c .before .before .before .before .before .before .before .before .before .before .before .before .before .before .binding-at .ensures))

@@ -17,35 +17,27 @@ Inv-loop out₀ at t m b n end₀ j₀ out end j = (j ≤ n) × Begun out₀ out
 abbrev μ-loop : tie.MeasureT-loop
 μ-loop out₀ at t m b n end₀ j₀ out end j = n - j
 
--- src/parts.rt:175:5
 loop-holds : tie.Need-loop-holds Inv-loop μ-loop
 loop-holds c = (search needs, begun _ _ _ _ (run-start (bindingsText _) _ _))
 
--- src/parts.rt:176:43
 add-put-binding : tie.Need-add-put-binding Inv-loop μ-loop
 add-put-binding c = omega (arith, c .before .before .before .before .before .pre .0 .mapped, c .before .before .before .before .before .pre .1)
 
--- src/parts.rt:176:9
 put-binding-requires : tie.Need-put-binding-requires Inv-loop μ-loop
 put-binding-requires c κs = (c .before .before .before .before .before .pre .0, omega (arith, c .before .before .before .before .before .pre .1))
 
--- src/parts.rt:177:9
 add-j : tie.Need-add-j Inv-loop μ-loop
 add-j c = search needs
 
--- src/parts.rt:175:5
 loop-less : tie.Need-loop-less Inv-loop μ-loop
 loop-less c = search needs
 
--- src/parts.rt:175:5
 loop-again : tie.Need-loop-again Inv-loop μ-loop
 loop-again c = (search needs, begun-more (c .before .before .before .before .before .loop .inv .1) (c .before .before .put-binding .ensures) _ (bindings-next _ _ _ _ (c .before .before .before .before .loop-test .taken)))
 
--- src/parts.rt:169:1
 same-length : tie.Need-same-length Inv-loop μ-loop
 same-length c = c .before .loop .inv .1 .as-long
 
--- src/parts.rt:169:1
 returns : tie.Need-returns Inv-loop μ-loop
 returns c = begun-all (c .before .loop .inv .1) (bindings-none _ _ _ _ (c .loop-test .left))
 

@@ -10,33 +10,26 @@ use Rattle.listing.proofs.texts.put.Reads as put-reads
 use Rattle.listing.proofs.texts.put_decimal.Reads as put-decimal-reads
 use Rattle.tree.proofs.reading.case_at.Reads as case-at-reads
 
--- src/parts.rt:126:9
 case-at-requires : tie.Need-case-at-requires
 case-at-requires c κs = (c .before .before .pre .0 .mapped, c .before .before .pre .1, case-kind-known (c .before .before .pre .0) (c .before .before .args .i) (c .before .before .pre .1))
 
--- src/parts.rt:128:9
 put-requires : tie.Need-put-requires
 put-requires c κs = search needs
 
--- src/parts.rt:129:9
 put-test-requires : tie.Need-put-test-requires
 put-test-requires c κs =
     let w = c .before .before .before .before .before .before .before .before in
     (w .pre .0 .mapped, case-inside (w .pre .0) (w .args .i) (w .pre .1) _ (c .before .before .before .before .before .case-at .ensures))
 
--- src/parts.rt:130:9
 put-requires-2 : tie.Need-put-requires-2
 put-requires-2 c κs = search needs
 
--- src/parts.rt:131:5
 put-decimal-requires : tie.Need-put-decimal-requires
 put-decimal-requires c κs = search needs
 
--- src/parts.rt:122:1
 same-length : tie.Need-same-length
 same-length c = search needs
 
--- src/parts.rt:122:1
 returns : tie.Need-returns
 returns c =
     let w = c .before .before .before .before .before .before .before .before .before .before .before .before .before .before .before .before .before .before .before in

@@ -17,35 +17,27 @@ Inv-loop out₀ at t m i n end₀ j₀ out end j = (j ≤ n) × Begun out₀ out
 abbrev μ-loop : tie.MeasureT-loop
 μ-loop out₀ at t m i n end₀ j₀ out end j = n - j
 
--- src/parts.rt:140:5
 loop-holds : tie.Need-loop-holds Inv-loop μ-loop
 loop-holds c = (search needs, begun _ _ _ _ (run-start (casesText _) _ _))
 
--- src/parts.rt:141:40
 add-put-case : tie.Need-add-put-case Inv-loop μ-loop
 add-put-case c = omega (arith, c .before .before .before .before .before .pre .0 .mapped, c .before .before .before .before .before .pre .1)
 
--- src/parts.rt:141:9
 put-case-requires : tie.Need-put-case-requires Inv-loop μ-loop
 put-case-requires c κs = (c .before .before .before .before .before .pre .0, omega (arith, c .before .before .before .before .before .pre .1))
 
--- src/parts.rt:142:9
 add-j : tie.Need-add-j Inv-loop μ-loop
 add-j c = search needs
 
--- src/parts.rt:140:5
 loop-less : tie.Need-loop-less Inv-loop μ-loop
 loop-less c = search needs
 
--- src/parts.rt:140:5
 loop-again : tie.Need-loop-again Inv-loop μ-loop
 loop-again c = (search needs, begun-more (c .before .before .before .before .before .loop .inv .1) (c .before .before .put-case .ensures) _ (cases-next _ _ _ _ (c .before .before .before .before .loop-test .taken)))
 
--- src/parts.rt:134:1
 same-length : tie.Need-same-length Inv-loop μ-loop
 same-length c = c .before .loop .inv .1 .as-long
 
--- src/parts.rt:134:1
 returns : tie.Need-returns Inv-loop μ-loop
 returns c = begun-all (c .before .loop .inv .1) (cases-none _ _ _ _ (c .loop-test .left))
 

@@ -12,44 +12,34 @@ use Rattle.listing.proofs.parts.put_constr_step.Lts as lts
 use Rattle.listing.proofs.texts.put_numbered.Reads as put-numbered-reads
 use Rattle.listing.proofs.texts.put_text.Reads as put-text-reads
 
--- src/parts.rt:28:37
 slice-aggregate-put-numbered : tie.Need-slice-aggregate-put-numbered
 slice-aggregate-put-numbered c = search needs
 
--- src/parts.rt:28:9
 put-numbered-requires : tie.Need-put-numbered-requires
 put-numbered-requires c κs = search needs
 
--- src/parts.rt:30:35
 slice-aggregate-put-text : tie.Need-slice-aggregate-put-text
 slice-aggregate-put-text c = search needs
 
--- src/parts.rt:30:9
 put-text-requires : tie.Need-put-text-requires
 put-text-requires c κs = search needs
 
--- src/parts.rt:30:9
 same-length : tie.Need-same-length
 same-length c = search needs
 
--- src/parts.rt:30:9
 returns : tie.Need-returns
 returns c = writes-as (writes-then (c .before .before .before .before .before .before .before .before .put-numbered .ensures) (c .before .before .put-text .ensures))
     (ap (λ (l : List ℕ). constrStep ++ (decimal (c .before .before .before .before .before .before .before .before .before .before .before .before .args .index) ++ l)) (constr-flag _ (c .before .before .before .before .before .if1 .taken)))
 
--- src/parts.rt:32:24
 slice-aggregate-put-text-2 : tie.Need-slice-aggregate-put-text-2
 slice-aggregate-put-text-2 c = search needs
 
--- src/parts.rt:32:5
 put-text-requires-2 : tie.Need-put-text-requires-2
 put-text-requires-2 c κs = search needs
 
--- src/parts.rt:25:1
 same-length-2 : tie.Need-same-length-2
 same-length-2 c = search needs
 
--- src/parts.rt:25:1
 returns-2 : tie.Need-returns-2
 returns-2 c = writes-as (writes-then (c .before .before .before .before .before .before .before .before .put-numbered .ensures) (c .before .before .put-text2 .ensures))
     (ap (λ (l : List ℕ). constrStep ++ (decimal (c .before .before .before .before .before .before .before .before .before .before .before .before .args .index) ++ l)) (constr-no-flag _ (c .before .before .before .before .before .if1 .left)))

@@ -7,27 +7,21 @@ use Rattle.listing.proofs.parts.put_default.Reads as reads
 use Rattle.listing.proofs.parts.put_default.Lts as lts
 use Rattle.listing.proofs.texts.put_numbered.Reads as put-numbered-reads
 
--- src/parts.rt:152:9
 returns : tie.Need-returns
 returns c = writes-as (writes-nothing _ _) (default-none _ (c .if1 .taken))
 
--- src/parts.rt:154:27
 slice-aggregate-put-numbered : tie.Need-slice-aggregate-put-numbered
 slice-aggregate-put-numbered c = search needs
 
--- src/parts.rt:154:38
 sub-put-numbered : tie.Need-sub-put-numbered
 sub-put-numbered c = search needs
 
--- src/parts.rt:154:5
 put-numbered-requires : tie.Need-put-numbered-requires
 put-numbered-requires c κs = search needs
 
--- src/parts.rt:148:1
 same-length : tie.Need-same-length
 same-length c = search needs
 
--- src/parts.rt:148:1
 returns-2 : tie.Need-returns-2
 returns-2 c = writes-as (c .before .before .put-numbered .ensures) (default-some _ (c .before .before .before .before .before .if1 .left))
 

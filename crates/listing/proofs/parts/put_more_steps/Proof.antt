@@ -20,39 +20,30 @@ Inv-loop out₀ at t m i n end₀ j₀ out end j = (j ≤ n) × Begun out₀ out
 abbrev μ-loop : tie.MeasureT-loop
 μ-loop out₀ at t m i n end₀ j₀ out end j = n - j
 
--- src/parts.rt:57:5
 loop-holds : tie.Need-loop-holds Inv-loop μ-loop
 loop-holds c = (search needs, begun _ _ _ _ (run-start (λ k m. moreSteps (stepsFrom (c .before .before .args .t .now) k m)) _ _))
 
--- src/parts.rt:58:13
 put-requires : tie.Need-put-requires Inv-loop μ-loop
 put-requires c κs = search needs
 
--- src/parts.rt:59:40
 add-put-step : tie.Need-add-put-step Inv-loop μ-loop
 add-put-step c = omega (arith, c .before .before .before .before .before .before .before .before .before .pre .0 .mapped, c .before .before .before .before .before .before .before .before .before .pre .1)
 
--- src/parts.rt:59:9
 put-step-requires : tie.Need-put-step-requires Inv-loop μ-loop
 put-step-requires c κs = (c .before .before .before .before .before .before .before .before .before .pre .0, omega (arith, c .before .before .before .before .before .before .before .before .before .pre .1))
 
--- src/parts.rt:60:9
 add-j : tie.Need-add-j Inv-loop μ-loop
 add-j c = search needs
 
--- src/parts.rt:57:5
 loop-less : tie.Need-loop-less Inv-loop μ-loop
 loop-less c = search needs
 
--- src/parts.rt:57:5
 loop-again : tie.Need-loop-again Inv-loop μ-loop
 loop-again c = (search needs, begun-more (c .before .before .before .before .before .before .before .before .before .loop .inv .1) (writes-then (c .before .before .before .before .before .before .put .ensures) (c .before .before .put-step .ensures)) _ (steps-next _ _ _ _ (c .before .before .before .before .before .before .before .before .loop-test .taken)))
 
--- src/parts.rt:51:1
 same-length : tie.Need-same-length Inv-loop μ-loop
 same-length c = c .before .loop .inv .1 .as-long
 
--- src/parts.rt:51:1
 returns : tie.Need-returns Inv-loop μ-loop
 returns c = begun-all (c .before .loop .inv .1) (steps-none _ _ _ _ (c .loop-test .left))
 

@@ -10,19 +10,15 @@ use Rattle.listing.proofs.parts.put_number_test.Lts as lts
 use Rattle.listing.proofs.texts.put.Reads as put-reads
 use Rattle.listing.proofs.texts.put_numbered.Reads as put-numbered-reads
 
--- src/parts.rt:85:9
 put-numbered-requires : tie.Need-put-numbered-requires
 put-numbered-requires c κs = search needs
 
--- src/parts.rt:86:5
 put-requires : tie.Need-put-requires
 put-requires c κs = search needs
 
--- src/parts.rt:82:1
 same-length : tie.Need-same-length
 same-length c = search needs
 
--- src/parts.rt:82:1
 returns : tie.Need-returns
 returns c = writes-as (writes-then (c .before .before .before .before .before .before .put-numbered .ensures) (c .before .before .put .ensures))
     (append-assoc (c .before .before .before .before .before .before .before .before .before .before .args .word .now) (decimal (c .before .before .before .before .before .before .before .before .before .before .args .n)) (41 ∷ []))

@@ -9,87 +9,67 @@ use Rattle.listing.proofs.parts.put_constr_step.Reads as put-constr-ste
 use Rattle.listing.proofs.texts.put_numbered.Reads as put-numbered-reads
 use Rattle.tree.proofs.reading.step_at.Reads as step-at-reads
 
--- src/parts.rt:39:9
 step-at-requires : tie.Need-step-at-requires
 step-at-requires c κs = search needs
 
--- src/parts.rt:42:36
 slice-aggregate-put-numbered : tie.Need-slice-aggregate-put-numbered
 slice-aggregate-put-numbered c = search needs
 
--- src/parts.rt:42:14
 put-numbered-requires : tie.Need-put-numbered-requires
 put-numbered-requires c κs = search needs
 
--- src/parts.rt:43:36
 slice-aggregate-put-numbered-2 : tie.Need-slice-aggregate-put-numbered-2
 slice-aggregate-put-numbered-2 c = search needs
 
--- src/parts.rt:43:14
 put-numbered-requires-2 : tie.Need-put-numbered-requires-2
 put-numbered-requires-2 c κs = search needs
 
--- src/parts.rt:44:14
 put-constr-step-requires : tie.Need-put-constr-step-requires
 put-constr-step-requires c κs = search needs
 
--- src/parts.rt:45:36
 slice-aggregate-put-numbered-3 : tie.Need-slice-aggregate-put-numbered-3
 slice-aggregate-put-numbered-3 c = search needs
 
--- src/parts.rt:45:14
 put-numbered-requires-3 : tie.Need-put-numbered-requires-3
 put-numbered-requires-3 c κs = search needs
 
--- src/parts.rt:46:36
 slice-aggregate-put-numbered-4 : tie.Need-slice-aggregate-put-numbered-4
 slice-aggregate-put-numbered-4 c = search needs
 
--- src/parts.rt:46:14
 put-numbered-requires-4 : tie.Need-put-numbered-requires-4
 put-numbered-requires-4 c κs = search needs
 
--- src/parts.rt:35:1
 same-length : tie.Need-same-length
 same-length c = search needs
 
--- src/parts.rt:35:1
 returns : tie.Need-returns
 returns c = writes-as (c .before .before .put-numbered .ensures)
     (step-pair _ _ _ (c .before .before .before .before .before .before .step-at .ensures) (c .before .before .before .before .before .match .keys1))
 
--- src/parts.rt:35:1
 same-length-2 : tie.Need-same-length-2
 same-length-2 c = search needs
 
--- src/parts.rt:35:1
 returns-2 : tie.Need-returns-2
 returns-2 c = writes-as (c .before .before .put-numbered2 .ensures)
     (step-tuple _ _ _ (c .before .before .before .before .before .before .step-at .ensures) (c .before .before .before .before .before .match .keys2))
 
--- src/parts.rt:35:1
 same-length-3 : tie.Need-same-length-3
 same-length-3 c = search needs
 
--- src/parts.rt:35:1
 returns-3 : tie.Need-returns-3
 returns-3 c = writes-as (c .before .before .put-constr-step .ensures)
     (step-constr _ _ _ (c .before .before .before .before .before .step-at .ensures) (c .before .before .before .before .match .keys3))
 
--- src/parts.rt:35:1
 same-length-4 : tie.Need-same-length-4
 same-length-4 c = search needs
 
--- src/parts.rt:35:1
 returns-4 : tie.Need-returns-4
 returns-4 c = writes-as (c .before .before .put-numbered3 .ensures)
     (step-list _ _ _ (c .before .before .before .before .before .before .step-at .ensures) (c .before .before .before .before .before .match .keys4))
 
--- src/parts.rt:35:1
 same-length-5 : tie.Need-same-length-5
 same-length-5 c = search needs
 
--- src/parts.rt:35:1
 returns-5 : tie.Need-returns-5
 returns-5 c = writes-as (c .before .before .put-numbered4 .ensures)
     (step-listtail _ _ _ (c .before .before .before .before .before .before .step-at .ensures) (c .before .before .before .before .before .match .rest .0 .0 .0 .1) (c .before .before .before .before .before .match .rest .0 .0 .1) (c .before .before .before .before .before .match .rest .0 .1) (c .before .before .before .before .before .match .rest .1))

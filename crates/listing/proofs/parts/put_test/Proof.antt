@@ -12,47 +12,36 @@ use Rattle.listing.proofs.parts.put_test.Lts as lts
 use Rattle.listing.proofs.parts.put_number_test.Reads as put-number-test-reads
 use Rattle.listing.proofs.parts.put_text_test.Reads as put-text-test-reads
 
--- src/parts.rt:107:22
 enum-known-test : tie.Need-enum-known-test
 enum-known-test c = search needs
 
--- src/parts.rt:107:58
 slice-aggregate-put-number-test : tie.Need-slice-aggregate-put-number-test
 slice-aggregate-put-number-test c = search needs
 
--- src/parts.rt:107:33
 put-number-test-requires : tie.Need-put-number-test-requires
 put-number-test-requires c κs = search needs
 
--- src/parts.rt:109:13
 enum-known-test-2 : tie.Need-enum-known-test-2
 enum-known-test-2 c = search needs
 
--- src/parts.rt:113:39
 cast-from : tie.Need-cast-from
 cast-from c = search needs
 
--- src/parts.rt:113:24
 add-from : tie.Need-add-from
 add-from c = search needs
 
--- src/parts.rt:114:29
 cast-to : tie.Need-cast-to
 cast-to c = search needs
 
--- src/parts.rt:114:22
 add-to : tie.Need-add-to
 add-to c = search needs
 
--- src/parts.rt:115:45
 sub-put-text-test : tie.Need-sub-put-text-test
 sub-put-text-test c = search needs
 
--- src/parts.rt:115:45
 part-put-text-test-start : tie.Need-part-put-text-test-start
 part-put-text-test-start c = search needs
 
--- src/parts.rt:115:45
 part-put-text-test-end : tie.Need-part-put-text-test-end
 part-put-text-test-end c =
     let w = c .before .before .before .before .before .before .before in
@@ -60,39 +49,30 @@ part-put-text-test-end c =
     let e : w .args .test ≡ Test.Text (g .0) (g .1 .0) (g .1 .1 .0) = search needs in
     text-inside (w .pre .0) (g .1 .0) (g .1 .1 .0) (subst (TestInside (w .args .m)) e (w .pre .1))
 
--- src/parts.rt:115:13
 put-text-test-requires : tie.Need-put-text-test-requires
 put-text-test-requires c κs = search needs
 
--- src/parts.rt:117:20
 enum-known-test-3 : tie.Need-enum-known-test-3
 enum-known-test-3 c = search needs
 
--- src/parts.rt:117:56
 slice-aggregate-put-number-test-2 : tie.Need-slice-aggregate-put-number-test-2
 slice-aggregate-put-number-test-2 c = search needs
 
--- src/parts.rt:117:31
 put-number-test-requires-2 : tie.Need-put-number-test-requires-2
 put-number-test-requires-2 c κs = search needs
 
--- src/parts.rt:118:22
 enum-known-test-4 : tie.Need-enum-known-test-4
 enum-known-test-4 c = search needs
 
--- src/parts.rt:118:58
 slice-aggregate-put-number-test-3 : tie.Need-slice-aggregate-put-number-test-3
 slice-aggregate-put-number-test-3 c = search needs
 
--- src/parts.rt:118:33
 put-number-test-requires-3 : tie.Need-put-number-test-requires-3
 put-number-test-requires-3 c κs = search needs
 
--- src/parts.rt:102:1
 same-length : tie.Need-same-length
 same-length c = search needs
 
--- src/parts.rt:102:1
 returns : tie.Need-returns
 returns c =
     let a = c .before .before .before .before .before .before .before .before .before .before .args in
@@ -100,11 +80,9 @@ returns c =
     let e : a .test ≡ Test.Constr (g .0) = search needs in
     writes-as (c .before .before .put-number-test .ensures) (ap (testRead (a .t .now)) (sym e))
 
--- src/parts.rt:102:1
 same-length-2 : tie.Need-same-length-2
 same-length-2 c = search needs
 
--- src/parts.rt:102:1
 returns-2 : tie.Need-returns-2
 returns-2 c =
     let w = c .before .before .before .before .before .before .before .before .before .before .before in
@@ -112,11 +90,9 @@ returns-2 c =
     let e : w .args .test ≡ Test.Text (g .0) (g .1 .0) (g .1 .1 .0) = search needs in
     writes-as (c .before .before .put-text-test .ensures) (text-read (w .pre .0) (g .1 .0) (g .1 .1 .0) (g .0) ∙ ap (testRead (w .args .t .now)) (sym e))
 
--- src/parts.rt:102:1
 same-length-3 : tie.Need-same-length-3
 same-length-3 c = search needs
 
--- src/parts.rt:102:1
 returns-3 : tie.Need-returns-3
 returns-3 c =
     let a = c .before .before .before .before .before .before .before .before .before .before .args in
@@ -124,11 +100,9 @@ returns-3 c =
     let e : a .test ≡ Test.List (g .0) = search needs in
     writes-as (c .before .before .put-number-test2 .ensures) (ap (testRead (a .t .now)) (sym e))
 
--- src/parts.rt:102:1
 same-length-4 : tie.Need-same-length-4
 same-length-4 c = search needs
 
--- src/parts.rt:102:1
 returns-4 : tie.Need-returns-4
 returns-4 c =
     let a = c .before .before .before .before .before .before .before .before .before .before .args in

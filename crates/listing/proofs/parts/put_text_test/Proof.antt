@@ -11,52 +11,40 @@ use Rattle.listing.proofs.texts.put.Reads as put-reads
 use Rattle.listing.proofs.texts.put_hex.Reads as put-hex-reads
 use Rattle.listing.proofs.texts.put_text.Reads as put-text-reads
 
--- src/parts.rt:93:38
 slice-aggregate-put-text : tie.Need-slice-aggregate-put-text
 slice-aggregate-put-text c = search needs
 
--- src/parts.rt:93:13
 put-text-requires : tie.Need-put-text-requires
 put-text-requires c κs = search needs
 
--- src/parts.rt:94:13
 put-text-requires-2 : tie.Need-put-text-requires-2
 put-text-requires-2 c κs = search needs
 
--- src/parts.rt:95:9
 put-requires : tie.Need-put-requires
 put-requires c κs = search needs
 
--- src/parts.rt:95:9
 same-length : tie.Need-same-length
 same-length c = search needs
 
--- src/parts.rt:95:9
 returns : tie.Need-returns
 returns c = writes-as (writes-then (c .before .before .before .before .before .before .before .before .before .before .put-text .ensures) (writes-then (c .before .before .before .before .before .before .put-text2 .ensures) (c .before .before .put .ensures)))
     (ap (λ (b : Bool). textTest b (c .before .before .before .before .before .before .before .before .before .before .before .before .before .before .before .before .args .text .now)) (sym (c .before .before .before .before .before .before .before .before .before .before .before .before .before .if1 .taken)))
 
--- src/parts.rt:97:34
 slice-aggregate-put-text-2 : tie.Need-slice-aggregate-put-text-2
 slice-aggregate-put-text-2 c = search needs
 
--- src/parts.rt:97:9
 put-text-requires-3 : tie.Need-put-text-requires-3
 put-text-requires-3 c κs = search needs
 
--- src/parts.rt:98:9
 put-hex-requires : tie.Need-put-hex-requires
 put-hex-requires c κs = search needs
 
--- src/parts.rt:99:5
 put-requires-2 : tie.Need-put-requires-2
 put-requires-2 c κs = search needs
 
--- src/parts.rt:89:1
 same-length-2 : tie.Need-same-length-2
 same-length-2 c = search needs
 
--- src/parts.rt:89:1
 returns-2 : tie.Need-returns-2
 returns-2 c = writes-as (writes-then (c .before .before .before .before .before .before .before .before .before .before .put-text3 .ensures) (writes-then (c .before .before .before .before .before .before .put-hex .ensures) (c .before .before .put2 .ensures)))
     (ap (λ (b : Bool). textTest b (c .before .before .before .before .before .before .before .before .before .before .before .before .before .before .before .before .args .text .now)) (sym (c .before .before .before .before .before .before .before .before .before .before .before .before .before .if1 .left)))

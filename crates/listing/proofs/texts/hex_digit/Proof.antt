@@ -6,24 +6,19 @@ use Rattle.listing.proofs.texts.hex_digit.Tie as tie
 use Rattle.listing.proofs.texts.hex_digit.Reads as reads
 use Rattle.listing.proofs.texts.hex_digit.Lts as lts
 
--- src/texts.rt:61:16
 add-result : tie.Need-add-result
 add-result c = search needs
 
--- src/texts.rt:61:9
 returns : tie.Need-returns
 unfolding hexDigit
 returns c = rw (lt-ltb _ _ (c .if1 .taken))
 
--- src/texts.rt:63:5
 sub-result : tie.Need-sub-result
 sub-result c = search needs
 
--- src/texts.rt:63:5
 add-result-2 : tie.Need-add-result-2
 add-result-2 c = search needs
 
--- src/texts.rt:56:1
 returns-2 : tie.Need-returns-2
 unfolding hexDigit
 returns-2 c = rw (le-ltb _ _ (c .if1 .left))

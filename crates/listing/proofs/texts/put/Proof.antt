@@ -6,27 +6,21 @@ use Rattle.listing.proofs.texts.put.Tie as tie
 use Rattle.listing.proofs.texts.put.Reads as reads
 use Rattle.listing.proofs.texts.put.Lts as lts
 
--- src/texts.rt:13:9
 slice-write-out : tie.Need-slice-write-out
 slice-write-out c = search needs
 
--- src/texts.rt:14:16
 add-result : tie.Need-add-result
 add-result c = search needs
 
--- src/texts.rt:14:9
 same-length : tie.Need-same-length
 same-length c = search needs
 
--- src/texts.rt:14:9
 returns : tie.Need-returns
 returns c = writes-byte _ _ _ (c .if1 .taken)
 
--- src/texts.rt:16:5
 add-result-2 : tie.Need-add-result-2
 add-result-2 c = search needs
 
--- src/texts.rt:9:1
 returns-2 : tie.Need-returns-2
 returns-2 c = writes-no-byte _ _ _ _ (c .if1 .left) (omega arith)
 

@@ -18,35 +18,27 @@ Inv-loop out₀ at text end₀ i₀ out end i = (i ≤ length text) × Begun out
 abbrev μ-loop : tie.MeasureT-loop
 μ-loop out₀ at text end₀ i₀ out end i = length text - i
 
--- src/texts.rt:79:5
 loop-holds : tie.Need-loop-holds Inv-loop μ-loop
 loop-holds c = (search needs, begun _ _ _ _ refl)
 
--- src/texts.rt:80:38
 shared-slice-read-put-hex-byte : tie.Need-shared-slice-read-put-hex-byte Inv-loop μ-loop
 shared-slice-read-put-hex-byte c = search needs
 
--- src/texts.rt:80:9
 put-hex-byte-requires : tie.Need-put-hex-byte-requires Inv-loop μ-loop
 put-hex-byte-requires c κs = search needs
 
--- src/texts.rt:81:9
 add-i : tie.Need-add-i Inv-loop μ-loop
 add-i c = search needs
 
--- src/texts.rt:79:5
 loop-less : tie.Need-loop-less Inv-loop μ-loop
 loop-less c = search needs
 
--- src/texts.rt:79:5
 loop-again : tie.Need-loop-again Inv-loop μ-loop
 loop-again c = (search needs, begun-more (c .before .before .before .before .before .before .loop .inv .1) (c .before .before .put-hex-byte .ensures) _ (hex-next _ _ (c .before .before .before .before .before .loop-test .taken)))
 
--- src/texts.rt:74:1
 same-length : tie.Need-same-length Inv-loop μ-loop
 same-length c = c .before .loop .inv .1 .as-long
 
--- src/texts.rt:74:1
 returns : tie.Need-returns Inv-loop μ-loop
 returns c = begun-all (c .before .loop .inv .1) (hex-none _ _ (c .loop-test .left))
 

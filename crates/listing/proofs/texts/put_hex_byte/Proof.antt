@@ -8,27 +8,21 @@ use Rattle.listing.proofs.texts.put_hex_byte.Lts as lts
 use Rattle.listing.proofs.texts.hex_digit.Reads as hex-digit-reads
 use Rattle.listing.proofs.texts.put.Reads as put-reads
 
--- src/texts.rt:70:28
 hex-digit-requires : tie.Need-hex-digit-requires
 hex-digit-requires c κs = search needs
 
--- src/texts.rt:70:9
 put-requires : tie.Need-put-requires
 put-requires c κs = search needs
 
--- src/texts.rt:71:19
 hex-digit-requires-2 : tie.Need-hex-digit-requires-2
 hex-digit-requires-2 c κs = search needs
 
--- src/texts.rt:71:5
 put-requires-2 : tie.Need-put-requires-2
 put-requires-2 c κs = search needs
 
--- src/texts.rt:67:1
 same-length : tie.Need-same-length
 same-length c = search needs
 
--- src/texts.rt:67:1
 returns : tie.Need-returns
 returns c = writes-as (writes-then (c .before .before .before .before .before .before .before .put .ensures) (c .before .before .put2 .ensures))
     (hex-byte _ _ _ (c .before .before .before .before .before .before .before .before .hex-digit .ensures) (c .before .before .before .hex-digit2 .ensures))

@@ -7,19 +7,15 @@ use Rattle.listing.proofs.texts.put_numbered.Lts as lts
 use Rattle.listing.proofs.texts.put_decimal.Reads as put-decimal-reads
 use Rattle.listing.proofs.texts.put_text.Reads as put-text-reads
 
--- src/texts.rt:52:9
 put-text-requires : tie.Need-put-text-requires
 put-text-requires c κs = search needs
 
--- src/texts.rt:53:5
 put-decimal-requires : tie.Need-put-decimal-requires
 put-decimal-requires c κs = search needs
 
--- src/texts.rt:49:1
 same-length : tie.Need-same-length
 same-length c = search needs
 
--- src/texts.rt:49:1
 returns : tie.Need-returns
 returns c = writes-then (c .before .before .before .before .before .before .put-text .ensures) (c .before .before .put-decimal .ensures)
 

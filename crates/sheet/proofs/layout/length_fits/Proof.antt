@@ -8,29 +8,23 @@ use Rattle.sheet.proofs.layout.length_fits.Reads as reads
 use Rattle.sheet.proofs.layout.length_fits.Lts as lts
 use Rattle.words.proofs.word_at.Reads as word-at-reads
 
--- src/layout.rt:22:9
 returns : tie.Need-returns
 unfolding lengthFits
 returns c = rw (lt-leb _ _ (c .if1 .taken))
 
--- src/layout.rt:25:9
 returns-2 : tie.Need-returns-2
 unfolding lengthFits
 returns-2 c = rw (le-leb _ _ (c .before .if1 .left), lt-leb _ _ (c .if2 .taken))
 
--- src/layout.rt:27:27
 sub-word-at : tie.Need-sub-word-at
 sub-word-at c = search needs
 
--- src/layout.rt:27:16
 word-at-requires : tie.Need-word-at-requires
 word-at-requires c κs = search needs
 
--- src/layout.rt:27:16
 cast-told : tie.Need-cast-told
 cast-told c = search needs
 
--- src/layout.rt:17:1
 returns-3 : tie.Need-returns-3
 unfolding lengthFits sheetLength
 returns-3 c = rw (le-leb _ _ (c .before .before .if1 .left), le-leb _ _ (c .before .if2 .left), ← c .word-at .ensures)

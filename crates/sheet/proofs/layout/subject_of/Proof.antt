@@ -6,19 +6,15 @@ use Rattle.sheet.proofs.layout.subject_of.Reads as reads
 use Rattle.sheet.proofs.layout.subject_of.Lts as lts
 use Rattle.words.proofs.word_at.Reads as word-at-reads
 
--- src/layout.rt:61:16
 sub-word-at : tie.Need-sub-word-at
 sub-word-at c = search needs
 
--- src/layout.rt:61:5
 word-at-requires : tie.Need-word-at-requires
 word-at-requires c κs = search needs
 
--- src/layout.rt:61:5
 cast-result : tie.Need-cast-result
 cast-result c = search needs
 
--- src/layout.rt:57:1
 returns : tie.Need-returns
 unfolding subject
 returns c = c .word-at .ensures

@@ -6,16 +6,13 @@ use Rattle.sheet.proofs.layout.whole_records.Tie as tie
 use Rattle.sheet.proofs.layout.whole_records.Reads as reads
 use Rattle.sheet.proofs.layout.whole_records.Lts as lts
 
--- src/layout.rt:70:9
 returns : tie.Need-returns
 unfolding wholeRecords
 returns c = rw (lt-leb _ _ (c .if1 .taken))
 
--- src/layout.rt:72:5
 rem-result : tie.Need-rem-result
 rem-result c = search needs
 
--- src/layout.rt:65:1
 returns-2 : tie.Need-returns-2
 unfolding wholeRecords
 returns-2 c = rw (le-leb _ _ (c .if1 .left))
