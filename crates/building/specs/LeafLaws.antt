@@ -23,7 +23,6 @@ use Rattle.matrix.specs.HeldRows.{countOf, bestOf}
 use Rattle.matrix.specs.Lists.{classesIn, numbersIn}
 use Rattle.matrix.specs.Reading.{heldIn}
 use Rattle.matrix.specs.Numbered.{chosenIn, treeAt}
-use Rattle.matrix.specs.Bound.{boundNumbers}
 use Rattle.matrix.specs.InNumbers.{inNumbers, Readable, chosenRead}
 use Rattle.matrix.specs.InNumbersLaws.{chosen-read, readable}
 use Rattle.matrix.specs.TreesLaws.{some-tree, tree-leaf}
@@ -102,7 +101,6 @@ module _ {s : List ℕ} (ok : Accepted s) {x : Matrix} (there : MatrixThere s x)
   clause-asked c e = leaf-asked s x with-row (ok .is-counted .patterns-most) c e
 
   leaf-tree : chosenIn s (inNumbers x) ≡ Leaf → (c : ℕ) → c ≡ firstClause x → treeAt s (inNumbers x) ≡ clauseLeaf s (x .opened) (classesIn (x .tested)) c
-  unfolding boundNumbers
   leaf-tree e c is = tree-leaf ok (inNumbers x) (there .sound) e ∙ leaf-is s ok x with-row ∙ ap (clauseLeaf s (x .opened) (classesIn (x .tested))) (sym is)
 
   -- it is built

@@ -228,18 +228,8 @@ pub fn case_matrix<'a, 'b>(
     ensures { λ r. ⌜ StandsFor (matrixOf (now («new_rows» .exit)) (now («new_columns» .exit)) (now (tested .exit)) (now (opened .exit)) r) (caseNumbered (now (s .entry)) class (meant (now (s .entry)) test) (inNumbers (matrixOf (now (rows .entry)) (now (columns .entry)) (now (tested .entry)) (now (opened .entry)) n))) ⌝ }
 {
     let mut opens = [0u8; 32];
-    let o = join_rows(
-        s,
-        m,
-        t,
-        rows,
-        n.rows,
-        opened,
-        class,
-        test,
-        new_rows,
-        &mut opens,
-    );
+    let k = n.rows;
+    let o = join_rows(s, m, t, rows, k, opened, class, test, new_rows, &mut opens);
     let front = open_all(s, m, t, &opens, o.opens, new_columns);
     let all = put_rest(new_columns, front, columns, n.columns, class);
     push(tested, n.tested, class);
