@@ -3,17 +3,14 @@
 use arena::writing;
 use matrix::wide;
 use sheet::Map;
-use sheet::limits::CHILD_SIZE;
-use sheet::limits::PATTERN_SIZE;
-use sheet::records::PatternRecord;
+use sheet::records::child_in;
 use sheet::records::children_of;
-use sheet::records::pattern_from;
+use sheet::records::pattern_in;
 use sheet::records::root_at;
 use table::CELL;
 use table::CLASS;
 use table::OWNER;
 use table::at;
-use words::word_at;
 ghost use mathlib.Core.Path.{_≡_};
 ghost use Prim.Native.Nat.{_<_};
 ghost use lib.ListN.{getD, take};
@@ -30,22 +27,6 @@ ghost use Rattle.leaves.specs.Bindings.{bound, boundOne, boundAll, ownOf
 
 // The room for bindings. Where there are more, their number is told as one more than it.
 pub const BINDINGS_MOST: usize = 4096;
-
-// Pattern p, by the start of the patterns alone: a recursion that hands on no more of the map stores no more of it at each call.
-fn pattern_in(s: &[u8], start: usize, p: usize) -> PatternRecord
-    requires { ⌜ Laid (now s) × (start ≡ patternsAt (now s)) × (p < patterns (now s)) ⌝ }
-    ensures { λ r. ⌜ r ≡ patternOf (now (s .entry)) p ⌝ }
-{
-    pattern_from(s, start + PATTERN_SIZE * p)
-}
-
-// Entry j of the child list, by its start alone.
-fn child_in(s: &[u8], start: usize, j: usize) -> usize
-    requires { ⌜ Laid (now s) × (start ≡ childrenAt (now s)) × (j < children (now s)) ⌝ }
-    ensures { λ r. ⌜ r ≡ child (now (s .entry)) j ⌝ }
-{
-    word_at(s, start + CHILD_SIZE * j) as usize
-}
 
 // The binding of pattern p, behind the `top` bindings there are.
 fn put_binding(s: &[u8], records: usize, t: &[u8], p: usize, work: &mut [u8], top: usize) -> usize

@@ -3,17 +3,19 @@
 use crate::Found;
 use crate::Map;
 use crate::limits::PATTERNS_MOST;
-use crate::records::child_at;
-use crate::records::children_of;
-use crate::records::pattern_at;
+use crate::records::child_in;
+use crate::records::children_in;
+use crate::records::pattern_in;
 use crate::records::root_at;
 ghost use mathlib.Core.Path.{_≡_};
 ghost use mathlib.Core.List.{[], _∷_};
 ghost use Prim.Native.Nat.{_+_, _-_, _<_, _≤_};
 ghost use lib.ListN.{length, getD};
 ghost use Rattle.words.specs.Words.{textAt};
-ghost use Rattle.rules.specs.SheetFile.{patterns, clauses};
+ghost use Rattle.rules.specs.SheetFile.{patterns, clauses, patternsAt, childrenAt};
 ghost use Rattle.rules.specs.SheetRefusals.{isIn, repeats as Repeats, nameTwice, lowestNameTwice};
+ghost use Rattle.facts.specs.SheetFacts.{Laid};
+ghost use Rattle.sheet.specs.Sections.{mapOf};
 ghost use Rattle.sheet.specs.Found.{foundOf};
 ghost use Rattle.sheet.specs.Fitting.{Ready};
 ghost use Rattle.sheet.specs.Names.{ownName, namesIn, inBuffer, held, Adds};
@@ -28,12 +30,12 @@ fn add(found: &mut [u16], count: usize, x: u16) -> usize
 }
 
 // The name of pattern p itself, if it has one.
-fn add_own(s: &[u8], m: Map, p: usize, found: &mut [u16], count: usize) -> usize
-    requires { ⌜ Ready (now s) m × (p < patterns (now s)) ⌝ }
+fn add_own(s: &[u8], records: usize, p: usize, found: &mut [u16], count: usize) -> usize
+    requires { ⌜ Laid (now s) × (records ≡ patternsAt (now s)) × (p < patterns (now s)) ⌝ }
     requires { ⌜ (length (now found) ≡ 192) × (count + length (ownName (now s) p) ≤ 192) ⌝ }
     ensures { λ r. ⌜ Adds (inBuffer (now (found .entry)) count) (ownName (now (s .entry)) p) (inBuffer (now (found .exit)) r) ⌝ }
 {
-    let r = pattern_at(s, m, p);
+    let r = pattern_in(s, records, p);
     let kind = r.kind;
     match kind {
         1 => add(found, count, r.a as u16),
@@ -42,17 +44,31 @@ fn add_own(s: &[u8], m: Map, p: usize, found: &mut [u16], count: usize) -> usize
     }
 }
 
-// The names of pattern p and of what is inside it.
-fn collect(s: &[u8], m: Map, p: usize, found: &mut [u16], count: usize) -> usize
-    requires { ⌜ Ready (now s) m × (p < patterns (now s)) ⌝ }
+// The names of pattern p and of what is inside it. Of the map it takes the starts of the patterns and of the child list.
+fn collect(
+    s: &[u8],
+    records: usize,
+    list: usize,
+    p: usize,
+    found: &mut [u16],
+    count: usize,
+) -> usize
+    requires { ⌜ Ready (now s) (mapOf (now s)) × (records ≡ patternsAt (now s)) × (list ≡ childrenAt (now s)) × (p < patterns (now s)) ⌝ }
     requires { ⌜ (length (now found) ≡ 192) × (count + length (namesIn (now s) p) ≤ 192) ⌝ }
     ensures { λ r. ⌜ Adds (inBuffer (now (found .entry)) count) (namesIn (now (s .entry)) p) (inBuffer (now (found .exit)) r) ⌝ }
 {
-    let mut next = add_own(s, m, p, found, count);
-    let run = children_of(s, m, p);
+    let mut next = add_own(s, records, p, found, count);
+    let run = children_in(s, records, p);
     let mut k: usize = 0;
     while k < run.count {
-        next = collect(s, m, child_at(s, m, run.first + k), found, next);
+        next = collect(
+            s,
+            records,
+            list,
+            child_in(s, list, run.first + k),
+            found,
+            next,
+        );
         k += 1;
     }
     next
@@ -92,7 +108,7 @@ fn name_twice(s: &[u8], m: Map, c: usize, found: &mut [u16]) -> bool
     requires { ⌜ Ready (now s) m × (c < clauses (now s)) × (length (now found) ≡ 192) ⌝ }
     ensures { λ r. ⌜ r ≡ nameTwice (now (s .entry)) c ⌝ }
 {
-    let count = collect(s, m, root_at(s, m, c), found, 0);
+    let count = collect(s, m.at.patterns, m.at.children, root_at(s, m, c), found, 0);
     repeats(found, count)
 }
 

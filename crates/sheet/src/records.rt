@@ -12,7 +12,7 @@ ghost use mathlib.Core.Path.{_≡_};
 ghost use Prim.Native.Nat.{_+_, _<_, _≤_};
 ghost use lib.ListN.{length};
 ghost use Rattle.rules.specs.Limits.{typeSize, constructorSize, patternSize};
-ghost use Rattle.rules.specs.SheetFile.{types, constructors, entries, patterns, children, clauses, entry, child, root, runIn};
+ghost use Rattle.rules.specs.SheetFile.{types, constructors, entries, patterns, children, clauses, patternsAt, childrenAt, entry, child, root, runIn};
 ghost use Rattle.rules.specs.Patterns.{patternKindOf};
 ghost use Rattle.rules.specs.SheetRefusals.{hasChildren};
 ghost use Rattle.facts.specs.SheetFacts.{Laid};
@@ -105,18 +105,34 @@ pub fn entry_at(s: &[u8], m: Map, e: usize) -> usize
     word_at(s, m.at.entries + ENTRY_SIZE * e) as usize
 }
 
+// Pattern p, by the start of the patterns alone: a recursion that hands on no more of the map stores no more of it at each call.
+pub fn pattern_in(s: &[u8], start: usize, p: usize) -> PatternRecord
+    requires { ⌜ Laid (now s) × (start ≡ patternsAt (now s)) × (p < patterns (now s)) ⌝ }
+    ensures { λ r. ⌜ r ≡ patternOf (now (s .entry)) p ⌝ }
+{
+    pattern_from(s, start + PATTERN_SIZE * p)
+}
+
 pub fn pattern_at(s: &[u8], m: Map, p: usize) -> PatternRecord
     requires { ⌜ Laid (now s) × (m ≡ mapOf (now s)) × (p < patterns (now s)) ⌝ }
     ensures { λ r. ⌜ r ≡ patternOf (now (s .entry)) p ⌝ }
 {
-    pattern_from(s, m.at.patterns + PATTERN_SIZE * p)
+    pattern_in(s, m.at.patterns, p)
+}
+
+// Entry j of the child list, by its start alone.
+pub fn child_in(s: &[u8], start: usize, j: usize) -> usize
+    requires { ⌜ Laid (now s) × (start ≡ childrenAt (now s)) × (j < children (now s)) ⌝ }
+    ensures { λ r. ⌜ r ≡ child (now (s .entry)) j ⌝ }
+{
+    word_at(s, start + CHILD_SIZE * j) as usize
 }
 
 pub fn child_at(s: &[u8], m: Map, j: usize) -> usize
     requires { ⌜ Laid (now s) × (m ≡ mapOf (now s)) × (j < children (now s)) ⌝ }
     ensures { λ r. ⌜ r ≡ child (now (s .entry)) j ⌝ }
 {
-    word_at(s, m.at.children + CHILD_SIZE * j) as usize
+    child_in(s, m.at.children, j)
 }
 
 pub fn root_at(s: &[u8], m: Map, c: usize) -> usize
@@ -164,12 +180,12 @@ fn has_children(kind: u8) -> bool
     kind <= 9
 }
 
-// The children of pattern p: none where its kind has none.
-pub fn children_of(s: &[u8], m: Map, p: usize) -> Run
-    requires { ⌜ Laid (now s) × (m ≡ mapOf (now s)) × (p < patterns (now s)) ⌝ }
+// The children of pattern p, by the start of the patterns alone: none where its kind has none.
+pub fn children_in(s: &[u8], start: usize, p: usize) -> Run
+    requires { ⌜ Laid (now s) × (start ≡ patternsAt (now s)) × (p < patterns (now s)) ⌝ }
     ensures { λ r. ⌜ r ≡ childrenOf (now (s .entry)) p ⌝ }
 {
-    let r = pattern_at(s, m, p);
+    let r = pattern_in(s, start, p);
     if has_children(r.kind) {
         Run {
             first: r.first,
@@ -178,4 +194,11 @@ pub fn children_of(s: &[u8], m: Map, p: usize) -> Run
     } else {
         Run { first: 0, count: 0 }
     }
+}
+
+pub fn children_of(s: &[u8], m: Map, p: usize) -> Run
+    requires { ⌜ Laid (now s) × (m ≡ mapOf (now s)) × (p < patterns (now s)) ⌝ }
+    ensures { λ r. ⌜ r ≡ childrenOf (now (s .entry)) p ⌝ }
+{
+    children_in(s, m.at.patterns, p)
 }

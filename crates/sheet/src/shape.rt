@@ -4,6 +4,8 @@ use crate::Map;
 use crate::limits::DEPTH_MOST;
 use crate::records::PatternRecord;
 use crate::records::child_at;
+use crate::records::child_in;
+use crate::records::children_in;
 use crate::records::children_of;
 use crate::records::no_run;
 use crate::records::pattern_at;
@@ -15,7 +17,7 @@ ghost use mathlib.Core.Path.{_≡_};
 ghost use Prim.Native.Nat.{_+_, _-_, _<_, _≤_};
 ghost use lib.Dec.{leb};
 ghost use Rattle.rules.specs.Searching.{every};
-ghost use Rattle.rules.specs.SheetFile.{patterns, children, clauses, patternKind, child};
+ghost use Rattle.rules.specs.SheetFile.{patterns, children, clauses, patternsAt, childrenAt, patternKind, child};
 ghost use Rattle.rules.specs.Patterns.{patternKindOf};
 ghost use Rattle.rules.specs.SheetRefusals.{isAbove, rootKeepsRules, within as Within, depthFits, shapeFits};
 ghost use Rattle.facts.specs.SheetFacts.{Laid, Counted};
@@ -196,18 +198,18 @@ fn all_children_above(s: &[u8], m: Map) -> bool
     true
 }
 
-// Pattern p and what is inside it reach no further than `deep` levels.
-fn within(s: &[u8], m: Map, p: usize, deep: usize) -> bool
-    requires { ⌜ Laid (now s) × (m ≡ mapOf (now s)) × ChildrenKnown (now s) × RunsInside (now s) × (p < patterns (now s)) ⌝ }
+// Pattern p and what is inside it reach no further than `deep` levels. Of the map it takes the starts of the patterns and of the child list.
+fn within(s: &[u8], records: usize, list: usize, p: usize, deep: usize) -> bool
+    requires { ⌜ Laid (now s) × (records ≡ patternsAt (now s)) × (list ≡ childrenAt (now s)) × ChildrenKnown (now s) × RunsInside (now s) × (p < patterns (now s)) ⌝ }
     ensures { λ r. ⌜ r ≡ Within deep (now (s .entry)) p ⌝ }
 {
     if deep == 0 {
         return false;
     }
-    let run = children_of(s, m, p);
+    let run = children_in(s, records, p);
     let mut k: usize = 0;
     while k < run.count {
-        if !within(s, m, child_at(s, m, run.first + k), deep - 1) {
+        if !within(s, records, list, child_in(s, list, run.first + k), deep - 1) {
             return false;
         }
         k += 1;
@@ -220,7 +222,13 @@ fn depth_fits(s: &[u8], m: Map, c: usize) -> bool
     requires { ⌜ RootsKnown (now s) × (c < clauses (now s)) ⌝ }
     ensures { λ r. ⌜ r ≡ depthFits (now (s .entry)) c ⌝ }
 {
-    within(s, m, root_at(s, m, c), DEPTH_MOST)
+    within(
+        s,
+        m.at.patterns,
+        m.at.children,
+        root_at(s, m, c),
+        DEPTH_MOST,
+    )
 }
 
 fn depths_fit(s: &[u8], m: Map) -> bool

@@ -15,7 +15,7 @@ use Rattle.leaves.proofs.+put_all_bindings+put_bindings.Lts-put_all_bin
 use Rattle.leaves.proofs.put_bindings.Reads as put-bindings
 use Rattle.leaves.proofs.put_bindings.Kinds as put-bindings-kinds
 use Rattle.leaves.proofs.+put_all_bindings+put_bindings.Lts-put_bindings as put-bindings-lts
-use Rattle.leaves.proofs.child_in.Reads as child-in-reads
+use Rattle.sheet.proofs.records.child_in.Reads as child-in-reads
 use Rattle.leaves.proofs.gives.Reads as gives-reads
 use Rattle.leaves.proofs.put_own.Reads as put-own-reads
 use Rattle.leaves.proofs.+put_all_bindings+put_bindings.{statement}

@@ -1,27 +1,14 @@
 use borrow.Author.Needs.{needs}
-use mathlib.Core.Path.{_∙_}
-use native.Mathlib.Omega.{arith}
-use Rattle.sheet.specs.RecordsLaws.{child-room, child-is}
+use mathlib.Core.Path.{ap}
+use Rattle.sheet.specs.declared.Map.{Map}
 use Rattle.sheet.proofs.records.child_at.Statement.{statement}
 use Rattle.sheet.proofs.records.child_at.Tie as tie
-use Rattle.sheet.proofs.records.child_at.Reads as reads
-use Rattle.sheet.proofs.records.child_at.Lts as lts
-use Rattle.words.proofs.word_at.Reads as word-at-reads
 
-mul-word-at : tie.Need-mul-word-at
-mul-word-at c = search needs
-
-add-word-at : tie.Need-add-word-at
-add-word-at c = omega (arith, child-room (c .before .before .pre .0) (c .before .before .pre .1) (c .before .before .args .j) (c .before .before .pre .2))
-
-word-at-requires : tie.Need-word-at-requires
-word-at-requires c κs = omega (arith, child-room (c .before .before .pre .0) (c .before .before .pre .1) (c .before .before .args .j) (c .before .before .pre .2))
-
-cast-result : tie.Need-cast-result
-cast-result c = search needs
+child-in-requires : tie.Need-child-in-requires
+child-in-requires c κs = let a = c .before in (a .pre .0, ap (λ (m : Map). m .at .children) (a .pre .1), a .pre .2)
 
 returns : tie.Need-returns
-returns c = c .word-at .ensures ∙ child-is (c .before .before .before .args .s .now) (c .before .before .before .pre .1) (c .before .before .before .args .j)
+returns c = c .child-in .ensures
 
 pub child-at-spec : {M : Type 1} → statement M
-child-at-spec = tie.close (tie.spec mul-word-at add-word-at word-at-requires cast-result returns)
+child-at-spec = tie.close (tie.spec child-in-requires returns)

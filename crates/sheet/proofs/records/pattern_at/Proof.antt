@@ -1,25 +1,14 @@
 use borrow.Author.Needs.{needs}
-use mathlib.Core.Path.{_∙_}
-use native.Mathlib.Omega.{arith}
-use Rattle.sheet.specs.RecordsLaws.{pattern-room, pattern-is}
+use mathlib.Core.Path.{ap}
+use Rattle.sheet.specs.declared.Map.{Map}
 use Rattle.sheet.proofs.records.pattern_at.Statement.{statement}
 use Rattle.sheet.proofs.records.pattern_at.Tie as tie
-use Rattle.sheet.proofs.records.pattern_at.Reads as reads
-use Rattle.sheet.proofs.records.pattern_at.Lts as lts
-use Rattle.sheet.proofs.records.pattern_from.Reads as pattern-from-reads
 
-mul-pattern-from : tie.Need-mul-pattern-from
-mul-pattern-from c = search needs
-
-add-pattern-from : tie.Need-add-pattern-from
-add-pattern-from c = omega (arith, pattern-room (c .before .before .pre .0) (c .before .before .pre .1) (c .before .before .args .p) (c .before .before .pre .2))
-
-pattern-from-requires : tie.Need-pattern-from-requires
-pattern-from-requires c κs = omega (arith, pattern-room (c .before .before .pre .0) (c .before .before .pre .1) (c .before .before .args .p) (c .before .before .pre .2))
+pattern-in-requires : tie.Need-pattern-in-requires
+pattern-in-requires c κs = let a = c .before in (a .pre .0, ap (λ (m : Map). m .at .patterns) (a .pre .1), a .pre .2)
 
 returns : tie.Need-returns
-returns c = c .pattern-from .ensures ∙ pattern-is (c .before .before .before .args .s .now) (c .before .before .before .pre .1) (c .before .before .before .args .p)
+returns c = c .pattern-in .ensures
 
 pub pattern-at-spec : {M : Type 1} → statement M
-pattern-at-spec =
-    tie.close (tie.spec mul-pattern-from add-pattern-from pattern-from-requires returns)
+pattern-at-spec = tie.close (tie.spec pattern-in-requires returns)

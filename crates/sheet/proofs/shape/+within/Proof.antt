@@ -12,13 +12,13 @@ use borrow.Fn.PlainCycle.{Measures, is, falls, and}
 use Rattle.sheet.proofs.shape.within.Reads as within
 use Rattle.sheet.proofs.shape.within.Kinds as within-kinds
 use Rattle.sheet.proofs.shape.+within.Lts-within as within-lts
-use Rattle.sheet.proofs.records.child_at.Reads as child-at-reads
-use Rattle.sheet.proofs.records.children_of.Reads as children-of-reads
+use Rattle.sheet.proofs.records.child_in.Reads as child-in-reads
+use Rattle.sheet.proofs.records.children_in.Reads as children-in-reads
 use Rattle.sheet.proofs.shape.+within.{statement}
 use Rattle.sheet.proofs.shape.+within.Tie.{close}
 
 abbrev μ-within : Measures 1 within-kinds.ps ℕ
-μ-within κs a = a .1 .1 .1 .0
+μ-within κs a = a .1 .1 .1 .1 .0
 
 abbrev within-at : ℕ → In 1 within-kinds.ps
 within-at t = and 1 within-kinds.ps (is 1 within-kinds.ps μ-within t) within.Pre
@@ -27,150 +27,150 @@ abbrev within-below : ℕ → In 1 within-kinds.ps
 within-below t = and 1 within-kinds.ps (falls 1 within-kinds.ps _<_ μ-within t) within.Pre
 
 abbrev within-Inv-loop : within-lts.InvT-loop
-within-Inv-loop s m p deep run k₀ k = (k ≤ run .count) × EveryFrom (λ j. Within (deep - 1) s (child s j)) (run .count) (run .first) k
+within-Inv-loop s records list p deep run k₀ k = (k ≤ run .count) × EveryFrom (λ j. Within (deep - 1) s (child s j)) (run .count) (run .first) k
 
 abbrev within-μ-loop : within-lts.MeasureT-loop
-within-μ-loop s m p deep run k₀ k = run .count - k
+within-μ-loop s records list p deep run k₀ k = run .count - k
 
 within-returns : (t : ℕ) → within-lts.Need-returns (
-  children-of-reads.Asked,
-  children-of-reads.Learnt,
-  child-at-reads.Asked,
-  child-at-reads.Learnt,
+  children-in-reads.Asked,
+  children-in-reads.Learnt,
+  child-in-reads.Asked,
+  child-in-reads.Learnt,
   within-below t,
   within.Post,
 ) (within-at t) within.Post within-Inv-loop within-μ-loop
 within-returns t c = sym (ap (λ (d : ℕ). Within d (c .before .before .args .s .now) (c .before .before .args .p)) (c .if1 .taken) ∙ within-none (c .before .before .args .s .now) (c .before .before .args .p))
 
-within-children-of-requires : (t : ℕ) → within-lts.Need-children-of-requires (
-  children-of-reads.Asked,
-  children-of-reads.Learnt,
-  child-at-reads.Asked,
-  child-at-reads.Learnt,
+within-children-in-requires : (t : ℕ) → within-lts.Need-children-in-requires (
+  children-in-reads.Asked,
+  children-in-reads.Learnt,
+  child-in-reads.Asked,
+  child-in-reads.Learnt,
   within-below t,
   within.Post,
 ) (within-at t) within.Post within-Inv-loop within-μ-loop
-within-children-of-requires t c κs = (c .before .before .pre .1 .0, c .before .before .pre .1 .1, c .before .before .pre .1 .4)
+within-children-in-requires t c κs = (c .before .before .pre .1 .0, c .before .before .pre .1 .1, c .before .before .pre .1 .5)
 
 within-loop-holds : (t : ℕ) → within-lts.Need-loop-holds (
-  children-of-reads.Asked,
-  children-of-reads.Learnt,
-  child-at-reads.Asked,
-  child-at-reads.Learnt,
+  children-in-reads.Asked,
+  children-in-reads.Learnt,
+  child-in-reads.Asked,
+  child-in-reads.Learnt,
   within-below t,
   within.Post,
 ) (within-at t) within.Post within-Inv-loop within-μ-loop
-within-loop-holds t c = (omega arith, from-begins (λ j. Within (c .before .before .before .args .deep - 1) (c .before .before .before .args .s .now) (child (c .before .before .before .args .s .now) j)) (c .children-of .result .count) (c .children-of .result .first))
+within-loop-holds t c = (omega arith, from-begins (λ j. Within (c .before .before .before .args .deep - 1) (c .before .before .before .args .s .now) (child (c .before .before .before .args .s .now) j)) (c .children-in .result .count) (c .children-in .result .first))
 
-within-add-child-at : (t : ℕ) → within-lts.Need-add-child-at (
-  children-of-reads.Asked,
-  children-of-reads.Learnt,
-  child-at-reads.Asked,
-  child-at-reads.Learnt,
+within-add-child-in : (t : ℕ) → within-lts.Need-add-child-in (
+  children-in-reads.Asked,
+  children-in-reads.Learnt,
+  child-in-reads.Asked,
+  child-in-reads.Learnt,
   within-below t,
   within.Post,
 ) (within-at t) within.Post within-Inv-loop within-μ-loop
-within-add-child-at t c = omega (arith, run-entry (c .before .before .before .before .before .before .before .args .s .now) (c .before .before .before .before .before .before .before .pre .1 .3) (c .before .before .before .before .before .before .before .args .p) (c .before .before .before .before .before .before .before .pre .1 .4) (c .before .before .before .before .children-of .result) (c .before .before .before .before .children-of .ensures) (c .before .before .before .loop .k) (c .before .if2 .taken), c .before .before .before .before .before .before .before .pre .1 .0)
+within-add-child-in t c = omega (arith, run-entry (c .before .before .before .before .before .before .before .args .s .now) (c .before .before .before .before .before .before .before .pre .1 .4) (c .before .before .before .before .before .before .before .args .p) (c .before .before .before .before .before .before .before .pre .1 .5) (c .before .before .before .before .children-in .result) (c .before .before .before .before .children-in .ensures) (c .before .before .before .loop .k) (c .before .if2 .taken), c .before .before .before .before .before .before .before .pre .1 .0)
 
-within-child-at-requires : (t : ℕ) → within-lts.Need-child-at-requires (
-  children-of-reads.Asked,
-  children-of-reads.Learnt,
-  child-at-reads.Asked,
-  child-at-reads.Learnt,
+within-child-in-requires : (t : ℕ) → within-lts.Need-child-in-requires (
+  children-in-reads.Asked,
+  children-in-reads.Learnt,
+  child-in-reads.Asked,
+  child-in-reads.Learnt,
   within-below t,
   within.Post,
 ) (within-at t) within.Post within-Inv-loop within-μ-loop
-within-child-at-requires t c κs = (c .before .before .before .before .before .before .before .pre .1 .0, c .before .before .before .before .before .before .before .pre .1 .1, run-entry (c .before .before .before .before .before .before .before .args .s .now) (c .before .before .before .before .before .before .before .pre .1 .3) (c .before .before .before .before .before .before .before .args .p) (c .before .before .before .before .before .before .before .pre .1 .4) (c .before .before .before .before .children-of .result) (c .before .before .before .before .children-of .ensures) (c .before .before .before .loop .k) (c .before .if2 .taken))
+within-child-in-requires t c κs = (c .before .before .before .before .before .before .before .pre .1 .0, c .before .before .before .before .before .before .before .pre .1 .2, run-entry (c .before .before .before .before .before .before .before .args .s .now) (c .before .before .before .before .before .before .before .pre .1 .4) (c .before .before .before .before .before .before .before .args .p) (c .before .before .before .before .before .before .before .pre .1 .5) (c .before .before .before .before .children-in .result) (c .before .before .before .before .children-in .ensures) (c .before .before .before .loop .k) (c .before .if2 .taken))
 
 within-sub-within : (t : ℕ) → within-lts.Need-sub-within (
-  children-of-reads.Asked,
-  children-of-reads.Learnt,
-  child-at-reads.Asked,
-  child-at-reads.Learnt,
+  children-in-reads.Asked,
+  children-in-reads.Learnt,
+  child-in-reads.Asked,
+  child-in-reads.Learnt,
   within-below t,
   within.Post,
 ) (within-at t) within.Post within-Inv-loop within-μ-loop
 within-sub-within t c = omega (arith, c .before .before .before .before .before .before .if1 .left)
 
 within-within-requires : (t : ℕ) → within-lts.Need-within-requires (
-  children-of-reads.Asked,
-  children-of-reads.Learnt,
-  child-at-reads.Asked,
-  child-at-reads.Learnt,
+  children-in-reads.Asked,
+  children-in-reads.Learnt,
+  child-in-reads.Asked,
+  child-in-reads.Learnt,
   within-below t,
   within.Post,
 ) (within-at t) within.Post within-Inv-loop within-μ-loop
 within-within-requires t c κs =
-    let there = run-entry (c .before .before .before .before .before .before .before .before .args .s .now) (c .before .before .before .before .before .before .before .before .pre .1 .3) (c .before .before .before .before .before .before .before .before .args .p) (c .before .before .before .before .before .before .before .before .pre .1 .4) (c .before .before .before .before .before .children-of .result) (c .before .before .before .before .before .children-of .ensures) (c .before .before .before .before .loop .k) (c .before .before .if2 .taken) in
-    (omega (arith, c .before .before .before .before .before .before .before .before .pre .0, c .before .before .before .before .before .before .if1 .left), (c .before .before .before .before .before .before .before .before .pre .1 .0, c .before .before .before .before .before .before .before .before .pre .1 .1, c .before .before .before .before .before .before .before .before .pre .1 .2, c .before .before .before .before .before .before .before .before .pre .1 .3, omega (arith, c .child-at .ensures, c .before .before .before .before .before .before .before .before .pre .1 .2 .child-known (c .before .before .before .before .before .children-of .result .first + c .before .before .before .before .loop .k) there)))
+    let there = run-entry (c .before .before .before .before .before .before .before .before .args .s .now) (c .before .before .before .before .before .before .before .before .pre .1 .4) (c .before .before .before .before .before .before .before .before .args .p) (c .before .before .before .before .before .before .before .before .pre .1 .5) (c .before .before .before .before .before .children-in .result) (c .before .before .before .before .before .children-in .ensures) (c .before .before .before .before .loop .k) (c .before .before .if2 .taken) in
+    (omega (arith, c .before .before .before .before .before .before .before .before .pre .0, c .before .before .before .before .before .before .if1 .left), (c .before .before .before .before .before .before .before .before .pre .1 .0, c .before .before .before .before .before .before .before .before .pre .1 .1, c .before .before .before .before .before .before .before .before .pre .1 .2, c .before .before .before .before .before .before .before .before .pre .1 .3, c .before .before .before .before .before .before .before .before .pre .1 .4, omega (arith, c .child-in .ensures, c .before .before .before .before .before .before .before .before .pre .1 .3 .child-known (c .before .before .before .before .before .children-in .result .first + c .before .before .before .before .loop .k) there)))
 
 within-returns-2 : (t : ℕ) → within-lts.Need-returns-2 (
-  children-of-reads.Asked,
-  children-of-reads.Learnt,
-  child-at-reads.Asked,
-  child-at-reads.Learnt,
+  children-in-reads.Asked,
+  children-in-reads.Learnt,
+  child-in-reads.Asked,
+  child-in-reads.Learnt,
   within-below t,
   within.Post,
 ) (within-at t) within.Post within-Inv-loop within-μ-loop
 within-returns-2 t c =
-    from-stops (λ j. Within (c .before .before .before .before .before .before .before .before .before .before .args .deep - 1) (c .before .before .before .before .before .before .before .before .before .before .args .s .now) (child (c .before .before .before .before .before .before .before .before .before .before .args .s .now) j)) (c .before .before .before .before .before .before .before .children-of .result .count) (c .before .before .before .before .before .before .before .children-of .result .first) (c .before .before .before .before .before .before .loop .k) (c .before .before .before .before .if2 .taken) (c .before .before .before .before .before .before .loop .inv .1)
-    (stopped (c .before .within .ensures ∙ ap (Within (c .before .before .before .before .before .before .before .before .before .before .args .deep - 1) (c .before .before .before .before .before .before .before .before .before .before .args .s .now)) (c .before .before .child-at .ensures)) (c .if3 .taken))
-    ∙ every-of-children (c .before .before .before .before .before .before .before .before .before .before .args .s .now) (c .before .before .before .before .before .before .before .before .before .before .args .p) (c .before .before .before .before .before .before .before .children-of .result) (c .before .before .before .before .before .before .before .children-of .ensures) (λ j. Within (c .before .before .before .before .before .before .before .before .before .before .args .deep - 1) (c .before .before .before .before .before .before .before .before .before .before .args .s .now) (child (c .before .before .before .before .before .before .before .before .before .before .args .s .now) j))
+    from-stops (λ j. Within (c .before .before .before .before .before .before .before .before .before .before .args .deep - 1) (c .before .before .before .before .before .before .before .before .before .before .args .s .now) (child (c .before .before .before .before .before .before .before .before .before .before .args .s .now) j)) (c .before .before .before .before .before .before .before .children-in .result .count) (c .before .before .before .before .before .before .before .children-in .result .first) (c .before .before .before .before .before .before .loop .k) (c .before .before .before .before .if2 .taken) (c .before .before .before .before .before .before .loop .inv .1)
+    (stopped (c .before .within .ensures ∙ ap (Within (c .before .before .before .before .before .before .before .before .before .before .args .deep - 1) (c .before .before .before .before .before .before .before .before .before .before .args .s .now)) (c .before .before .child-in .ensures)) (c .if3 .taken))
+    ∙ every-of-children (c .before .before .before .before .before .before .before .before .before .before .args .s .now) (c .before .before .before .before .before .before .before .before .before .before .args .p) (c .before .before .before .before .before .before .before .children-in .result) (c .before .before .before .before .before .before .before .children-in .ensures) (λ j. Within (c .before .before .before .before .before .before .before .before .before .before .args .deep - 1) (c .before .before .before .before .before .before .before .before .before .before .args .s .now) (child (c .before .before .before .before .before .before .before .before .before .before .args .s .now) j))
     ∙ sym (within-some (c .before .before .before .before .before .before .before .before .before .before .args .deep) (c .before .before .before .before .before .before .before .before .before .before .args .s .now) (c .before .before .before .before .before .before .before .before .before .before .args .p) (c .before .before .before .before .before .before .before .before .if1 .left))
 
 within-add-k : (t : ℕ) → within-lts.Need-add-k (
-  children-of-reads.Asked,
-  children-of-reads.Learnt,
-  child-at-reads.Asked,
-  child-at-reads.Learnt,
+  children-in-reads.Asked,
+  children-in-reads.Learnt,
+  child-in-reads.Asked,
+  child-in-reads.Learnt,
   within-below t,
   within.Post,
 ) (within-at t) within.Post within-Inv-loop within-μ-loop
 within-add-k t c = search needs
 
 within-loop-less : (t : ℕ) → within-lts.Need-loop-less (
-  children-of-reads.Asked,
-  children-of-reads.Learnt,
-  child-at-reads.Asked,
-  child-at-reads.Learnt,
+  children-in-reads.Asked,
+  children-in-reads.Learnt,
+  child-in-reads.Asked,
+  child-in-reads.Learnt,
   within-below t,
   within.Post,
 ) (within-at t) within.Post within-Inv-loop within-μ-loop
 within-loop-less t c = omega (arith, c .before .before .before .before .if2 .taken)
 
 within-loop-again : (t : ℕ) → within-lts.Need-loop-again (
-  children-of-reads.Asked,
-  children-of-reads.Learnt,
-  child-at-reads.Asked,
-  child-at-reads.Learnt,
+  children-in-reads.Asked,
+  children-in-reads.Learnt,
+  child-in-reads.Asked,
+  child-in-reads.Learnt,
   within-below t,
   within.Post,
 ) (within-at t) within.Post within-Inv-loop within-μ-loop
 within-loop-again t c = (
   omega (arith, c .before .before .before .before .if2 .taken),
-  from-goes-on (λ j. Within (c .before .before .before .before .before .before .before .before .before .before .args .deep - 1) (c .before .before .before .before .before .before .before .before .before .before .args .s .now) (child (c .before .before .before .before .before .before .before .before .before .before .args .s .now) j)) (c .before .before .before .before .before .before .before .children-of .result .count) (c .before .before .before .before .before .before .before .children-of .result .first) (c .before .before .before .before .before .before .loop .k) (c .before .before .before .before .if2 .taken) (c .before .before .before .before .before .before .loop .inv .1)
-      (passed (c .before .within .ensures ∙ ap (Within (c .before .before .before .before .before .before .before .before .before .before .args .deep - 1) (c .before .before .before .before .before .before .before .before .before .before .args .s .now)) (c .before .before .child-at .ensures)) (c .if3 .left)),
+  from-goes-on (λ j. Within (c .before .before .before .before .before .before .before .before .before .before .args .deep - 1) (c .before .before .before .before .before .before .before .before .before .before .args .s .now) (child (c .before .before .before .before .before .before .before .before .before .before .args .s .now) j)) (c .before .before .before .before .before .before .before .children-in .result .count) (c .before .before .before .before .before .before .before .children-in .result .first) (c .before .before .before .before .before .before .loop .k) (c .before .before .before .before .if2 .taken) (c .before .before .before .before .before .before .loop .inv .1)
+      (passed (c .before .within .ensures ∙ ap (Within (c .before .before .before .before .before .before .before .before .before .before .args .deep - 1) (c .before .before .before .before .before .before .before .before .before .before .args .s .now)) (c .before .before .child-in .ensures)) (c .if3 .left)),
 )
 
 within-returns-3 : (t : ℕ) → within-lts.Need-returns-3 (
-  children-of-reads.Asked,
-  children-of-reads.Learnt,
-  child-at-reads.Asked,
-  child-at-reads.Learnt,
+  children-in-reads.Asked,
+  children-in-reads.Learnt,
+  child-in-reads.Asked,
+  child-in-reads.Learnt,
   within-below t,
   within.Post,
 ) (within-at t) within.Post within-Inv-loop within-μ-loop
 within-returns-3 t c =
-    from-ends (λ j. Within (c .before .before .before .before .before .before .args .deep - 1) (c .before .before .before .before .before .before .args .s .now) (child (c .before .before .before .before .before .before .args .s .now) j)) (c .before .before .before .children-of .result .count) (c .before .before .before .children-of .result .first) (c .before .before .loop .k) (c .if2 .left) (c .before .before .loop .inv .1)
-    ∙ every-of-children (c .before .before .before .before .before .before .args .s .now) (c .before .before .before .before .before .before .args .p) (c .before .before .before .children-of .result) (c .before .before .before .children-of .ensures) (λ j. Within (c .before .before .before .before .before .before .args .deep - 1) (c .before .before .before .before .before .before .args .s .now) (child (c .before .before .before .before .before .before .args .s .now) j))
+    from-ends (λ j. Within (c .before .before .before .before .before .before .args .deep - 1) (c .before .before .before .before .before .before .args .s .now) (child (c .before .before .before .before .before .before .args .s .now) j)) (c .before .before .before .children-in .result .count) (c .before .before .before .children-in .result .first) (c .before .before .loop .k) (c .if2 .left) (c .before .before .loop .inv .1)
+    ∙ every-of-children (c .before .before .before .before .before .before .args .s .now) (c .before .before .before .before .before .before .args .p) (c .before .before .before .children-in .result) (c .before .before .before .children-in .ensures) (λ j. Within (c .before .before .before .before .before .before .args .deep - 1) (c .before .before .before .before .before .before .args .s .now) (child (c .before .before .before .before .before .before .args .s .now) j))
     ∙ sym (within-some (c .before .before .before .before .before .before .args .deep) (c .before .before .before .before .before .before .args .s .now) (c .before .before .before .before .before .before .args .p) (c .before .before .before .before .if1 .left))
 
 pub +within-spec : {M : Type 1} → statement M
 +within-spec = close μ-within λ t. within-lts.spec (
-  children-of-reads.Asked,
-  children-of-reads.Learnt,
-  child-at-reads.Asked,
-  child-at-reads.Learnt,
+  children-in-reads.Asked,
+  children-in-reads.Learnt,
+  child-in-reads.Asked,
+  child-in-reads.Learnt,
   within-below t,
   within.Post,
 )
@@ -179,10 +179,10 @@ pub +within-spec : {M : Type 1} → statement M
     within-Inv-loop
     within-μ-loop
     (within-returns t)
-    (within-children-of-requires t)
+    (within-children-in-requires t)
     (within-loop-holds t)
-    (within-add-child-at t)
-    (within-child-at-requires t)
+    (within-add-child-in t)
+    (within-child-in-requires t)
     (within-sub-within t)
     (within-within-requires t)
     (within-returns-2 t)

@@ -3,10 +3,10 @@ use mathlib.Core.Path.{refl, ap, _∙_}
 use Prim.Native.Nat.{ℕ, _+_, _*_}
 use Rattle.words.specs.Words.{wordAt}
 use Rattle.rules.specs.Limits.{childSize}
 use Rattle.sheet.specs.Sections.{mapOf}
 use Rattle.sheet.specs.RecordsLaws.{child-is}
-use Rattle.leaves.proofs.child_in.Statement.{statement}
-use Rattle.leaves.proofs.child_in.Tie as tie
+use Rattle.sheet.proofs.records.child_in.Statement.{statement}
+use Rattle.sheet.proofs.records.child_in.Tie as tie
 
 mul-word-at : tie.Need-mul-word-at
 mul-word-at c = search needs

@@ -2,11 +2,11 @@ use borrow.Author.Needs.{needs}
 use mathlib.Core.Path.{refl, ap, _∙_}
 use Prim.Native.Nat.{ℕ, _+_, _*_}
 use Rattle.rules.specs.Limits.{patternSize}
 use Rattle.sheet.specs.Sections.{mapOf}
 use Rattle.sheet.specs.Records.{patternFrom}
 use Rattle.sheet.specs.RecordsLaws.{pattern-is}
-use Rattle.leaves.proofs.pattern_in.Statement.{statement}
-use Rattle.leaves.proofs.pattern_in.Tie as tie
+use Rattle.sheet.proofs.records.pattern_in.Statement.{statement}
+use Rattle.sheet.proofs.records.pattern_in.Tie as tie
 
 mul-pattern-from : tie.Need-mul-pattern-from
 mul-pattern-from c = search needs
