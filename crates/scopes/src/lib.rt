@@ -9,6 +9,7 @@ use marks::mark;
 use marks::mark_of;
 ghost use mathlib.Core.Path.{_≡_};
 ghost use Prim.Native.Nat.{_<_, _≤_};
+ghost use lib.ListN.{length};
 ghost use Rattle.rules.specs.Limits.{clausesMost};
 ghost use Rattle.scopes.specs.Marks.{ReadyWith};
 ghost use Rattle.scopes.specs.Scoped.{Surveyed, withClause, Scoped};
@@ -18,6 +19,9 @@ pub mod last;
 pub mod marks;
 
 pub const CLAUSES_MOST: usize = 32;
+
+// The nodes of a small tree.
+const NODES_FEW: usize = 64;
 
 // By clause, the node above which it is hoisted and the node of its first leaf, 1,024 where it has no leaf; how many clauses have one,
 // and the lowest that has none, or 32.
@@ -46,14 +50,13 @@ fn with_clause(w: &[u8], c: usize, last: &[u8], sets: &[u32], x: Scopes) -> Scop
     y
 }
 
-pub fn get_hoist_paths(w: &[u8], nodes: usize, clauses: usize) -> Scopes
-    requires { ⌜ ReadyWith (now w) nodes × (clauses ≤ clausesMost) ⌝ }
+// Over tables with room for the nodes, whatever stands in them.
+fn hoist_paths(w: &[u8], nodes: usize, clauses: usize, last: &mut [u8], sets: &mut [u32]) -> Scopes
+    requires { ⌜ ReadyWith (now w) nodes × (clauses ≤ clausesMost) × (nodes ≤ length (now last)) × (nodes ≤ length (now sets)) ⌝ }
     ensures { λ r. ⌜ ((h : ReadyWith (now (w .entry)) nodes) → Scoped (h .tree) clauses r) ⌝ }
 {
-    let mut last = [0u8; 1024];
-    mark_last(w, nodes, &mut last);
-    let mut sets = [0u32; 1024];
-    mark(w, nodes, &mut sets);
+    mark_last(w, nodes, last);
+    mark(w, nodes, sets);
     let none = NODES_MOST as u16;
     let mut x = Scopes {
         node: [none; 32],
@@ -64,7 +67,22 @@ pub fn get_hoist_paths(w: &[u8], nodes: usize, clauses: usize) -> Scopes
     let mut c = clauses;
     while 0 < c {
         c -= 1;
-        x = with_clause(w, c, &last, &sets, x);
+        x = with_clause(w, c, last, sets, x);
     }
     x
+}
+
+// A table is cleared whole as it is made; most trees are small, so theirs are.
+pub fn get_hoist_paths(w: &[u8], nodes: usize, clauses: usize) -> Scopes
+    requires { ⌜ ReadyWith (now w) nodes × (clauses ≤ clausesMost) ⌝ }
+    ensures { λ r. ⌜ ((h : ReadyWith (now (w .entry)) nodes) → Scoped (h .tree) clauses r) ⌝ }
+{
+    if nodes <= NODES_FEW {
+        let mut last = [0u8; 64];
+        let mut sets = [0u32; 64];
+        return hoist_paths(w, nodes, clauses, &mut last, &mut sets);
+    }
+    let mut last = [0u8; 1024];
+    let mut sets = [0u32; 1024];
+    hoist_paths(w, nodes, clauses, &mut last, &mut sets)
 }
