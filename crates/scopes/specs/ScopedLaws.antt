@@ -196,6 +196,3 @@ surveyed w nodes last sets m l n k h =
       sets-marked = n h;
       sets-long = omega (arith, h .count);
     }
-
-pub nodes-few : (w : List ℕ) (nodes : ℕ) → ReadyWith w nodes → nodes ≤ nodesMost
-nodes-few w nodes h = omega (arith, h .count, h .ready .nodes .nodes-most)
