@@ -115,9 +115,14 @@ const BARE: usize = 3;
 const PLAIN: usize = 4;
 const INDEXED: usize = 5;
 const TRUSTING: usize = 6;
+/// The plain walker where the library's walk itself stands: behind the two passes.
+const BEHIND: usize = 7;
+/// How many they are.
+const CALLS: usize = 8;
 
 /// Their names, as `once` is asked for them.
-const WALK_CALLS: [&str; 7] = ["walk", "tree", "panel", "bare", "plain", "indexed", "trusting"];
+const WALK_CALLS: [&str; CALLS] =
+    ["walk", "tree", "panel", "bare", "plain", "indexed", "trusting", "behind"];
 
 /// Makes one of these calls. The files passed their checks and the walk ends.
 #[inline(always)]
@@ -131,7 +136,13 @@ fn walk_call(call: usize, tree: &[u8], panel: &[u8], bound: &mut [u16; 576]) -> 
         PLAIN => unsafe { plain::asking(tree, panel, bound) },
         INDEXED => plain::indexed(tree, panel, bound),
         // SAFETY: as above.
-        _ => unsafe { plain::trusting(tree, panel, bound) },
+        TRUSTING => unsafe { plain::trusting(tree, panel, bound) },
+        _ => {
+            black_box(library::walk(tree, &[], bound));
+            black_box(library::text(panel, NO_RECORD, 0));
+            // SAFETY: as above.
+            unsafe { plain::asking(tree, panel, bound) }
+        }
     }
 }
 
@@ -145,16 +156,23 @@ fn batch<const CALL: usize>(calls: u32, tree: &[u8], panel: &[u8]) -> f64 {
     start.elapsed().as_nanos() as f64 / f64::from(calls)
 }
 
-/// Times of a walk, in nanoseconds: of each call the median of its batches and the least, and the walk itself.
+/// Times of a walk, in nanoseconds: of each call the median of its batches and the least, the walk itself, and the plain walker
+/// behind the passes.
 struct Walk {
-    of: [f64; 7],
-    least: [f64; 7],
+    of: [f64; CALLS],
+    least: [f64; CALLS],
     itself: f64,
+    behind: f64,
 }
 
 /// The part of a walk that is neither clearing nor reading: see WALK_HEAD.
-fn itself(times: &[f64; 7]) -> f64 {
+fn itself(times: &[f64; CALLS]) -> f64 {
     times[WHOLE] - times[TREE] - times[PANEL] + times[BARE]
+}
+
+/// The plain walker behind the same two passes.
+fn behind(times: &[f64; CALLS]) -> f64 {
+    times[BEHIND] - times[TREE] - times[PANEL]
 }
 
 fn walk(tree: &[u8], panel: &[u8]) -> Walk {
@@ -162,7 +180,7 @@ fn walk(tree: &[u8], panel: &[u8]) -> Walk {
     let answer = library::walk(tree, panel, &mut bound);
     assert_eq!(library::refusal(answer), 0, "a fitting panel is walked");
     library::same_plain(tree, panel, answer, &bound).expect("the plain walkers answer alike");
-    let many: [u32; 7] = std::array::from_fn(|call| {
+    let many: [u32; CALLS] = std::array::from_fn(|call| {
         calls(|| {
             black_box(walk_call(call, tree, panel, &mut bound));
         })
@@ -176,15 +194,17 @@ fn walk(tree: &[u8], panel: &[u8]) -> Walk {
             batch::<PLAIN>(many[PLAIN], tree, panel),
             batch::<INDEXED>(many[INDEXED], tree, panel),
             batch::<TRUSTING>(many[TRUSTING], tree, panel),
+            batch::<BEHIND>(many[BEHIND], tree, panel),
         ]
     };
-    let turns: Vec<[f64; 7]> = (0..WALK_BATCHES).map(turn).collect();
+    let turns: Vec<[f64; CALLS]> = (0..WALK_BATCHES).map(turn).collect();
     Walk {
         of: std::array::from_fn(|call| median(turns.iter().map(|turn| turn[call]).collect())),
         least: std::array::from_fn(|call| {
             turns.iter().map(|turn| turn[call]).fold(f64::INFINITY, f64::min)
         }),
         itself: median(turns.iter().map(itself).collect()),
+        behind: median(turns.iter().map(behind).collect()),
     }
 }
 
@@ -211,9 +231,12 @@ clearing and the tree's pass. Panel: the text call of a record that is not there
 of an empty panel. The walk itself is whole - tree - panel + bare (the last, since each of the two passes has a call of its own in it),
 the median over turns in which each call is timed once. Plain: a walker in Rust over the same bytes that gives the same answer, 32 where
 it is stuck, and checks nothing else; indexed: the same as safe Rust, with its checks of indexes; trusting: one that does not ask either
-whether a part is there and of its kind. Ratio: the walk itself by plain, by indexed, by trusting. The last three columns are another
-way to reckon: the walk itself and plain from the least batch of each call, the mean over all walks, and their ratio.
-family     walks    whole     tree    panel  bare  itself  plain  ratio  goal  indexed  ratio  trusting  ratio  l.itself l.plain  ratio";
+whether a part is there and of its kind. Ratio: the walk itself by plain, by indexed, by trusting. The next three columns are another
+way to reckon: the walk itself and plain from the least batch of each call, the mean over all walks, and their ratio. These walkers are
+called again and again, with nothing else between: the processor then has foretold every branch of a walk, which it cannot where two
+passes come first. So the last two columns are plain right behind the same two passes (the three calls in a row - tree - panel), and the
+ratio of the walk itself to that.
+family     walks    whole     tree    panel  bare  itself  plain  ratio  goal  indexed  ratio  trusting  ratio  l.itself l.plain  ratio  behind  ratio";
 
 fn show_builds(name: &str, goal: f64, members: &[Member]) {
     let times: Vec<Build> = members.iter().map(build).collect();
@@ -234,13 +257,13 @@ fn show_walks(name: &str, members: &[Member]) {
     let files = members.iter().flat_map(|m| m.panels.iter().map(|panel| (&m.tree, panel)));
     let times: Vec<Walk> = files.map(|(tree, panel)| walk(tree, panel)).collect();
     let of = |part: &dyn Fn(&Walk) -> f64| median(times.iter().map(part).collect());
-    let [whole, tree, panel, bare, plain, indexed, trusting] =
+    let [whole, tree, panel, bare, plain, indexed, trusting, _] =
         std::array::from_fn(|call| of(&|time| time.of[call]));
-    let least: [f64; 7] = std::array::from_fn(|call| {
+    let least: [f64; CALLS] = std::array::from_fn(|call| {
         mean(&times.iter().map(|time| time.least[call]).collect::<Vec<_>>())
     });
     println!(
-        "{name:<8} {:>7} {whole:>8.0} {tree:>8.0} {panel:>8.0} {bare:>5.1} {:>7.1} {plain:>6.1} {:>6.2} {WALK_GOAL:>5} {indexed:>8.1} {:>6.2} {trusting:>9.1} {:>6.2} {:>9.1} {:>7.1} {:>6.2}",
+        "{name:<8} {:>7} {whole:>8.0} {tree:>8.0} {panel:>8.0} {bare:>5.1} {:>7.1} {plain:>6.1} {:>6.2} {WALK_GOAL:>5} {indexed:>8.1} {:>6.2} {trusting:>9.1} {:>6.2} {:>9.1} {:>7.1} {:>6.2} {:>7.1} {:>6.2}",
         times.len(),
         of(&|time| time.itself),
         of(&|time| time.itself / time.of[PLAIN]),
@@ -249,6 +272,8 @@ fn show_walks(name: &str, members: &[Member]) {
         itself(&least),
         least[PLAIN],
         itself(&least) / least[PLAIN],
+        of(&|time| time.behind),
+        of(&|time| time.itself / time.behind),
     );
 }
 
