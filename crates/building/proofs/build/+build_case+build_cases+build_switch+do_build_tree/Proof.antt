@@ -137,7 +137,7 @@ build-cases-Inv-loop s m t rows columns tested₀ opened n k work₀ first count
 abbrev build-cases-μ-loop : build-cases-lts.MeasureT-loop
 build-cases-μ-loop s m t rows columns tested₀ opened n k work₀ first count tops₀ i₀ tested work tops i = count - i
 
--- [helpers]
+-- ---- what is known at places of the code
 -- what is known in a turn of the loop
 turn-at : (t : ℕ) (c : build-cases-lts.In-loop (case-at-reads.Asked, case-at-reads.Learnt, put-child-reads.Asked, put-child-reads.Learnt, build-case-below t, build-case.Post) (build-cases-at t) build-cases.Post build-cases-Inv-loop build-cases-μ-loop)
     → Turn (c .before .before .before .before .before .before .args .s .now) (c .before .before .before .before .before .before .args .m) (c .before .before .before .before .before .before .args .t .now) (matrixOf (c .before .before .before .before .before .before .args .rows .now) (c .before .before .before .before .before .before .args .columns .now) (c .before .before .before .before .before .before .args .tested .now) (c .before .before .before .before .before .before .args .opened .now) (c .before .before .before .before .before .before .args .n)) (c .before .before .before .before .before .before .args .k) (c .before .before .before .before .before .before .args .first) (c .before .before .before .before .before .before .args .w .now) (c .before .before .before .before .before .before .args .from) (c .before .loop .i) (c .before .loop .tested) (c .before .loop .w) (c .before .loop .tops)
@@ -159,7 +159,7 @@ cased-at t c =
       stands = still-default (c .before .before .before .before .before .before .before .before .before .before .before .before .before .before .before .before .before .before .before .before .before .before .before .pre .1 .0) (c .before .before .before .before .before .before .before .before .before .build-cases .ensures .1) (c .default-matrix .ensures);
     }
 
--- [end helpers]
+-- ---- the needs
 
 build-cases-sub-count : (t : ℕ) → build-cases-lts.Need-sub-count (
   case-at-reads.Asked,
