@@ -1,4 +1,4 @@
-"""Shows what callgrind counted: counts.py FILE CALLS prints the instructions of one call by function, the first ten.
+"""Shows what callgrind counted: counts.py FILE CALLS prints the instructions of one call by function, the first twenty.
 
 FILE is callgrind's own; CALLS is how often the call was made. A function that calls itself stands once. The C library's
 copies of memset and memcpy for one processor or another go by these names."""
@@ -7,7 +7,7 @@ import re
 import sys
 from collections import Counter
 
-FIRST = 10
+FIRST = 20
 
 
 def plain(name):

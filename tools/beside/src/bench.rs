@@ -233,9 +233,9 @@ the median over turns in which each call is timed once. Plain: a walker in Rust 
 it is stuck, and checks nothing else; indexed: the same as safe Rust, with its checks of indexes; trusting: one that does not ask either
 whether a part is there and of its kind. Ratio: the walk itself by plain, by indexed, by trusting. The next three columns are another
 way to reckon: the walk itself and plain from the least batch of each call, the mean over all walks, and their ratio. These walkers are
-called again and again, with nothing else between: the processor then has foretold every branch of a walk, which it cannot where two
-passes come first. So the last two columns are plain right behind the same two passes (the three calls in a row - tree - panel), and the
-ratio of the walk itself to that.
+called again and again, with nothing else between, so that a processor can learn every branch of a walk; behind two passes it has less to
+go by. So the last two columns are plain right behind the same two passes (the three calls in a row - tree - panel), and the ratio of
+the walk itself to that.
 family     walks    whole     tree    panel  bare  itself  plain  ratio  goal  indexed  ratio  trusting  ratio  l.itself l.plain  ratio  behind  ratio";
 
 fn show_builds(name: &str, goal: f64, members: &[Member]) {
