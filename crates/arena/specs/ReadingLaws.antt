@@ -2,20 +2,18 @@
 -- Rests on the laws of records and of stores.
 use mathlib.Core.Path.{_≡_, refl, sym, ap, _∙_}
 use mathlib.Core.List.{List, [], _∷_, _++_}
-use Prim.Native.Nat.{ℕ, suc, _+_, _/_, _%_}
-use native.Mathlib.Omega.{arith}
+use Prim.Native.Nat.{ℕ, _+_}
 use native.Mathlib.Numerals.{add-one}
 use lib.ListN.{length, set}
 use Rattle.words.specs.Words.{wordBytes}
 use Rattle.words.specs.Stored.{stored}
-use Rattle.words.specs.StoredLaws.{stored-append, stored-again}
+use Rattle.words.specs.StoredLaws.{stored-append}
 use Rattle.rules.specs.Splitting as splitting
 use Rattle.rules.specs.TreeFile.{nodeBytes, caseBytes}
 use Rattle.filing.specs.Writable.{testKind}
 use Rattle.filing.specs.RecordsLaws.{testNumber, testLength}
 use Rattle.arena.specs.declared.reading.Test.{Test}
 use Rattle.arena.specs.declared.reading.Case.{Case}
-use Rattle.arena.specs.Arena.{caseKind, caseNumber, caseLength, caseChild}
 use Rattle.arena.specs.RecordsLaws.{caseFields, CaseIs, caseBytes-fields}
 use Rattle.arena.specs.Reading.{testOf, caseOf, kindOf, numberOf, lengthOf, caseRecord, testFor}
 

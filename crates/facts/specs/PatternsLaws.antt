@@ -1,7 +1,6 @@
 -- The laws by which patterns are read from a sheet: a pattern opens one level, its children stand along the child list, and it keeps
 -- its number and type. Rests on the shape of the sheet: a child's number is larger, so that the number of patterns is deep enough.
 use mathlib.Core.Path.{_≡_, refl, ap, ap₂, _∙_}
-use mathlib.Core.Bool.{Bool, true, false}
 use mathlib.Core.List.{List}
 use Prim.Native.Nat.{ℕ, zero, suc, _+_, _-_, _≤_, _<_}
 use native.Mathlib.Omega.{arith}

@@ -17,8 +17,8 @@ use Rattle.rules.specs.Limits.{nodeSize, caseSize, bindingSize, pathSize, stepS
 use Rattle.rules.specs.Searching.{every}
 use Rattle.rules.specs.SearchingLaws.{every-true, first-or-rest}
 use Rattle.rules.specs.SheetRefusals.{isIn}
-use Rattle.rules.specs.Building.{Tree, Cases, hoist, switch, listswitch, cnil, ccons}
-use Rattle.rules.specs.TreeReader.{treeLength, nodesAt, casesAt, bindingsAt, pathsAt, stepsAt, treePoolAt, treePoolEnd, nodes, cases, bindings, paths, steps, treePoolSize, nodeKind, nodeZero, nodeWord, nodePath, nodeFirstCase, nodeCases, nodeTailCases, nodeDefault, nodeClause, nodeFirstBinding, nodeBindings, nodeChild, caseKind, caseZero, caseNumber, caseLength, caseChild, bindingPath, pathFirst, pathCount, stepKind, stepFlag, lengthTrue, startsRise, switchParts, isKind, switchCases, listSwitchCases, bindingParts, NodeKind, Switch, List-switch, Leaf, Hoist-node, Unknown-node, nodeKindOf, nodeOfKind, nodeKeepsRules, CaseKind, Constr-case, Int-case, Bytes-case, List-case, List-with-tail-case, Unknown-case, caseKindOf, caseOfKind, caseKeepsRules, bindingKeepsRules, pathKeepsRules, stepKeepsRules, caseChildren, defaultChild, childrenOfKind, nodeChildren, inPreOrder, nodesInPreOrder, treeFits, stepAt, stepsFrom, pathAt, bindingName, bindingsFrom, caseTest, startOfTest, casesFor, defaultFor, nodeFor, treeBelow, treeOf}
+use Rattle.rules.specs.Building.{Tree, Cases, hoist, switch, listswitch, ccons}
+use Rattle.rules.specs.TreeReader.{treeLength, nodesAt, casesAt, bindingsAt, pathsAt, stepsAt, treePoolAt, treePoolEnd, nodes, cases, bindings, paths, steps, treePoolSize, nodeKind, nodeZero, nodeWord, nodePath, nodeFirstCase, nodeCases, nodeTailCases, nodeDefault, nodeClause, nodeFirstBinding, nodeBindings, nodeChild, caseKind, caseZero, caseNumber, caseLength, caseChild, bindingPath, pathFirst, pathCount, stepKind, stepFlag, lengthTrue, startsRise, switchParts, isKind, switchCases, listSwitchCases, bindingParts, NodeKind, Switch, List-switch, Leaf, Hoist-node, Unknown-node, nodeKindOf, nodeOfKind, nodeKeepsRules, CaseKind, Constr-case, Int-case, Bytes-case, List-case, List-with-tail-case, Unknown-case, caseKindOf, caseOfKind, caseKeepsRules, bindingKeepsRules, pathKeepsRules, stepKeepsRules, caseChildren, defaultChild, childrenOfKind, nodeChildren, inPreOrder, nodesInPreOrder, treeFits, stepAt, stepsFrom, pathAt, bindingName, bindingsFrom, caseTest, startOfTest, casesFor, defaultFor, nodeFor, treeBelow}
 use Rattle.facts.specs.KindsLaws.{node-unknown, case-unknown, case-byte}
 use Rattle.facts.specs.RunsLaws.{Run, run-in, whole-rises, whole-fills, pool-fills, trailer-fills, every-below}
 

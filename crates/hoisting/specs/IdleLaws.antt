@@ -1,7 +1,6 @@
 -- Refusal 14: a clause has a scope exactly where it has a leaf, so it is the same to ask either, of the tree or of the hoisted one.
 -- The lowest clause without a leaf is what `lowestIdle` finds on the whole tree.
 use mathlib.Core.Path.{_≡_, refl, sym, ap, ap₂, _∙_}
-use mathlib.Core.Logic.{_↔_}
 use mathlib.Core.Bool.{Bool, true, false, not, true≢false}
 use mathlib.Core.List.{[]}
 use mathlib.Core.Option.{Option, none, some}

@@ -17,7 +17,7 @@ use Rattle.rules.specs.Splitting.{Test, withoutTest, openRow, column, covers, c
 use Rattle.rules.specs.Walking.{Position, panelRoot, follow, Bound, bound, Walked, reached, noLeaf, stuck, atLeaf}
 use Rattle.rules.specs.SplittingLaws.{All}
 use Rattle.matching.specs.Lists.{all-append, all-map}
-use Rattle.matching.specs.Tests.{isTest, HasTest, TestRow, cell, Taken, take-test, taken-has, others-have, default-all}
+use Rattle.matching.specs.Tests.{isTest, HasTest, cell, Taken, take-test, taken-has, others-have, default-all}
 use Rattle.matching.specs.Bindings.{total, SameUpToOrder, rowBindings, open-bindings}
 use Rattle.matching.specs.Suits.{Suits, holdsAt, holdAll, holdAll-append, holdsAt-matches, Good, headHolds, opened-read, head-fails}
 

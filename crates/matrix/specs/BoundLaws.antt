@@ -13,7 +13,7 @@ use Rattle.matching.specs.Lists.{all-append}
 use Rattle.table.specs.Standing.{pathOf}
 use Rattle.table.specs.Seen.{bindsOf, openedBinds, bindingAt}
 use Rattle.table.specs.Meets.{clause-bindings-meet, opened-bindings-meet}
-use Rattle.table.specs.MembersLaws.{bind-at, bind-inside}
+use Rattle.table.specs.MembersLaws.{bind-inside}
 use Rattle.matrix.specs.declared.Held.{Held}
 use Rattle.matrix.specs.declared.Held.the-variants.{Test, Wildcard}
 use Rattle.matrix.specs.RowStates.{rowOf, rowOf-clause}

@@ -39,7 +39,7 @@ use Rattle.matrix.specs.Live.{liveIn, IsClass}
 use Rattle.matrix.specs.HeldRows.{countOf, bestOf, pathChosen, heldTests, joinOf, joinsCase}
 use Rattle.matrix.specs.Ordered.{without-one}
 use Rattle.matrix.specs.Matrices.{TestIn, rowsAt, columnsAt, reached}
-use Rattle.matrix.specs.MatricesLaws.{rising-few, tests-in, opens-in, choice-is, column-is, column-class, default-sound, default-rows, default-columns, case-sound, case-rows, case-columns, first-sound, first-rows, first-columns}
+use Rattle.matrix.specs.MatricesLaws.{tests-in, opens-in, choice-is, column-is, column-class, default-sound, default-rows, default-columns, case-sound, case-rows, case-columns, first-sound, first-rows, first-columns}
 use Rattle.matrix.specs.Numbered.{Numbered, SoundOf, firstNumbered, defaultNumbered, opensIn, caseNumbered, chosenIn, testsIn, treeAt}
 
 -- ---- the rows of clauses have tests alone, whatever was tested

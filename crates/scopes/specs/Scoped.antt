@@ -1,12 +1,10 @@
 -- What the search for scopes answers of the tree in the arena.
 -- Rests on scopes and first leaves by number.
 use mathlib.Core.Path.{_≡_}
-use mathlib.Core.Bool.{Bool, true, false}
 use mathlib.Core.List.{List}
 use Prim.Native.Nat.{ℕ, _+_, _≤_, _<_}
 use lib.ListN.{length, getD, set}
 use Rattle.words.specs.Words.{pick}
-use Rattle.rules.specs.Limits.{clausesMost, nodesMost}
 use Rattle.rules.specs.Searching.{times}
 use Rattle.rules.specs.Building.{Tree}
 use Rattle.rules.specs.Hoisting.{nodesIn, hasLeaf}

@@ -2,9 +2,9 @@
 -- Rests on the marks of a clause and on the laws of `lowest` and `times`.
 use mathlib.Core.Path.{_≡_, refl, sym, ap, ap₂, _∙_, subst}
 use mathlib.Core.Logic.{_⊎_, inl, inr, ⊎-elim}
-use mathlib.Core.Bool.{Bool, true, false, not, true≢false, false≢true}
+use mathlib.Core.Bool.{Bool, true, false, not}
 use mathlib.Core.List.{List}
-use mathlib.Core.Option.{Option, none, some}
+use mathlib.Core.Option.{some}
 use Prim.Native.Nat.{ℕ, zero, suc, _+_, _-_, _≤_, _<_}
 use native.Mathlib.Omega.{arith}
 use lib.ListN.{length, getD, set, replicate, length-set, length-replicate, getD-replicate}
@@ -16,7 +16,7 @@ use Rattle.rules.specs.Rows.{bit}
 use Rattle.rules.specs.Searching.{lowest, times}
 use Rattle.rules.specs.SearchingLaws.{lowest-found, lowest-on, lowest-end, times-yes, times-no, times-end, times-most}
 use Rattle.rules.specs.Building.{Tree}
-use Rattle.rules.specs.Hoisting.{nodesIn, hasLeaf}
+use Rattle.rules.specs.Hoisting.{hasLeaf}
 use Rattle.rules.specs.Calls.{lowestIdle}
 use Rattle.arena.specs.NumberedLaws.{subtreeAt-root}
 use Rattle.scopes.specs.declared.Scopes.{Scopes}

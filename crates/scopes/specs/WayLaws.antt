@@ -1,23 +1,22 @@
 -- Laws for the passes over the nodes and for the ways down: what a turn of each loop keeps.
 -- Rests on what is read at a node of a tree in the arena.
-use mathlib.Core.Path.{_≡_, refl, sym, ap, ap₂, _∙_, subst}
+use mathlib.Core.Path.{_≡_, refl, sym, ap, _∙_, subst}
 use mathlib.Core.Logic.{_⊎_, inl, inr, ⊎-elim}
-use mathlib.Core.Bool.{Bool, true, false, true≢false, false≢true}
+use mathlib.Core.Bool.{Bool, true, false, true≢false}
 use mathlib.Core.List.{List}
-use mathlib.Core.Option.{Option, none, some}
-use Prim.Native.Nat.{ℕ, zero, suc, _+_, _≤_, _<_}
+use mathlib.Core.Option.{none, some}
+use Prim.Native.Nat.{ℕ, _+_, _≤_, _<_}
 use native.Mathlib.Omega.{arith}
 use lib.ListN.{length, getD, set}
 use lib.Seq.{getD-set-same, getD-set-other}
 use lib.Dec.{eqb, leb}
-use borrow.Author.Tests.{eq-eqb, ne-eqb, eqb-true}
+use borrow.Author.Tests.{eq-eqb, eqb-true}
 use Rattle.words.specs.Words.{either, pick}
-use Rattle.words.specs.WordsLaws.{pick-true, pick-false}
+use Rattle.words.specs.WordsLaws.{pick-false}
 use Rattle.rules.specs.Limits.{clausesMost, nodesMost}
 use Rattle.rules.specs.Rows.{bit}
 use Rattle.rules.specs.Building.{Tree, absent, leaf, hoist, switch, listswitch}
 use Rattle.rules.specs.Hoisting.{nodesIn, nodesInOf, hasLeaf}
-use Rattle.hoisting.specs.Trees.{isPresent}
 use Rattle.hoisting.specs.Scopes.{lastLeaf, isClause}
 use Rattle.hoisting.specs.Descent.{childrenWith, isScope}
 use Rattle.arena.specs.Arena.{nodeKind}
@@ -25,9 +24,9 @@ use Rattle.arena.specs.Numbered.{subtreeAt, casesUnder, defaultUnder}
 use Rattle.arena.specs.NumberedLaws.{subtreeAt-root}
 use Rattle.scopes.specs.Numbers.{descent, descentOf, never, scopeNumber, firstNumber}
 use Rattle.scopes.specs.SwitchLaws.{descent-switch, present-nodes}
-use Rattle.scopes.specs.Marks.{Ready, LeafThere, SwitchThere, Marked, SetsMarked, LastMarked, ClauseMarks, ScopeMarks, SwitchInside, NodeInside, ScopeInside, bitAt, column, markedChildren, firstChild, nodeMarked, nodeSet, lastOf, scopeHere}
+use Rattle.scopes.specs.Marks.{Ready, LeafThere, SwitchThere, Marked, SetsMarked, LastMarked, ClauseMarks, ScopeMarks, SwitchInside, ScopeInside, bitAt, column, markedChildren, firstChild, nodeMarked, nodeSet, lastOf, scopeHere}
 use Rattle.scopes.specs.SetsLaws.{length-column, column-set, nodeSet-marked}
-use Rattle.scopes.specs.ReadyLaws.{node-there, node-inside, Led, marked-children, node-marked, first-led, last-of}
+use Rattle.scopes.specs.ReadyLaws.{node-there, node-inside, marked-children, node-marked, first-led, last-of}
 
 -- ---- the passes from the last node to the first
 first-or-more : (k j : ℕ) → k ≤ j → (j ≡ k) ⊎ (k + 1 ≤ j)

@@ -3,7 +3,7 @@ use mathlib.Core.Path.{_≡_, refl, ap, sym, _∙_}
 use mathlib.Core.Bool.{Bool, true, false, not}
 use mathlib.Core.List.{List}
 use mathlib.Core.Option.{Option, none, some}
-use Prim.Native.Nat.{ℕ, _≤_, _<_}
+use Prim.Native.Nat.{ℕ, _≤_}
 use native.Mathlib.Omega.{arith}
 use borrow.Author.Tests.{leb-true, lt-ltb, le-ltb}
 use lib.Dec.{leb, ltb}
@@ -11,12 +11,12 @@ use lib.ListN.{length}
 use Rattle.words.specs.WordsLaws.{both-true}
 use Rattle.rules.specs.Limits.{sheetTrailer}
 use Rattle.rules.specs.SheetFile.{clauses}
-use Rattle.rules.specs.SheetRefusals.{Verdict, accepted, refused, require, requireNone, lengthFits, layoutFits, hasClause, countsFit, verdict}
+use Rattle.rules.specs.SheetRefusals.{Verdict, refused, require, requireNone, lengthFits, layoutFits, hasClause, countsFit}
 use Rattle.sheet.specs.declared.Starts.{Starts}
 use Rattle.sheet.specs.declared.Counts.{Counts}
 use Rattle.sheet.specs.declared.Map.{Map}
 use Rattle.sheet.specs.declared.Checked.{Checked}
-use Rattle.sheet.specs.declared.Checked.the-variants.{Accepted, Refused}
+use Rattle.sheet.specs.declared.Checked.the-variants.{Refused}
 use Rattle.sheet.specs.declared.Found.{Found}
 use Rattle.sheet.specs.declared.Found.the-variants.{At, Nothing}
 use Rattle.sheet.specs.Sections.{startsOf, countsOf, mapOf, startsFit, countsBetween, fewEnough}

@@ -1,6 +1,6 @@
 -- The laws of stores: how they compose, what is read after one, and the frame below one.
 -- Rests on Stored, the laws of words and texts, and the library's laws of `sets`; only a law of what was stored asks for room.
-use mathlib.Core.Path.{_≡_, refl, sym, ap, _∙_}
+use mathlib.Core.Path.{_≡_, refl, ap, _∙_}
 use mathlib.Core.List.{List, [], _∷_, _++_}
 use Prim.Native.Nat.{ℕ, zero, suc, _+_, _-_, _/_, _%_, _≤_, _<_}
 use native.Mathlib.Omega.{arith}
@@ -8,8 +8,8 @@ use native.Mathlib.Nat.{add-zero, zero-add}
 use native.Mathlib.Numerals.{add-one}
 use lib.ListN.{length, getD, set, take, drop, length-set, length-replicate}
 use lib.Seq.{sets, sets-eq, length-sets, set-set, set-comm, getD-set-same, getD-set-other}
-use Rattle.words.specs.Words.{wordAt, wordBytes, setWord, textAt, zeros}
-use Rattle.words.specs.WordsLaws.{wordAt-wordBytes, texts-agree, texts-agree-at, textAt-whole, drop-zeros}
+use Rattle.words.specs.Words.{wordBytes, setWord, textAt, zeros}
+use Rattle.words.specs.WordsLaws.{texts-agree, drop-zeros}
 use Rattle.words.specs.Stored.{stored}
 
 module _ {ℓ} {A : Type ℓ} where

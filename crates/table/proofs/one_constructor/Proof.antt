@@ -1,5 +1,4 @@
 use Rattle.table.specs.PlacingLaws.{other-kind, data-kind}
-use borrow.Author.Needs.{needs}
 use Rattle.table.proofs.one_constructor.Statement.{statement}
 use Rattle.table.proofs.one_constructor.Tie as tie
 use Rattle.table.proofs.one_constructor.Reads as reads

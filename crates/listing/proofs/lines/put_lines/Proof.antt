@@ -1,5 +1,4 @@
-use native.Mathlib.Omega.{arith}
-use Prim.Native.Nat.{_+_, _-_, _≤_}
+use Prim.Native.Nat.{_-_, _≤_}
 use Rattle.listing.specs.Writing.{Begun}
 use Rattle.listing.specs.WritingLaws.{begun, begun-more, begun-all, begun-full}
 use Rattle.listing.specs.RecordsLaws.{lines-start, lines-next, lines-none}

@@ -1,5 +1,4 @@
 use mathlib.Core.Path.{_≡_, sym, ap, subst, _∙_}
-use native.Mathlib.Omega.{arith}
 use Rattle.tree.specs.declared.reading.Test.{Test}
 use Rattle.listing.specs.Records.{TestInside, testRead}
 use Rattle.listing.specs.WritingLaws.{writes-as}

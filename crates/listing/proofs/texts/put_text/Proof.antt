@@ -1,9 +1,7 @@
 use mathlib.Core.Path.{refl}
 use Rattle.listing.specs.TextsLaws.{bytes-none}
 use Prim.Native.Nat.{_≤_, _-_}
-use mathlib.Core.List.{[]}
 use lib.ListN.{length, drop}
-use lib.Seq.{drop-length}
 use Rattle.listing.specs.Writing.{Begun}
 use Rattle.listing.specs.WritingLaws.{begun, begun-more, begun-all}
 use Rattle.listing.specs.TextsLaws.{bytes-next}

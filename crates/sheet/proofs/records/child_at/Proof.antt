@@ -1,4 +1,3 @@
-use borrow.Author.Needs.{needs}
 use mathlib.Core.Path.{ap}
 use Rattle.sheet.specs.declared.Map.{Map}
 use Rattle.sheet.proofs.records.child_at.Statement.{statement}
