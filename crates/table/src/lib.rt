@@ -9,13 +9,12 @@ use sheet::records::entry_at;
 use sheet::records::pattern_at;
 use sheet::records::root_at;
 use sheet::records::type_at;
-use words::zero_all;
 ghost use mathlib.Core.Path.{_≡_};
 ghost use mathlib.Core.Bool.{false};
 ghost use Prim.Native.Nat.{ℕ, _+_, _<_, _≤_};
 ghost use lib.Dec.{eqb};
 ghost use lib.ListN.{length, getD};
-ghost use Rattle.words.specs.Words.{both};
+ghost use Rattle.words.specs.Words.{both, zeros};
 ghost use Rattle.rules.specs.Limits.{patternsMost, depthMost};
 ghost use Rattle.rules.specs.SheetFile.{patterns, clauses};
 ghost use Rattle.rules.specs.Patterns.{ListWithRest, Constructor};
@@ -304,12 +303,11 @@ fn fill_at(s: &[u8], m: Map, t: &mut [u8], p: usize)
     place_children(s, m, t, p);
 }
 
-// The table of a checked sheet, whatever stood there before.
+// The table of a checked sheet, in bytes that are all zero.
 pub fn fill(s: &[u8], m: Map, t: &mut [u8])
-    requires { ⌜ Checked (now s) m × (length (now t) ≡ tableSize) ⌝ }
+    requires { ⌜ Checked (now s) m × (now t ≡ zeros tableSize) ⌝ }
     ensures { λ _. ⌜ Tabled (now (s .entry)) (now (t .exit)) ⌝ }
 {
-    zero_all(t);
     put_roots(s, m, t);
     let mut p: usize = 0;
     while p < m.counts.patterns {

@@ -1,13 +1,13 @@
--- The laws of stores: how they compose, what is read after one, and the frame below one.
+-- The laws of stores: how they compose, what is read after one, and stores of zeros.
 -- Rests on Stored, the laws of words and texts, and the library's laws of `sets`; only a law of what was stored asks for room.
-use mathlib.Core.Path.{_≡_, refl, ap, _∙_}
-use mathlib.Core.List.{List, [], _∷_, _++_}
+use mathlib.Core.Path.{_≡_, refl, sym, ap, _∙_}
+use mathlib.Core.List.{List, [], _∷_, _++_, append-nil}
 use Prim.Native.Nat.{ℕ, zero, suc, _+_, _-_, _/_, _%_, _≤_, _<_}
 use native.Mathlib.Omega.{arith}
 use native.Mathlib.Nat.{add-zero, zero-add}
 use native.Mathlib.Numerals.{add-one}
-use lib.ListN.{length, getD, set, take, drop, length-set, length-replicate}
-use lib.Seq.{sets, sets-eq, length-sets, set-set, set-comm, getD-set-same, getD-set-other}
+use lib.ListN.{length, getD, set, take, drop, length-set, length-replicate, replicate-append-replicate}
+use lib.Seq.{sets, sets-eq, length-sets, set-set, set-comm, set-getD, getD-set-same, getD-set-other, drop-length}
 use Rattle.words.specs.Words.{wordBytes, setWord, textAt, zeros}
 use Rattle.words.specs.WordsLaws.{texts-agree, drop-zeros}
 use Rattle.words.specs.Stored.{stored}
@@ -110,4 +110,30 @@ textAt-stored-inside l i vs k n h r = texts-agree (stored l i vs) vs (i + k) k n
 pub stored-zeros : (n : ℕ) (vs : List ℕ) → length vs ≤ n → stored (zeros n) 0 vs ≡ vs ++ zeros (n - length vs)
 stored-zeros n vs h = stored-is (zeros n) 0 vs (simp length-replicate (omega arith)) ∙ rw (zero-add, drop-zeros (length vs) n)
 
--- ---- the frame below a place
+-- ---- zeros stored
+
+-- behind zeros
+pub zeros-next : (l : List ℕ) (i j k n : ℕ) → i + k ≡ j → stored (stored l i (zeros k)) j (zeros n) ≡ stored l i (zeros (k + n))
+zeros-next l i j k n e =
+    stored-append l i j (zeros k) (zeros n) (simp length-replicate e)
+    ∙ ap (stored l i) (replicate-append-replicate k n 0)
+
+-- one behind zeros, as an assignment leaves it
+pub zeros-more : (l : List ℕ) (i k : ℕ) → set (stored l i (zeros k)) (i + k) 0 ≡ stored l i (zeros (k + 1))
+zeros-more l i k = set-stored (stored l i (zeros k)) (i + k) 0 ∙ zeros-next l i (i + k) k 1 refl
+
+-- where zeros stand already
+pub zeros-there : (l : List ℕ) (i n : ℕ) → ((k : ℕ) → k < n → getD l (i + k) 0 ≡ 0) → stored l i (zeros n) ≡ l
+zeros-there l i zero h = stored-nil l i
+zeros-there l i (suc n) h =
+    ap (λ (k : ℕ). stored l i (zeros k)) (sym (add-one n))
+    ∙ sym (zeros-more l i n)
+    ∙ ap (λ (r : List ℕ). set r (i + n) 0) (zeros-there l i n (λ k q. h k (omega arith)))
+    ∙ ap (set l (i + n)) (sym (h n (omega arith)))
+    ∙ set-getD l (i + n) 0
+
+-- over a whole list
+pub zeros-whole : (l : List ℕ) → stored l 0 (zeros (length l)) ≡ zeros (length l)
+zeros-whole l =
+    stored-is l 0 (zeros (length l)) (simp length-replicate (omega arith))
+    ∙ rw (zero-add, length-replicate {A = ℕ} (length l) 0, drop-length l) (append-nil (zeros (length l)))

@@ -1,8 +1,9 @@
 -- What is read from a list of bytes: words of two bytes, low byte first, and texts; and the tests that definitions over them use.
 -- Rests on the library's lists and native numbers alone; the laws are in WordsLaws.
-use Prim.Native.Nat.{ℕ, _+_, _*_, _/_, _%_, _<_}
+use Prim.Native.Nat.{ℕ, zero, suc, _+_, _*_, _/_, _%_, _<_}
 use mathlib.Core.Bool.{Bool, true, false}
 use mathlib.Core.List.{List, [], _∷_}
+use lib.Bits.{bitOr}
 use lib.Dec.{eqb}
 use lib.ListN.{getD, set, take, drop, replicate}
 
@@ -52,3 +53,8 @@ sameText (a ∷ xs) (b ∷ ys) = both (eqb a b) (sameText xs ys)
 -- n bytes that are 0
 abbrev pub zeros : ℕ → List ℕ
 zeros n = replicate n 0
+
+-- all bits of the n bytes from i on
+unfoldable pub bitsAt : List ℕ → ℕ → ℕ → ℕ
+bitsAt s i zero = 0
+bitsAt s i (suc n) = bitOr (bitsAt s i n) (getD s (i + n) 0)

@@ -7,14 +7,17 @@ use mathlib.Core.List.{List, [], _∷_, _++_, append-nil}
 use Prim.Native.Nat.{ℕ, zero, suc, _+_, _-_, _<_, _≤_}
 use native.Mathlib.Omega.{arith}
 use native.Mathlib.Nat.{sub-zero, suc-sub-suc, zero-sub}
+use native.Mathlib.Numerals.{add-one}
+use borrow.Author.Count.{below-more}
 use borrow.Author.Fill.{fill-more}
 use borrow.Author.Tests.{eqb-true, eq-eqb}
+use lib.Bits.{bitOr, or-add-and, and-le-l, and-le-r}
 use lib.Dec.{eqb}
 use lib.ListN.{length, getD, set, take, drop, length-take, length-drop, List·getD-append}
 use lib.Seq.{ext-getD, getD-take, getD-drop, getD-append-add, take-append-le, drop-append-le, drop-append-add, drop-drop, drop-length, take-add, take-length}
 use mir.Syntax.{w8}
 use mir.Val.{Fits}
-use Rattle.words.specs.Words.{wordAt, wordBytes, Bytes, both, either, pick, textAt, sameText, zeros}
+use Rattle.words.specs.Words.{wordAt, wordBytes, Bytes, both, either, pick, textAt, sameText, zeros, bitsAt}
 
 -- ---- tests
 
@@ -186,3 +189,26 @@ zeroedTo-more l b i h e = rw e (fill-more i 0 l h)
 
 pub zeroedTo-all : (l b : List ℕ) (i : ℕ) → i ≡ length l → b ≡ zeroedTo l i → b ≡ zeros (length l)
 zeroedTo-all l b i e f = f ∙ rw (e, drop-length l) (append-nil (zeros (length l)))
+
+-- ---- bits
+
+pub bitsAt-start : (s : List ℕ) (i : ℕ) → bitsAt s i 0 ≡ 0
+unfolding bitsAt
+bitsAt-start s i = refl
+
+pub bitsAt-more : (s : List ℕ) (i n all : ℕ) → all ≡ bitsAt s i n → bitOr all (getD s (i + n) 0) ≡ bitsAt s i (n + 1)
+unfolding bitsAt
+bitsAt-more s i n all e = rw (e, add-one n) refl
+
+-- two numbers without a bit between them are 0
+or-none : (a b : ℕ) → bitOr a b ≡ 0 → (a ≡ 0) × (b ≡ 0)
+or-none a b e =
+    (omega (arith, or-add-and a b, and-le-r a b), omega (arith, or-add-and a b, and-le-l a b))
+
+-- bytes without a bit between them are 0
+pub bitsAt-none : (s : List ℕ) (i n : ℕ) → bitsAt s i n ≡ 0 → (k : ℕ) → k < n → getD s (i + k) 0 ≡ 0
+unfolding bitsAt
+bitsAt-none s i zero e k h = absurd (omega arith)
+bitsAt-none s i (suc n) e k h =
+    let p = or-none (bitsAt s i n) (getD s (i + n) 0) e in
+    below-more (λ (j : ℕ). getD s (i + j) 0 ≡ 0) n (bitsAt-none s i n (p .0)) (p .1) k (omega arith)

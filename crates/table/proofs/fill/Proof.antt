@@ -3,7 +3,6 @@ use mathlib.Core.List.{List}
 use mathlib.Core.Path.{_≡_, sym, ap, _∙_}
 use native.Mathlib.Omega.{arith}
 use lib.ListN.{length, length-replicate}
-use Rattle.words.specs.Words.{zeros}
 use Rattle.rules.specs.SheetFile.{patterns, clauses}
 use Rattle.sheet.specs.SectionsLaws.{Mapped, mapped}
 use Rattle.table.specs.Table.{tableSize, rootedEach}
@@ -16,7 +15,6 @@ use Rattle.table.proofs.fill.Reads as reads
 use Rattle.table.proofs.fill.Lts as lts
 use Rattle.table.proofs.fill_at.Reads as fill-at-reads
 use Rattle.table.proofs.put_roots.Reads as put-roots-reads
-use Rattle.words.proofs.zero_all.Reads as zero-all-reads
 
 abbrev Inv-loop : tie.InvT-loop
 Inv-loop s m t₀ p₀ t p = (p ≤ patterns s) × Filled s t p p p p
@@ -31,29 +29,26 @@ its c = mapped (c .args .s .now) (c .args .m) (c .pre .0 .is-map)
 filled-as : {s t u : List ℕ} {n : ℕ} → u ≡ t → Filled s t n n n n → Filled s u n n n n
 filled-as e f = rw e f
 
--- the table is as long as it was, and all zeros
-zeroed : (c : tie.After-zero-all Inv-loop μ-loop) → c .zero-all .last .0 ≡ zeros tableSize
-zeroed c = c .zero-all .ensures ∙ ap zeros (c .before .before .before .before .pre .1)
-
-zero-all-requires : tie.Need-zero-all-requires Inv-loop μ-loop
-zero-all-requires c κs = search needs
+-- the table is as long as it has to be
+long : (c : tie.Start Inv-loop μ-loop) → length (c .args .t .now) ≡ tableSize
+long c = ap length (c .pre .1) ∙ length-replicate {A = ℕ} tableSize 0
 
 put-roots-requires : tie.Need-put-roots-requires Inv-loop μ-loop
 put-roots-requires c κs =
-    let start = c .before .before .before .before .before .before .before in
-    (start .pre .0, ap length (zeroed (c .before .before .before)) ∙ length-replicate {A = ℕ} tableSize 0)
+    let start = c .before .before .before in
+    (start .pre .0, long start)
 
 loop-holds : tie.Need-loop-holds Inv-loop μ-loop
 loop-holds c =
-    let start = c .before .before .before .before .before .before .before .before .before .before in
+    let start = c .before .before .before .before .before .before in
     let s = start .args .s .now in
     let roots = c .before .before .put-roots in
-    let e = roots .ensures ∙ ap (λ (t : List ℕ). rootedEach s t 0 (clauses s)) (zeroed (c .before .before .before .before .before .before)) in
+    let e = roots .ensures ∙ ap (λ (t : List ℕ). rootedEach s t 0 (clauses s)) (start .pre .1) in
     (omega arith, filled-as e (roots-filled (start .pre .0 .ok)))
 
 fill-at-requires : tie.Need-fill-at-requires Inv-loop μ-loop
 fill-at-requires c κs =
-    let start = c .before .before .before .before .before .before .before .before .before .before .before .before .before .before in
+    let start = c .before .before .before .before .before .before .before .before .before .before in
     (start .pre .0, omega (arith, its start .of-patterns), c .before .before .before .loop .inv .1)
 
 add-p : tie.Need-add-p Inv-loop μ-loop
@@ -61,22 +56,22 @@ add-p c = search needs
 
 loop-less : tie.Need-loop-less Inv-loop μ-loop
 loop-less c =
-    let start = c .before .before .before .before .before .before .before .before .before .before .before .before .before .before .before .before .before in
+    let start = c .before .before .before .before .before .before .before .before .before .before .before .before .before in
     omega (arith, its start .of-patterns)
 
 loop-again : tie.Need-loop-again Inv-loop μ-loop
 loop-again c =
-    let start = c .before .before .before .before .before .before .before .before .before .before .before .before .before .before .before .before .before in
+    let start = c .before .before .before .before .before .before .before .before .before .before .before .before .before in
     (omega (arith, its start .of-patterns), c .before .before .fill-at .ensures)
 
 same-length : tie.Need-same-length Inv-loop μ-loop
 same-length c =
-    let start = c .before .before .before .before .before .before .before .before .before .before .before .before .before in
-    c .before .before .loop .inv .1 .long ∙ sym (start .pre .1)
+    let start = c .before .before .before .before .before .before .before .before .before in
+    c .before .before .loop .inv .1 .long ∙ sym (long start)
 
 returns : tie.Need-returns Inv-loop μ-loop
 returns c =
-    let start = c .before .before .before .before .before .before .before .before .before .before .before .before .before in
+    let start = c .before .before .before .before .before .before .before .before .before in
     let l = c .before .before .loop in
     all-filled (start .pre .0 .ok) (l .t) (l .p) (omega (arith, its start .of-patterns)) (l .inv .1)
 
@@ -86,7 +81,6 @@ fill-spec =
     (tie.spec
     Inv-loop
     μ-loop
-    zero-all-requires
     put-roots-requires
     loop-holds
     fill-at-requires
