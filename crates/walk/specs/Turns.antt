@@ -67,9 +67,9 @@ lengthWalk t v long first cases tails default f =
     walkCases (casesFor f t first cases) (ListOf long) v (λ u. tailsWalk t v long (first + cases) tails default f)
 
 -- ---- nodes of a tree file
--- a node that is gone on to comes after k; a leaf's bindings are in their section, and few
+-- a node that is gone on to comes after k; a leaf's clause is a word, its bindings are in their section, and few
 abbrev pub Reaches : List ℕ → Reached → Type 0
-Reaches t (Reached.Leaf clause first count) = (first + count ≤ bindings t) × (count ≤ nodeBindingsMost)
+Reaches t (Reached.Leaf clause first count) = (first + count ≤ bindings t) × (count ≤ nodeBindingsMost) × (clause < 65536)
 Reaches t Reached.NoLeaf = Unit {0}
 Reaches t Reached.Stuck = Unit {0}
 

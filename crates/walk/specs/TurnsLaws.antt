@@ -293,9 +293,9 @@ module _ (t v : List ℕ) (sound : TreeSound t) (k : ℕ) (h : k < nodes t) wher
         goes = goes-on (caseChildren t f (n + m) ++ defaultChild d) r (list-switch-node-children (sound .is-ruled) k h p f n m d w) (u .leads);
       }
 
-  pub steps-leaf : (a f n : ℕ) → LeafNode t k a f n → Steps t v k (Next.End (Reached.Leaf a f n))
+  pub steps-leaf : (a f n : ℕ) → LeafNode t k a f n → a < 65536 → Steps t v k (Next.End (Reached.Leaf a f n))
   unfolding nodeFor walk
-  steps-leaf a f n w =
+  steps-leaf a f n w word =
       let clause = w .clause-is in
       let first = w .first-is in
       let many = w .count-is in
@@ -303,7 +303,7 @@ module _ (t v : List ℕ) (sound : TreeSound t) (k : ℕ) (h : k < nodes t) wher
       let e = treeBelow-of-kind t sound k h Leaf (byte-node (nodeKind t k) Leaf kind) in
       record {
         means = sym (ap (λ (b : Tree). walk b v) e ∙ rw (← clause, ← first, ← many));
-        goes = (omega (arith, sound .is-ruled .bindings-run k h (omega arith) .inside), omega (arith, sound .is-ruled .bindings-most k h (omega arith)));
+        goes = (omega (arith, sound .is-ruled .bindings-run k h (omega arith) .inside), omega (arith, sound .is-ruled .bindings-most k h (omega arith)), word);
       }
 
   pub steps-hoist : (c : ℕ) → HoistNode t k c → Steps t v k (Next.Node c)

@@ -42,8 +42,11 @@ fn walk_panel(t: &[u8], m: Map, v: &[u8], n: PanelMap, bound: &mut [u16]) -> Wal
             first,
             count,
         } => {
-            if bind(t, m, v, n, first as usize, count as usize, bound) {
-                return Walked::Leaf { clause, count };
+            if bind(t, m, v, n, first, count, bound) {
+                return Walked::Leaf {
+                    clause: clause as u16,
+                    count: count as u16,
+                };
             }
             Walked::Refused {
                 number: 32,

@@ -22,8 +22,13 @@ ghost use Rattle.walk.specs.Positions.{Ready};
 ghost use Rattle.walk.specs.Choices.{AllKind};
 ghost use Rattle.walk.specs.Turns.{Turns, TurnsBy, defaultWalk, switchWalk, listWalk, tailsWalk, lengthWalk, Steps, Arrives};
 
+// A leaf's three numbers are wider than they need be: as u16 they are stored one by one and read back as one word, which a processor waits for.
 pub enum Reached {
-    Leaf { clause: u16, first: u16, count: u16 },
+    Leaf {
+        clause: usize,
+        first: usize,
+        count: usize,
+    },
     NoLeaf,
     Stuck,
 }
@@ -175,9 +180,9 @@ fn from_node(t: &[u8], m: Map, v: &[u8], n: PanelMap, k: usize) -> Next
             first,
             count,
         } => Next::End(Reached::Leaf {
-            clause,
-            first,
-            count,
+            clause: clause as usize,
+            first: first as usize,
+            count: count as usize,
         }),
         Node::Hoist {
             clause: _,

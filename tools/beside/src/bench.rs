@@ -46,14 +46,6 @@ impl Least {
     fn note(&mut self, batch: Duration) {
         self.time = self.time.min(batch.as_nanos() as f64 / f64::from(self.calls));
     }
-
-    fn batch(&mut self, mut call: impl FnMut()) {
-        let start = Instant::now();
-        for _ in 0..self.calls {
-            call();
-        }
-        self.note(start.elapsed());
-    }
 }
 
 /// Times of a build, in nanoseconds.
@@ -64,41 +56,95 @@ struct Build {
     library: f64,
     /// The library on an empty sheet: refused 2 once both buffers are cleared. It is in the time above too.
     clearing: f64,
+    /// The library where no byte of either buffer is 0 before the call.
+    full: f64,
+}
+
+/// What the library builds in.
+struct Buffers {
+    tree: Vec<u8>,
+    work: Vec<u8>,
+}
+
+impl Buffers {
+    fn new() -> Self {
+        Buffers { tree: vec![0; 65536], work: vec![0; 65536] }
+    }
+
+    fn build(&mut self, sheet: &[u8]) {
+        black_box(library::build(black_box(sheet), &mut self.tree, &mut self.work));
+    }
+
+    fn fill(&mut self) {
+        self.tree.fill(255);
+        self.work.fill(255);
+        black_box(self);
+    }
+
+    /// A batch of builds, each timed by itself, as the Rust's are. One before them is not timed, on either side: it brings
+    /// back into the caches what the other side's batch took from them.
+    fn batch(&mut self, least: &mut Least, sheet: &[u8], full: bool) {
+        let mut time = Duration::ZERO;
+        self.build(sheet);
+        for _ in 0..least.calls {
+            if full {
+                self.fill();
+            }
+            let start = Instant::now();
+            self.build(sheet);
+            time += start.elapsed();
+        }
+        least.note(time);
+    }
+}
+
+/// A batch of builds by the Rust, behind one that is not timed, and the freeing of their trees apart.
+fn rust_batch(ready: &Ready, rust: &mut Least, freeing: &mut Least) {
+    let data_types = ready.data_types();
+    let (mut built, mut freed) = (Duration::ZERO, Duration::ZERO);
+    drop(black_box(ready.tree(&data_types)));
+    for _ in 0..rust.calls {
+        let start = Instant::now();
+        let tree = black_box(ready.tree(&data_types));
+        let end = Instant::now();
+        drop(tree);
+        freed += end.elapsed();
+        built += end - start;
+    }
+    rust.note(built);
+    freeing.note(freed);
 }
 
 fn build(member: &Member) -> Build {
     let ready = Ready::of(&member.checked);
     let data_types = ready.data_types();
-    let (mut tree, mut work) = (vec![0; 65536], vec![0; 65536]);
-    let mut by_library = || {
-        black_box(library::build(black_box(&member.sheet), &mut tree, &mut work));
-    };
-    let (mut tree2, mut work2) = (vec![0; 65536], vec![0; 65536]);
-    let mut clear = || {
-        black_box(library::build(black_box(&[]), &mut tree2, &mut work2));
-    };
-    let by_rust = || {
+    let mut rust = Least::of(|| {
         black_box(ready.tree(&data_types));
-    };
-    let (mut rust, mut library) = (Least::of(by_rust), Least::of(&mut by_library));
+    });
+    let [mut own, mut empty, mut filled] = std::array::from_fn(|_| Buffers::new());
+    let mut library = Least::of(|| own.build(&member.sheet));
+    let mut clearing = Least::of(|| empty.build(&[]));
     let mut freeing = Least { calls: rust.calls, time: f64::INFINITY };
-    let mut clearing = Least::of(&mut clear);
-    for _ in 0..BATCHES {
-        let (mut built, mut freed) = (Duration::ZERO, Duration::ZERO);
-        for _ in 0..rust.calls {
-            let start = Instant::now();
-            let tree = black_box(ready.tree(&data_types));
-            let end = Instant::now();
-            drop(tree);
-            freed += end.elapsed();
-            built += end - start;
+    let mut full = Least { calls: library.calls, time: f64::INFINITY };
+    for turn in 0..BATCHES {
+        rust_batch(&ready, &mut rust, &mut freeing);
+        // Whichever comes first has a processor that learnt the Rust's branches.
+        if turn % 2 == 0 {
+            own.batch(&mut library, &member.sheet, false);
+            filled.batch(&mut full, &member.sheet, true);
+        } else {
+            filled.batch(&mut full, &member.sheet, true);
+            own.batch(&mut library, &member.sheet, false);
         }
-        rust.note(built);
-        freeing.note(freed);
-        library.batch(&mut by_library);
-        clearing.batch(&mut clear);
+        empty.batch(&mut clearing, &[], false);
     }
-    Build { rust: rust.time, freeing: freeing.time, library: library.time, clearing: clearing.time }
+    Build {
+        rust: rust.time,
+        freeing: freeing.time,
+        library: library.time,
+        clearing: clearing.time,
+        full: full.time,
+    }
 }
 
 /// A record that no panel has.
@@ -220,9 +266,10 @@ fn median(mut all: Vec<f64>) -> f64 {
 const BUILD_HEAD: &str = "\
 Builds, nanoseconds a build, the mean over a family's sheets. The Rust's time is from its typed clauses, which are made before, to its
 tree; freeing that tree is apart. The library's is from the sheet's bytes, which it checks whole, to the bytes of the tree file, with
-both buffers of 65,536 bytes cleared; clearing is that part of it, timed apart on an empty sheet. Ratio: the Rust's time by the
-library's, of the means; then the median of the sheets' own ratios.
-family    sheets  mean nodes  the Rust  freeing  the library  clearing  ratio  median  goal";
+both buffers of 65,536 bytes cleared; clearing is that part of it, timed apart on an empty sheet. The buffers are as the build before
+left them; the time with no byte of them 0 is behind that. Ratio: the Rust's time by the library's, of the means; then the median of the
+sheets' own ratios.
+family    sheets  mean nodes  the Rust  freeing  the library  clearing  ratio  median  goal  full buffers  ratio";
 
 const WALK_HEAD: &str = "\
 Walks, nanoseconds a walk; each column has its own median over a family's walks. Whole: the library's call, which clears the binding
@@ -241,15 +288,16 @@ family     walks    whole     tree    panel  bare  itself  plain  ratio  goal  i
 fn show_builds(name: &str, goal: f64, members: &[Member]) {
     let times: Vec<Build> = members.iter().map(build).collect();
     let of = |part: fn(&Build) -> f64| mean(&times.iter().map(part).collect::<Vec<_>>());
-    let (rust, library) = (of(|t| t.rust), of(|t| t.library));
+    let (rust, library, full) = (of(|t| t.rust), of(|t| t.library), of(|t| t.full));
     let nodes = mean(&members.iter().map(|m| m.nodes as f64).collect::<Vec<_>>());
     println!(
-        "{name:<8} {:>7} {nodes:>11.1} {rust:>9.0} {:>8.0} {library:>12.0} {:>9.0} {:>6.2} {:>7.2} {goal:>5}",
+        "{name:<8} {:>7} {nodes:>11.1} {rust:>9.0} {:>8.0} {library:>12.0} {:>9.0} {:>6.2} {:>7.2} {goal:>5} {full:>13.0} {:>6.2}",
         times.len(),
         of(|t| t.freeing),
         of(|t| t.clearing),
         rust / library,
         median(times.iter().map(|t| t.rust / t.library).collect()),
+        rust / full,
     );
 }
 

@@ -17,21 +17,27 @@ reach-requires c κs =
 enum-known-clause : tie.Need-enum-known-clause
 enum-known-clause c = search needs
 
-cast-bind : tie.Need-cast-bind
-cast-bind c = search needs
+-- the leaf that was reached
+abbrev leafAt : tie.After-clause → Reached
+leafAt c = let g = c .clause .given .0 in Reached.Leaf (g .0) (g .1 .0) (g .1 .1 .0)
 
-cast-bind-2 : tie.Need-cast-bind-2
-cast-bind-2 c = search needs
+abbrev start : tie.After-clause → tie.Start
+start c = c .before .before .before .before .before .before
+
+arrived : (c : tie.After-clause) → Arrives (start c .args .t .now) (start c .args .v .now) (leafAt c)
+arrived c = let e : c .before .before .reach .result ≡ leafAt c = c .clause .given .1 in rw e at (c .before .before .reach .ensures)
 
 bind-requires : tie.Need-bind-requires
 bind-requires c κs =
-    let back4 = c .before .before .before .before in
-    let back8 = back4 .before .before .before .before in
-    let a = back8 .args in
-    let g = c .before .before .clause .given .0 in
-    let e : back4 .reach .result ≡ Reached.Leaf (g .0) (g .1 .0) (g .1 .1 .0) = c .before .before .clause .given .1 in
-    let w : Arrives (a .t .now) (a .v .now) (Reached.Leaf (g .0) (g .1 .0) (g .1 .1 .0)) = rw e at (back4 .reach .ensures) in
-    (back8 .pre .0, omega (arith, w .holds .0, bindings-count (back8 .pre .0 .mapped)), omega (arith, w .holds .1, back8 .pre .1))
+    let s = start (c .before .before) in
+    let w = arrived (c .before .before) in
+    (s .pre .0, omega (arith, w .holds .0, bindings-count (s .pre .0 .mapped)), omega (arith, w .holds .1, s .pre .1))
+
+cast-t14 : tie.Need-cast-t14
+cast-t14 c = omega (arith, arrived (c .before .before .before .before .before .before) .holds .2)
+
+cast-t15 : tie.Need-cast-t15
+cast-t15 c = omega (arith, arrived (c .before .before .before .before .before .before) .holds .1)
 
 same-length : tie.Need-same-length
 same-length c =
@@ -40,16 +46,12 @@ same-length c =
 
 returns : tie.Need-returns
 returns c =
-    let back3 = c .before .before .before in
-    let back6 = back3 .before .before .before in
-    let back8 = back6 .before .before in
-    let back12 = back8 .before .before .before .before in
-    let a = back12 .args in
-    let g = back6 .clause .given .0 in
-    let e : back8 .reach .result ≡ Reached.Leaf (g .0) (g .1 .0) (g .1 .1 .0) = back6 .clause .given .1 in
-    let w : Arrives (a .t .now) (a .v .now) (Reached.Leaf (g .0) (g .1 .0) (g .1 .1 .0)) = rw e at (back8 .reach .ensures) in
-    gives-leaf (a .t .now) (a .v .now) (a .bound .now) (back12 .pre .2) (g .0) (g .1 .0) (g .1 .1 .0)
-    (back3 .bind .last .1 .1 .1 .1 .1 .1 .0) w (back3 .bind .result) (back12 .pre .1) (back3 .bind .ensures) (c .if1 .taken)
+    let bound = c .before .before .before in
+    let leaf = bound .before .before .before in
+    let a = start leaf .args in
+    let g = leaf .clause .given .0 in
+    gives-leaf (a .t .now) (a .v .now) (a .bound .now) (start leaf .pre .2) (g .0) (g .1 .0) (g .1 .1 .0)
+    (bound .bind .last .1 .1 .1 .1 .1 .1 .0) (arrived leaf) (bound .bind .result) (start leaf .pre .1) (bound .bind .ensures) (c .if1 .taken)
 
 enum-told : tie.Need-enum-told
 enum-told c = search needs
@@ -64,16 +66,12 @@ same-length-2 c =
 
 returns-2 : tie.Need-returns-2
 returns-2 c =
-    let back3 = c .before .before .before in
-    let back6 = back3 .before .before .before in
-    let back8 = back6 .before .before in
-    let back12 = back8 .before .before .before .before in
-    let a = back12 .args in
-    let g = back6 .clause .given .0 in
-    let e : back8 .reach .result ≡ Reached.Leaf (g .0) (g .1 .0) (g .1 .1 .0) = back6 .clause .given .1 in
-    let w : Arrives (a .t .now) (a .v .now) (Reached.Leaf (g .0) (g .1 .0) (g .1 .1 .0)) = rw e at (back8 .reach .ensures) in
-    gives-unbound (a .t .now) (a .v .now) (a .bound .now) (back12 .pre .2) (g .0) (g .1 .0) (g .1 .1 .0)
-    (back3 .bind .last .1 .1 .1 .1 .1 .1 .0) w (back3 .bind .result) (back3 .bind .ensures) (c .if1 .left)
+    let bound = c .before .before .before in
+    let leaf = bound .before .before .before in
+    let a = start leaf .args in
+    let g = leaf .clause .given .0 in
+    gives-unbound (a .t .now) (a .v .now) (a .bound .now) (start leaf .pre .2) (g .0) (g .1 .0) (g .1 .1 .0)
+    (bound .bind .last .1 .1 .1 .1 .1 .1 .0) (arrived leaf) (bound .bind .result) (bound .bind .ensures) (c .if1 .left)
 
 returns-3 : tie.Need-returns-3
 returns-3 c =
@@ -95,9 +93,9 @@ walk-panel-spec =
     (tie.spec
     reach-requires
     enum-known-clause
-    cast-bind
-    cast-bind-2
     bind-requires
+    cast-t14
+    cast-t15
     same-length
     returns
     enum-told

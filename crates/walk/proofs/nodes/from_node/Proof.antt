@@ -60,11 +60,20 @@ from-list-switch-requires c κs =
 enum-known-node-3 : tie.Need-enum-known-node-3
 enum-known-node-3 c = search needs
 
-enum-known-node-4 : tie.Need-enum-known-node-4
-enum-known-node-4 c = search needs
+cast-t22 : tie.Need-cast-t22
+cast-t22 c = search needs
 
 cast-t23 : tie.Need-cast-t23
 cast-t23 c = search needs
+
+cast-t24 : tie.Need-cast-t24
+cast-t24 c = search needs
+
+enum-known-node-4 : tie.Need-enum-known-node-4
+enum-known-node-4 c = search needs
+
+cast-t26 : tie.Need-cast-t26
+cast-t26 c = search needs
 
 returns : tie.Need-returns
 returns c =
@@ -107,7 +116,7 @@ returns-3 c =
     let g = c .before .node3 .given .0 in
     let e : back3 .node-at .result ≡ Node.Leaf (g .0) (g .1 .0) (g .1 .1 .0) = c .before .node3 .given .1 in
     let w = leaf-node (a .t .now) (a .k) (g .0) (g .1 .0) (g .1 .1 .0) (sym (back3 .node-at .ensures) ∙ e) in
-    steps-leaf (a .t .now) (a .v .now) (ready .sound) (a .k) h (g .0) (g .1 .0) (g .1 .1 .0) w
+    steps-leaf (a .t .now) (a .v .now) (ready .sound) (a .k) h (g .0) (g .1 .0) (g .1 .1 .0) w (omega arith)
 
 returns-4 : tie.Need-returns-4
 returns-4 c =
@@ -134,8 +143,11 @@ from-node-spec =
     enum-known-node-2
     from-list-switch-requires
     enum-known-node-3
-    enum-known-node-4
+    cast-t22
     cast-t23
+    cast-t24
+    enum-known-node-4
+    cast-t26
     returns
     returns-2
     returns-3
