@@ -37,6 +37,9 @@ count() {
 total() { sed -n 's/^totals: //p' "$room/out"; }
 
 echo "$sheets sheets a family, seed $seed"
+count clear dewmycel_build small
+echo
+echo "both buffers made zero: $(($(total) / calls)) instructions where they are zero already, in dewmycel_build itself"
 for family in small medium large; do
     echo
     count build dewmycel_build "$family"

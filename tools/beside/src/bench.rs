@@ -375,9 +375,10 @@ pub fn once(call: &str, dir: &str) -> Result<usize, String> {
     let read = |name: &str| crate::read(&format!("{dir}/{name}"));
     let (mut tree, mut work, mut bound) = (vec![0; 65536], vec![0; 65536], [0; 576]);
     let mut times = 0;
-    if call == "build" {
+    if call == "build" || call == "clear" {
         for name in names.iter().filter(|name| name.ends_with(".sheet")) {
-            black_box(library::build(&read(name)?, &mut tree, &mut work));
+            let sheet = if call == "build" { read(name)? } else { Vec::new() };
+            black_box(library::build(&sheet, &mut tree, &mut work));
             times += 1;
         }
         return Ok(times);
