@@ -1,18 +1,19 @@
 -- The arena: the bytes of a tree's nodes, cases and bindings, each section at a fixed place of the work buffer, with room for as many
 -- records as a tree may have. They are those of the tree file over another table of paths.
-use Prim.Native.Nat.{ℕ, _+_, _*_, _≤_}
+use Prim.Native.Nat.{ℕ, _+_, _*_}
 use mathlib.Core.List.{List}
-use lib.ListN.{length, getD}
+use lib.ListN.{getD}
 use Rattle.words.specs.Words.{wordAt}
-use Rattle.rules.specs.Limits.{nodesMost, bindingsMost, nodeSize, caseSize, bindingSize}
+use Rattle.rules.specs.Limits.{nodesMost, nodeSize, caseSize, bindingSize}
 use Rattle.rules.specs.Rows.{Path}
 use Rattle.rules.specs.Building.{Tree, Cases}
-use Rattle.rules.specs.Hoisting.{bindingsIn, bindingsInOf}
-use Rattle.rules.specs.TreeFile.{nodesFrom, nodesFromOf, casesFrom, casesFromOf, bindingsBytes}
-use Rattle.filing.specs.StandingLaws.{Stands}
+use Rattle.filing.specs.TreeStands.{Starts, TreeStands, TreeStandsOf}
 
 -- ---- the sections
--- nodes stand from 0 on; there is room for 1,024 of them
+-- there is room for 1,024 nodes
+abbrev pub nodesStart : ℕ
+nodesStart = 0
+
 abbrev pub casesStart : ℕ
 casesStart = 12288
 
@@ -25,6 +26,9 @@ bindingsStart = 20480
 
 abbrev pub arenaEnd : ℕ
 arenaEnd = 36864
+
+abbrev pub arenaStarts : Starts
+arenaStarts = record { nodes = nodesStart; cases = casesStart; bindings = bindingsStart }
 
 -- ---- fields of records, as a tree file has them
 unfoldable pub nodeKind : List ℕ → ℕ → ℕ
@@ -66,13 +70,9 @@ bindingPath w b = wordAt w (bindingsStart + bindingSize * b + 2)
 
 -- ---- a tree in the arena
 -- the records of the tree a, whose first node is k, first case c and first binding b; a path is its number in the table
-pub record Held (w : List ℕ) (table : List Path) (k c b : ℕ) (a : Tree) : Type 0 where
-  pub nodes-there : Stands w (nodeSize * k) (nodesFrom table k c b a)
-  pub cases-there : Stands w (casesStart + caseSize * c) (casesFrom k a)
-  pub bindings-there : Stands w (bindingsStart + bindingSize * b) (bindingsBytes table (bindingsIn a))
+abbrev pub Held : List ℕ → List Path → ℕ → ℕ → ℕ → Tree → Type 0
+Held w table k c b a = TreeStands arenaStarts w table k c b a
 
 -- the records below the cases cs, alike
-pub record HeldOf (w : List ℕ) (table : List Path) (k c b : ℕ) (cs : Cases) : Type 0 where
-  pub nodes-there : Stands w (nodeSize * k) (nodesFromOf table k c b cs)
-  pub cases-there : Stands w (casesStart + caseSize * c) (casesFromOf k cs)
-  pub bindings-there : Stands w (bindingsStart + bindingSize * b) (bindingsBytes table (bindingsInOf cs))
+abbrev pub HeldOf : List ℕ → List Path → ℕ → ℕ → ℕ → Cases → Type 0
+HeldOf w table k c b cs = TreeStandsOf arenaStarts w table k c b cs

@@ -3,7 +3,6 @@ pub mod Arena
 pub mod RecordsLaws
 pub mod Reading
 pub mod ReadingLaws
-pub mod HeldLaws
 pub mod WritingLaws
 pub mod Numbered
 pub mod NumberedLaws

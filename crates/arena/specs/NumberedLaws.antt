@@ -14,8 +14,10 @@ use Rattle.rules.specs.Building.{Tree, Cases, absent, leaf, hoist, switch, list
 use Rattle.rules.specs.Hoisting.{howMany, nodesIn, nodesInOf, bindingsIn, bindingsInOf}
 use Rattle.rules.specs.TreeFile.{firstOf, casesIn, casesInOf, defaultField, caseBytes, ownCases, bindingsBytes}
 use Rattle.filing.specs.StandingLaws.{Stands}
+use Rattle.filing.specs.TreeStands.{TreeStands}
+use Rattle.filing.specs.TreeStandsLaws.{own-rest}
 use Rattle.arena.specs.Arena.{casesStart, casesMost, bindingsStart, arenaEnd, nodeWord, caseChild, Held, HeldOf}
-use Rattle.arena.specs.HeldLaws.{own-first, own-rest, leaf-held, hoist-held, switch-held, list-switch-held, first-held, rest-held}
+use Rattle.arena.specs.RecordsLaws.{node-is, own-first}
 use Rattle.arena.specs.WritingLaws.{stands-nothing}
 use Rattle.arena.specs.Numbered.{subtrees, subtreesOf, subtreeAt, Within, Each, joined, isSwitch, casesUnder, defaultUnder, caseAt, nodesBefore, AllThere, HeldAt, LeafNode, SwitchNode, ChildNode, Nodes}
 
@@ -158,27 +160,25 @@ module _ (w : List ℕ) (table : List Path) (cases bindings : ℕ) where
   at-node k c b s i h = record { first-case = c; first-binding = b; cases-inside = i .0; bindings-inside = i .1; held = h }
 
   mutual
-    unfolding subtrees casesIn bindingsIn nodesIn
+    unfolding subtrees casesIn bindingsIn nodesIn TreeStands
 
     held-each : (a : Tree) (k c b : ℕ) → Among c (casesIn a) b (length (bindingsIn a)) → Held w table k c b a → Each At k (subtrees a)
     held-each absent k c b i h = tt
     held-each (leaf x bs) k c b i h = (at-node k c b (leaf x bs) i h, tt)
     held-each (hoist x bs a) k c b i h =
         let l = length-append bs (bindingsIn a) in
-        (at-node k c b (hoist x bs a) i h, held-each a (k + 1) c (b + length bs) (omega (arith, i .0), omega (arith, i .1)) (hoist-held w table k c b x bs a h .below))
+        (at-node k c b (hoist x bs a) i h, held-each a (k + 1) c (b + length bs) (omega (arith, i .0), omega (arith, i .1)) (h .2))
     held-each (switch p cs d) k c b i h =
         let l = length-append (bindingsInOf cs) (bindingsIn d) in
-        let g = switch-held w table k c b p cs d h in
         let k₂ = k + 1 + nodesInOf cs in (
           at-node k c b (switch p cs d) i h,
           each-append At (k + 1) k₂ (subtreesOf cs) (subtrees d) (omega (arith, length-subtreesOf cs))
-              (heldOf-each cs (k + 1) (c + howMany cs) b (omega (arith, i .0), omega (arith, i .1)) (g .below))
-              (held-each d k₂ (c + howMany cs + casesInOf cs) (b + length (bindingsInOf cs)) (omega (arith, i .0), omega (arith, i .1)) (g .default)),
+              (heldOf-each cs (k + 1) (c + howMany cs) b (omega (arith, i .0), omega (arith, i .1)) (h .2))
+              (held-each d k₂ (c + howMany cs + casesInOf cs) (b + length (bindingsInOf cs)) (omega (arith, i .0), omega (arith, i .1)) (h .3)),
         )
     held-each (listswitch p cs ts d) k c b i h =
         let l = length-append (bindingsInOf cs) (bindingsInOf ts ++ bindingsIn d) in
         let m = length-append (bindingsInOf ts) (bindingsIn d) in
-        let g = list-switch-held w table k c b p cs ts d h in
         let c₁ = c + howMany cs + howMany ts in
         let k₂ = k + 1 + nodesInOf cs in
         let c₂ = c₁ + casesInOf cs in
@@ -186,10 +186,10 @@ module _ (w : List ℕ) (table : List Path) (cases bindings : ℕ) where
         let k₃ = k₂ + nodesInOf ts in (
           at-node k c b (listswitch p cs ts d) i h,
           each-append At (k + 1) k₂ (subtreesOf cs) (subtreesOf ts ++ subtrees d) (omega (arith, length-subtreesOf cs))
-              (heldOf-each cs (k + 1) c₁ b (omega (arith, i .0), omega (arith, i .1)) (g .below))
+              (heldOf-each cs (k + 1) c₁ b (omega (arith, i .0), omega (arith, i .1)) (h .2))
               (each-append At k₂ k₃ (subtreesOf ts) (subtrees d) (omega (arith, length-subtreesOf ts))
-              (heldOf-each ts k₂ c₂ b₂ (omega (arith, i .0), omega (arith, i .1)) (g .below-tailed))
-              (held-each d k₃ (c₂ + casesInOf ts) (b₂ + length (bindingsInOf ts)) (omega (arith, i .0), omega (arith, i .1)) (g .default))),
+              (heldOf-each ts k₂ c₂ b₂ (omega (arith, i .0), omega (arith, i .1)) (h .3))
+              (held-each d k₃ (c₂ + casesInOf ts) (b₂ + length (bindingsInOf ts)) (omega (arith, i .0), omega (arith, i .1)) (h .4))),
         )
 
     heldOf-each : (cs : Cases) (k c b : ℕ) → Among c (casesInOf cs) b (length (bindingsInOf cs)) → HeldOf w table k c b cs → Each At k (subtreesOf cs)
@@ -197,8 +197,8 @@ module _ (w : List ℕ) (table : List Path) (cases bindings : ℕ) where
     heldOf-each (ccons t at a cs) k c b i h =
         let l = length-append (bindingsIn a) (bindingsInOf cs) in
         each-append At k (k + nodesIn a) (subtrees a) (subtreesOf cs) (omega (arith, length-subtrees a))
-        (held-each a k c b (omega (arith, i .0), omega (arith, i .1)) (first-held w table k c b t at a cs h))
-        (heldOf-each cs (k + nodesIn a) (c + casesIn a) (b + length (bindingsIn a)) (omega (arith, i .0), omega (arith, i .1)) (rest-held w table k c b t at a cs h))
+        (held-each a k c b (omega (arith, i .0), omega (arith, i .1)) (h .0))
+        (heldOf-each cs (k + nodesIn a) (c + casesIn a) (b + length (bindingsIn a)) (omega (arith, i .0), omega (arith, i .1)) (h .1))
 
 -- THEOREM: a tree held from node 0 on is there node by node
 pub nodes-held : (w : List ℕ) (table : List Path) (a : Tree) → Held w table 0 0 0 a → arenaEnd ≤ length w → nodesIn a ≤ nodesMost → casesIn a ≤ casesMost
@@ -273,41 +273,39 @@ first-inside (suc n) first f most more e h l = omega arith
 -- ---- a node as a leaf or a switch
 pub leaf-node : (w : List ℕ) (table : List Path) (cases bindings j x : ℕ) (bs : List Binding) → arenaEnd ≤ length w
     → HeldAt w table cases bindings j (leaf x bs) → LeafNode w table bindings j x bs
-unfolding bindingsIn
+unfolding TreeStands bindingsIn
 leaf-node w table cases bindings j x bs r h =
-    let g = leaf-held w table j (h .first-case) (h .first-binding) x bs (h .held) in
+    let n = node-is (h .held .0) in
     record {
-      kind-is = g .node .kind-is;
-      clause-is = g .node .word-0;
-      count-is = g .node .word-2;
-      inside = first-inside (length bs) (h .first-binding) (nodeWord w j 1) bindings (length bs) (g .node .word-1) (h .bindings-inside) (omega arith);
+      kind-is = n .kind-is;
+      clause-is = n .word-0;
+      count-is = n .word-2;
+      inside = first-inside (length bs) (h .first-binding) (nodeWord w j 1) bindings (length bs) (n .word-1) (h .bindings-inside) (omega arith);
       bound =
-          run-start w (bindingsBytes table bs) bindingsStart bindingSize (length bs) (h .first-binding) (nodeWord w j 1) (g .node .word-1) (no-bindings table bs)
-          (omega arith) (g .bound);
+          run-start w (bindingsBytes table bs) bindingsStart bindingSize (length bs) (h .first-binding) (nodeWord w j 1) (n .word-1) (no-bindings table bs)
+          (omega arith) (h .held .1);
     }
 
 pub switch-node : (w : List ℕ) (table : List Path) (cases bindings j : ℕ) (s : Tree) → isSwitch s ≡ true → arenaEnd ≤ length w
     → HeldAt w table cases bindings j s → SwitchNode w cases j s
-unfolding isSwitch casesUnder defaultUnder casesIn
+unfolding isSwitch casesUnder defaultUnder casesIn TreeStands
 switch-node w table cases bindings j absent e r h = absurd (false≢true e)
 switch-node w table cases bindings j (leaf c bs) e r h = absurd (false≢true e)
 switch-node w table cases bindings j (hoist c bs a) e r h = absurd (false≢true e)
 switch-node w table cases bindings j (switch p cs d) e r h =
-    let g = switch-held w table j (h .first-case) (h .first-binding) p cs d (h .held) in
-    let n = g .node in
+    let n = node-is (h .held .0) in
     record {
       kind-is = omega (arith, n .kind-is);
       count-is = omega (arith, n .word-2, n .word-3);
       inside = first-inside (howMany cs) (h .first-case) (nodeWord w j 1) cases (casesIn (switch p cs d)) (n .word-1) (h .cases-inside) (omega arith);
-      own = run-start w (ownCases (j + 1) cs) casesStart caseSize (howMany cs) (h .first-case) (nodeWord w j 1) (n .word-1) (no-cases (j + 1) cs) (omega arith) (g .own);
+      own = run-start w (ownCases (j + 1) cs) casesStart caseSize (howMany cs) (h .first-case) (nodeWord w j 1) (n .word-1) (no-cases (j + 1) cs) (omega arith) (h .held .1);
       default-is = n .word-4;
     }
 switch-node w table cases bindings j (listswitch p cs ts d) e r h =
-    let g = list-switch-held w table j (h .first-case) (h .first-binding) p cs ts d (h .held) in
-    let n = g .node in
+    let n = node-is (h .held .0) in
     let m = howMany-joined cs ts in
     let first : nodeWord w j 1 ≡ firstOf (howMany (joined cs ts)) (h .first-case) = n .word-1 ∙ ap (λ z. firstOf z (h .first-case)) (sym m) in
-    let own : Stands w (casesStart + caseSize * h .first-case) (ownCases (j + 1) (joined cs ts)) = rw (ownCases-joined (j + 1) (j + 1 + nodesInOf cs) cs ts refl) (g .own) in
+    let own : Stands w (casesStart + caseSize * h .first-case) (ownCases (j + 1) (joined cs ts)) = rw (ownCases-joined (j + 1) (j + 1 + nodesInOf cs) cs ts refl) (h .held .1) in
     let after : j + 1 + nodesInOf cs + nodesInOf ts ≡ j + 1 + nodesInOf (joined cs ts) = omega (arith, nodesInOf-joined cs ts) in
     record {
       kind-is = omega (arith, n .kind-is);
@@ -369,7 +367,7 @@ caseAt-child w cnil f k i l h = absurd (omega arith)
 caseAt-child w (ccons t at a cs) f k zero l h = rw (add-zero f, add-zero k) (own-first w f k t at a cs h .child-is)
 caseAt-child w (ccons t at a cs) f k (suc i) l h =
     let d : f + suc i ≡ f + 1 + i = omega arith in
-    rw d (caseAt-child w cs (f + 1) (k + nodesIn a) i (omega arith) (own-rest w f k t at a cs h) ∙ omega arith)
+    rw d (caseAt-child w cs (f + 1) (k + nodesIn a) i (omega arith) (own-rest w casesStart f k t at a cs h) ∙ omega arith)
 
 caseAt-there : (cs : Cases) (i : ℕ) → i < howMany cs → AllThere cs → 1 ≤ nodesIn (caseAt cs i)
 unfolding howMany caseAt AllThere

@@ -6,11 +6,11 @@ use lib.ListN.{length}
 use lib.Dec.{eqb}
 use Rattle.words.specs.Words.{pick}
 use Rattle.rules.specs.Splitting as splitting
+use Rattle.filing.specs.RecordsLaws.{caseFields}
 use Rattle.arena.specs.declared.reading.Test.{Test}
 use Rattle.arena.specs.declared.reading.Case.{Case}
 use Rattle.arena.specs.declared.reading.Binding.{Binding}
 use Rattle.arena.specs.Arena.{caseKind, caseNumber, caseLength, caseChild, bindingName, bindingPath}
-use Rattle.arena.specs.RecordsLaws.{caseFields}
 
 -- the test of a case from its kind, number and length
 unfoldable pub testOf : ℕ → ℕ → ℕ → Test

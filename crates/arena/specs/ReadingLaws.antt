@@ -11,10 +11,10 @@ use Rattle.words.specs.StoredLaws.{stored-append}
 use Rattle.rules.specs.Splitting as splitting
 use Rattle.rules.specs.TreeFile.{nodeBytes, caseBytes}
 use Rattle.filing.specs.Writable.{testKind}
-use Rattle.filing.specs.RecordsLaws.{testNumber, testLength}
+use Rattle.filing.specs.RecordsLaws.{testNumber, testLength, caseFields, caseBytes-fields}
 use Rattle.arena.specs.declared.reading.Test.{Test}
 use Rattle.arena.specs.declared.reading.Case.{Case}
-use Rattle.arena.specs.RecordsLaws.{caseFields, CaseIs, caseBytes-fields}
+use Rattle.arena.specs.RecordsLaws.{CaseIs}
 use Rattle.arena.specs.Reading.{testOf, caseOf, kindOf, numberOf, lengthOf, caseRecord, testFor}
 
 -- ---- reading

@@ -1,10 +1,11 @@
--- What stands in the arena after a store, and a tree held made of its parts: the laws for code that writes a tree record by record.
+-- What stands in the arena after a store, and a tree held that stays: the laws for code that writes a tree record by record.
 -- Rests on the laws of stores and of standing bytes; a store keeps what stands apart from it.
 use mathlib.Core.Path.{_≡_, refl, sym, ap, _∙_}
 use mathlib.Core.Bool.{Bool, true, false}
 use mathlib.Core.List.{List, [], _++_, append-assoc}
 use Prim.Native.Nat.{ℕ, _+_, _-_, _*_, _≤_, _<_}
 use native.Mathlib.Omega.{arith}
+use native.Mathlib.Nat.{zero-add}
 use lib.ListN.{length, getD, take, drop, length-append, length-drop, take-append-drop, List·getD-append}
 use lib.Seq.{length-take-le, ext-getD, getD-take, getD-drop, getD-append-add, drop-drop}
 use lib.Dec.{ltb}
@@ -13,14 +14,13 @@ use Rattle.words.specs.Stored.{stored}
 use Rattle.words.specs.StoredLaws.{length-stored, stored-is, getD-stored-below, getD-stored-above}
 use Rattle.rules.specs.Limits.{nodesMost, nodeSize, caseSize, bindingSize}
 use Rattle.rules.specs.Rows.{Path, Binding}
-use Rattle.rules.specs.Splitting.{Test}
-use Rattle.rules.specs.Building.{Tree, Cases, absent, leaf, switch, listswitch, cnil, ccons}
+use Rattle.rules.specs.Building.{Tree, Cases, absent, leaf, hoist, switch, listswitch, cnil, ccons}
 use Rattle.rules.specs.Hoisting.{howMany, nodesIn, nodesInOf, bindingsIn, bindingsInOf}
-use Rattle.rules.specs.TreeFile.{pathNumber, firstOf, nodeBytes, casesIn, casesInOf, defaultField, nodesFrom, nodesFromOf, ownCases, casesFrom, casesFromOf, bindingsBytes}
+use Rattle.rules.specs.TreeFile.{nodeBytes, casesIn, casesInOf, ownCases, bindingsBytes}
 use Rattle.filing.specs.StandingLaws.{Stands, stands-byte}
-use Rattle.filing.specs.LengthLaws.{length-nodesFrom, length-nodesFromOf, length-ownCases, length-casesFrom, length-casesFromOf, length-bindingsBytes}
-use Rattle.arena.specs.Arena.{casesStart, casesMost, bindingsStart, Held, HeldOf}
-use Rattle.arena.specs.RecordsLaws.{bindingsBytes-append}
+use Rattle.filing.specs.LengthLaws.{length-ownCases, length-bindingsBytes}
+use Rattle.filing.specs.TreeStands.{NodesStand, CasesStand, BindingsStand, TreeStands}
+use Rattle.arena.specs.Arena.{nodesStart, casesStart, casesMost, bindingsStart, arenaStarts, Held, HeldOf}
 
 -- ---- what stands
 pub stands-room : {t : List ℕ} {i : ℕ} {xs : List ℕ} → Stands t i xs → i + length xs ≤ length t
@@ -78,6 +78,9 @@ stands-stored l i xs h =
       start = length-take-le i l (omega arith);
     }
 
+pub node-stored : (l : List ℕ) (k : ℕ) (xs : List ℕ) → nodeSize * k + length xs ≤ length l → Stands (stored l (nodeSize * k) xs) (nodesStart + nodeSize * k) xs
+node-stored l k xs h = rw zero-add (stands-stored l (nodeSize * k) xs h)
+
 -- ---- the frame: what lies below three numbers is as it was
 pub record Kept (k c b : ℕ) (w w' : List ℕ) : Type 0 where
   pub same-length : length w' ≡ length w
@@ -126,147 +129,86 @@ kept-case k c b i from w xs f g h e =
       bindings = λ j l. getD-stored-above w (casesStart + caseSize * i + from) xs (bindingsStart + j) 0 (omega arith);
     }
 
+-- ---- a tree held stays where its records do
+-- what w has of the nodes from k to k', of the cases from c to c' and of the bindings from b to b', w' has too
+pub record Carried (k c b k' c' b' : ℕ) (w w' : List ℕ) : Type 0 where
+  pub nodes : (i : ℕ) (xs : List ℕ) → NodesStand arenaStarts w i xs → k ≤ i → nodeSize * i + length xs ≤ nodeSize * k' → NodesStand arenaStarts w' i xs
+  pub cases : (i : ℕ) (xs : List ℕ) → CasesStand arenaStarts w i xs → c ≤ i → caseSize * i + length xs ≤ caseSize * c' → CasesStand arenaStarts w' i xs
+  pub bindings : (table : List Path) (i : ℕ) (bs : List Binding) → BindingsStand arenaStarts w table i bs → b ≤ i → i + length bs ≤ b' → BindingsStand arenaStarts w' table i bs
+
+module _ {k₀ c₀ b₀ k' c' b' : ℕ} {w w' : List ℕ} (f : Carried k₀ c₀ b₀ k' c' b' w w') (table : List Path) where
+  mutual
+    unfolding TreeStands nodesIn casesIn bindingsIn nodeBytes
+
+    held-carried : (a : Tree) (k c b : ℕ) → Held w table k c b a → k₀ ≤ k → c₀ ≤ c → b₀ ≤ b → k + nodesIn a ≤ k' → c + casesIn a ≤ c' → b + length (bindingsIn a) ≤ b'
+        → Held w' table k c b a
+    held-carried absent k c b h x y z x' y' z' = tt
+    held-carried (leaf e bs) k c b h x y z x' y' z' =
+        (f .nodes k _ (h .0) x (omega arith), f .bindings table b bs (h .1) z (omega arith))
+    held-carried (hoist e bs a) k c b h x y z x' y' z' =
+        let l = length-append bs (bindingsIn a) in (
+          f .nodes k _ (h .0) x (omega arith),
+          f .bindings table b bs (h .1) z (omega arith),
+          held-carried a (k + 1) c (b + length bs) (h .2) (omega arith) y (omega arith) (omega arith) y' (omega arith),
+        )
+    held-carried (switch p cs d) k c b h x y z x' y' z' =
+        let l = length-append (bindingsInOf cs) (bindingsIn d) in (
+          f .nodes k _ (h .0) x (omega arith),
+          f .cases c _ (h .1) y (omega (arith, length-ownCases (k + 1) cs)),
+          heldOf-carried cs (k + 1) (c + howMany cs) b (h .2) (omega arith) (omega arith) z (omega arith) (omega arith) (omega arith),
+          held-carried d (k + 1 + nodesInOf cs) (c + howMany cs + casesInOf cs) (b + length (bindingsInOf cs)) (h .3) (omega arith) (omega arith) (omega arith)
+              (omega arith) (omega arith) (omega arith),
+        )
+    held-carried (listswitch p cs ts d) k c b h x y z x' y' z' =
+        let l = length-append (bindingsInOf cs) (bindingsInOf ts ++ bindingsIn d) in
+        let m = length-append (bindingsInOf ts) (bindingsIn d) in
+        let c₁ = c + howMany cs + howMany ts in
+        let k₂ = k + 1 + nodesInOf cs in
+        let c₂ = c₁ + casesInOf cs in
+        let b₂ = b + length (bindingsInOf cs) in (
+          f .nodes k _ (h .0) x (omega arith),
+          f .cases c _ (h .1) y
+              (omega (arith, length-append (ownCases (k + 1) cs) (ownCases k₂ ts), length-ownCases (k + 1) cs, length-ownCases k₂ ts)),
+          heldOf-carried cs (k + 1) c₁ b (h .2) (omega arith) (omega arith) z (omega arith) (omega arith) (omega arith),
+          heldOf-carried ts k₂ c₂ b₂ (h .3) (omega arith) (omega arith) (omega arith) (omega arith) (omega arith) (omega arith),
+          held-carried d (k₂ + nodesInOf ts) (c₂ + casesInOf ts) (b₂ + length (bindingsInOf ts)) (h .4) (omega arith) (omega arith) (omega arith)
+              (omega arith) (omega arith) (omega arith),
+        )
+
+    pub heldOf-carried : (cs : Cases) (k c b : ℕ) → HeldOf w table k c b cs → k₀ ≤ k → c₀ ≤ c → b₀ ≤ b → k + nodesInOf cs ≤ k' → c + casesInOf cs ≤ c'
+        → b + length (bindingsInOf cs) ≤ b' → HeldOf w' table k c b cs
+    heldOf-carried cnil k c b h x y z x' y' z' = tt
+    heldOf-carried (ccons u start a cs) k c b h x y z x' y' z' =
+        let l = length-append (bindingsIn a) (bindingsInOf cs) in (
+          held-carried a k c b (h .0) x y z (omega arith) (omega arith) (omega arith),
+          heldOf-carried cs (k + nodesIn a) (c + casesIn a) (b + length (bindingsIn a)) (h .1) (omega arith) (omega arith) (omega arith) (omega arith) (omega arith)
+              (omega arith),
+        )
+
 module _ {k' c' b' : ℕ} {w w' : List ℕ} (f : Kept k' c' b' w w') where
-  pub nodes-kept : (k : ℕ) (xs : List ℕ) → nodeSize * k + length xs ≤ nodeSize * k' → Stands w (nodeSize * k) xs → Stands w' (nodeSize * k) xs
-  nodes-kept k xs l s =
-      stands-bytes w' (nodeSize * k) xs (omega (arith, f .same-length, stands-room s)) (λ i h. f .nodes (nodeSize * k + i) (omega arith) ∙ stands-byte s i h)
+  section-kept : (start size : ℕ) → ((i : ℕ) → i < size → getD w' (start + i) 0 ≡ getD w (start + i) 0) → (j : ℕ) (xs : List ℕ) → j + length xs ≤ size
+      → Stands w (start + j) xs → Stands w' (start + j) xs
+  section-kept start size same j xs l s =
+      stands-bytes w' (start + j) xs (omega (arith, f .same-length, stands-room s))
+      (λ i h.
+      let e : start + j + i ≡ start + (j + i) = omega arith in
+      ap (λ z. getD w' z 0) e ∙ same (j + i) (omega arith) ∙ sym (ap (λ z. getD w z 0) e) ∙ stands-byte s i h)
+
+  pub nodes-kept : (k : ℕ) (xs : List ℕ) → nodeSize * k + length xs ≤ nodeSize * k' → Stands w (nodesStart + nodeSize * k) xs → Stands w' (nodesStart + nodeSize * k) xs
+  nodes-kept k = section-kept nodesStart (nodeSize * k') (λ i l. rw zero-add (f .nodes i l)) (nodeSize * k)
 
   pub cases-kept : (c : ℕ) (xs : List ℕ) → caseSize * c + length xs ≤ caseSize * c' → Stands w (casesStart + caseSize * c) xs → Stands w' (casesStart + caseSize * c) xs
-  cases-kept c xs l s =
-      stands-bytes w' (casesStart + caseSize * c) xs (omega (arith, f .same-length, stands-room s))
-      (λ i h.
-      let e : casesStart + caseSize * c + i ≡ casesStart + (caseSize * c + i) = omega arith in
-      ap (λ z. getD w' z 0) e ∙ f .cases (caseSize * c + i) (omega arith) ∙ sym (ap (λ z. getD w z 0) e) ∙ stands-byte s i h)
-
-  bindings-kept : (b : ℕ) (xs : List ℕ) → bindingSize * b + length xs ≤ bindingSize * b' → Stands w (bindingsStart + bindingSize * b) xs → Stands w' (bindingsStart + bindingSize * b) xs
-  bindings-kept b xs l s =
-      stands-bytes w' (bindingsStart + bindingSize * b) xs (omega (arith, f .same-length, stands-room s))
-      (λ i h.
-      let e : bindingsStart + bindingSize * b + i ≡ bindingsStart + (bindingSize * b + i) = omega arith in
-      ap (λ z. getD w' z 0) e ∙ f .bindings (bindingSize * b + i) (omega arith) ∙ sym (ap (λ z. getD w z 0) e) ∙ stands-byte s i h)
+  cases-kept c = section-kept casesStart (caseSize * c') (f .cases) (caseSize * c)
 
   pub heldOf-kept : (table : List Path) (k c b : ℕ) (cs : Cases) → k + nodesInOf cs ≤ k' → c + casesInOf cs ≤ c' → b + length (bindingsInOf cs) ≤ b' → HeldOf w table k c b cs
       → HeldOf w' table k c b cs
-  heldOf-kept table k c b cs x y z h =
-      record {
-        nodes-there = nodes-kept k (nodesFromOf table k c b cs) (omega (arith, length-nodesFromOf table k c b cs)) (h .nodes-there);
-        cases-there = cases-kept c (casesFromOf k cs) (omega (arith, length-casesFromOf k cs)) (h .cases-there);
-        bindings-there = bindings-kept b (bindingsBytes table (bindingsInOf cs)) (omega (arith, length-bindingsBytes table (bindingsInOf cs))) (h .bindings-there);
-      }
-
--- ---- a tree held, made of its parts
-module _ (w : List ℕ) (table : List Path) where
-  -- bindings of a first and a second part
-  runs-join : (b : ℕ) (xs ys : List Binding) → Stands w (bindingsStart + bindingSize * b) (bindingsBytes table xs)
-      → Stands w (bindingsStart + bindingSize * (b + length xs)) (bindingsBytes table ys) → Stands w (bindingsStart + bindingSize * b) (bindingsBytes table (xs ++ ys))
-  runs-join b xs ys x y =
-      rw (bindingsBytes-append table xs ys)
-      (stands-join w (bindingsStart + bindingSize * b) (bindingsStart + bindingSize * (b + length xs)) (bindingsBytes table xs) (bindingsBytes table ys)
-      (omega (arith, length-bindingsBytes table xs)) x y)
-
-  pub absent-held : (k c b : ℕ) → nodeSize * k ≤ length w → casesStart + caseSize * c ≤ length w → bindingsStart + bindingSize * b ≤ length w → Held w table k c b absent
-  unfolding nodesFrom casesFrom bindingsIn bindingsBytes
-  absent-held k c b x y z =
-      record {
-        nodes-there = stands-nothing w (nodeSize * k) x;
-        cases-there = stands-nothing w (casesStart + caseSize * c) y;
-        bindings-there = stands-nothing w (bindingsStart + bindingSize * b) z;
-      }
-
-  pub leaf-made : (k c b x : ℕ) (bs : List Binding) → casesStart + caseSize * c ≤ length w → Stands w (nodeSize * k) (nodeBytes 2 x (firstOf (length bs) b) (length bs) 0 0)
-      → Stands w (bindingsStart + bindingSize * b) (bindingsBytes table bs) → Held w table k c b (leaf x bs)
-  unfolding nodesFrom casesFrom bindingsIn
-  leaf-made k c b x bs l n s = record { nodes-there = n; cases-there = stands-nothing w (casesStart + caseSize * c) l; bindings-there = s }
-
-  pub switch-made : (k c b : ℕ) (p : Path) (cs : Cases) (d : Tree)
-      → Stands w (nodeSize * k) (nodeBytes 0 (pathNumber table p) (firstOf (howMany cs) c) (howMany cs) 0 (defaultField (k + 1 + nodesInOf cs) d))
-      → Stands w (casesStart + caseSize * c) (ownCases (k + 1) cs)
-      → HeldOf w table (k + 1) (c + howMany cs) b cs
-      → Held w table (k + 1 + nodesInOf cs) (c + howMany cs + casesInOf cs) (b + length (bindingsInOf cs)) d
-      → Held w table k c b (switch p cs d)
-  unfolding nodesFrom casesFrom bindingsIn nodeBytes
-  switch-made k c b p cs d n own below default =
-      let c₁ = c + howMany cs in
-      let k₂ = k + 1 + nodesInOf cs in
-      let c₂ = c₁ + casesInOf cs in
-      let b₂ = b + length (bindingsInOf cs) in
-      let head = nodeBytes 0 (pathNumber table p) (firstOf (howMany cs) c) (howMany cs) 0 (defaultField k₂ d) in
-      record {
-        nodes-there =
-            stands-join w (nodeSize * k) (nodeSize * (k + 1)) head (nodesFromOf table (k + 1) c₁ b cs ++ nodesFrom table k₂ c₂ b₂ d) (omega arith) n
-            (stands-join w (nodeSize * (k + 1)) (nodeSize * k₂) (nodesFromOf table (k + 1) c₁ b cs) (nodesFrom table k₂ c₂ b₂ d) (omega (arith, length-nodesFromOf table (k + 1) c₁ b cs))
-            (below .nodes-there) (default .nodes-there));
-        cases-there =
-            stands-join w (casesStart + caseSize * c) (casesStart + caseSize * c₁) (ownCases (k + 1) cs) (casesFromOf (k + 1) cs ++ casesFrom k₂ d) (omega (arith, length-ownCases (k + 1) cs)) own
-            (stands-join w (casesStart + caseSize * c₁) (casesStart + caseSize * c₂) (casesFromOf (k + 1) cs) (casesFrom k₂ d) (omega (arith, length-casesFromOf (k + 1) cs))
-            (below .cases-there) (default .cases-there));
-        bindings-there = runs-join b (bindingsInOf cs) (bindingsIn d) (below .bindings-there) (default .bindings-there);
-      }
-
-  pub list-switch-made : (k c b : ℕ) (p : Path) (cs ts : Cases) (d : Tree)
-      → Stands w (nodeSize * k)
-      (nodeBytes 1 (pathNumber table p) (firstOf (howMany cs + howMany ts) c) (howMany cs) (howMany ts) (defaultField (k + 1 + nodesInOf cs + nodesInOf ts) d))
-      → Stands w (casesStart + caseSize * c) (ownCases (k + 1) cs ++ ownCases (k + 1 + nodesInOf cs) ts)
-      → HeldOf w table (k + 1) (c + howMany cs + howMany ts) b cs
-      → HeldOf w table (k + 1 + nodesInOf cs) (c + howMany cs + howMany ts + casesInOf cs) (b + length (bindingsInOf cs)) ts
-      → Held w table (k + 1 + nodesInOf cs + nodesInOf ts) (c + howMany cs + howMany ts + casesInOf cs + casesInOf ts) (b + length (bindingsInOf cs) + length (bindingsInOf ts)) d
-      → Held w table k c b (listswitch p cs ts d)
-  unfolding nodesFrom casesFrom bindingsIn nodeBytes
-  list-switch-made k c b p cs ts d n own below tailed default =
-      let c₁ = c + howMany cs + howMany ts in
-      let k₂ = k + 1 + nodesInOf cs in
-      let c₂ = c₁ + casesInOf cs in
-      let b₂ = b + length (bindingsInOf cs) in
-      let k₃ = k₂ + nodesInOf ts in
-      let c₃ = c₂ + casesInOf ts in
-      let b₃ = b₂ + length (bindingsInOf ts) in
-      let head = nodeBytes 1 (pathNumber table p) (firstOf (howMany cs + howMany ts) c) (howMany cs) (howMany ts) (defaultField k₃ d) in
-      let nodes-cs = nodesFromOf table (k + 1) c₁ b cs in
-      let nodes-ts = nodesFromOf table k₂ c₂ b₂ ts in
-      let nodes-d = nodesFrom table k₃ c₃ b₃ d in
-      let own-cs = ownCases (k + 1) cs in
-      let own-ts = ownCases k₂ ts in
-      let cases-cs = casesFromOf (k + 1) cs in
-      let cases-ts = casesFromOf k₂ ts in
-      let cases-d = casesFrom k₃ d in
-      let own-length : length (own-cs ++ own-ts) ≡ caseSize * howMany cs + caseSize * howMany ts =
-      length-append own-cs own-ts ∙ omega (arith, length-ownCases (k + 1) cs, length-ownCases k₂ ts) in
-      record {
-        nodes-there =
-            stands-join w (nodeSize * k) (nodeSize * (k + 1)) head (nodes-cs ++ (nodes-ts ++ nodes-d)) (omega arith) n
-            (stands-join w (nodeSize * (k + 1)) (nodeSize * k₂) nodes-cs (nodes-ts ++ nodes-d) (omega (arith, length-nodesFromOf table (k + 1) c₁ b cs)) (below .nodes-there)
-            (stands-join w (nodeSize * k₂) (nodeSize * k₃) nodes-ts nodes-d (omega (arith, length-nodesFromOf table k₂ c₂ b₂ ts)) (tailed .nodes-there) (default .nodes-there)));
-        cases-there =
-            rw (← append-assoc own-cs own-ts (cases-cs ++ (cases-ts ++ cases-d)))
-            (stands-join w (casesStart + caseSize * c) (casesStart + caseSize * c₁) (own-cs ++ own-ts) (cases-cs ++ (cases-ts ++ cases-d)) (omega (arith, own-length)) own
-            (stands-join w (casesStart + caseSize * c₁) (casesStart + caseSize * c₂) cases-cs (cases-ts ++ cases-d) (omega (arith, length-casesFromOf (k + 1) cs)) (below .cases-there)
-            (stands-join w (casesStart + caseSize * c₂) (casesStart + caseSize * c₃) cases-ts cases-d (omega (arith, length-casesFromOf k₂ ts)) (tailed .cases-there) (default .cases-there))));
-        bindings-there = runs-join b (bindingsInOf cs) (bindingsInOf ts ++ bindingsIn d) (below .bindings-there) (runs-join b₂ (bindingsInOf ts) (bindingsIn d) (tailed .bindings-there) (default .bindings-there));
-      }
-
-  -- the records below cases, one case at a time
-  pub no-cases-held : (k c b : ℕ) → nodeSize * k ≤ length w → casesStart + caseSize * c ≤ length w → bindingsStart + bindingSize * b ≤ length w → HeldOf w table k c b cnil
-  unfolding nodesFrom casesFrom bindingsIn bindingsBytes
-  no-cases-held k c b x y z =
-      record {
-        nodes-there = stands-nothing w (nodeSize * k) x;
-        cases-there = stands-nothing w (casesStart + caseSize * c) y;
-        bindings-there = stands-nothing w (bindingsStart + bindingSize * b) z;
-      }
-
-  pub cases-made : (k c b : ℕ) (u : Test) (start : ℕ) (a : Tree) (cs : Cases) → Held w table k c b a
-      → HeldOf w table (k + nodesIn a) (c + casesIn a) (b + length (bindingsIn a)) cs → HeldOf w table k c b (ccons u start a cs)
-  unfolding nodesFrom casesFrom bindingsIn
-  cases-made k c b u start a cs first rest =
-      let k₂ = k + nodesIn a in
-      let c₂ = c + casesIn a in
-      let b₂ = b + length (bindingsIn a) in
-      record {
-        nodes-there =
-            stands-join w (nodeSize * k) (nodeSize * k₂) (nodesFrom table k c b a) (nodesFromOf table k₂ c₂ b₂ cs) (omega (arith, length-nodesFrom table k c b a)) (first .nodes-there)
-            (rest .nodes-there);
-        cases-there =
-            stands-join w (casesStart + caseSize * c) (casesStart + caseSize * c₂) (casesFrom k a) (casesFromOf k₂ cs) (omega (arith, length-casesFrom k a)) (first .cases-there)
-            (rest .cases-there);
-        bindings-there = runs-join b (bindingsIn a) (bindingsInOf cs) (first .bindings-there) (rest .bindings-there);
-      }
+  heldOf-kept table k c b cs x y z h = heldOf-carried carried table cs k c b h (omega arith) (omega arith) (omega arith) x y z
+    where
+      carried : Carried 0 0 0 k' c' b' w w'
+      carried =
+          record {
+            nodes = λ i xs s l m. nodes-kept i xs m s;
+            cases = λ i xs s l m. cases-kept i xs m s;
+            bindings = λ table i bs s l m.
+                section-kept bindingsStart (bindingSize * b') (f .bindings) (bindingSize * i) (bindingsBytes table bs) (omega (arith, length-bindingsBytes table bs)) s;
+          }

@@ -16,8 +16,8 @@ ghost use Rattle.words.specs.Words.{wordBytes};
 ghost use Rattle.words.specs.Stored.{stored};
 ghost use Rattle.rules.specs.Limits.{nodesMost, bindingsMost, nodeSize, caseSize, bindingSize};
 ghost use Rattle.rules.specs.TreeFile.{nodeBytes};
+ghost use Rattle.filing.specs.RecordsLaws.{caseFields};
 ghost use Rattle.arena.specs.Arena.{casesStart, casesMost, bindingsStart, arenaEnd};
-ghost use Rattle.arena.specs.RecordsLaws.{caseFields};
 ghost use Rattle.arena.specs.Reading.{caseRecord};
 
 // A kind byte and a zero byte, with which a record begins.

@@ -17,11 +17,11 @@ use Rattle.rules.specs.Limits.{clausesMost, nodesMost, bindingsMost, nodeSize, 
 use Rattle.rules.specs.Rows.{Path, Binding}
 use Rattle.rules.specs.Building.{Cases, absent, leaf}
 use Rattle.rules.specs.Hoisting.{nodesIn, nodesInOf, bindingsIn, bindingsInOf, hasLeaf}
-use Rattle.rules.specs.TreeFile.{firstOf, nodeBytes, casesIn, nodesFromOf, casesFromOf, bindingsBytes}
+use Rattle.rules.specs.TreeFile.{firstOf, nodeBytes, casesIn, casesInOf, bindingsBytes}
 use Rattle.filing.specs.StandingLaws.{Stands, stands-byte}
-use Rattle.filing.specs.LengthLaws.{length-nodesFromOf}
-use Rattle.arena.specs.Arena.{casesStart, casesMost, bindingsStart, Held, HeldOf}
-use Rattle.arena.specs.WritingLaws.{Kept, kept-refl, kept-trans, kept-weaken, kept-node, stands-room, stands-bytes, stands-stored, absent-held, leaf-made}
+use Rattle.filing.specs.TreeStands.{TreeStands}
+use Rattle.arena.specs.Arena.{nodesStart, casesStart, casesMost, bindingsStart, Held, HeldOf}
+use Rattle.arena.specs.WritingLaws.{Kept, kept-refl, kept-trans, kept-weaken, kept-node, stands-room, stands-bytes, node-stored, Carried, heldOf-carried}
 use Rattle.leaves.specs.Bindings.{capped}
 use Rattle.building.specs.declared.tops.Tops.{Tops}
 use Rattle.building.specs.Built.{Counted, Roomy, Put}
@@ -40,16 +40,20 @@ pub heldOf-apart : (w : List ℕ) (table : List Path) (k c b : ℕ) (cs : Cases)
     → (at + length vs ≤ nodeSize * k) ⊎ (nodeSize * (k + nodesInOf cs) ≤ at) → at + length vs ≤ casesStart + caseSize * c → at + length vs ≤ bindingsStart
     → HeldOf w table k c b cs → HeldOf (stored w at vs) table k c b cs
 heldOf-apart w table k c b cs at vs o l m h =
-    record {
-      nodes-there = stands-apart w (nodeSize * k) (nodesFromOf table k c b cs) at vs (apart o) (h .nodes-there);
-      cases-there = stands-apart w (casesStart + caseSize * c) (casesFromOf k cs) at vs (inl l) (h .cases-there);
-      bindings-there = stands-apart w (bindingsStart + bindingSize * b) (bindingsBytes table (bindingsInOf cs)) at vs (inl (omega arith)) (h .bindings-there);
-    }
+    heldOf-carried carried table cs k c b h (omega arith) (omega arith) (omega arith) (omega arith) (omega arith) (omega arith)
   where
-    apart : (at + length vs ≤ nodeSize * k) ⊎ (nodeSize * (k + nodesInOf cs) ≤ at)
-        → (at + length vs ≤ nodeSize * k) ⊎ (nodeSize * k + length (nodesFromOf table k c b cs) ≤ at)
-    apart (inl x) = inl x
-    apart (inr x) = inr (omega (arith, length-nodesFromOf table k c b cs))
+    apart : (at + length vs ≤ nodeSize * k) ⊎ (nodeSize * (k + nodesInOf cs) ≤ at) → (i : ℕ) (xs : List ℕ) → k ≤ i → nodeSize * i + length xs ≤ nodeSize * (k + nodesInOf cs)
+        → (at + length vs ≤ nodesStart + nodeSize * i) ⊎ (nodesStart + nodeSize * i + length xs ≤ at)
+    apart (inl x) i xs y z = inl (omega arith)
+    apart (inr x) i xs y z = inr (omega arith)
+
+    carried : Carried k c b (k + nodesInOf cs) (c + casesInOf cs) (b + length (bindingsInOf cs)) w (stored w at vs)
+    carried =
+        record {
+          nodes = λ i xs s y z. stands-apart w (nodesStart + nodeSize * i) xs at vs (apart o i xs y z) s;
+          cases = λ i xs s y z. stands-apart w (casesStart + caseSize * i) xs at vs (inl (omega arith)) s;
+          bindings = λ table i bs s y z. stands-apart w (bindingsStart + bindingSize * i) (bindingsBytes table bs) at vs (inl (omega arith)) s;
+        }
 
 -- a run of cases stored at number i or at a later one
 pub kept-cases : (k c b i : ℕ) (w xs : List ℕ) → k ≤ nodesMost → c ≤ i → casesStart + caseSize * i + length xs ≤ bindingsStart
@@ -92,15 +96,13 @@ counted-as {x = x} e f g h k =
 
 -- ---- nothing put
 pub absent-put : (table : List Path) (w : List ℕ) (tops : Tops) → Roomy w tops → Put table w w absent tops tops
-unfolding nodesIn casesIn bindingsIn hasLeaf
+unfolding nodesIn casesIn bindingsIn hasLeaf TreeStands
 absent-put table w tops r =
     record {
       counted = record { nodes = omega arith; cases = omega arith; bindings = omega (arith, r .bindings-most); leaves = λ i l. refl };
       room = r;
       kept = kept-refl (tops .nodes) (tops .cases) (tops .bindings) w;
-      held = λ h.
-          absent-held w table (tops .nodes) (tops .cases) (tops .bindings) (omega (arith, r .nodes-most, r .long)) (omega (arith, r .cases-most, r .long))
-          (omega (arith, r .long));
+      held = λ h. tt;
     }
 
 -- ---- a leaf
@@ -113,7 +115,7 @@ pub leaf-put : (table : List Path) (w w₁ w' : List ℕ) (x : ℕ) (bs : List B
     → n ≡ to .bindings - from .bindings → first ≡ firstOf n (from .bindings)
     → to .nodes ≡ from .nodes + 1 → to .cases ≡ from .cases → to .bindings ≡ capped (from .bindings + length bs) → to .leaves ≡ set (from .leaves) x 1
     → Put table w w' (leaf x bs) from to
-unfolding nodesIn casesIn bindingsIn hasLeaf nodeBytes
+unfolding nodesIn casesIn bindingsIn hasLeaf nodeBytes TreeStands
 leaf-put table w w₁ w' x bs from to first n r k-room x-room kept₁ bound stored-is n-is first-is nodes-is cases-is bindings-is leaves-is =
     record {
       counted = record { nodes = nodes-is; cases = omega arith; bindings = bindings-is; leaves = λ i l. ap (λ z. getD z i 0) leaves-is ∙ flag i };
@@ -148,7 +150,7 @@ leaf-put table w w₁ w' x bs from to first n r k-room x-room kept₁ bound stor
 
     held : from .bindings + length bs ≤ bindingsMost → Held w' table (from .nodes) (from .cases) (from .bindings) (leaf x bs)
     held h =
-        let count : n ≡ length bs = omega arith in
-        leaf-made w' table (from .nodes) (from .cases) (from .bindings) x bs (omega (arith, long', r .long, r .cases-most))
-        (rw (stored-is, first-is, count) (stands-stored w₁ (nodeSize * from .nodes) (nodeBytes 2 x (firstOf (length bs) (from .bindings)) (length bs) 0 0) (omega (arith, kept₁ .same-length, r .long))))
-        (rw stored-is (stands-apart w₁ (bindingsStart + bindingSize * from .bindings) (bindingsBytes table bs) (nodeSize * from .nodes) record₁ (inl (omega arith)) (bound h)))
+        let count : n ≡ length bs = omega arith in (
+          rw (stored-is, first-is, count) (node-stored w₁ (from .nodes) (nodeBytes 2 x (firstOf (length bs) (from .bindings)) (length bs) 0 0) (omega (arith, kept₁ .same-length, r .long))),
+          rw stored-is (stands-apart w₁ (bindingsStart + bindingSize * from .bindings) (bindingsBytes table bs) (nodeSize * from .nodes) record₁ (inl (omega arith)) (bound h)),
+        )

@@ -17,14 +17,14 @@ use Rattle.rules.specs.Building.{Tree, Cases, cnil, ccons}
 use Rattle.rules.specs.Hoisting.{nodesIn, nodesInOf, bindingsIn, bindingsInOf, hasLeaf, hasLeafOf}
 use Rattle.rules.specs.TreeFile.{casesIn, casesInOf, caseBytes, ownCases}
 use Rattle.filing.specs.StandingLaws.{Stands, stands-left, stands-right}
+use Rattle.filing.specs.TreeStands.{TreeStands}
 use Rattle.filing.specs.Writable.{testKind}
-use Rattle.filing.specs.RecordsLaws.{testNumber, testLength}
+use Rattle.filing.specs.RecordsLaws.{testNumber, testLength, caseFields, caseBytes-fields}
 use Rattle.filing.specs.LengthLaws.{length-caseBytes, length-ownCases}
 use Rattle.matching.specs.Depth.{casesOn}
 use Rattle.matching.specs.Lists.{all-back}
 use Rattle.arena.specs.Arena.{casesStart, Held, HeldOf}
-use Rattle.arena.specs.RecordsLaws.{caseFields, caseBytes-fields}
-use Rattle.arena.specs.WritingLaws.{Kept, kept-refl, kept-trans, kept-weaken, kept-case, cases-kept, heldOf-kept, stands-room, stands-join, stands-stored, no-cases-held, cases-made}
+use Rattle.arena.specs.WritingLaws.{Kept, kept-refl, kept-trans, kept-weaken, kept-case, cases-kept, heldOf-kept, stands-room, stands-join, stands-stored}
 use Rattle.arena.specs.Numbered.{joined}
 use Rattle.arena.specs.NumberedLaws.{nodesInOf-joined}
 use Rattle.meeting.specs.Passes.{caseRecords}
@@ -107,7 +107,7 @@ each-node f (m ∷ ms) h = omega (arith, h .0, each-node f ms (h .1))
 module _ (table : List Path) (f : Test → Tree) (ms : List Met) (first : ℕ) (w₀ : List ℕ) (from : Tops) where
   -- no case is built yet
   pub cases-begin : CasesOpen ms first w₀ from → Partly table f ms first 0 w₀ w₀ from from
-  unfolding casesOn nodesInOf casesInOf bindingsInOf hasLeafOf ownCases
+  unfolding casesOn nodesInOf casesInOf bindingsInOf hasLeafOf ownCases TreeStands
   cases-begin o =
       record {
         done = [];
@@ -120,9 +120,7 @@ module _ (table : List Path) (f : Test → Tree) (ms : List Met) (first : ℕ) (
           room = o .room;
           kept = kept-refl (from .nodes) first (from .bindings) w₀;
           own = o .written;
-          held = λ h.
-              no-cases-held w₀ table (from .nodes) (from .cases) (from .bindings) (omega (arith, o .room .nodes-most, o .room .long))
-              (omega (arith, o .room .cases-most, o .room .long)) (omega (arith, o .room .long));
+          held = λ h. tt;
         };
       }
 
@@ -167,7 +165,7 @@ module _ (table : List Path) (f : Test → Tree) (ms : List Met) (first : ℕ) (
     -- the case is built: its child was written, and then its tree
     pub case-built : (w₁ w₂ : List ℕ) (to : Tops) → w₁ ≡ stored w (casesStart + caseSize * (first + i) + 6) (wordBytes (at .nodes))
         → Put table w₁ w₂ (f (n .case .test)) at to → casesIn (f (n .case .test)) < nodesIn (f (n .case .test)) → Partly table f ms first (i + 1) w₀ w₂ from to
-    unfolding caseRecords
+    unfolding caseRecords TreeStands
     case-built w₁ w₂ to e p fewer =
         record {
           done = n .done ++ n .case ∷ [];
@@ -259,10 +257,7 @@ module _ (table : List Path) (f : Test → Tree) (ms : List Met) (first : ℕ) (
             (heldOf-apart w table (from .nodes) (from .cases) (from .bindings) cs (casesStart + caseSize * (first + i) + 6) (wordBytes (at .nodes))
             (inr (omega (arith, n .put .room .nodes-most))) (omega (arith, at-most)) (omega (arith, at-most, n .put .room .cases-most)) (n .put .held (omega arith)))) in
             let one : Held w₂ table k₂ c₂ b₂ a = rw (← nodes-at, ← cases-at, ← bindings-at) (p .held (omega arith)) in
-            let none : HeldOf w₂ table (k₂ + nodesIn a) (c₂ + casesIn a) (b₂ + length (bindingsIn a)) cnil =
-            no-cases-held w₂ table (k₂ + nodesIn a) (c₂ + casesIn a) (b₂ + length (bindingsIn a)) (omega (arith, p .room .long, p .room .nodes-most, p .counted .nodes))
-            (omega (arith, p .room .long, p .room .cases-most, p .counted .cases)) (omega (arith, p .room .long)) in
-            rw all (heldOf-joined w₂ table (from .nodes) (from .cases) (from .bindings) cs new old (cases-made w₂ table k₂ c₂ b₂ u (n .case .start) a cnil one none))
+            rw all (heldOf-joined w₂ table (from .nodes) (from .cases) (from .bindings) cs new old (one, tt))
 
         put : CasesPut table f (n .done ++ n .case ∷ []) (n .rest) first w₀ w₂ from to
         put =

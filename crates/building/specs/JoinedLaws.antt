@@ -12,12 +12,10 @@ use Rattle.rules.specs.Rows.{Path}
 use Rattle.rules.specs.Splitting.{Test, Met}
 use Rattle.rules.specs.Building.{Tree, Cases, cnil, ccons}
 use Rattle.rules.specs.Hoisting.{howMany, nodesIn, nodesInOf, bindingsIn, bindingsInOf, hasLeaf, hasLeafOf}
-use Rattle.rules.specs.TreeFile.{casesIn, casesInOf, caseBytes, ownCases, nodesFromOf, casesFromOf, bindingsBytes}
-use Rattle.filing.specs.StandingLaws.{stands-left}
+use Rattle.rules.specs.TreeFile.{casesIn, casesInOf, caseBytes, ownCases}
+use Rattle.filing.specs.TreeStands.{TreeStands}
 use Rattle.matching.specs.Depth.{casesOn}
 use Rattle.arena.specs.Arena.{HeldOf}
-use Rattle.arena.specs.HeldLaws.{first-held, rest-held}
-use Rattle.arena.specs.WritingLaws.{cases-made}
 use Rattle.arena.specs.Numbered.{joined}
 
 -- ---- sums
@@ -68,32 +66,26 @@ module _ (w : List ℕ) (table : List Path) where
 
   pub heldOf-joined : (k c b : ℕ) (cs ts : Cases) → HeldOf w table k c b cs
       → HeldOf w table (k + nodesInOf cs) (c + casesInOf cs) (b + length (bindingsInOf cs)) ts → HeldOf w table k c b (joined cs ts)
-  unfolding joined nodesInOf casesInOf bindingsInOf
+  unfolding joined nodesInOf casesInOf bindingsInOf TreeStands
   heldOf-joined k c b cnil ts h g = moved (k + 0) (c + 0) (b + 0) k c b ts (omega arith) (omega arith) (omega arith) g
   heldOf-joined k c b (ccons t at a cs) ts h g =
       let k₂ = k + nodesIn a in
       let c₂ = c + casesIn a in
-      let b₂ = b + length (bindingsIn a) in
-      cases-made w table k c b t at a (joined cs ts) (first-held w table k c b t at a cs h)
-      (heldOf-joined k₂ c₂ b₂ cs ts (rest-held w table k c b t at a cs h)
-      (moved (k + (nodesIn a + nodesInOf cs)) (c + (casesIn a + casesInOf cs)) (b + length (bindingsIn a ++ bindingsInOf cs)) (k₂ + nodesInOf cs) (c₂ + casesInOf cs)
-      (b₂ + length (bindingsInOf cs)) ts (omega arith) (omega arith) (omega (arith, length-append (bindingsIn a) (bindingsInOf cs))) g))
+      let b₂ = b + length (bindingsIn a) in (
+        h .0,
+        heldOf-joined k₂ c₂ b₂ cs ts (h .1)
+            (moved (k + (nodesIn a + nodesInOf cs)) (c + (casesIn a + casesInOf cs)) (b + length (bindingsIn a ++ bindingsInOf cs)) (k₂ + nodesInOf cs) (c₂ + casesInOf cs)
+            (b₂ + length (bindingsInOf cs)) ts (omega arith) (omega arith) (omega (arith, length-append (bindingsIn a) (bindingsInOf cs))) g),
+      )
 
   pub front-held : (k c b : ℕ) (cs ts : Cases) → HeldOf w table k c b (joined cs ts) → HeldOf w table k c b cs
-  unfolding joined nodesFromOf casesFromOf bindingsInOf bindingsBytes
-  front-held k c b cnil ts h =
-      record {
-        nodes-there = stands-left [] (nodesFromOf table k c b ts) (h .nodes-there);
-        cases-there = stands-left [] (casesFromOf k ts) (h .cases-there);
-        bindings-there = stands-left [] (bindingsBytes table (bindingsInOf ts)) (h .bindings-there);
-      }
-  front-held k c b (ccons t at a cs) ts h =
-      cases-made w table k c b t at a cs (first-held w table k c b t at a (joined cs ts) h)
-      (front-held (k + nodesIn a) (c + casesIn a) (b + length (bindingsIn a)) cs ts (rest-held w table k c b t at a (joined cs ts) h))
+  unfolding joined TreeStands
+  front-held k c b cnil ts h = tt
+  front-held k c b (ccons t at a cs) ts h = (h .0, front-held (k + nodesIn a) (c + casesIn a) (b + length (bindingsIn a)) cs ts (h .1))
 
   pub back-held : (k c b : ℕ) (cs ts : Cases) → HeldOf w table k c b (joined cs ts)
       → HeldOf w table (k + nodesInOf cs) (c + casesInOf cs) (b + length (bindingsInOf cs)) ts
-  unfolding joined nodesInOf casesInOf bindingsInOf
+  unfolding joined nodesInOf casesInOf bindingsInOf TreeStands
   back-held k c b cnil ts h = moved k c b (k + 0) (c + 0) (b + 0) ts (omega arith) (omega arith) (omega arith) h
   back-held k c b (ccons t at a cs) ts h =
       let k₂ = k + nodesIn a in
@@ -101,4 +93,4 @@ module _ (w : List ℕ) (table : List Path) where
       let b₂ = b + length (bindingsIn a) in
       moved (k₂ + nodesInOf cs) (c₂ + casesInOf cs) (b₂ + length (bindingsInOf cs)) (k + (nodesIn a + nodesInOf cs)) (c + (casesIn a + casesInOf cs))
       (b + length (bindingsIn a ++ bindingsInOf cs)) ts (omega arith) (omega arith) (omega (arith, length-append (bindingsIn a) (bindingsInOf cs)))
-      (back-held k₂ c₂ b₂ cs ts (rest-held w table k c b t at a (joined cs ts) h))
+      (back-held k₂ c₂ b₂ cs ts (h .1))

@@ -18,11 +18,12 @@ use Rattle.rules.specs.Building.{Tree, Cases, switch, listswitch, isList, hasLi
 use Rattle.rules.specs.Hoisting.{howMany, nodesIn, nodesInOf, bindingsIn, bindingsInOf, hasLeaf, hasLeafOf}
 use Rattle.rules.specs.TreeFile.{pathNumber, firstOf, nodeBytes, casesIn, casesInOf, defaultField, ownCases}
 use Rattle.filing.specs.StandingLaws.{Stands}
+use Rattle.filing.specs.TreeStands.{TreeStands}
 use Rattle.filing.specs.LengthLaws.{length-ownCases}
 use Rattle.matching.specs.Depth.{casesOn, isTail, isExact, only, nodeOn}
 use Rattle.matching.specs.Lists.{all-append}
-use Rattle.arena.specs.Arena.{casesStart, casesMost, Held, HeldOf}
-use Rattle.arena.specs.WritingLaws.{Kept, kept-trans, kept-weaken, kept-node, cases-kept, nodes-kept, heldOf-kept, stands-stored, switch-made, list-switch-made}
+use Rattle.arena.specs.Arena.{nodesStart, casesStart, casesMost, Held, HeldOf}
+use Rattle.arena.specs.WritingLaws.{Kept, kept-trans, kept-weaken, kept-node, cases-kept, nodes-kept, heldOf-kept, node-stored}
 use Rattle.arena.specs.Numbered.{joined}
 use Rattle.arena.specs.NumberedLaws.{nodesInOf-joined}
 use Rattle.meeting.specs.Passes.{caseRecords}
@@ -191,22 +192,24 @@ firstOf-some (suc n) first h = refl
 module _ (w : List ℕ) (table : List Path) (k c b : ℕ) (p : Path) (f : Test → Tree) (d : Tree) where
   -- a node with these cases and tail cases
   abbrev NodeOf : ℕ → List Met → List Met → Cases → Type 0
-  NodeOf kind es ts cs = Stands w (nodeSize * k) (nodeBytes kind (pathNumber table p) c (length es) (length ts) (defaultField (k + 1 + nodesInOf cs) d))
+  NodeOf kind es ts cs = Stands w (nodesStart + nodeSize * k) (nodeBytes kind (pathNumber table p) c (length es) (length ts) (defaultField (k + 1 + nodesInOf cs) d))
 
   abbrev DefaultOf : ℕ → Cases → Type 0
   DefaultOf n cs = Held w table (k + 1 + nodesInOf cs) (c + n + casesInOf cs) (b + length (bindingsInOf cs)) d
 
   switch-on : (ms : List Met) → 1 ≤ length ms → NodeOf 0 ms [] (casesOn f ms) → Stands w (casesStart + caseSize * c) (ownCases (k + 1) (casesOn f ms))
       → HeldOf w table (k + 1) (c + length ms) b (casesOn f ms) → DefaultOf (length ms) (casesOn f ms) → Held w table k c b (switch p (casesOn f ms) d)
+  unfolding TreeStands
   switch-on ms l node own under default =
       let cs = casesOn f ms in
       let n : howMany cs ≡ length ms = howMany-casesOn f ms in
       let first : firstOf (howMany cs) c ≡ c = firstOf-some (howMany cs) c (omega arith) in
-      switch-made w table k c b p cs d (rw (first, n) node) own (rw n under) (rw n default)
+      (rw (first, n) node, own, rw n under, rw n default)
 
   list-switch-on : (es ts : List Met) (all : Cases) → all ≡ joined (casesOn f es) (casesOn f ts) → 1 ≤ length es + length ts → NodeOf 1 es ts all
       → Stands w (casesStart + caseSize * c) (ownCases (k + 1) all) → HeldOf w table (k + 1) (c + (length es + length ts)) b all → DefaultOf (length es + length ts) all
       → Held w table k c b (listswitch p (casesOn f es) (casesOn f ts) d)
+  unfolding TreeStands
   list-switch-on es ts all e l node own under default =
       let cs = casesOn f es in
       let ds = casesOn f ts in
@@ -219,10 +222,13 @@ module _ (w : List ℕ) (table : List Path) (k c b : ℕ) (p : Path) (f : Test �
       omega (arith, ap casesInOf e, casesInOf-joined cs ds) in
       let bindings-sum : b + length (bindingsInOf all) ≡ b + length (bindingsInOf cs) + length (bindingsInOf ds) =
       omega (arith, ap length (ap bindingsInOf e ∙ bindingsInOf-joined cs ds), length-append (bindingsInOf cs) (bindingsInOf ds)) in
-      let both : HeldOf w table (k + 1) (c + howMany cs + howMany ds) b (joined cs ds) = rw (← cases-at, ← e) under in
-      list-switch-made w table k c b p cs ds d (rw (first, n, m, ← nodes-sum) node) (rw (← ownCases-joined (k + 1) cs ds, ← e) own)
-      (front-held w table (k + 1) (c + howMany cs + howMany ds) b cs ds both) (back-held w table (k + 1) (c + howMany cs + howMany ds) b cs ds both)
-      (rw (← nodes-sum, ← cases-sum, ← bindings-sum) default)
+      let both : HeldOf w table (k + 1) (c + howMany cs + howMany ds) b (joined cs ds) = rw (← cases-at, ← e) under in (
+        rw (first, n, m, ← nodes-sum) node,
+        rw (← ownCases-joined (k + 1) cs ds, ← e) own,
+        front-held w table (k + 1) (c + howMany cs + howMany ds) b cs ds both,
+        back-held w table (k + 1) (c + howMany cs + howMany ds) b cs ds both,
+        rw (← nodes-sum, ← cases-sum, ← bindings-sum) default,
+      )
 
 -- a node's kind
 abbrev pub switchKind : List Pat → ℕ
@@ -230,7 +236,7 @@ switchKind qs = pick (hasList qs) 1 0
 
 module _ (w : List ℕ) (table : List Path) (k c b : ℕ) (p : Path) (qs : List Pat) (f : Test → Tree) (d : Tree) where
   nodeOn-held : 1 ≤ length (inOrder qs)
-      → Stands w (nodeSize * k)
+      → Stands w (nodesStart + nodeSize * k)
       (nodeBytes (switchKind qs) (pathNumber table p) c (length (only isExact (casesOf qs))) (length (only isTail (casesOf qs))) (defaultField (k + 1 + nodesInOf (casesOn f (inOrder qs))) d))
       → Stands w (casesStart + caseSize * c) (ownCases (k + 1) (casesOn f (inOrder qs)))
       → HeldOf w table (k + 1) (c + length (inOrder qs)) b (casesOn f (inOrder qs))
@@ -335,9 +341,9 @@ module _ {table : List Path} {p : Path} {qs : List Pat} {f : Test → Tree} {d :
           let own₃ : Stands w₃ (casesStart + caseSize * tops .cases) (ownCases (tops .nodes + 1) cs) =
           rw (x .node)
           (stands-apart w₂ (casesStart + caseSize * tops .cases) (ownCases (tops .nodes + 1) cs) (nodeSize * tops .nodes) bytes (inl (omega (arith, x .node-room))) own₂) in
-          let node₃ : Stands w₃ (nodeSize * tops .nodes) bytes =
+          let node₃ : Stands w₃ (nodesStart + nodeSize * tops .nodes) bytes =
           rw (x .node)
-          (stands-stored w₂ (nodeSize * tops .nodes) bytes (omega (arith, x .node-room, x .cases .room .long))) in
+          (node-stored w₂ (tops .nodes) bytes (omega (arith, x .node-room, x .cases .room .long))) in
           nodeOn-held w' table (tops .nodes) (tops .cases) (tops .bindings) p qs f d (x .some-case)
           (rw (← nodes-at) (nodes-kept (x .default .kept) (tops .nodes) bytes (omega arith) node₃))
           (cases-kept (x .default .kept) (tops .cases) (ownCases (tops .nodes + 1) cs)

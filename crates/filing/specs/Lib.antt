@@ -7,6 +7,8 @@ pub mod FileLaws
 pub mod RecordsLaws
 pub mod RunLaws
 pub mod TableLaws
+pub mod TreeStands
+pub mod TreeStandsLaws
 pub mod PlacedLaws
 pub mod ReadLaws
 pub mod RulesLaws

@@ -18,7 +18,8 @@ use Rattle.filing.specs.StandingLaws.{Stands}
 use Rattle.filing.specs.Writable.{present, Writable, WritableOf}
 use Rattle.filing.specs.RunLaws.{firstOf-some}
 use Rattle.filing.specs.TableLaws.{Tabled}
-use Rattle.filing.specs.PlacedLaws.{Placed, PlacedOf, LeafAt, HoistAt, SwitchAt, ListSwitchAt, leaf-placed, hoist-placed, switch-placed, list-switch-placed, own-first, own-rest, first-placed, rest-placed}
+use Rattle.filing.specs.TreeStandsLaws.{own-rest}
+use Rattle.filing.specs.PlacedLaws.{Placed, PlacedOf, LeafAt, HoistAt, SwitchAt, ListSwitchAt, leaf-placed, hoist-placed, switch-placed, list-switch-placed, own-first, first-placed, rest-placed}
 
 -- the first node of a tree that starts at k, if it has one; the first nodes of the subtrees of cases
 unfoldable pub rootNumber : ℕ → Tree → List ℕ
@@ -56,7 +57,7 @@ module _ (t : List ℕ) where
   unfolding caseChildren howMany childNumbers
   own-children cnil i k own = refl
   own-children (ccons u start a cs) i k own =
-      rw (own-first t i k u start a cs own .child-is, own-children cs (i + 1) (k + nodesIn a) (own-rest t i k u start a cs own))
+      rw (own-first t i k u start a cs own .child-is, own-children cs (i + 1) (k + nodesIn a) (own-rest t (casesAt t) i k u start a cs own))
 
   leaf-children : (k b x : ℕ) (bs : List Binding) → LeafAt t b k x bs → nodeChildren t k ≡ []
   unfolding nodeChildren nodeKindOf childrenOfKind
@@ -155,8 +156,8 @@ module _ (t : List ℕ) where
           let e : rootNumber k a ≡ k ∷ [] = root-number k a (w .1) in
           order-at k k (nodesIn a + nodesInOf cs + n) (nodesIn a + (nodesInOf cs + n)) (k ∷ (childNumbers k₂ cs ++ rest)) refl (omega arith)
           ∙ ap (λ (z : List ℕ). inPreOrder t k (nodesIn a + (nodesInOf cs + n)) (z ++ (childNumbers k₂ cs ++ rest))) (sym e)
-          ∙ tree-in-order a k c b (nodesInOf cs + n) (childNumbers k₂ cs ++ rest) (w .2) (first-placed t table tab k c b u start a cs h)
-          ∙ cases-in-order cs k₂ (c + casesIn a) (b + length (bindingsIn a)) n rest (w .3) (rest-placed t table tab k c b u start a cs h)
+          ∙ tree-in-order a k c b (nodesInOf cs + n) (childNumbers k₂ cs ++ rest) (w .2) (first-placed t table k c b u start a cs h)
+          ∙ cases-in-order cs k₂ (c + casesIn a) (b + length (bindingsIn a)) n rest (w .3) (rest-placed t table k c b u start a cs h)
           ∙ order-at (k₂ + nodesInOf cs) (k + (nodesIn a + nodesInOf cs)) n n rest (omega arith) refl
 
     -- the whole tree: node 0 is awaited, and in the end none is

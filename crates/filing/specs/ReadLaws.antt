@@ -20,7 +20,8 @@ use Rattle.filing.specs.Writable.{present, testKind, InPool, TextStarts,
 use Rattle.filing.specs.RecordsLaws.{CaseIs, testNumber, testLength}
 use Rattle.filing.specs.RunLaws.{firstOf-some}
 use Rattle.filing.specs.TableLaws.{Tabled}
-use Rattle.filing.specs.PlacedLaws.{Placed, PlacedOf, LeafAt, HoistAt, SwitchAt, ListSwitchAt, leaf-placed, hoist-placed, switch-placed, list-switch-placed, own-first, own-rest, first-placed, rest-placed, root-placed, table-read}
+use Rattle.filing.specs.TreeStandsLaws.{own-rest}
+use Rattle.filing.specs.PlacedLaws.{Placed, PlacedOf, LeafAt, HoistAt, SwitchAt, ListSwitchAt, leaf-placed, hoist-placed, switch-placed, list-switch-placed, own-first, first-placed, rest-placed, root-placed, table-read}
 
 -- where nothing is read, it does not matter from where
 module _ (t : List ℕ) where
@@ -150,9 +151,9 @@ module _ (t pool : List ℕ) (there : Stands t (treePoolAt t) pool) where
       cases-read cnil deep k c b i l w h own = refl
       cases-read (ccons u start a cs) deep k c b i l w h own =
           case-read (treeBelow deep t) i (howMany cs) u start k a cs (own-first t i k u start a cs own) (w .0)
-          (tree-read a deep k c b (omega arith) (w .1) (w .2) (first-placed t table tab k c b u start a cs h))
-          (cases-read cs deep (k + nodesIn a) (c + casesIn a) (b + length (bindingsIn a)) (i + 1) (omega arith) (w .3) (rest-placed t table tab k c b u start a cs h)
-          (own-rest t i k u start a cs own))
+          (tree-read a deep k c b (omega arith) (w .1) (w .2) (first-placed t table k c b u start a cs h))
+          (cases-read cs deep (k + nodesIn a) (c + casesIn a) (b + length (bindingsIn a)) (i + 1) (omega arith) (w .3) (rest-placed t table k c b u start a cs h)
+          (own-rest t (casesAt t) i k u start a cs own))
 
 filed-read : (t pool : List ℕ) (table : List Path) (a : Tree) → Filed t pool table a → Covers table (pathsUsed a) → present a ≡ true → Writable pool a → treeOf t ≡ a
 unfolding treeOf

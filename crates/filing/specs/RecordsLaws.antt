@@ -25,9 +25,9 @@ pub record NodeIs (t : List ℕ) (k kind a b c d e : ℕ) : Type 0 where
   pub word-3 : nodeWord t k 3 ≡ d
   pub word-4 : nodeWord t k 4 ≡ e
 
-pub node-is : (t : List ℕ) (k kind a b c d e : ℕ) → Stands t (nodesAt t + nodeSize * k) (nodeBytes kind a b c d e) → NodeIs t k kind a b c d e
+pub node-is : {t : List ℕ} {k kind a b c d e : ℕ} → Stands t (nodesAt t + nodeSize * k) (nodeBytes kind a b c d e) → NodeIs t k kind a b c d e
 unfolding nodeKind nodeZero nodeWord nodeBytes wordAt
-node-is t k kind a b c d e s =
+node-is {t} {k} {kind} {a} {b} {c} {d} {e} s =
     let i = nodesAt t + nodeSize * k in
     record {
       kind-is = byte-field s i 0 kind (omega arith) (omega arith) refl;
@@ -55,9 +55,12 @@ testLength (Bytes w) = length w
 testLength (ListOf n) = 0
 testLength (ListWithTail n) = 0
 
-caseBytes-fields : (u : Test) (start child : ℕ)
-    → caseBytes u start child ≡ testKind u ∷ 0 ∷ (wordBytes (testNumber start u) ++ (wordBytes (testLength u) ++ wordBytes child))
-unfolding caseBytes testKind testNumber testLength
+-- a case's record from its fields
+unfoldable pub caseFields : ℕ → ℕ → ℕ → ℕ → List ℕ
+caseFields kind number count child = kind ∷ 0 ∷ (wordBytes number ++ (wordBytes count ++ wordBytes child))
+
+pub caseBytes-fields : (u : Test) (start child : ℕ) → caseBytes u start child ≡ caseFields (testKind u) (testNumber start u) (testLength u) child
+unfolding caseBytes caseFields testKind testNumber testLength
 caseBytes-fields (Constr a) start child = refl
 caseBytes-fields (Int w) start child = refl
 caseBytes-fields (Bytes w) start child = refl
@@ -72,9 +75,8 @@ pub record CaseIs (t : List ℕ) (i : ℕ) (u : Test) (start child : ℕ) : Type
   pub child-is : caseChild t i ≡ child
 
 case-fields : (t : List ℕ) (i : ℕ) (u : Test) (start child : ℕ)
-    → Stands t (casesAt t + caseSize * i) (testKind u ∷ 0 ∷ (wordBytes (testNumber start u) ++ (wordBytes (testLength u) ++ wordBytes child)))
-    → CaseIs t i u start child
-unfolding caseKind caseZero caseNumber caseLength caseChild wordAt
+    → Stands t (casesAt t + caseSize * i) (caseFields (testKind u) (testNumber start u) (testLength u) child) → CaseIs t i u start child
+unfolding caseKind caseZero caseNumber caseLength caseChild caseFields wordAt
 case-fields t i u start child s =
     let j = casesAt t + caseSize * i in
     record {

@@ -23,7 +23,8 @@ use Rattle.filing.specs.Writable.{present, testKind, InPool, TextStarts,
 use Rattle.filing.specs.RecordsLaws.{NodeIs, CaseIs, testNumber, testLength}
 use Rattle.filing.specs.RunLaws.{every-append, firstOf-some, run-make, run-in}
 use Rattle.filing.specs.TableLaws.{Tabled}
-use Rattle.filing.specs.PlacedLaws.{Placed, PlacedOf, LeafAt, HoistAt, SwitchAt, ListSwitchAt, leaf-placed, hoist-placed, switch-placed, list-switch-placed, own-first, own-rest, first-placed, rest-placed}
+use Rattle.filing.specs.TreeStandsLaws.{own-rest}
+use Rattle.filing.specs.PlacedLaws.{Placed, PlacedOf, LeafAt, HoistAt, SwitchAt, ListSwitchAt, leaf-placed, hoist-placed, switch-placed, list-switch-placed, own-first, first-placed, rest-placed}
 
 pub present-nodes : (a : Tree) → present a ≡ true → 1 ≤ nodesIn a
 unfolding present nodesIn
@@ -70,7 +71,7 @@ module _ (t : List ℕ) where
       let m = present-nodes a (w .1) in
       both-make (caseKeepsRules t i) (every (caseKeepsRules t) (i + 1) (howMany cs))
       (case-keeps-rules i pool u start k s (own-first t i k u start a cs own) (w .0) (omega arith))
-      (own-keep-rules pool cs (i + 1) (k + nodesIn a) s (w .3) (own-rest t i k u start a cs own) (omega arith))
+      (own-keep-rules pool cs (i + 1) (k + nodesIn a) s (w .3) (own-rest t (casesAt t) i k u start a cs own) (omega arith))
 
   -- the kinds of a switch's cases
   own-kinds : (kind : ℕ) (cs : Cases) (i k : ℕ) → AllOfKind kind cs → Stands t (casesAt t + caseSize * i) (ownCases k cs) → every (isKind t kind) i (howMany cs) ≡ true
@@ -79,7 +80,7 @@ module _ (t : List ℕ) where
   own-kinds kind (ccons u start a cs) i k w own =
       both-make (isKind t kind i) (every (isKind t kind) (i + 1) (howMany cs))
       (eq-eqb (caseKind t i) kind (own-first t i k u start a cs own .kind-is ∙ w .0))
-      (own-kinds kind cs (i + 1) (k + nodesIn a) (w .1) (own-rest t i k u start a cs own))
+      (own-kinds kind cs (i + 1) (k + nodesIn a) (w .1) (own-rest t (casesAt t) i k u start a cs own))
 
   -- ---- nodes
   node-keeps-rules : (k kind a b c d e : ℕ) → NodeIs t k kind a b c d e → nodeOfKind t k (nodeKindOf kind) ≡ true → nodeKeepsRules t k ≡ true
@@ -265,6 +266,6 @@ module _ (t pool : List ℕ) (size : treePoolSize t ≡ length pool) (table : Li
     cases-keep-rules (ccons u start a cs) k c b w h l m n =
         let s = length-append (bindingsIn a) (bindingsInOf cs) in
         keeps-append t k c (nodesIn a) (casesIn a) (nodesInOf cs) (casesInOf cs)
-        (tree-keeps-rules a k c b (w .2) (first-placed t table tab k c b u start a cs h) (omega arith) (omega arith) (omega arith))
-        (cases-keep-rules cs (k + nodesIn a) (c + casesIn a) (b + length (bindingsIn a)) (w .3) (rest-placed t table tab k c b u start a cs h) (omega arith) (omega arith)
+        (tree-keeps-rules a k c b (w .2) (first-placed t table k c b u start a cs h) (omega arith) (omega arith) (omega arith))
+        (cases-keep-rules cs (k + nodesIn a) (c + casesIn a) (b + length (bindingsIn a)) (w .3) (rest-placed t table k c b u start a cs h) (omega arith) (omega arith)
         (omega arith))

@@ -21,6 +21,7 @@ use Rattle.filing.specs.Writable.{stepsIn}
 use Rattle.filing.specs.LengthLaws.{length-stepBytes, length-pathSteps}
 use Rattle.filing.specs.RunLaws.{every-append, run-in}
 use Rattle.filing.specs.RecordsLaws.{StepIs, step-is, stepAt-is, BindingIs, binding-is, PathIs, path-is}
+use Rattle.filing.specs.TreeStandsLaws.{rest-bindings}
 
 module _ (t : List ℕ) where
   -- ---- steps
@@ -136,12 +137,6 @@ module _ (t : List ℕ) where
         binding-is t i (x .name) (pathNumber table (x .path))
         (stands-left (wordBytes (x .name) ++ wordBytes (pathNumber table (x .path))) (bindingsBytes table bs) h)
 
-    rest-bindings : (x : Binding) (bs : List Binding) (i : ℕ) → Stands t (bindingsAt t + bindingSize * i) (bindingsBytes table (x ∷ bs))
-        → Stands t (bindingsAt t + bindingSize * (i + 1)) (bindingsBytes table bs)
-    unfolding bindingsBytes
-    rest-bindings x bs i h =
-        stands-right (wordBytes (x .name) ++ wordBytes (pathNumber table (x .path))) (bindingsBytes table bs) (bindingsAt t + bindingSize * (i + 1)) (omega arith) h
-
     pub bindings-read : (bs : List Binding) (i : ℕ) → Stands t (bindingsAt t + bindingSize * i) (bindingsBytes table bs) → Covers table (bindingPaths bs)
         → bindingsFrom t i (length bs) ≡ bs
     unfolding bindingsFrom bindingPaths
@@ -149,7 +144,7 @@ module _ (t : List ℕ) where
     bindings-read (x ∷ bs) i h v =
         let r = first-binding x bs i h in
         let e : pathAt t (pathNumber table (x .path)) ≡ x .path = tab .path-there (x .path) (covers-first table (x .path) (bindingPaths bs) v) in
-        let f : bindingsFrom t (i + 1) (length bs) ≡ bs = bindings-read bs (i + 1) (rest-bindings x bs i h) (covers-rest table (x .path) (bindingPaths bs) v) in
+        let f : bindingsFrom t (i + 1) (length bs) ≡ bs = bindings-read bs (i + 1) (rest-bindings t table (bindingsAt t) i x bs h) (covers-rest table (x .path) (bindingPaths bs) v) in
         rw (r .name-is, r .path-is, e, f)
 
     pub bindings-keep-rules : (bs : List Binding) (i : ℕ) → Stands t (bindingsAt t + bindingSize * i) (bindingsBytes table bs) → Covers table (bindingPaths bs)
@@ -161,4 +156,4 @@ module _ (t : List ℕ) where
         let l = tab .number-inside (x .path) (covers-first table (x .path) (bindingPaths bs) v) in
         both-make (bindingKeepsRules t i) (every (bindingKeepsRules t) (i + 1) (length bs))
         (rw (r .path-is) (lt-ltb (pathNumber table (x .path)) (paths t) l))
-        (bindings-keep-rules bs (i + 1) (rest-bindings x bs i h) (covers-rest table (x .path) (bindingPaths bs) v))
+        (bindings-keep-rules bs (i + 1) (rest-bindings t table (bindingsAt t) i x bs h) (covers-rest table (x .path) (bindingPaths bs) v))

@@ -18,13 +18,13 @@ use Rattle.rules.specs.SplittingLaws.{All}
 use Rattle.rules.specs.TreeFile.{caseBytes}
 use Rattle.facts.specs.SheetFacts.{Laid}
 use Rattle.filing.specs.Writable.{testKind}
-use Rattle.filing.specs.RecordsLaws.{testNumber, testLength}
+use Rattle.filing.specs.RecordsLaws.{testNumber, testLength, caseFields, caseBytes-fields}
 use Rattle.filing.specs.LengthLaws.{length-caseBytes}
 use Rattle.filing.specs.StandingLaws.{Stands, stands-left, stands-right}
 use Rattle.arena.specs.Arena.{casesStart, casesMost, arenaEnd, caseKind, caseNumber, caseLength}
 use Rattle.arena.specs.declared.reading.Test as arena
 use Rattle.arena.specs.Reading.{kindOf, numberOf, lengthOf, caseRecord}
-use Rattle.arena.specs.RecordsLaws.{caseFields, caseBytes-fields, CaseIs, case-is}
+use Rattle.arena.specs.RecordsLaws.{CaseIs, case-is}
 use Rattle.arena.specs.WritingLaws.{stands-stored}
 use Rattle.meeting.specs.Passes.{upTo, caseRecords}
 use Rattle.meeting.specs.PassesLaws.{meet-full}

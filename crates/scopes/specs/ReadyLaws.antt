@@ -19,11 +19,12 @@ use Rattle.rules.specs.Building.{Tree, Cases, absent, leaf, hoist, switch, list
 use Rattle.rules.specs.Hoisting.{howMany, nodesIn, nodesInOf, bindingsIn, hasLeaf, hasLeafOf}
 use Rattle.rules.specs.TreeFile.{casesIn, ownCases}
 use Rattle.filing.specs.StandingLaws.{Stands}
+use Rattle.filing.specs.TreeStandsLaws.{own-rest}
 use Rattle.hoisting.specs.Trees.{Plain, PlainOf, isPresent, WellMade, WellMadeOf}
 use Rattle.hoisting.specs.Scopes.{later, lastLeaf, lastLeafOf, isClause}
 use Rattle.hoisting.specs.Descent.{casesWith, childrenWith, isScope}
 use Rattle.arena.specs.Arena.{casesStart, casesMost, nodeKind, nodeWord, caseChild}
-use Rattle.arena.specs.HeldLaws.{own-first, own-rest}
+use Rattle.arena.specs.RecordsLaws.{own-first}
 use Rattle.arena.specs.Numbered.{subtrees, subtreesOf, subtreeAt, Within, Each, isSwitch, casesUnder, defaultUnder, AllThere, HeldAt, SwitchNode, ChildNode, Nodes}
 use Rattle.arena.specs.NumberedLaws.{length-subtrees, subtreeAt-root, each-append, each-at, within-first, within-inside, first-within, rest-within, leaf-node, cases-within, default-within, switch-shown, case-node, default-node, default-none, defaultField-some, length-subtreesOf}
 use Rattle.scopes.specs.Numbers.{descent, descentOf}
@@ -149,7 +150,7 @@ module _ (w : List ℕ) (a : Tree) (c : ℕ) (has : List ℕ) where
   marked-cases cnil i k from f own h t m = refl
   marked-cases (ccons u start s cs) i k from f own h t m =
       ap₂ _+_ (ap (λ z. getD has z 0) (own-first w i k u start s cs own .child-is) ∙ mark-there k from s f (t .0) (first-within (subtrees a) k s (subtreesOf cs) h) m)
-      (marked-cases cs (i + 1) (k + nodesIn s) from (omega arith) (own-rest w i k u start s cs own) (rest-within (subtrees a) k s (subtreesOf cs) h) (t .1) m)
+      (marked-cases cs (i + 1) (k + nodesIn s) from (omega arith) (own-rest w casesStart i k u start s cs own) (rest-within (subtrees a) k s (subtreesOf cs) h) (t .1) m)
 
   -- the child n has a leaf of c, and the way down goes on there
   pub record Led (k n : ℕ) (to : (Tree → Bool) → ℕ) : Type 0 where
@@ -180,7 +181,7 @@ module _ (w : List ℕ) (a : Tree) (c : ℕ) (has : List ℕ) where
   first-marked cnil i k from z f own h t m e = absurd (false≢true e)
   first-marked (ccons u start s cs) i k from z f own h t m e =
       go (hasLeaf c s) refl
-      (first-marked cs (i + 1) (k + nodesIn s) from z (omega arith) (own-rest w i k u start s cs own) (rest-within (subtrees a) k s (subtreesOf cs) h) (t .1) m)
+      (first-marked cs (i + 1) (k + nodesIn s) from z (omega arith) (own-rest w casesStart i k u start s cs own) (rest-within (subtrees a) k s (subtreesOf cs) h) (t .1) m)
     where
       child : caseChild w i ≡ k
       child = own-first w i k u start s cs own .child-is
@@ -312,7 +313,7 @@ module _ (w : List ℕ) (a : Tree) (last : List ℕ) where
   last-case (ccons u start s (ccons v begin q cs)) i k from p f own h t m =
       let e : i + 1 + suc (howMany cs) - 1 ≡ i + suc (suc (howMany cs)) - 1 = omega arith in
       later-some (lastLeaf s) (later (lastLeaf q) (lastLeafOf cs)) (getD last (caseChild w (i + suc (suc (howMany cs)) - 1)) 0)
-      (last-case (ccons v begin q cs) (i + 1) (k + nodesIn s) from (omega arith) (omega arith) (own-rest w i k u start s (ccons v begin q cs) own)
+      (last-case (ccons v begin q cs) (i + 1) (k + nodesIn s) from (omega arith) (omega arith) (own-rest w casesStart i k u start s (ccons v begin q cs) own)
       (rest-within (subtrees a) k s (subtrees q ++ subtreesOf cs) h) (t .1) m
       ∙ ap (λ z. some (getD last (caseChild w z) 0)) e)
 

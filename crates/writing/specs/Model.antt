@@ -10,7 +10,7 @@ use Rattle.words.specs.Stored.{stored}
 use Rattle.rules.specs.Limits.{clausesMost, patternsMost, nodesMost, bindingsMost, treeRoom, nodeSize, caseSize, bindingSize}
 use Rattle.rules.specs.TreeFile.{firstOf, nodeBytes}
 use Rattle.arena.specs.Arena.{casesStart, casesMost, bindingsStart, arenaEnd, nodeKind, nodeWord, caseKind, caseNumber, caseLength, caseChild, bindingName, bindingPath}
-use Rattle.arena.specs.RecordsLaws.{caseFields}
+use Rattle.filing.specs.RecordsLaws.{caseFields}
 use Rattle.scopes.specs.Marks.{SwitchInside}
 use Rattle.scopes.specs.WriterLaws.{hoistsBefore, hoistsAt, standsAt}
 use Rattle.writing.specs.declared.nodes.Tops.{Tops}

@@ -16,7 +16,7 @@ use Rattle.words.specs.StoredLaws.{length-stored, stored-nil, stored-append}
 use Rattle.rules.specs.Limits.{patternsMost, nodeSize, caseSize, bindingSize}
 use Rattle.rules.specs.TreeFile.{firstOf, nodeBytes}
 use Rattle.arena.specs.Arena.{nodeKind, nodeWord, caseKind, caseNumber, caseLength, caseChild, bindingName, bindingPath}
-use Rattle.arena.specs.RecordsLaws.{caseFields}
+use Rattle.filing.specs.RecordsLaws.{caseFields}
 use Rattle.arena.specs.ReadingLaws.{kind-stored, words-stored, fields-stored}
 use Rattle.scopes.specs.Marks.{SwitchInside}
 use Rattle.scopes.specs.WriterLaws.{standsAt}

@@ -19,11 +19,12 @@ use Rattle.rules.specs.Building.{Tree, Cases, absent, leaf, hoist, switch, list
 use Rattle.rules.specs.Hoisting.{howMany, nodesIn, nodesInOf}
 use Rattle.rules.specs.TreeFile.{bindingPaths, isAmong, firstUses, pathNumber, firstOf, nodeBytes, defaultField, caseBytes, ownCases, bindingsBytes}
 use Rattle.filing.specs.StandingLaws.{Stands}
+use Rattle.filing.specs.RecordsLaws.{caseFields, caseBytes-fields}
+use Rattle.filing.specs.TreeStandsLaws.{bindingsBytes-append, own-rest, rest-bindings}
 use Rattle.filing.specs.LengthLaws.{length-caseBytes, length-bindingsBytes}
 use Rattle.filing.specs.PathsLaws.{Covers, covers-first, covers-rest, covers-append, covers-nil, covers-cons}
 use Rattle.arena.specs.Arena.{casesStart, bindingsStart, nodeKind, nodeWord}
-use Rattle.arena.specs.RecordsLaws.{caseFields, caseBytes-fields, first-binding, rest-bindings, bindingsBytes-append}
-use Rattle.arena.specs.HeldLaws.{own-first, own-rest}
+use Rattle.arena.specs.RecordsLaws.{own-first, first-binding}
 use Rattle.arena.specs.Numbered.{joined, Each, LeafNode}
 use Rattle.arena.specs.NumberedLaws.{howMany-joined}
 use Rattle.scopes.specs.WriterLaws.{standsAt, hoistsAt, stands-next}
@@ -265,7 +266,7 @@ module _ (all table : List Path) (cases-at bindings-at : ℕ) where
         let among = covers-first all p (bindingPaths bs) v in
         let number : numberIn (withClass u class) class ≡ pathNumber table p =
         number-used all short u there h p among ∙ sym (number-first-use there (bindingPaths bs ++ rest) p) ∙ ap (λ z. pathNumber z p) (sym e) in
-        let ih = bound-bytes bs (i + 1) (withClass u class) (withPath there p) rest (rest-bindings w all i x bs s) (stand-with all short u there h p among) (covers-rest all p (bindingPaths bs) v)
+        let ih = bound-bytes bs (i + 1) (withClass u class) (withPath there p) rest (rest-bindings w all bindingsStart i x bs s) (stand-with all short u there h p among) (covers-rest all p (bindingPaths bs) v)
         (e ∙ firstUses-with there p (bindingPaths bs ++ rest)) in
         rw (r .name-is, r .path-is) (ap₂ (λ y z. (wordBytes (x .name) ++ wordBytes y) ++ z) number ih)
 
@@ -275,7 +276,7 @@ module _ (all table : List Path) (cases-at bindings-at : ℕ) where
     bound-uses [] i u s = refl
     bound-uses (x ∷ bs) i u s =
         ap (λ z. boundUses w (i + 1) (length bs) (withClass u z)) (first-binding w all i x bs s .path-is)
-        ∙ bound-uses bs (i + 1) (withClass u (pathNumber all (x .path))) (rest-bindings w all i x bs s)
+        ∙ bound-uses bs (i + 1) (withClass u (pathNumber all (x .path))) (rest-bindings w all bindingsStart i x bs s)
 
     -- THEOREM: a leaf, or a hoist with the bindings of the leaf
     bound-after : (j kind child most x : ℕ) (bs : List Binding) (o : Out) (there rest : List Path) → LeafNode w all most j x bs → Stand all (o .tops .uses) there
@@ -375,7 +376,7 @@ module _ (all table : List Path) (cases-at bindings-at : ℕ) where
         let r = own-first w i k t at a cs s in
         ap₂ (λ y z. y ++ z)
         ((λ l. caseFields (r .kind-is l) (r .number-is l) (r .length-is l) (standsAt node n (r .child-is l))) ∙ sym (caseBytes-fields t at (standsAt node n k)))
-        (moved-cases node n cs (i + 1) (k + nodesIn a) (own-rest w i k t at a cs s))
+        (moved-cases node n cs (i + 1) (k + nodesIn a) (own-rest w casesStart i k t at a cs s))
 
     module _ (x : Places) (n k : ℕ) where
       abbrev node : ℕ → ℕ

@@ -19,14 +19,15 @@ use Rattle.rules.specs.Building.{Tree, Cases, absent, leaf, hoist, switch, list
 use Rattle.rules.specs.Hoisting.{howMany, firstBindings, hoistAll, nodesIn, nodesInOf, bindingsIn, hasLeaf}
 use Rattle.rules.specs.TreeFile.{bindingPaths, pathsUsed, pathsUsedOf, pathTable, firstUses, casesIn, casesInOf, nodesFrom, casesFrom, bindingsBytes}
 use Rattle.filing.specs.StandingLaws.{Stands}
+use Rattle.filing.specs.TreeStands.{TreeStands}
+use Rattle.filing.specs.TreeStandsLaws.{rest-bindings}
 use Rattle.filing.specs.LengthLaws.{length-nodesFrom, length-casesFrom}
 use Rattle.filing.specs.PathsLaws.{Covers, covers-first, covers-rest, covers-left, covers-right}
 use Rattle.filing.specs.BoundLaws.{table-used}
 use Rattle.hoisting.specs.Descent.{wrapBy, isScope}
 use Rattle.hoisting.specs.OnceLaws.{nodesIn-hoistAll}
 use Rattle.arena.specs.Arena.{casesMost, bindingsStart, arenaEnd, nodeKind, nodeWord, bindingPath}
-use Rattle.arena.specs.RecordsLaws.{first-binding, rest-bindings}
-use Rattle.arena.specs.HeldLaws.{switch-held, list-switch-held}
+use Rattle.arena.specs.RecordsLaws.{node-is, first-binding}
 use Rattle.arena.specs.Numbered.{subtrees, subtreesOf, subtreeAt, isSwitch, casesUnder, defaultUnder, Each, HeldAt, LeafNode}
 use Rattle.arena.specs.NumberedLaws.{length-subtrees, each-append, each-at, howMany-joined, leaf-node, switch-node}
 use Rattle.scopes.specs.declared.Scopes.{Scopes}
@@ -130,12 +131,12 @@ module _ (node : ℕ → ℕ) (bs : ℕ → List Binding) (n : ℕ) where
 -- ---- what the arena has of a node
 switch-own-facts : (w : List ℕ) (all : List Path) (cases bindings j : ℕ) (s : Tree) → isSwitch s ≡ true → 0 < howMany (casesUnder s) → arenaEnd ≤ length w
     → HeldAt w all cases bindings j s → Covers all (pathsUsed s) → Own w all bindings j s
-unfolding isSwitch casesUnder defaultUnder pathsUsed Own
+unfolding isSwitch casesUnder defaultUnder pathsUsed Own TreeStands
 switch-own-facts w all cases bindings j absent e m r h v = absurd (false≢true e)
 switch-own-facts w all cases bindings j (leaf c bs) e m r h v = absurd (false≢true e)
 switch-own-facts w all cases bindings j (hoist c bs a) e m r h v = absurd (false≢true e)
 switch-own-facts w all cases bindings j (switch p cs d) e m r h v =
-    let n = switch-held w all j (h .first-case) (h .first-binding) p cs d (h .held) .node in
+    let n = node-is (h .held .0) in
     let g = switch-node w all cases bindings j (switch p cs d) e r h in
     record {
       kind-is = n .kind-is;
@@ -150,7 +151,7 @@ switch-own-facts w all cases bindings j (switch p cs d) e m r h v =
       among = covers-first all p (pathsUsedOf cs ++ pathsUsed d) v;
     }
 switch-own-facts w all cases bindings j (listswitch p cs ts d) e m r h v =
-    let n = list-switch-held w all j (h .first-case) (h .first-binding) p cs ts d (h .held) .node in
+    let n = node-is (h .held .0) in
     let g = switch-node w all cases bindings j (listswitch p cs ts d) e r h in
     record {
       kind-is = n .kind-is;
@@ -175,7 +176,7 @@ bound-classes w all short (x ∷ bs) i s v zero l =
     rw (add-zero i) (omega (arith, e, class-small all short (x .path) (covers-first all (x .path) (bindingPaths bs) v)))
 bound-classes w all short (x ∷ bs) i s v (suc j) l =
     let e : i + suc j ≡ i + 1 + j = omega arith in
-    rw e (bound-classes w all short bs (i + 1) (rest-bindings w all i x bs s) (covers-rest all (x .path) (bindingPaths bs) v) j (omega arith))
+    rw e (bound-classes w all short bs (i + 1) (rest-bindings w all bindingsStart i x bs s) (covers-rest all (x .path) (bindingPaths bs) v) j (omega arith))
 
 leaf-sound : (w : List ℕ) (all : List Path) (most j x : ℕ) (bs : List Binding) → length all ≤ patternsMost → arenaEnd ≤ length w → j < nodesMost → most ≤ bindingsMost
     → LeafNode w all most j x bs → Covers all (bindingPaths bs) → LeafSound w j
