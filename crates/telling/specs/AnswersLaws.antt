@@ -1,6 +1,6 @@
 -- The text from the answers of the calls: of the walk, of the build, of the fit check; and what `tell` leaves in its buffer.
 -- Rests on what the walk of a sheet's tree file is on a panel that fits the sheet.
-use mathlib.Core.Path.{_≡_, refl, sym, ap, ap₂, _∙_}
+use mathlib.Core.Path.{_≡_, sym, ap, ap₂, _∙_}
 use mathlib.Core.Bool.{true}
 use mathlib.Core.List.{List, _++_}
 use Prim.Native.Nat.{ℕ, _-_, _*_, _≤_}
@@ -9,7 +9,7 @@ use lib.Dec.{leb}
 use lib.ListN.{length, take}
 use Rattle.words.specs.Words.{pick, zeros}
 use Rattle.rules.specs.Limits.{treeRoom, workRoom, boundRoom, nodeBindingsMost}
-use Rattle.rules.specs.SheetRefusals.{accepted, refused}
+use Rattle.rules.specs.SheetRefusals.{accepted}
 use Rattle.rules.specs.TreeReader.{treeFits, treeOf}
 use Rattle.rules.specs.PanelFile.{panelVerdict}
 use Rattle.rules.specs.Walking.{Bound, reached, stuck, walk}
@@ -28,7 +28,7 @@ use Rattle.dewmycel.specs.Answers.{verdictOf}
 use Rattle.listing.specs.Answers.{textIn, lineOf}
 use Rattle.programs.specs.Shown.{shown, Shows}
 use Rattle.programs.specs.ShownLaws.{shows}
-use Rattle.telling.specs.Telling.{noLeafLine, leafLine, bindingLines, walkedText, builtText, telling}
+use Rattle.telling.specs.Telling.{noLeafLine, leafLine, walkedText, builtText, telling}
 use Rattle.telling.specs.Lines.{wordLines}
 use Rattle.telling.specs.LinesLaws.{lines-bound}
 

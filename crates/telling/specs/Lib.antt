@@ -5,3 +5,5 @@ pub mod Answers
 pub mod PlacesLaws
 pub mod LinesLaws
 pub mod AnswersLaws
+pub mod Room
+pub mod Examples

@@ -1,6 +1,6 @@
 -- What stands at a position, kind by kind, from the record as the code has it.
 -- Rests on the definitions of Telling; that a record's numbers are words, on what a panel is: bytes.
-use mathlib.Core.Path.{_≡_, refl, sym, ap, _∙_}
+use mathlib.Core.Path.{_≡_, sym, ap, _∙_}
 use mathlib.Core.List.{List, [], _++_}
 use Prim.Native.Nat.{ℕ, _-_, _≤_, _<_}
 use borrow.Author.Tests.{le-leb, lt-leb, lt-ltb, le-ltb}

@@ -1,7 +1,6 @@
 -- What the walker says of a sheet and a panel, in ASCII: the line of a refusal, of the leaf or of no leaf, then a line for each binding of the
 -- leaf, in its order: name, record, dropped, and what stands there. A newline ends every line. Rests on the calls of the crate rules.
 use Prim.Native.Nat.{ℕ, _-_}
-use mathlib.Core.Bool.{Bool}
 use mathlib.Core.List.{List, [], _∷_, _++_}
 use lib.Dec.{leb, ltb}
 use Rattle.words.specs.Words.{pick}
@@ -101,19 +100,19 @@ walkedText v (reached clause bs) = leafLine clause ++ bindingLines v bs
 walkedText v noLeaf = noLeafLine
 walkedText v stuck = refusedLine 32 0
 
--- the line of a refusal, or else
-abbrev pub unlessRefused : {A : Type 0} → Answer A → List ℕ → List ℕ
-unlessRefused (answers x) text = text
-unlessRefused (refuses number place) text = refusedLine number place
-
+-- a text where the panel fits the sheet, or where the sheet's tree was built, and else the line of the refusal
 abbrev pub whereFits : Verdict → List ℕ → List ℕ
 whereFits accepted text = text
 whereFits (refused number place) text = refusedLine number place
 
+abbrev pub whereBuilt : Answer Built → List ℕ → List ℕ
+whereBuilt (answers x) text = text
+whereBuilt (refuses number place) text = refusedLine number place
+
 -- of a panel that fits the sheet
 unfoldable pub builtText : List ℕ → List ℕ → List ℕ
 unfolding buildAnswer sheetTreeFile treeOf walk walkedText refusedLine
-builtText s v = unlessRefused (buildAnswer s treeRoom workRoom) (walkedText v (walk (treeOf (sheetTreeFile s)) v))
+builtText s v = whereBuilt (buildAnswer s treeRoom workRoom) (walkedText v (walk (treeOf (sheetTreeFile s)) v))
 
 unfoldable pub telling : List ℕ → List ℕ → List ℕ
 unfolding fitCall builtText refusedLine

@@ -3,7 +3,7 @@
 use libc::STDERR_FILENO;
 use libc::STDOUT_FILENO;
 
-// The buffer has room for any text: at most 192 bindings, each in a line of under 250 bytes, since a panel's text has at most 64.
+// The buffer has room for every text (`every-text-has-room` of the crate telling).
 fn walk_panel(s: &[u8], v: &[u8]) {
     let mut out = io::large_buffer();
     let n = telling::tell(s, v, &mut out);

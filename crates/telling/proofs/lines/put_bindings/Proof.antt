@@ -1,5 +1,4 @@
 -- `telling::lines::put_bindings` meets its contract: the loop stands before the lines of the bindings that are left.
-use native.Mathlib.Omega.{arith}
 use Prim.Native.Nat.{_-_, _*_, _≤_}
 use Rattle.listing.specs.Writing.{Begun}
 use Rattle.listing.specs.WritingLaws.{begun, begun-more, begun-all}
