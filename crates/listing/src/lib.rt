@@ -9,9 +9,9 @@ ghost use mathlib.Core.Path.{_≡_};
 ghost use lib.ListN.{length};
 ghost use Rattle.listing.specs.Answers.{callOf, listingCall, lineOf, refusedLineCall};
 
-mod lines;
+pub mod lines;
 mod parts;
-mod texts;
+pub mod texts;
 
 // How many bytes were written; that they have no room; that the file is none that a reader takes.
 pub enum Listed {
