@@ -1,7 +1,6 @@
-// What the programs share: a file or standard input read whole, the listing of a sheet, and the line of a refusal.
+// What the programs share: a file or standard input read whole, and the listing of a sheet.
 // No function asks anything of its caller, and what each counts are bytes of the buffer that it was lent.
 use build::Built;
-use libc::STDOUT_FILENO;
 use listing::Listed;
 ghost use mathlib.Core.Path.{_≡_};
 ghost use lib.ListN.{length};
@@ -39,13 +38,6 @@ pub fn huge_buffer() -> [u8; HUGE_ROOM]
     ensures { λ r. ⌜ 2097152 ≡ length r ⌝ }
 {
     [0; HUGE_ROOM]
-}
-
-// As many of the first n bytes as the buffer has.
-pub fn within(n: usize, buf: &[u8]) -> usize
-    ensures { λ r. ⌜ Counts r (now (buf .entry)) ⌝ }
-{
-    if n <= buf.len() { n } else { buf.len() }
 }
 
 // Whether a read fails: that of a directory does, and that of an input that has ended does not.
@@ -146,11 +138,4 @@ pub fn list(s: &[u8], out: &mut [u8]) -> usize
         }
         Built::Refused { number, place } => refuse(number, place, out),
     }
-}
-
-// The line of a refusal on standard output.
-pub fn say_refused(number: u16, place: u16) {
-    let mut line = [0u8; 32];
-    let n = refuse(number, place, &mut line);
-    io::write_all(STDOUT_FILENO, &line[..n]);
 }

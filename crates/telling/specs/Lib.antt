@@ -6,4 +6,5 @@ pub mod PlacesLaws
 pub mod LinesLaws
 pub mod AnswersLaws
 pub mod Room
+pub mod FirstMatch
 pub mod Examples
