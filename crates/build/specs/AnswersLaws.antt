@@ -1,7 +1,7 @@
 -- The answers from what the code has found: one law for each way out of the call.
 -- Rests on Answers, and on the laws of the build call.
 use mathlib.Core.Path.{_≡_, sym, ap₂}
-use mathlib.Core.Logic.{_⊎_, inl, inr}
+use mathlib.Core.Logic.{_⊎_}
 use mathlib.Core.List.{List}
 use Prim.Native.Nat.{ℕ, _≤_, _<_}
 use lib.Dec.{leb}
@@ -10,13 +10,12 @@ use borrow.Author.Tests.{le-leb}
 use Rattle.words.specs.Words.{zeros}
 use Rattle.words.specs.WordsLaws.{both-make}
 use Rattle.rules.specs.Limits.{treeRoom, workRoom}
-use Rattle.rules.specs.SheetFile.{clauses}
-use Rattle.rules.specs.SheetRefusals.{Verdict, accepted, refused, verdict}
-use Rattle.rules.specs.Calls.{Answer, answers, refuses, unless, written, Built as BuiltTree, BuildCall, builtOf, buildRoom, buildAnswer, buildCall, treeVerdict, sheetTree, sheetTreeFile}
+use Rattle.rules.specs.SheetRefusals.{accepted, refused, verdict}
+use Rattle.rules.specs.Calls.{Answer, refuses, Built as BuiltTree, buildRoom, buildAnswer, buildCall}
 use Rattle.meaning.specs.CallsLaws.{build-room, build-sheet}
 use Rattle.build.specs.declared.Built.{Built}
-use Rattle.build.specs.declared.Built.the-variants.{Tree, Refused}
-use Rattle.build.specs.Answers.{answerOf, callOf, Gives, treeEnd}
+use Rattle.build.specs.declared.Built.the-variants.{Refused}
+use Rattle.build.specs.Answers.{callOf, Gives, treeEnd}
 
 -- a refusal leaves the tree's buffer as it was, all zero
 pub gives-refusal : (s : List ℕ) (a : Answer BuiltTree) (tree : List ℕ) (number place : ℕ) → a ≡ refuses number place → tree ≡ zeros (length tree)

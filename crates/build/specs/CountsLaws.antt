@@ -1,29 +1,19 @@
 -- The laws of these sums: one clause after the other, and what they are of a tree in the arena.
 -- Rests on the scopes that were found and on what stands in the arena.
-use mathlib.Core.Path.{_≡_, refl, sym, ap, ap₂, _∙_}
-use mathlib.Core.Bool.{Bool, true, false, not}
+use mathlib.Core.Path.{_≡_, refl, ap, _∙_}
+use mathlib.Core.Bool.{Bool, true, false}
 use mathlib.Core.List.{List}
 use Prim.Native.Nat.{ℕ, zero, suc, _+_, _-_, _*_, _≤_, _<_}
 use native.Mathlib.Omega.{arith}
-use borrow.Author.Tests.{eqb-true, eq-eqb, ne-eqb, le-leb, lt-leb, leb-true, leb-false}
-use lib.Dec.{eqb, leb}
-use lib.ListN.{length, getD}
-use Rattle.words.specs.Words.{Bytes, pick, wordAt}
+use borrow.Author.Tests.{eq-eqb, ne-eqb, le-leb, lt-leb}
+use lib.Dec.{leb}
+use Rattle.words.specs.Words.{Bytes, pick}
 use Rattle.words.specs.WordsLaws.{wordAt-small}
 use Rattle.rules.specs.Limits.{nodesMost, nodeSize}
 use Rattle.rules.specs.Searching.{times}
 use Rattle.rules.specs.Rows.{bit}
-use Rattle.rules.specs.Building.{Tree, leaf}
-use Rattle.rules.specs.Hoisting.{hasLeaf, firstBindings, nodesIn}
 use Rattle.hoisting.specs.Trees.{sum}
-use Rattle.hoisting.specs.BindingsLaws.{firstBindings-idle}
 use Rattle.arena.specs.Arena.{nodeWord}
-use Rattle.arena.specs.Numbered.{subtreeAt}
-use Rattle.scopes.specs.declared.Scopes.{Scopes}
-use Rattle.scopes.specs.Marks.{Ready}
-use Rattle.scopes.specs.Numbers.{leafNode, BindCounts}
-use Rattle.scopes.specs.Scoped.{Scoped}
-use Rattle.scopes.specs.WriterLaws.{scoped-leaf}
 use Rattle.build.specs.Counts.{isMarked, leafBindings}
 
 -- ---- a mark

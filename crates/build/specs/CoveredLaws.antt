@@ -1,9 +1,9 @@
 -- Every path that the tree before hoisting uses is the path of a pattern, by its number: so the paths of all patterns are a table that has it.
 -- Rests on where patterns stand, said twice: by levels (crate meaning) and by numbers (crate table).
 use mathlib.Core.Path.{_≡_, refl, sym, ap, _∙_}
-use mathlib.Core.Bool.{Bool, true, false, false≢true}
+use mathlib.Core.Bool.{Bool, true, false}
 use mathlib.Core.Logic.{⊎-elim}
-use mathlib.Core.List.{List, [], _∷_, _++_}
+use mathlib.Core.List.{List, _∷_, _++_}
 use Prim.Native.Nat.{ℕ, zero, suc, _+_, _-_, _≤_, _<_}
 use native.Mathlib.Omega.{arith}
 use borrow.Author.Tests.{eqb-true, eqb-false}
@@ -11,11 +11,10 @@ use lib.Dec.{eqb}
 use lib.ListN.{length}
 use Rattle.words.specs.Words.{pick}
 use Rattle.words.specs.WordsLaws.{either-true}
-use Rattle.rules.specs.Limits.{patternsMost}
-use Rattle.rules.specs.SheetFile.{patterns, patternFirst, patternCount, child, root}
+use Rattle.rules.specs.SheetFile.{patterns, patternFirst, patternCount}
 use Rattle.rules.specs.Patterns.{PatternKind, Discard, Variable, Assign, Integer, ByteString, ListOfAll, ListWithRest, Constructor, Pair, Tuple, Unknown}
 use Rattle.rules.specs.Rows.{Path, into, list, listtail}
-use Rattle.rules.specs.Building.{Tree, absent, leaf, hoist, switch, listswitch, Cases, cnil, ccons, plainTree}
+use Rattle.rules.specs.Building.{Tree, absent, leaf, hoist, switch, listswitch, Cases, cnil, ccons}
 use Rattle.rules.specs.TreeFile.{bindingPaths, pathsUsed, pathsUsedOf, isAmong}
 use Rattle.rules.specs.Calls.{sheetPatterns, sheetTree}
 use Rattle.facts.specs.SheetFacts.{Shaped, Counted, Accepted}
@@ -24,8 +23,8 @@ use Rattle.hoisting.specs.Trees.{unhoisted, unhoistedOf}
 use Rattle.meaning.specs.Stands.{partPath, partType, Stands, Used}
 use Rattle.meaning.specs.SheetLeaves.{whole-unhoisted}
 use Rattle.meaning.specs.BuiltTree.{sheet-used}
-use Rattle.table.specs.Standing.{Standing, standing, pathOf, typeOf, kindOf, isTail, stepTo, typeTo, follows, childStanding, rootStanding, pathsFrom, sheetPaths}
-use Rattle.table.specs.StandingLaws.{standing-root, standing-child, root-path, root-type}
+use Rattle.table.specs.Standing.{Standing, pathOf, typeOf, kindOf, isTail, stepTo, typeTo, follows, childStanding, pathsFrom, sheetPaths}
+use Rattle.table.specs.StandingLaws.{standing-child, root-path, root-type}
 use Rattle.build.specs.VerdictLaws.{rawTree}
 
 -- ---- a part's path and type, in the words of both

@@ -2,38 +2,34 @@
 -- Rests on what hoisting adds to a tree, on what is written, and on the file's sections.
 use mathlib.Core.Path.{_≡_, refl, sym, ap, ap₂, subst, _∙_}
 use mathlib.Core.Bool.{Bool, true, false, not}
-use mathlib.Core.List.{List, [], _++_, map}
+use mathlib.Core.List.{List, []}
 use mathlib.Core.Option.{Option, none, some}
-use Prim.Native.Nat.{ℕ, zero, suc, _+_, _-_, _*_, _≤_, _<_, min}
+use Prim.Native.Nat.{ℕ, zero, suc, _+_, _*_, _≤_, _<_}
 use native.Mathlib.Omega.{arith}
-use borrow.Author.Tests.{eq-eqb, ne-eqb}
-use lib.Dec.{eqb}
-use lib.ListN.{length, getD, take}
-use Rattle.words.specs.Words.{pick, zeros, textAt}
+use lib.ListN.{length, getD}
+use Rattle.words.specs.Words.{pick, zeros}
 use Rattle.words.specs.Stored.{stored}
 use Rattle.words.specs.StoredLaws.{stored-zeros}
-use Rattle.rules.specs.Limits.{nodesMost, bindingsMost, clausesMost, patternsMost, treeRoom, nodeSize, caseSize, bindingSize}
+use Rattle.rules.specs.Limits.{nodesMost, bindingsMost, clausesMost, treeRoom, nodeSize, caseSize, bindingSize}
 use Rattle.rules.specs.Searching.{lowest, times}
-use Rattle.rules.specs.SearchingLaws.{Lowest, lowest-some}
+use Rattle.rules.specs.SearchingLaws.{lowest-some}
 use Rattle.rules.specs.SheetFile.{clauses, patterns, pool}
-use Rattle.rules.specs.SheetRefusals.{Verdict, accepted, refused, verdict}
+use Rattle.rules.specs.SheetRefusals.{accepted, refused, verdict}
 use Rattle.rules.specs.Patterns.{names, clausePattern}
-use Rattle.rules.specs.Rows.{Path, bit}
-use Rattle.rules.specs.Building.{Tree, leaf, plainTree}
+use Rattle.rules.specs.Rows.{Path}
+use Rattle.rules.specs.Building.{leaf}
 use Rattle.rules.specs.Hoisting.{hasLeaf, firstBindings, nodesIn, bindingsIn, hoistAll, wholeTree}
-use Rattle.rules.specs.TreeFile.{casesIn, pathsUsed, pathTable, treeFile, nodesFrom, casesFrom, bindingsBytes}
-use Rattle.rules.specs.Calls.{Answer, answers, refuses, unless, written, Built as BuiltTree, builtOf, sheetPatterns, sheetTree, sheetTreeFile, lowestIdle, treeVerdict}
-use Rattle.facts.specs.SheetFacts.{Accepted, accepted-sheet}
-use Rattle.filing.specs.PathsLaws.{Covers}
-use Rattle.hoisting.specs.Trees.{sum, Plain, WellMade, isPresent, leavesOf}
+use Rattle.rules.specs.TreeFile.{casesIn, pathTable, treeFile}
+use Rattle.rules.specs.Calls.{answers, refuses, written, builtOf, sheetPatterns, sheetTree, sheetTreeFile, lowestIdle, treeVerdict}
+use Rattle.facts.specs.SheetFacts.{Accepted}
+use Rattle.hoisting.specs.Trees.{sum, WellMade, isPresent}
 use Rattle.hoisting.specs.BuiltLaws.{plainTree-plain, plainTree-made, plainTree-present}
 use Rattle.hoisting.specs.BindingsLaws.{firstBindings-idle}
 use Rattle.hoisting.specs.WholeTreeLaws.{wholeTree-leaves, wholeTree-made, wholeTree-present, casesIn-less}
 use Rattle.meaning.specs.Said.{Builds, OfClause}
 use Rattle.meaning.specs.SheetLeaves.{each-leaf, sheet-leaves, length-sheetPatterns}
 use Rattle.meaning.specs.SheetFileLaws.{sheet-file-small}
-use Rattle.arena.specs.Arena.{arenaEnd, Held, nodeWord}
-use Rattle.arena.specs.Numbered.{Nodes, HeldAt, LeafNode, subtreeAt}
+use Rattle.arena.specs.Arena.{arenaEnd, Held}
 use Rattle.arena.specs.NumberedLaws.{nodes-held, leaf-node}
 use Rattle.table.specs.Standing.{pathOf, sheetPaths, pathsFrom}
 use Rattle.table.specs.Tabled.{Checked, Tabled}
@@ -49,11 +45,10 @@ use Rattle.building.specs.declared.tops.Tops.{Tops as BuildingTops}
 use Rattle.building.specs.Raw.{Raw as BuildingRaw}
 use Rattle.writing.specs.declared.nodes.Tops.{Tops}
 use Rattle.writing.specs.Written.{WritingAsked, Written}
-use Rattle.paths.specs.Tail.{Puts, Used, usedPaths, frontBytes, tailBytes, TailReady}
+use Rattle.paths.specs.Tail.{Puts, usedPaths, frontBytes, tailBytes, TailReady}
 use Rattle.paths.specs.FileLaws.{tail-ready, file-put}
-use Rattle.build.specs.declared.Built.{Built}
-use Rattle.build.specs.declared.Built.the-variants.{Tree as BuiltAs, Refused}
-use Rattle.build.specs.Answers.{answerOf, Gives, treeEnd}
+use Rattle.build.specs.declared.Built.the-variants.{Tree as BuiltAs}
+use Rattle.build.specs.Answers.{Gives, treeEnd}
 use Rattle.build.specs.VerdictLaws.{rawTree, hoistsOf, hoistBindings, whole-nodes, whole-bindings, refused-12, refused-13, refused-14, none-refused}
 use Rattle.build.specs.Counts.{isMarked, leafBindings}
 use Rattle.build.specs.CountsLaws.{no-leaf, some-leaf}

@@ -1,9 +1,9 @@
 -- Refusals 12, 13 and 14 from the tree before it is hoisted: its nodes and bindings, which clauses have a leaf in it, and the bindings of
 -- each clause's first leaf. Rests on what hoisting adds to a tree.
-use mathlib.Core.Path.{_≡_, refl, sym, ap, ap₂, _∙_}
-use mathlib.Core.Bool.{Bool, true, false, not}
+use mathlib.Core.Path.{_≡_, ap, _∙_}
+use mathlib.Core.Bool.{true, not}
 use mathlib.Core.List.{List}
-use mathlib.Core.Option.{Option, none, some}
+use mathlib.Core.Option.{none, some}
 use Prim.Native.Nat.{ℕ, _+_, _≤_, _<_}
 use native.Mathlib.Omega.{arith}
 use borrow.Author.Tests.{le-leb, lt-leb}
@@ -13,9 +13,9 @@ use Rattle.rules.specs.Limits.{nodesMost, bindingsMost}
 use Rattle.rules.specs.Searching.{lowest, times}
 use Rattle.hoisting.specs.Trees.{sum}
 use Rattle.rules.specs.SheetFile.{clauses}
-use Rattle.rules.specs.SheetRefusals.{Verdict, accepted, refused}
+use Rattle.rules.specs.SheetRefusals.{accepted, refused}
 use Rattle.rules.specs.Building.{Tree, plainTree}
-use Rattle.rules.specs.Hoisting.{wholeTree, hasLeaf, firstBindings, nodesIn, bindingsIn}
+use Rattle.rules.specs.Hoisting.{hasLeaf, firstBindings, nodesIn, bindingsIn}
 use Rattle.rules.specs.Calls.{sheetPatterns, sheetTree, lowestIdle, treeVerdict}
 use Rattle.hoisting.specs.WholeTreeLaws.{wholeTree-nodes, wholeTree-bindings, wholeTree-hasLeaf}
 use Rattle.meaning.specs.SheetLeaves.{length-sheetPatterns}

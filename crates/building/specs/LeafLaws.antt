@@ -25,8 +25,9 @@ use Rattle.matrix.specs.Reading.{heldIn}
 use Rattle.matrix.specs.Numbered.{chosenIn, treeAt}
 use Rattle.matrix.specs.InNumbers.{inNumbers, Readable, chosenRead}
 use Rattle.matrix.specs.InNumbersLaws.{chosen-read, readable}
+use Rattle.matrix.specs.Bound.{leafNumbers, clauseLeaf}
 use Rattle.matrix.specs.TreesLaws.{some-tree, tree-leaf}
-use Rattle.leaves.specs.Bindings.{bound, boundAll, leafNumbers, LeafAsked, firstClause, WithRow}
+use Rattle.leaves.specs.Bindings.{bound, boundAll, LeafAsked, firstClause, WithRow}
 use Rattle.leaves.specs.PuttingLaws.{leaf-asked}
 use Rattle.leaves.specs.StandsLaws.{all-bound, leaf-is}
 use Rattle.building.specs.declared.tops.Tops.{Tops}
@@ -35,7 +36,7 @@ use Rattle.building.specs.Built.{Roomy, Put, Builds}
 use Rattle.building.specs.BuiltLaws.{leaf-put}
 use Rattle.building.specs.SwitchLaws.{full-over}
 use Rattle.building.specs.ColumnLaws.{rows-count}
-use Rattle.building.specs.Steps.{MatrixThere, clauseLeaf, Asked}
+use Rattle.building.specs.Steps.{MatrixThere, Asked}
 
 -- ---- "first 0 at count 0"
 pub first-none : (count first : ℕ) → count ≡ 0 → 0 ≡ firstOf count first

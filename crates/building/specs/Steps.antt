@@ -2,16 +2,15 @@
 -- Rests on the matrix by numbers and on the cases met.
 use mathlib.Core.Path.{_≡_}
 use mathlib.Core.Bool.{true}
-use mathlib.Core.List.{List, map}
+use mathlib.Core.List.{List}
 use Prim.Native.Nat.{ℕ, _≤_}
 use lib.ListN.{length, take}
 use Rattle.rules.specs.Limits.{patternsMost}
 use Rattle.rules.specs.Patterns.{Pat}
 use Rattle.rules.specs.Splitting.{Test, Met, isMet, casesOf}
 use Rattle.rules.specs.SplittingLaws.{All}
-use Rattle.rules.specs.Building.{Tree, leaf}
+use Rattle.rules.specs.Building.{Tree}
 use Rattle.sheet.specs.declared.Map.{Map}
-use Rattle.table.specs.Seen.{bindingAt}
 use Rattle.matrix.specs.declared.Matrix.{Matrix}
 use Rattle.matrix.specs.declared.Choice.the-variants.{Column}
 use Rattle.arena.specs.declared.reading.Test as reading
@@ -21,7 +20,6 @@ use Rattle.matrix.specs.Numbered.{Numbered, SoundOf, defaultNumbered, caseNumbe
 use Rattle.matrix.specs.InNumbers.{inNumbers, WholeMatrix}
 use Rattle.meeting.specs.Made.{columnOf}
 use Rattle.meeting.specs.SoFar.{InSheet}
-use Rattle.leaves.specs.Bindings.{leafNumbers}
 use Rattle.building.specs.declared.tops.Tops.{Tops}
 use Rattle.building.specs.Built.{Roomy, CasesOpen}
 use Rattle.building.specs.SwitchLaws.{inOrder}
@@ -38,10 +36,6 @@ pub record Asked (s : List ℕ) (m : Map) (t : List ℕ) (x : Matrix) (w : List 
   pub ready : Ready s m t
   pub there : MatrixThere s x
   pub room : Roomy w tops
-
--- the leaf of clause c, where these columns were tested
-abbrev pub clauseLeaf : List ℕ → List ℕ → List ℕ → ℕ → Tree
-clauseLeaf s opened tested c = leaf c (map (bindingAt s) (leafNumbers s opened tested c))
 
 -- the array of the classes tested: its first `time` ones are as they were
 pub record StillTested (time : ℕ) (l l' : List ℕ) : Type 0 where

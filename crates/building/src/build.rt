@@ -30,12 +30,13 @@ ghost use Rattle.rules.specs.TreeFile.{firstOf, nodeBytes};
 ghost use Rattle.table.specs.Standing.{sheetPaths};
 ghost use Rattle.matrix.specs.Ready.{Ready};
 ghost use Rattle.matrix.specs.Meant.{meant};
+ghost use Rattle.matrix.specs.Bound.{clauseLeaf};
 ghost use Rattle.matrix.specs.Numbered.{treeAt};
 ghost use Rattle.matrix.specs.InNumbers.{inNumbers, matrixOf};
 ghost use Rattle.arena.specs.Arena.{arenaEnd, casesMost};
 ghost use Rattle.leaves.specs.Bindings.{LeafAsked};
 ghost use Rattle.building.specs.Built.{Put, Roomy, Builds, BuildsCases};
-ghost use Rattle.building.specs.Steps.{clauseLeaf, caseList, caseTree, StillTested, Asked, AskedColumn, AskedCase, AskedCases};
+ghost use Rattle.building.specs.Steps.{caseList, caseTree, StillTested, Asked, AskedColumn, AskedCase, AskedCases};
 
 // 01: "first 0 at count 0".
 fn first_of(count: usize, first: usize) -> usize

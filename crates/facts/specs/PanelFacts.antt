@@ -63,14 +63,8 @@ panel-laid v long out =
       records-most = leb-true _ _ (s5 .1);
     }
 
--- where a record's bytes lie: all before the trailer
+-- a text's bytes lie before the trailer
 module _ {v : List ℕ} (l : PanelLaid v) where
-  pub record-inside : (r : ℕ) → r < records v → recordsAt v + recordSize * r + recordSize + panelTrailer ≤ length v
-  record-inside r h = omega arith
-
-  pub part-inside : (j : ℕ) → j < parts v → partsAt v + partSize * j + partSize + panelTrailer ≤ length v
-  part-inside j h = omega arith
-
   pub panel-text-inside : (first count : ℕ) → first + count ≤ panelPoolSize v → panelPoolAt v + first + count + panelTrailer ≤ length v
   panel-text-inside first count h = omega arith
 

@@ -77,12 +77,6 @@ module _ {s : List ℕ} (l : Laid s) where
   pub entry-inside : (e : ℕ) → e < entries s → entriesAt s + entrySize * e + entrySize + sheetTrailer ≤ length s
   entry-inside e h = omega arith
 
-  pub pattern-inside : (p : ℕ) → p < patterns s → patternsAt s + patternSize * p + patternSize + sheetTrailer ≤ length s
-  pattern-inside p h = omega arith
-
-  pub child-inside : (j : ℕ) → j < children s → childrenAt s + childSize * j + childSize + sheetTrailer ≤ length s
-  child-inside j h = omega arith
-
   pub clause-inside : (c : ℕ) → c < clauses s → clausesAt s + clauseSize * c + clauseSize + sheetTrailer ≤ length s
   clause-inside c h = omega arith
 
@@ -219,12 +213,6 @@ typed s keeps =
 
 -- the type numbers that a type's or a constructor's own run of entries holds, and the constructors of a Data type
 module _ {s : List ℕ} (ty : Typed s) where
-  pub part-type : (t i : ℕ) → t < types s → typeKind s t ≤ 4 → i < typeCount s t → entry s (typeFirst s t + i) < types s
-  part-type t i h k l = ty .entry-type (typeFirst s t + i) (omega (arith, ty .type-entries t h k))
-
-  pub field-type : (c i : ℕ) → c < constructors s → i < constructorCount s c → entry s (constructorFirst s c + i) < types s
-  field-type c i h l = ty .entry-type (constructorFirst s c + i) (omega (arith, ty .constructor-entries c h))
-
   pub its-constructor : (t a : ℕ) → t < types s → typeKind s t ≡ 5 → a < typeCount s t → constructorOf s t a < constructors s
   unfolding constructorOf
   its-constructor t a h k l = omega (arith, ty .type-constructors t h k)

@@ -60,18 +60,6 @@ tree-laid t long out =
 
 -- where a record's bytes lie: all before the trailer
 module _ {t : List ℕ} (l : TreeLaid t) where
-  pub node-inside : (k : ℕ) → k < nodes t → nodesAt t + nodeSize * k + nodeSize + treeTrailer ≤ length t
-  node-inside k h = omega arith
-
-  pub case-inside : (i : ℕ) → i < cases t → casesAt t + caseSize * i + caseSize + treeTrailer ≤ length t
-  case-inside i h = omega arith
-
-  pub binding-inside : (b : ℕ) → b < bindings t → bindingsAt t + bindingSize * b + bindingSize + treeTrailer ≤ length t
-  binding-inside b h = omega arith
-
-  pub path-inside : (p : ℕ) → p < paths t → pathsAt t + pathSize * p + pathSize + treeTrailer ≤ length t
-  path-inside p h = omega arith
-
   -- the length is a word of the file
   pub tree-length-small : Bytes t → length t < 65536
   unfolding treeLength
@@ -428,26 +416,6 @@ pub hoist-children : (t : List ℕ) (k : ℕ) → nodeKind t k ≡ 3 → nodeChi
 unfolding nodeChildren childrenOfKind nodeKindOf
 hoist-children t k e = rw e
 
-module _ {t : List ℕ} (sound : TreeSound t) (k : ℕ) (known : k < nodes t) where
-  pub case-child-after : (i : ℕ) → nodeKind t k ≤ 1 → nodeFirstCase t k ≤ i → i < nodeFirstCase t k + (nodeCases t k + nodeTailCases t k) → k < caseChild t i
-  case-child-after i h low high =
-      let here : isIn (caseChild t i) (nodeChildren t k) ≡ true = rw (switch-children t k h) (isIn-left (caseChild t i) _ _ (case-listed t _ _ i low high)) in
-      sound .child-after k (caseChild t i) known here .0
-
-  pub default-after : nodeKind t k ≤ 1 → 1 ≤ nodeDefault t k → k + 1 < nodeDefault t k
-  default-after h there = go (nodeDefault t k) refl there
-    where
-      go : (d : ℕ) → nodeDefault t k ≡ d → 1 ≤ d → k + 1 < d
-      go zero e l = absurd (omega arith)
-      go (suc d) e l =
-          let here : isIn d (nodeChildren t k) ≡ true = rw (switch-children t k h, e) (isIn-right d (caseChildren t (nodeFirstCase t k) (nodeCases t k + nodeTailCases t k)) (defaultChild (suc d)) (default-listed d)) in
-          omega (arith, sound .child-after k d known here .0)
-
-  pub hoist-child-after : nodeKind t k ≡ 3 → k < nodeChild t k
-  hoist-child-after e =
-      let here : isIn (nodeChild t k) (nodeChildren t k) ≡ true = rw (hoist-children t k e) (only-listed (nodeChild t k)) in
-      sound .child-after k (nodeChild t k) known here .0
-
 -- ---- the steps and the bindings of a run
 module _ (t : List ℕ) where
   pub stepsFrom-more : (i n : ℕ) → stepsFrom t i (n + 1) ≡ stepAt t i ∷ stepsFrom t (i + 1) n
@@ -456,11 +424,6 @@ module _ (t : List ℕ) where
 
   pub stepsFrom-some : (i n : ℕ) → (n ≡ 0 → ⊥) → stepsFrom t i n ≡ stepAt t i ∷ stepsFrom t (i + 1) (n - 1)
   stepsFrom-some i n h = let q : n ≡ n - 1 + 1 = omega arith in ap (λ (m : ℕ). stepsFrom t i m) q ∙ stepsFrom-more i (n - 1)
-
-  pub length-stepsFrom : (i n : ℕ) → length (stepsFrom t i n) ≡ n
-  unfolding stepsFrom
-  length-stepsFrom i zero = refl
-  length-stepsFrom i (suc n) = ap suc (length-stepsFrom (i + 1) n)
 
   pub bindingsFrom-more : (b n : ℕ) → bindingsFrom t b (n + 1) ≡ record { name = bindingName t b; path = pathAt t (bindingPath t b) } ∷ bindingsFrom t (b + 1) n
   unfolding bindingsFrom

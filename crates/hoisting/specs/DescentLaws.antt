@@ -12,6 +12,7 @@ use lib.ListN.{length, length-append}
 use lib.Dec.{eqb, leb}
 use borrow.Author.Tests.{eq-eqb, ne-eqb, leb-true, leb-false, le-leb}
 use Rattle.words.specs.Words.{both, either, pick, sameText}
+use Rattle.words.specs.WordsLaws.{both-assoc}
 use Rattle.rules.specs.Rows.{Binding, bit}
 use Rattle.rules.specs.Searching.{times}
 use Rattle.rules.specs.Building.{Tree, Cases, absent, leaf, hoist, switch, listswitch, cnil, ccons}
@@ -235,11 +236,7 @@ module _ (root : Tree) (n : ℕ) where
       ap (λ z. isAt z (scope c (visits [] root))) (append-assoc q (k ∷ []) x)
       ∙ r c (k ∷ x)
       ∙ ap (both (f c)) (child-scope c a k b x h)
-      ∙ turn (f c) (not (isScope c a)) (isAt x (scopeIn c b))
-    where
-      turn : (t u v : Bool) → both t (both u v) ≡ both (both t u) v
-      turn true u v = refl
-      turn false u v = refl
+      ∙ sym (both-assoc (f c) (not (isScope c a)) (isAt x (scopeIn c b)))
 
   wrap-by : (q : Place) (g : ℕ → Bool) (i m : ℕ) (a : Tree) → ((c : ℕ) → isAt q (scope c (visits [] root)) ≡ g c)
       → wrap q (hoists i m root (visits [] root)) a ≡ wrapBy g bindings i m a

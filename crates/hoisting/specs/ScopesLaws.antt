@@ -86,7 +86,7 @@ lastOf : List Visit → Option ℕ
 lastOf [] = none
 lastOf (x ∷ xs) = later (some (x .clause)) (lastOf xs)
 
-later-assoc : (o p q : Option ℕ) → later (later o p) q ≡ later o (later p q)
+pub later-assoc : (o p q : Option ℕ) → later (later o p) q ≡ later o (later p q)
 unfolding later
 later-assoc o p none = refl
 later-assoc o p (some c) = refl

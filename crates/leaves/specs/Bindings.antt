@@ -9,7 +9,7 @@ use lib.ListN.{length, getD, take}
 use Rattle.words.specs.Words.{wordBytes, pick}
 use Rattle.words.specs.Stored.{stored}
 use Rattle.rules.specs.Limits.{patternsMost, bindingsMost, bindingSize}
-use Rattle.rules.specs.SheetFile.{patternsAt, childrenAt, patterns, clauses, patternA, patternFirst, patternCount, root}
+use Rattle.rules.specs.SheetFile.{patternsAt, childrenAt, patterns, clauses, patternA, patternFirst, patternCount}
 use Rattle.rules.specs.SplittingLaws.{All}
 use Rattle.facts.specs.SheetFacts.{Parent, Owns, Accepted}
 use Rattle.table.specs.Standing.{classOf}
@@ -20,7 +20,6 @@ use Rattle.matrix.specs.declared.Matrix.{Matrix}
 use Rattle.matrix.specs.InNumbers.{inNumbers}
 use Rattle.matrix.specs.Lists.{asClasses, Whole, WholeRows}
 use Rattle.matrix.specs.Numbered.{SoundOf}
-use Rattle.matrix.specs.Bound.{openedNumbers}
 use Rattle.leaves.specs.declared.Given.{Given}
 
 -- a number of bindings, told up to one more than there is room for
@@ -59,10 +58,6 @@ abbrev pub ownOf : Bool → ℕ → List ℕ
 ownOf named p = pick named (p ∷ []) []
 
 -- ---- a leaf
--- what the leaf of clause c binds, where these columns were tested: what boundNumbers says of a matrix
-abbrev pub leafNumbers : List ℕ → List ℕ → List ℕ → ℕ → List ℕ
-leafNumbers s opened tested c = bindsOf s (root s c) ++ openedNumbers s opened c 0 tested
-
 -- the clause of a matrix's first row
 abbrev pub firstClause : Matrix → ℕ
 firstClause x = getD (x .rows .list) 0 0

@@ -34,13 +34,13 @@ use Rattle.table.specs.Tabled.{Tabled}
 use Rattle.matrix.specs.declared.Matrix.{Matrix}
 use Rattle.matrix.specs.Live.{openedTest, IsClass}
 use Rattle.matrix.specs.LiveLaws.{cell-some}
-use Rattle.matrix.specs.Bound.{numbersHeld, openedNumbers}
+use Rattle.matrix.specs.Bound.{numbersHeld, openedNumbers, leafNumbers}
 use Rattle.matrix.specs.InNumbersLaws.{rising-below}
 use Rattle.matrix.specs.ReadingLaws.{all-at, slice-on, slice-end}
 use Rattle.matrix.specs.Ready.{Ready}
 use Rattle.matrix.specs.Lists.{numbersIn, classesIn}
 use Rattle.leaves.specs.declared.Given.{Given}
-use Rattle.leaves.specs.Bindings.{Bound, bound, boundOne, boundAll, ownOf, leafNumbers, firstClause, Room, Started, Entries, Parts, Gives, LeafAsked, WithRow}
+use Rattle.leaves.specs.Bindings.{Bound, bound, boundOne, boundAll, ownOf, firstClause, Room, Started, Entries, Parts, Gives, LeafAsked, WithRow}
 use Rattle.leaves.specs.declared.Given.{Given}
 use Rattle.leaves.specs.BindingsLaws.{bound-none, bound-single, bound-append, bound-top, bound-length}
 

@@ -15,7 +15,7 @@ use Rattle.words.specs.Stored.{stored}
 use Rattle.words.specs.StoredLaws.{stored-nil, stored-append, getD-stored-below, getD-stored-above}
 use Rattle.rules.specs.Limits.{nodesMost, bindingsMost, bindingSize}
 use Rattle.rules.specs.Rows.{Binding}
-use Rattle.rules.specs.Building.{leaf, leafOf}
+use Rattle.rules.specs.Building.{leafOf}
 use Rattle.rules.specs.TreeFile.{bindingsBytes}
 use Rattle.filing.specs.StandingLaws.{Stands}
 use Rattle.filing.specs.LengthLaws.{length-bindingsBytes}
@@ -28,10 +28,10 @@ use Rattle.matrix.specs.declared.Matrix.{Matrix}
 use Rattle.matrix.specs.InNumbers.{inNumbers}
 use Rattle.matrix.specs.Lists.{numbersIn, classesIn}
 use Rattle.matrix.specs.Matrices.{rowsAt}
-use Rattle.matrix.specs.Bound.{boundNumbers}
+use Rattle.matrix.specs.Bound.{clauseLeaf}
 use Rattle.matrix.specs.BoundLaws.{leaf-numbers}
 use Rattle.matrix.specs.ReadingLaws.{slice-on}
-use Rattle.leaves.specs.Bindings.{capped, Bound, bound, bindingRecord, boundOne, boundAll, leafNumbers, firstClause, Room, WithRow}
+use Rattle.leaves.specs.Bindings.{capped, Bound, bound, bindingRecord, boundOne, boundAll, firstClause, Room, WithRow}
 use Rattle.leaves.specs.BindingsLaws.{bound-top, bound-length}
 
 -- byte k is before the bindings from `top` on, or behind the arena
@@ -131,8 +131,7 @@ all-bound s qs w top w' r room e =
 -- ---- a leaf
 -- "a leaf of the first row, with its bindings in the order they were collected"
 pub leaf-is : (s : List ℕ) (ok : Accepted s) (x : Matrix) (with : WithRow s x)
-    → leafOf (rowsAt s (classesIn (x .tested)) (numbersIn (x .rows))) ≡ leaf (firstClause x) (map (bindingAt s) (leafNumbers s (x .opened) (classesIn (x .tested)) (firstClause x)))
-unfolding boundNumbers
+    → leafOf (rowsAt s (classesIn (x .tested)) (numbersIn (x .rows))) ≡ clauseLeaf s (x .opened) (classesIn (x .tested)) (firstClause x)
 leaf-is s ok x with =
     let first = slice-on (x .rows .list) 0 (x .rows .count) (with .some-row) (omega (arith, with .rows)) in
     leaf-numbers ok (inNumbers x) (with .sound) (firstClause x) (slice 1 (x .rows .count) (x .rows .list)) first

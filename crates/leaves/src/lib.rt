@@ -15,14 +15,14 @@ ghost use mathlib.Core.Path.{_≡_};
 ghost use Prim.Native.Nat.{_<_};
 ghost use lib.ListN.{getD, take};
 ghost use Rattle.rules.specs.Limits.{patternsMost};
-ghost use Rattle.rules.specs.SheetFile.{patternsAt, childrenAt, patterns, children, clauses, child, root};
+ghost use Rattle.rules.specs.SheetFile.{patternsAt, childrenAt, patterns, children, clauses, root};
 ghost use Rattle.facts.specs.SheetFacts.{Accepted};
 ghost use Rattle.table.specs.Seen.{bindsOf, bindsOfEach};
 ghost use Rattle.table.specs.Tabled.{Tabled};
 ghost use Rattle.matrix.specs.Live.{openedTest};
-ghost use Rattle.matrix.specs.Bound.{numbersHeld};
+ghost use Rattle.matrix.specs.Bound.{numbersHeld, leafNumbers};
 ghost use Rattle.matrix.specs.Ready.{Ready};
-ghost use Rattle.leaves.specs.Bindings.{bound, boundOne, boundAll, ownOf, leafNumbers, Room, Started, Entries, Parts, Gives, LeafAsked};
+ghost use Rattle.leaves.specs.Bindings.{bound, boundOne, boundAll, ownOf, Room, Started, Entries, Parts, Gives, LeafAsked};
 
 // The room for bindings. Where there are more, their number is told as one more than it.
 pub const BINDINGS_MOST: usize = 4096;

@@ -348,10 +348,6 @@ nodeOn-agree p qs f g d e h k = go (hasList qs) refl
     go false x = rw (x, nodeOn) (λ i. switch p (casesOn-agree f g (casesOf qs) h i) (k i))
 
 -- ---- the equations of `treeTo`
-treeTo-zero : (ps : List Path) (rs : List Row) → treeTo zero ps rs ≡ leafOf rs
-unfolding treeTo
-treeTo-zero ps rs = refl
-
 pub treeTo-none : (deep : ℕ) (ps : List Path) (rs : List Row) → choice ps rs ≡ none → treeTo deep ps rs ≡ leafOf rs
 unfolding treeTo
 treeTo-none zero ps rs x = refl

@@ -10,7 +10,7 @@ use mathlib.Core.Option.{Option, none, some}
 use lib.Dec.{eqb, leb, ltb}
 use borrow.Author.Tests.{eqb-true, eq-eqb, leb-true, le-leb, lt-ltb}
 use Rattle.words.specs.Words.{both, sameText}
-use Rattle.words.specs.WordsLaws.{both-true, both-make, both-second-false}
+use Rattle.words.specs.WordsLaws.{both-true, both-make, both-second-false, both-assoc}
 use Rattle.rules.specs.Patterns.{Opens, pairs, tuples, fields, Pat, Pats, discard, variable, assign, integer, bytestring, listed, tailed, constructor, opened, pnil, pcons, many}
 use Rattle.rules.specs.Rows.{Step, pair, tuple, constr, list, listtail, Path, into, opening, Binding, Cell, columnsOf, columnsOfEach, openedColumns}
 use Rattle.rules.specs.PanelFile.{recordKind, recordA, recordFirst, recordCount, recordText}
@@ -120,10 +120,6 @@ module _ (v : List ℕ) where
   unfolding holdsAt
   holdAll [] = true
   holdAll (c ∷ cs) = both (holdsAt (c .path) (c .pattern)) (holdAll cs)
-
-  both-assoc : (a b c : Bool) → both (both a b) c ≡ both a (both b c)
-  both-assoc true b c = refl
-  both-assoc false b c = refl
 
   pub holdAll-append : (cs ds : List Cell) → holdAll (cs ++ ds) ≡ both (holdAll cs) (holdAll ds)
   unfolding holdAll

@@ -1,13 +1,13 @@
 -- What a leaf binds, by the numbers of its patterns: those of its clause's root, and for each column tested, in order, what the test
 -- opened there. Rests on crate table's patterns that bind; BoundLaws has that these are the bindings of the clause's row.
-use mathlib.Core.List.{List, [], _∷_, _++_}
+use mathlib.Core.List.{List, [], _∷_, _++_, map}
 use Prim.Native.Nat.{ℕ, _+_}
 use Rattle.rules.specs.SheetFile.{root}
-use Rattle.table.specs.Seen.{bindsOf, openedBinds}
+use Rattle.rules.specs.Building.{Tree, leaf}
+use Rattle.table.specs.Seen.{bindsOf, openedBinds, bindingAt}
 use Rattle.matrix.specs.declared.Held.{Held}
 use Rattle.matrix.specs.declared.Held.the-variants.{Test, Wildcard}
 use Rattle.matrix.specs.Live.{openedTest}
-use Rattle.matrix.specs.Numbered.{Numbered}
 
 abbrev pub numbersHeld : List ℕ → Held → List ℕ
 numbersHeld s (Test p) = openedBinds s p
@@ -19,7 +19,10 @@ unfolding openedTest
 openedNumbers s opened c time [] = []
 openedNumbers s opened c time (class ∷ classes) = numbersHeld s (openedTest s opened c time class) ++ openedNumbers s opened c (time + 1) classes
 
--- all that clause c's row binds
-unfoldable pub boundNumbers : List ℕ → Numbered → ℕ → List ℕ
-unfolding bindsOf root openedNumbers
-boundNumbers s M c = bindsOf s (root s c) ++ openedNumbers s (M .opened) c 0 (M .tested)
+-- all that clause c's row binds, where these columns were tested
+abbrev pub leafNumbers : List ℕ → List ℕ → List ℕ → ℕ → List ℕ
+leafNumbers s opened tested c = bindsOf s (root s c) ++ openedNumbers s opened c 0 tested
+
+-- its leaf
+abbrev pub clauseLeaf : List ℕ → List ℕ → List ℕ → ℕ → Tree
+clauseLeaf s opened tested c = leaf c (map (bindingAt s) (leafNumbers s opened tested c))

@@ -3,45 +3,29 @@
 use mathlib.Core.Path.{_≡_, refl, sym, ap, ap₂, _∙_}
 use mathlib.Core.List.{List, [], _∷_, _++_, map, map-append}
 use Prim.Native.Nat.{ℕ, _+_, _<_}
-use Rattle.rules.specs.SheetFile.{patterns, clauses, root}
-use Rattle.rules.specs.Patterns.{clausePattern}
-use Rattle.rules.specs.Rows.{bindingsOf}
+use Rattle.rules.specs.SheetFile.{clauses, root}
 use Rattle.rules.specs.SplittingLaws.{All}
 use Rattle.rules.specs.Building.{leaf, leafOf}
 use Rattle.facts.specs.SheetFacts.{Accepted}
-use Rattle.matching.specs.Lists.{all-append}
 use Rattle.table.specs.Standing.{pathOf}
-use Rattle.table.specs.Seen.{bindsOf, openedBinds, bindingAt}
+use Rattle.table.specs.Seen.{bindsOf, bindingAt}
 use Rattle.table.specs.Meets.{clause-bindings-meet, opened-bindings-meet}
-use Rattle.table.specs.MembersLaws.{bind-inside}
 use Rattle.matrix.specs.declared.Held.{Held}
 use Rattle.matrix.specs.declared.Held.the-variants.{Test, Wildcard}
 use Rattle.matrix.specs.RowStates.{rowOf, rowOf-clause}
-use Rattle.matrix.specs.Numbers.{all-copies}
-use Rattle.matrix.specs.MeetingLaws.{copies-in}
 use Rattle.matrix.specs.Live.{openedTest, bindingsHeld, boundBy, State}
 use Rattle.matrix.specs.LiveLaws.{opened-test}
 use Rattle.matrix.specs.Matrices.{rowsAt, Rising}
 use Rattle.matrix.specs.Numbered.{Numbered, SoundOf}
-use Rattle.matrix.specs.Bound.{numbersHeld, openedNumbers, boundNumbers}
+use Rattle.matrix.specs.Bound.{numbersHeld, openedNumbers, leafNumbers, clauseLeaf}
 
 module _ {s : List ℕ} (ok : Accepted s) where
-  abbrev Known : ℕ → Type 0
-  Known q = q < patterns s
-
   module _ (opened : List ℕ) (c : ℕ) where
     held-bindings : (time class : ℕ) (h : Held) → openedTest s opened c time class ≡ h → bindingsHeld s h ≡ map (bindingAt s) (numbersHeld s h)
     held-bindings time class (Test p) e =
         let t = opened-test s opened c time class p e .test-of in
         opened-bindings-meet (ok .is-shaped) (ok .is-counted) p (t .known) (t .test)
     held-bindings time class Wildcard e = refl
-
-    held-known : (time class : ℕ) (h : Held) → openedTest s opened c time class ≡ h → All Known (numbersHeld s h)
-    held-known time class (Test p) e =
-        let t = opened-test s opened c time class p e .test-of in
-        all-copies Known (openedBinds s p)
-        (λ q l. bind-inside (ok .is-shaped) (ok .is-counted) p q (t .known) (t .test) (copies-in q (openedBinds s p) l) .1 .known)
-    held-known time class Wildcard e = tt
 
     opened-bindings : (time : ℕ) (classes : List ℕ) → boundBy s opened c time classes ≡ map (bindingAt s) (openedNumbers s opened c time classes)
     unfolding boundBy openedNumbers
@@ -51,21 +35,13 @@ module _ {s : List ℕ} (ok : Accepted s) where
         ap₂ _++_ (held-bindings time k h refl) (opened-bindings (time + 1) classes)
         ∙ sym (map-append (bindingAt s) (numbersHeld s h) (openedNumbers s opened c (time + 1) classes))
 
-    opened-known : (time : ℕ) (classes : List ℕ) → All Known (openedNumbers s opened c time classes)
-    unfolding openedNumbers
-    opened-known time [] = tt
-    opened-known time (k ∷ classes) =
-        let h = openedTest s opened c time k in
-        all-append Known (numbersHeld s h) (openedNumbers s opened c (time + 1) classes) (held-known time k h refl) (opened-known (time + 1) classes)
-
-  -- clause c's row after the columns tested binds these
-  pub bound-row : (M : Numbered) (c : ℕ) → c < clauses s → State s (M .tested) (M .opened) c
-      → (rowOf s (map (pathOf s) (M .tested)) c) .bindings ≡ map (bindingAt s) (boundNumbers s M c)
-  unfolding boundNumbers
-  bound-row M c h st =
-      st .bindings
-      ∙ ap₂ _++_ (clause-bindings-meet (ok .is-shaped) (ok .is-counted) c h) (opened-bindings (M .opened) c 0 (M .tested))
-      ∙ sym (map-append (bindingAt s) (bindsOf s (root s c)) (openedNumbers s (M .opened) c 0 (M .tested)))
+    -- the clause's row after these columns were tested
+    bound-row : (tested : List ℕ) → c < clauses s → State s tested opened c
+        → (rowOf s (map (pathOf s) tested) c) .bindings ≡ map (bindingAt s) (leafNumbers s opened tested c)
+    bound-row tested h st =
+        st .bindings
+        ∙ ap₂ _++_ (clause-bindings-meet (ok .is-shaped) (ok .is-counted) c h) (opened-bindings 0 tested)
+        ∙ sym (map-append (bindingAt s) (bindsOf s (root s c)) (openedNumbers s opened c 0 tested))
 
   -- "a leaf of the first row, with its bindings in the order they were collected"
   leaf-first : (tested rows : List ℕ) (c : ℕ) (cs : List ℕ) → rows ≡ c ∷ cs
@@ -77,11 +53,8 @@ module _ {s : List ℕ} (ok : Accepted s) where
     first-state : State s (M .tested) (M .opened) c
     first-state = let states : All (State s (M .tested) (M .opened)) (c ∷ cs) = rw e at (sound .states) in states .0
 
-    pub first-clause : c < clauses s
+    first-clause : c < clauses s
     first-clause = let rising : Rising (clauses s) 0 (c ∷ cs) = rw e at (sound .rising) in rising .1
 
-    pub leaf-bindings : leafOf (rowsAt s (M .tested) (M .rows)) ≡ leaf c (bindingsOf [] (clausePattern s c) ++ boundBy s (M .opened) c 0 (M .tested))
-    leaf-bindings = leaf-first (M .tested) (M .rows) c cs e ∙ ap (leaf c) (first-state .bindings)
-
-    pub leaf-numbers : leafOf (rowsAt s (M .tested) (M .rows)) ≡ leaf c (map (bindingAt s) (boundNumbers s M c))
-    leaf-numbers = leaf-first (M .tested) (M .rows) c cs e ∙ ap (leaf c) (bound-row M c first-clause first-state)
+    pub leaf-numbers : leafOf (rowsAt s (M .tested) (M .rows)) ≡ clauseLeaf s (M .opened) (M .tested) c
+    leaf-numbers = leaf-first (M .tested) (M .rows) c cs e ∙ ap (leaf c) (bound-row (M .opened) c (M .tested) first-clause first-state)

@@ -1,6 +1,6 @@
 -- What a row has in a column, by numbers: the clause's test there, if it is not opened and the test that it is inside of is.
 -- `opened` says of each pattern when its test was opened: one more than the place among the columns tested, or 0.
-use mathlib.Core.Bool.{Bool, true, false, not}
+use mathlib.Core.Bool.{Bool, true, not}
 use mathlib.Core.List.{List, [], _∷_, _++_, map}
 use mathlib.Core.Option.{Option, none, some}
 use mathlib.Core.Path.{_≡_}
@@ -8,10 +8,9 @@ use Prim.Native.Nat.{ℕ, zero, suc, _+_, _-_, _≤_, _<_}
 use lib.Dec.{eqb, ltb}
 use lib.ListN.{length, getD}
 use Rattle.words.specs.Words.{both, either, pick}
-use Rattle.rules.specs.SheetFile.{patterns, clauses}
+use Rattle.rules.specs.SheetFile.{patterns}
 use Rattle.rules.specs.Patterns.{Pat, clausePattern}
-use Rattle.rules.specs.Rows.{Path, Cell, Binding, Row, bit, columnsOf, bindingsOf, openedColumns, openedBindings}
-use Rattle.rules.specs.Columns.{testAt}
+use Rattle.rules.specs.Rows.{Cell, Binding, bit, bindingsOf, openedBindings}
 use Rattle.table.specs.Standing.{clauseOf, pathOf, ownerOf, patternOf, isTest, classOf, cellOf}
 use Rattle.table.specs.Seen.{cellAt}
 use Rattle.matrix.specs.declared.Held.{Held}

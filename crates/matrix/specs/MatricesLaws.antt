@@ -42,10 +42,6 @@ pub rising-later : (n from later : ℕ) (cs : List ℕ) → from ≤ later → R
 rising-later n from later [] h r = tt
 rising-later n from later (c ∷ cs) h r = (omega (arith, r .0), r .1, r .2)
 
-pub rising-few : (n from : ℕ) (cs : List ℕ) → from ≤ n → Rising n from cs → from + length cs ≤ n
-rising-few n from [] h r = omega arith
-rising-few n from (c ∷ cs) h r = omega (arith, r .0, r .1, rising-few n (c + 1) cs (omega (arith, r .1)) (r .2))
-
 pub rising-up : (n c k : ℕ) → c + k ≤ n → Rising n c (upFrom c k)
 unfolding upFrom
 rising-up n c zero h = tt

@@ -2,16 +2,13 @@
 -- pattern belongs to a case, by the pattern's record alone. MeantLaws has that this is what rules says of the pattern.
 use mathlib.Core.Bool.{Bool}
 use mathlib.Core.List.{List, [], _∷_}
-use mathlib.Core.Path.{_≡_}
 use Prim.Native.Nat.{ℕ, _+_, _-_, _≤_}
 use lib.Dec.{eqb, leb}
-use lib.ListN.{length}
 use Rattle.words.specs.Words.{both, either, pick, sameText}
 use Rattle.rules.specs.SheetFile.{poolSize, poolText}
 use Rattle.rules.specs.Splitting as splitting
 use Rattle.sheet.specs.declared.records.PatternRecord.{PatternRecord}
 use Rattle.arena.specs.declared.reading.Test.{Test}
-use Rattle.arena.specs.Reading.{testFor}
 use Rattle.matrix.specs.declared.Held.{Held}
 use Rattle.matrix.specs.declared.Held.the-variants.{Test as HeldTest, Wildcard}
 use Rattle.matrix.specs.declared.PerRow.{PerRow}
@@ -36,20 +33,6 @@ InPool s (Test.Constr number) = Unit {0}
 InPool s (Test.Text kind start count) = start + count ≤ poolSize s
 InPool s (Test.List count) = Unit {0}
 InPool s (Test.Tailed count) = Unit {0}
-
--- the text of u starts there in the pool
-abbrev pub TextAt : List ℕ → ℕ → splitting.Test → Type 0
-TextAt s start (splitting.Constr number) = Unit {0}
-TextAt s start (splitting.Int v) = (start + length v ≤ poolSize s) × (poolText s start (length v) ≡ v)
-TextAt s start (splitting.Bytes v) = (start + length v ≤ poolSize s) × (poolText s start (length v) ≡ v)
-TextAt s start (splitting.ListOf count) = Unit {0}
-TextAt s start (splitting.ListWithTail count) = Unit {0}
-
--- the arena's test for u
-pub record Means (s : List ℕ) (test : Test) (u : splitting.Test) : Type 0 where
-  pub start : ℕ
-  pub is : test ≡ testFor start u
-  pub text : TextAt s start u
 
 -- ---- does the test of the pattern with record r belong to the case?
 abbrev pub coversConstructor : PatternRecord → ℕ → Bool

@@ -22,22 +22,9 @@ use Rattle.sheet.specs.Records.{patternOf as recordOf}
 use Rattle.table.specs.Standing.{kindOf, typeOf, testOfKind, isTest, patternOf}
 use Rattle.table.specs.Tabled.{Checked}
 use Rattle.arena.specs.declared.reading.Test.{Test}
-use Rattle.arena.specs.Reading.{testFor}
 use Rattle.matrix.specs.HeldRows.{joinsCase}
 use Rattle.matrix.specs.Ready.{TestKnown}
-use Rattle.matrix.specs.Meant.{meant, InPool, TextAt, Means, coversConstructor, textPattern, coversText, coversTailed, coversList, coversRead}
-
--- ---- what the arena's test for u means
-meant-back : (s : List ℕ) (start : ℕ) (u : splitting.Test) → TextAt s start u → (meant s (testFor start u) ≡ u) × InPool s (testFor start u)
-unfolding meant testFor
-meant-back s start (splitting.Constr number) h = (refl, tt)
-meant-back s start (splitting.Int v) h = (ap splitting.Int (h .1), h .0)
-meant-back s start (splitting.Bytes v) h = (ap splitting.Bytes (h .1), h .0)
-meant-back s start (splitting.ListOf count) h = (refl, tt)
-meant-back s start (splitting.ListWithTail count) h = (refl, tt)
-
-pub means : {s : List ℕ} {test : Test} {u : splitting.Test} → Means s test u → (meant s test ≡ u) × InPool s test
-means {s} {test} {u} h = rw (h .is) (meant-back s (h .start) u (h .text))
+use Rattle.matrix.specs.Meant.{meant, InPool, coversConstructor, textPattern, coversText, coversTailed, coversList, coversRead}
 
 -- ---- by the kind's number
 module _ (s : List ℕ) (z a first count : ℕ) where

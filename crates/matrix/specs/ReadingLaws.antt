@@ -54,9 +54,6 @@ pub owner-most : (t : List ℕ) (class c : ℕ) → InTable t class c → (cell 
 owner-most t class c h cell e owner f = omega (arith, h .owner, f ∙ ap (λ (x : ℕ). ownerIn t (x - 1)) e)
 
 -- ---- rows counted from the front: i have a test
-pub has-test : (h : Held) {p : ℕ} → h ≡ Test p → true ≡ hasTest h
-has-test h e = rw e
-
 count-wild : (held : ℕ → Held) (c : ℕ) (cs : List ℕ) (h : Held) → held c ≡ h → hasTest (held c) ≡ false → countOf held (c ∷ cs) ≡ 0
 unfolding countOf
 count-wild held c cs (Test p) e f = let g : true ≡ false = rw e at f in absurd (false≢true (sym g))

@@ -115,9 +115,6 @@ module _ {s : List ℕ} {m : Map} {t : List ℕ} (ready : Ready s m t) where
       first-few = unfold firstNumbered in omega (arith, few-columns ok (firstNumbered s) (sound-first ok))
 
   module _ (c : ℕ) (low : 0 < c) (high : c ≤ clauses s) (r : ℕ) (is : r ≡ root s (c - 1)) (o : Classes) (l : Listed s o) (h : Holds o (columnsFrom s c)) where
-    pub root-there : c - 1 < clauses s
-    root-there = omega arith
-
     pub root-known : r < patterns s
     root-known = rw is (ok .is-shaped .root-pattern (c - 1) (omega arith))
 

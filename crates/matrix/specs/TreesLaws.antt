@@ -39,7 +39,7 @@ use Rattle.matrix.specs.Live.{liveIn, IsClass}
 use Rattle.matrix.specs.HeldRows.{countOf, bestOf, pathChosen, heldTests, joinOf, joinsCase}
 use Rattle.matrix.specs.Ordered.{without-one}
 use Rattle.matrix.specs.Matrices.{TestIn, rowsAt, columnsAt, reached}
-use Rattle.matrix.specs.MatricesLaws.{tests-in, opens-in, choice-is, column-is, column-class, default-sound, default-rows, default-columns, case-sound, case-rows, case-columns, first-sound, first-rows, first-columns}
+use Rattle.matrix.specs.MatricesLaws.{opens-in, choice-is, column-is, column-class, default-sound, default-rows, default-columns, case-sound, case-rows, case-columns, first-sound, first-rows, first-columns}
 use Rattle.matrix.specs.Numbered.{Numbered, SoundOf, firstNumbered, defaultNumbered, opensIn, caseNumbered, chosenIn, testsIn, treeAt}
 
 -- ---- the rows of clauses have tests alone, whatever was tested
@@ -164,10 +164,6 @@ some-tree s M h = go (M .rows) refl (choice (columnsAt s (M .columns)) (rowsAt s
 
 -- ---- a column: its tests, those that a case opens, its cases
 module _ (s : List ℕ) (M : Numbered) (k : ℕ) where
-  pub tests-known : All (TestIn s k) (testsIn s k M)
-  unfolding testsIn
-  tests-known = tests-in s (M .opened) k (M .rows)
-
   pub opens-known : (u : Test) → All (TestIn s k) (opensIn s k u M)
   unfolding opensIn
   opens-known u = opens-in s (joinsCase s u) (M .opened) k (M .rows)

@@ -7,7 +7,7 @@ use mathlib.Core.List.{List}
 use Prim.Native.Nat.{ℕ, _+_, _≤_, _<_}
 use lib.Dec.{eqb, leb}
 use Rattle.words.specs.Words.{both, pick}
-use Rattle.rules.specs.SheetFile.{types, constructors, entries, constructorFirst, constructorCount}
+use Rattle.rules.specs.SheetFile.{constructors, entries, constructorFirst, constructorCount}
 use Rattle.rules.specs.PanelFile.{records, recordKind, RecordKind, Integer-record, Bytes-record, List-record, Pair-record, Tuple-record, Constructor-record, Unknown-record, recordKindOf}
 use Rattle.rules.specs.Fitting.{partsFit}
 use Rattle.facts.specs.SheetFacts.{Laid, Typed}

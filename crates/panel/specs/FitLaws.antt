@@ -1,7 +1,7 @@
 -- Fitting one level at a time: the definition of 25 by what is left below a record, one law for each way out of a function.
 -- Rests on Fit, and on what the crate facts has of fitting a record.
 use mathlib.Core.Path.{_≡_, refl, sym, ap, _∙_}
-use mathlib.Core.Logic.{_⊎_, inl, inr, ⊎-elim}
+use mathlib.Core.Logic.{inl, inr, ⊎-elim}
 use mathlib.Core.Bool.{Bool, true, false}
 use mathlib.Core.List.{List}
 use Prim.Native.Nat.{ℕ, _+_, _-_, _≤_, _<_}
@@ -9,7 +9,7 @@ use native.Mathlib.Omega.{arith}
 use borrow.Author.Tests.{eqb-true, leb-true, eq-eqb, le-leb}
 use lib.Dec.{eqb, leb}
 use Rattle.words.specs.Words.{both, pick}
-use Rattle.words.specs.WordsLaws.{both-true}
+use Rattle.words.specs.WordsLaws.{both-true, both-assoc}
 use Rattle.rules.specs.Limits.{recordsMost}
 use Rattle.rules.specs.SheetFile.{subject, types, entries, entry, typeKind, typeFirst, typeCount, constructorFirst, constructorCount}
 use Rattle.rules.specs.Patterns.{constructorOf, takesArguments}
@@ -36,10 +36,6 @@ unfolding fitsBelow
 picked f s v j n e step true = refl
 picked f s v j n e step false = refl
 
-both-both : (a b c : Bool) → both a (both b c) ≡ both (both a b) c
-both-both true b c = refl
-both-both false b c = refl
-
 below-of-kind : (f : ℕ → ℕ → Bool) (s v : List ℕ) (r t : ℕ) (kind : RecordKind)
     → recordFits f s v r t kind ≡ fitsBelow f s v (belowOfKind s (recordOf v r) (typeOf s t) kind)
 unfolding recordFits fitsBelow belowOfKind takesArguments constructorOf
@@ -47,10 +43,10 @@ below-of-kind f s v r t Integer-record = refl
 below-of-kind f s v r t Bytes-record = refl
 below-of-kind f s v r t List-record = picked f s v (recordFirst v r) (recordCount v r) (typeFirst s t) 0 (eqb (typeKind s t) 2)
 below-of-kind f s v r t Pair-record =
-    both-both (eqb (typeKind s t) 3) (eqb (typeCount s t) (recordCount v r)) _
+    sym (both-assoc (eqb (typeKind s t) 3) (eqb (typeCount s t) (recordCount v r)) _)
     ∙ picked f s v (recordFirst v r) (recordCount v r) (typeFirst s t) 1 (both (eqb (typeKind s t) 3) (eqb (typeCount s t) (recordCount v r)))
 below-of-kind f s v r t Tuple-record =
-    both-both (eqb (typeKind s t) 4) (eqb (typeCount s t) (recordCount v r)) _
+    sym (both-assoc (eqb (typeKind s t) 4) (eqb (typeCount s t) (recordCount v r)) _)
     ∙ picked f s v (recordFirst v r) (recordCount v r) (typeFirst s t) 1 (both (eqb (typeKind s t) 4) (eqb (typeCount s t) (recordCount v r)))
 below-of-kind f s v r t Constructor-record =
     picked f s v (recordFirst v r) (recordCount v r) (constructorFirst s (typeFirst s t + recordA v r)) 1

@@ -1,7 +1,7 @@
 -- The pass over a panel's records and parts answers what the rules of its shape say: `shape-passes`.
 -- Where the rules hold nothing breaks, and where nothing broke they hold: the lists' lengths add up to the number of parts.
 use mathlib.Core.Path.{_≡_, refl, sym, ap, _∙_}
-use mathlib.Core.Logic.{_⊎_, inl, ⊎-elim}
+use mathlib.Core.Logic.{inl, ⊎-elim}
 use mathlib.Core.Bool.{Bool, true, false, true≢false}
 use mathlib.Core.List.{List}
 use Prim.Native.Nat.{ℕ, zero, suc, _+_, _-_, _≤_, _<_}

@@ -13,11 +13,11 @@ use lib.Seq.{getD-set-same, getD-set-other}
 use Rattle.words.specs.Words.{pick}
 use Rattle.words.specs.WordsLaws.{both-true}
 use Rattle.rules.specs.Limits.{recordsMost, panelDepthMost}
-use Rattle.rules.specs.PanelFile.{records, parts, recordFirst, recordCount, part, isHigher, holds, recordWithin}
+use Rattle.rules.specs.PanelFile.{records, recordFirst, recordCount, part, isHigher, recordWithin}
 use Rattle.facts.specs.PanelFacts.{Holds, recordWithin-part}
 use Rattle.sheet.specs.Sums.{sum}
 use Rattle.panel.specs.CountingLaws.{same-or-not, sum-next, sum-grows}
-use Rattle.panel.specs.Shape.{Seen, fieldsFit, broken, entersFirst, enterPart, enterParts, recordMet, enterRecord, enterRecords}
+use Rattle.panel.specs.Shape.{Seen, fieldsFit, entersFirst, enterPart, enterParts, recordMet, enterRecord, enterRecords}
 use Rattle.panel.specs.ShapeLaws.{listed, parts-on, parts-stop, records-on, records-stop, higher-true}
 
 -- how many entries the list of record r has

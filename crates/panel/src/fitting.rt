@@ -9,7 +9,7 @@ use sheet::records::constructor_at;
 use sheet::records::entry_at;
 use sheet::records::type_at;
 ghost use mathlib.Core.Path.{_≡_};
-ghost use Prim.Native.Nat.{_<_, _≤_};
+ghost use Prim.Native.Nat.{_<_};
 ghost use Rattle.rules.specs.Limits.{recordsMost};
 ghost use Rattle.rules.specs.SheetFile.{types, subject};
 ghost use Rattle.rules.specs.PanelFile.{records};

@@ -4,7 +4,6 @@ mod make;
 
 use make::chain;
 use make::end;
-use make::four;
 use make::leaf;
 use make::part;
 use make::record;
@@ -13,6 +12,7 @@ use make::wide;
 use panel::Checked;
 use panel::Fitted;
 use panel::Located;
+use trials::four;
 
 fn say_refused(number: u16, place: u16) {
     io::write_all(1, b": refused ");
@@ -95,7 +95,7 @@ fn with_pool(name: &[u8], pool: u16) {
 }
 
 // The same with 8 bytes after the record, and these starts and length in the trailer.
-fn with_trailer(name: &[u8], records_at: u16, parts_at: u16, pool_at: u16, length: u16) {
+fn with_trailer(name: &[u8], records_at: usize, parts_at: usize, pool_at: usize, length: usize) {
     let mut b = [0u8; 24];
     record(&mut b, 0, 1, 0, 0, 0);
     four(&mut b, 16, records_at, parts_at, pool_at, length);
@@ -282,68 +282,13 @@ fn positions() {
 // ---- 25
 // One clause, a discard, on type 1. Types: 0 Int; 1 a tuple of types 0 and 2; 2 Data of two constructors, the first without a field,
 // the second with one of type 0.
-const SHEET: [u8; 60] = [
-    0,
-    0,
-    0,
-    0,
-    0,
-    0,
-    4,
-    0,
-    0,
-    0,
-    2,
-    0,
-    5,
-    0,
-    0,
-    0,
-    2,
-    0,
-    0,
-    0,
-    0,
-    0,
-    2,
-    0,
-    1,
-    0,
-    0,
-    0,
-    2,
-    0,
-    0,
-    0,
-    0,
-    0,
-    0,
-    0,
-    0,
-    0,
-    0,
-    0,
-    0,
-    0,
-    0,
-    0,
-    18,
-    0,
-    26,
-    0,
-    32,
-    0,
-    40,
-    0,
-    40,
-    0,
-    42,
-    0,
-    1,
-    0,
-    60,
-    0,
-];
+fn sheet(b: &mut [u8]) {
+    trials::three(b, 6, 4, 0, 2);
+    trials::three(b, 12, 5, 0, 2);
+    four(b, 18, 0, 0, 2, 1);
+    trials::three(b, 26, 0, 2, 0);
+    trials::end(b, trials::of(3, 2, 3, 1, 0, 1, 0), 1);
+}
 
 // A root of the kind given, of the integer `7` and a constructor, whose one part is the `7` of the kind given.
 fn fitting(name: &[u8], root: u16, number: u16, field: u16) {
@@ -354,7 +299,9 @@ fn fitting(name: &[u8], root: u16, number: u16, field: u16) {
     record(&mut b, 3, field, 0, 0, 1);
     four(&mut b, 32, 1, 2, 3, 55);
     let n = end(&mut b, 4, 3, 1);
-    fit_first(name, &SHEET, &b, n);
+    let mut s = [0u8; 60];
+    sheet(&mut s);
+    fit_first(name, &s, &b, n);
 }
 
 fn fits() {
@@ -374,7 +321,9 @@ fn fits() {
 fn refusals() {
     let b = [0u8; 17];
     fit(b"a sheet of 17 bytes", &b, &b);
-    fit(b"a panel of 17 bytes that tells none", &SHEET, &b);
+    let mut s = [0u8; 60];
+    sheet(&mut s);
+    fit(b"a panel of 17 bytes that tells none", &s, &b);
 }
 
 fn main() {

@@ -1,32 +1,19 @@
 // Panels made record by record, for the cases. Whatever would lie past the end of the buffer is left out.
-use words::put_word;
-
-// The word x at byte i.
-pub fn word(b: &mut [u8], i: usize, x: u16) {
-    if b.len() < 2 {
-        return;
-    }
-    if b.len() - 2 < i {
-        return;
-    }
-    put_word(b, i, x);
-}
-
-// Four words from byte i on: a record, or a trailer.
-pub fn four(b: &mut [u8], i: usize, w: u16, x: u16, y: u16, z: u16) {
-    if 32768 < i {
-        return;
-    }
-    word(b, i, w);
-    word(b, i + 2, x);
-    word(b, i + 4, y);
-    word(b, i + 6, z);
-}
+use trials::bytes;
+use trials::four;
+use trials::word;
 
 // Record r: the kind byte with the zero byte after it, a, first, count.
 pub fn record(b: &mut [u8], r: usize, kind: u16, a: u16, first: u16, count: u16) {
     if r < 4096 {
-        four(b, 8 * r, kind, a, first, count);
+        four(
+            b,
+            8 * r,
+            kind as usize,
+            a as usize,
+            first as usize,
+            count as usize,
+        );
     }
 }
 
@@ -38,40 +25,16 @@ pub fn part(b: &mut [u8], n: usize, j: usize, r: u16) {
     if 4096 < j {
         return;
     }
-    word(b, 8 * n + 2 * j, r);
-}
-
-// The bytes of a text at byte i.
-pub fn bytes(b: &mut [u8], i: usize, text: &[u8]) {
-    let mut k: usize = 0;
-    while k < text.len() {
-        if b.len() <= i {
-            return;
-        }
-        if b.len() - i <= k {
-            return;
-        }
-        b[i + k] = text[k];
-        k += 1;
-    }
+    word(b, 8 * n + 2 * j, r as usize);
 }
 
 // The trailer of a panel of n records, so many parts and so many bytes of text, and the length of the whole.
 pub fn end(b: &mut [u8], n: u16, parts: u16, pool: u16) -> usize {
-    if 1024 < n {
-        return 0;
-    }
-    if 1024 < parts {
-        return 0;
-    }
-    if 20000 < pool {
-        return 0;
-    }
-    let parts_at = 8 * n;
-    let pool_at = parts_at + 2 * parts;
-    let length = pool_at + pool + 8;
-    four(b, (length - 8) as usize, 0, parts_at, pool_at, length);
-    length as usize
+    let parts_at = 8 * (n as usize);
+    let pool_at = parts_at + 2 * (parts as usize);
+    let at = pool_at + pool as usize;
+    four(b, at, 0, parts_at, pool_at, at + 8);
+    at + 8
 }
 
 // One record of the kind given, with the text given.

@@ -57,11 +57,6 @@ first-some zero first h = absurd (h refl)
 first-some (suc count) first h = refl
 
 -- ---- path records
-pub length-pathRecords : (first : ℕ) (ns : List ℕ) → length (pathRecords first ns) ≡ pathSize * length ns
-unfolding pathRecords
-length-pathRecords first [] = refl
-length-pathRecords first (n ∷ ns) = omega (arith, length-pathRecords (first + n) ns)
-
 records-paths : (first : ℕ) (ps : List Path) → pathRecords first (map length ps) ≡ pathsBytes first ps
 unfolding pathRecords pathsBytes
 records-paths first [] = refl

@@ -11,7 +11,7 @@ use Rattle.words.specs.Words.{both, pick}
 use Rattle.words.specs.Stored.{stored}
 use Rattle.words.specs.StoredLaws.{stored-append, stored-swap, stored-nil}
 use Rattle.rules.specs.Limits.{stepSize}
-use Rattle.rules.specs.SheetFile.{patterns, patternFirst, child}
+use Rattle.rules.specs.SheetFile.{patterns, patternFirst}
 use Rattle.rules.specs.Patterns.{PatternKind, Discard, Variable, Assign, Integer, ByteString, ListOfAll, ListWithRest, Constructor, Pair, Tuple, Unknown, oneConstructor, decorated}
 use Rattle.rules.specs.Rows.{Step, pair, tuple, constr, list, listtail, Path, into, bit}
 use Rattle.rules.specs.TreeFile.{stepBytes, pathSteps}

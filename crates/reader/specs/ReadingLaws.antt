@@ -5,7 +5,6 @@ use mathlib.Core.Bool.{Bool}
 use mathlib.Core.List.{List}
 use Prim.Native.Nat.{ℕ, _+_, _*_, _<_, _≤_}
 use borrow.Author.Tests.{lt-ltb, le-ltb}
-use lib.Dec.{ltb}
 use denote.Ref.{RefT, now}
 use Rattle.words.specs.Words.{wordAt}
 use Rattle.rules.specs.Limits.{patternSize, clauseSize}

@@ -1,54 +1,17 @@
 // The three answers of `clause_pattern`: each line names a case and gives the answer, and the file stdout has them by hand.
 use reader::Clause;
 use reader::clause_pattern;
+use trials::end;
+use trials::four;
+use trials::of;
+use trials::word;
 
 // One type, Int, the subject's; pattern 0 is the variable of name 7, pattern 1 a discard; clause 0 has root 1, clause 1 has root 0.
-const SHEET: [u8; 44] = [
-    0,
-    0,
-    0,
-    0,
-    0,
-    0,
-    1,
-    0,
-    7,
-    0,
-    0,
-    0,
-    0,
-    0,
-    0,
-    0,
-    0,
-    0,
-    0,
-    0,
-    0,
-    0,
-    1,
-    0,
-    0,
-    0,
-    0,
-    0,
-    6,
-    0,
-    6,
-    0,
-    6,
-    0,
-    22,
-    0,
-    22,
-    0,
-    26,
-    0,
-    0,
-    0,
-    44,
-    0,
-];
+fn sheet(b: &mut [u8]) {
+    four(b, 6, 1, 7, 0, 0);
+    word(b, 22, 1);
+    end(b, of(1, 0, 0, 2, 0, 2, 0), 0);
+}
 
 fn show(name: &[u8], s: &[u8], c: u16) {
     io::write_all(1, name);
@@ -73,9 +36,11 @@ fn show(name: &[u8], s: &[u8], c: u16) {
 }
 
 fn main() {
-    show(b"clause 0", &SHEET, 0);
-    show(b"clause 1", &SHEET, 1);
-    show(b"clause 2", &SHEET, 2);
+    let mut s = [0u8; 44];
+    sheet(&mut s);
+    show(b"clause 0", &s, 0);
+    show(b"clause 1", &s, 1);
+    show(b"clause 2", &s, 2);
     let b = [0u8; 17];
     show(b"17 bytes", &b, 0);
 }

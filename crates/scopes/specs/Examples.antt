@@ -2,10 +2,10 @@
 -- And the clauses (1, 1), (1, 2), (2, 3), where a step-back note alone puts clause 1 above a switch.
 use Prim.Native.Nat.{ℕ}
 use mathlib.Core.Path.{_≡_, refl}
-use mathlib.Core.List.{List, [], _∷_}
-use Rattle.rules.specs.Rows.{list, listtail, tuple, Binding}
-use Rattle.rules.specs.Splitting.{Int, ListOf, ListWithTail}
-use Rattle.rules.specs.Building.{Tree, Cases, absent, leaf, hoist, switch, listswitch, cnil, ccons, plainTree}
+use mathlib.Core.List.{[], _∷_}
+use Rattle.rules.specs.Rows.{tuple}
+use Rattle.rules.specs.Splitting.{Int}
+use Rattle.rules.specs.Building.{Tree, Cases, absent, leaf, switch, cnil, ccons, plainTree}
 use Rattle.rules.specs.Hoisting.{firstBindings}
 use Rattle.rules.specs.Calls.{sheetPatterns, sheetTree}
 use Rattle.rules.specs.Samples.{sheet1}

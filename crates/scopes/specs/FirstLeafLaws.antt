@@ -11,13 +11,13 @@ use lib.Dec.{eqb}
 use borrow.Author.Tests.{eqb-true}
 use Rattle.words.specs.Words.{either, pick}
 use Rattle.rules.specs.Rows.{Binding}
+use Rattle.rules.specs.SplittingLaws.{either-assoc}
 use Rattle.rules.specs.Building.{Tree, Cases, absent, leaf, hoist, switch, listswitch, cnil, ccons}
 use Rattle.rules.specs.Hoisting.{orElse, firstBindings, firstBindingsOf, nodesIn, nodesInOf, hasLeaf, hasLeafOf}
 use Rattle.hoisting.specs.Trees.{Plain, PlainOf, Leaf, leafWith, leavesOf, leavesOfEach, Among, EachLeaf}
 use Rattle.arena.specs.Numbered.{subtrees, subtreesOf, subtreeAt, Within}
 use Rattle.arena.specs.NumberedLaws.{within-all, within-left, within-right, within-first, length-subtrees, length-subtreesOf}
 use Rattle.scopes.specs.Numbers.{descent, descentOf, never, firstNumber, BindCounts, BindCountsOf}
-use Rattle.scopes.specs.SwitchLaws.{either-assoc}
 use Rattle.scopes.specs.NumbersLaws.{descentOf-pick, either-turn}
 
 -- ---- as many bindings at each leaf, from what is said of each leaf

@@ -1,7 +1,7 @@
 -- Scopes and first leaves by the numbers of nodes, and hoisting by those numbers.
 -- Each is found by one way down from the root, always into a child that has a leaf of the clause.
 use Prim.Native.Nat.{ℕ, _+_}
-use mathlib.Core.Bool.{Bool, true, false}
+use mathlib.Core.Bool.{Bool, false}
 use mathlib.Core.List.{List}
 use mathlib.Core.Option.{Option, none, some}
 use lib.ListN.{length}

@@ -1,16 +1,15 @@
 -- Hoisting by numbers is the hoisting of rule 7: a clause's number is that of the one node above which it is hoisted.
 -- Rests on hoisting by going down the tree once; the numbers of different children are apart.
 use mathlib.Core.Path.{_≡_, refl, sym, ap, ap₂, _∙_, subst}
-use mathlib.Core.Logic.{_⊎_, inl, inr, ⊎-elim}
 use mathlib.Core.Bool.{Bool, true, false, not, true≢false, false≢true}
 use mathlib.Core.List.{List, []}
 use mathlib.Core.Option.{Option, none, some}
 use Prim.Native.Nat.{ℕ, zero, suc, _+_, _≤_, _<_}
 use native.Mathlib.Omega.{arith}
-use lib.Dec.{eqb, leb, ltb}
-use borrow.Author.Tests.{eq-eqb, ne-eqb, leb-false, ltb-true, ltb-false}
+use lib.Dec.{eqb, leb}
+use borrow.Author.Tests.{eq-eqb, ne-eqb, leb-false, ltb-true}
 use Rattle.words.specs.Words.{both, either, pick}
-use Rattle.words.specs.WordsLaws.{either-true, either-false, either-first-true, either-second-true, pick-false}
+use Rattle.words.specs.WordsLaws.{both-assoc, either-false}
 use Rattle.rules.specs.Limits.{nodesMost}
 use Rattle.rules.specs.Rows.{Binding, bit}
 use Rattle.rules.specs.Building.{Tree, Cases, absent, leaf, hoist, switch, listswitch, cnil, ccons}
@@ -312,10 +311,6 @@ module _ (node : ℕ → ℕ) (bs ds : ℕ → List Binding) (n : ℕ) (same : (
     one : (c : ℕ) → c < n → f c ≡ true → casesWith c cs ≤ 1
     at : (c j : ℕ) → c < n → In j k (nodesInOf cs) → eqb (node c) j ≡ both (f c) (hitOf c k cs j)
 
-  both-turn : (x y z : Bool) → both x (both y z) ≡ both (both x y) z
-  both-turn true y z = refl
-  both-turn false y z = refl
-
   -- where f has the clause, its cases are one at most
   both-where : (x y z : Bool) → (x ≡ true → y ≡ z) → both x y ≡ both x z
   both-where true y z h = h refl
@@ -327,7 +322,7 @@ module _ (node : ℕ → ℕ) (bs ds : ℕ → List Binding) (n : ℕ) (same : (
 
     reached-child : (c j : ℕ) (x : Bool) → c < n → k < j → j < k + nodesIn s → (isScope c s ≡ false → hit c k s j ≡ x) → eqb (node c) j ≡ both (further f s c) x
     reached-child c j x l a b h =
-        r c j l (omega arith, b) ∙ ap (both (f c)) (hit-further c k s sw pc pd j x a h) ∙ both-turn (f c) (not (isScope c s)) x
+        r c j l (omega arith, b) ∙ ap (both (f c)) (hit-further c k s sw pc pd j x a h) ∙ sym (both-assoc (f c) (not (isScope c s)) x)
 
     reached-default : Reached (further f s) (k + 1 + nodesInOf (casesUnder s)) (defaultUnder s)
     reached-default c j l i =

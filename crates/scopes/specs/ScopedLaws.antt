@@ -1,15 +1,13 @@
 -- Laws for the loop over the clauses, from the last to the first: what one clause adds to the answer, and what the answer then says.
 -- Rests on the marks of a clause and on the laws of `lowest` and `times`.
 use mathlib.Core.Path.{_≡_, refl, sym, ap, ap₂, _∙_, subst}
-use mathlib.Core.Logic.{_⊎_, inl, inr, ⊎-elim}
+use mathlib.Core.Logic.{⊎-elim}
 use mathlib.Core.Bool.{Bool, true, false, not}
 use mathlib.Core.List.{List}
-use mathlib.Core.Option.{some}
-use Prim.Native.Nat.{ℕ, zero, suc, _+_, _-_, _≤_, _<_}
+use Prim.Native.Nat.{ℕ, _+_, _-_, _≤_, _<_}
 use native.Mathlib.Omega.{arith}
 use lib.ListN.{length, getD, set, replicate, length-set, length-replicate, getD-replicate}
 use lib.Seq.{getD-set-same, getD-set-other}
-use Rattle.words.specs.Words.{pick}
 use Rattle.words.specs.WordsLaws.{pick-true, pick-false}
 use Rattle.rules.specs.Limits.{clausesMost, nodesMost}
 use Rattle.rules.specs.Rows.{bit}
@@ -25,6 +23,7 @@ use Rattle.scopes.specs.SwitchLaws.{present-nodes}
 use Rattle.scopes.specs.NumbersLaws.{descent-in}
 use Rattle.scopes.specs.Marks.{ReadyWith, SetsMarked, LastMarked, ClauseMarks, ScopeMarks, bitAt}
 use Rattle.scopes.specs.SetsLaws.{column-read}
+use Rattle.scopes.specs.WayLaws.{first-or-more}
 use Rattle.scopes.specs.Scoped.{Surveyed, withClause, Scoped}
 
 -- ---- one clause
@@ -111,13 +110,6 @@ pub hoists-few : (a : Tree) (clauses c : ℕ) (x : Scopes) → 0 < c → clauses
 hoists-few a clauses c x p l f s = omega (arith, s .hoists, times-most (λ d. hasLeaf d a) c (clauses - c))
 
 -- one clause more
-first-or-more : (c j : ℕ) → c ≤ j → (j ≡ c) ⊎ (c + 1 ≤ j)
-first-or-more c j l = go (j - c) refl
-  where
-    go : (d : ℕ) → j - c ≡ d → (j ≡ c) ⊎ (c + 1 ≤ j)
-    go zero e = inl (omega arith)
-    go (suc d) e = inr (omega arith)
-
 module _ (a : Tree) (clauses c : ℕ) (x : Scopes) (l : c < clauses) (m : clauses ≤ clausesMost) (s : ScopedFrom a clauses (c + 1) x) where
   with-leaf : hasLeaf c a ≡ true
       → ScopedFrom a clauses c (record { node = set (x .node) c (scopeNumber c 0 a); leaf = set (x .leaf) c (firstNumber c 0 a); hoists = x .hoists + 1; idle = x .idle })

@@ -3,31 +3,24 @@
 use mathlib.Core.Path.{_≡_, refl, sym, ap, ap₂, _∙_}
 use mathlib.Core.Bool.{Bool, true, false, false≢true}
 use mathlib.Core.Option.{Option, none, some}
-use Prim.Native.Nat.{ℕ, zero, suc, _+_, _≤_, _<_}
+use Prim.Native.Nat.{ℕ, _+_, _≤_, _<_}
 use native.Mathlib.Omega.{arith}
 use lib.Dec.{ltb}
 use borrow.Author.Tests.{lt-ltb, le-ltb}
 use Rattle.words.specs.Words.{either, pick}
 use Rattle.rules.specs.Rows.{bit}
+use Rattle.rules.specs.SplittingLaws.{either-assoc}
 use Rattle.rules.specs.Building.{Tree, Cases, absent, leaf, hoist, switch, listswitch, cnil, ccons}
 use Rattle.rules.specs.Hoisting.{howMany, nodesIn, nodesInOf, hasLeaf, hasLeafOf}
-use Rattle.hoisting.specs.Trees.{Plain, PlainOf, isPresent, WellMade, WellMadeOf}
+use Rattle.hoisting.specs.Trees.{isPresent, WellMade, WellMadeOf}
 use Rattle.hoisting.specs.Scopes.{later, lastLeaf, lastLeafOf}
+use Rattle.hoisting.specs.ScopesLaws.{later-assoc}
 use Rattle.hoisting.specs.Descent.{casesWith, childrenWith}
 use Rattle.arena.specs.Numbered.{joined, isSwitch, casesUnder, defaultUnder, AllThere}
 use Rattle.arena.specs.NumberedLaws.{howMany-joined, nodesInOf-joined, allThere-joined}
 use Rattle.scopes.specs.Numbers.{descent, descentOf}
 
 -- ---- tests and counts
-pub either-assoc : (x y z : Bool) → either (either x y) z ≡ either x (either y z)
-either-assoc true y z = refl
-either-assoc false y z = refl
-
-later-assoc : (x y z : Option ℕ) → later (later x y) z ≡ later x (later y z)
-unfolding later
-later-assoc x y none = refl
-later-assoc x y (some c) = refl
-
 later-none : (x : Option ℕ) → later none x ≡ x
 unfolding later
 later-none none = refl

@@ -4,8 +4,8 @@ use mathlib.Core.Path.{_≡_, refl, sym, ap, _∙_, subst}
 use mathlib.Core.Logic.{_⊎_, inl, inr, ⊎-elim}
 use mathlib.Core.Bool.{Bool, true, false, true≢false}
 use mathlib.Core.List.{List}
-use mathlib.Core.Option.{none, some}
-use Prim.Native.Nat.{ℕ, _+_, _≤_, _<_}
+use mathlib.Core.Option.{some}
+use Prim.Native.Nat.{ℕ, zero, suc, _+_, _-_, _≤_, _<_}
 use native.Mathlib.Omega.{arith}
 use lib.ListN.{length, getD, set}
 use lib.Seq.{getD-set-same, getD-set-other}
@@ -29,12 +29,12 @@ use Rattle.scopes.specs.SetsLaws.{length-column, column-set, nodeSet-mar
 use Rattle.scopes.specs.ReadyLaws.{node-there, node-inside, marked-children, node-marked, first-led, last-of}
 
 -- ---- the passes from the last node to the first
-first-or-more : (k j : ℕ) → k ≤ j → (j ≡ k) ⊎ (k + 1 ≤ j)
-first-or-more k j l = go (eqb j k) refl
+pub first-or-more : (k j : ℕ) → k ≤ j → (j ≡ k) ⊎ (k + 1 ≤ j)
+first-or-more k j l = go (j - k) refl
   where
-    go : (b : Bool) → eqb j k ≡ b → (j ≡ k) ⊎ (k + 1 ≤ j)
-    go true e = inl (eqb-true j k e)
-    go false e = let n : j ≡ k → ⊥ = λ x. true≢false (sym (eq-eqb j k x) ∙ e) in inr (omega arith)
+    go : (d : ℕ) → j - k ≡ d → (j ≡ k) ⊎ (k + 1 ≤ j)
+    go zero e = inl (omega arith)
+    go (suc d) e = inr (omega arith)
 
 module _ (w : List ℕ) (a : Tree) (r : Ready w a) (k : ℕ) (l : k < nodesIn a) where
   -- one more node marked

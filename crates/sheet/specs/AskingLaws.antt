@@ -1,25 +1,24 @@
 -- A pattern held against its type (refusal 10), from the records that the code reads.
 use mathlib.Core.Path.{_≡_, refl, ap, ap₂, sym, _∙_}
-use mathlib.Core.Bool.{Bool, true, false}
+use mathlib.Core.Bool.{true, false}
 use mathlib.Core.List.{List}
 use Prim.Native.Nat.{ℕ, _+_, _-_, _≤_, _<_}
 use native.Mathlib.Omega.{arith}
-use borrow.Author.Tests.{eq-eqb, ne-eqb, le-leb, lt-leb}
-use lib.Dec.{eqb, leb}
+use borrow.Author.Tests.{ne-eqb, le-leb, lt-leb}
+use lib.Dec.{eqb}
 use Rattle.words.specs.Words.{both}
-use Rattle.rules.specs.SheetFile.{types, constructors, patterns, children, typeKind, typeFirst, typeCount, constructorFirst, constructorCount, patternKind, patternA, patternFirst, patternCount, child}
-use Rattle.rules.specs.Patterns.{PatternKind, Assign, ListWithRest, Constructor, patternKindOf, takesArguments}
+use Rattle.rules.specs.SheetFile.{types, constructors, patterns, children, typeKind, typeFirst, typeCount, patternKind, patternFirst, patternCount, child}
+use Rattle.rules.specs.Patterns.{patternKindOf, takesArguments}
 use Rattle.rules.specs.SheetRefusals.{hasChildren}
 use Rattle.facts.specs.SheetFacts.{Typed, Shaped}
-use Rattle.sheet.specs.declared.Map.{Map}
 use Rattle.sheet.specs.declared.records.PatternRecord.{PatternRecord}
 use Rattle.sheet.specs.declared.records.TypeRecord.{TypeRecord}
 use Rattle.sheet.specs.declared.records.Run.{Run}
 use Rattle.sheet.specs.declared.fitting.Question.{Question}
-use Rattle.sheet.specs.declared.fitting.Question.the-variants.{Settled, Inside, Each}
+use Rattle.sheet.specs.declared.fitting.Question.the-variants.{Settled, Inside}
 use Rattle.sheet.specs.Records.{patternOf, typeOf}
 use Rattle.sheet.specs.Records.{constructorOf as constructorRecord}
-use Rattle.sheet.specs.Fitting.{Ready, asksFor, argumentsFit, asked}
+use Rattle.sheet.specs.Fitting.{asksFor, argumentsFit, asked}
 
 -- ---- a constructor's arguments
 module _ (s : List ℕ) (r : PatternRecord) (ty : TypeRecord) where

@@ -6,12 +6,12 @@ use mathlib.Core.Option.{Option, none, some}
 use Prim.Native.Nat.{ℕ, _≤_}
 use native.Mathlib.Omega.{arith}
 use borrow.Author.Tests.{leb-true, lt-ltb, le-ltb}
-use lib.Dec.{leb, ltb}
+use lib.Dec.{leb}
 use lib.ListN.{length}
 use Rattle.words.specs.WordsLaws.{both-true}
 use Rattle.rules.specs.Limits.{sheetTrailer}
 use Rattle.rules.specs.SheetFile.{clauses}
-use Rattle.rules.specs.SheetRefusals.{Verdict, refused, require, requireNone, lengthFits, layoutFits, hasClause, countsFit}
+use Rattle.rules.specs.SheetRefusals.{Verdict, require, requireNone, lengthFits, layoutFits, hasClause, countsFit}
 use Rattle.sheet.specs.declared.Starts.{Starts}
 use Rattle.sheet.specs.declared.Counts.{Counts}
 use Rattle.sheet.specs.declared.Map.{Map}

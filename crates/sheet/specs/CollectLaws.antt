@@ -1,7 +1,7 @@
 -- Collecting the names of a pattern (refusal 11): its own, then those of each child.
 use mathlib.Core.Path.{_≡_, refl, ap, sym, _∙_}
 use mathlib.Core.Bool.{Bool, true, false}
-use mathlib.Core.List.{List, [], _∷_, _++_, append-assoc}
+use mathlib.Core.List.{List, _++_, append-assoc}
 use Prim.Native.Nat.{ℕ, _+_, _-_, _≤_, _<_}
 use native.Mathlib.Omega.{arith}
 use lib.ListN.{length, length-append}
@@ -9,7 +9,7 @@ use Rattle.words.specs.Words.{pick}
 use Rattle.rules.specs.SheetFile.{patterns, clauses, patternKind, patternFirst, patternCount, child, root}
 use Rattle.rules.specs.Patterns.{patternKindOf}
 use Rattle.rules.specs.SheetRefusals.{hasChildren, repeats, nameTwice}
-use Rattle.facts.specs.SheetFacts.{Owns, owned-entry, owned-pattern}
+use Rattle.facts.specs.SheetFacts.{Owns, owned-pattern}
 use Rattle.sheet.specs.declared.Map.{Map}
 use Rattle.sheet.specs.declared.records.Run.{Run}
 use Rattle.sheet.specs.Shape.{childrenFirst, childrenCount, childrenOf}

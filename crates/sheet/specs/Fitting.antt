@@ -5,7 +5,7 @@ use mathlib.Core.Logic.{_⊎_}
 use mathlib.Core.Bool.{Bool, true, false}
 use mathlib.Core.List.{List}
 use lib.Dec.{eqb, leb}
-use Rattle.words.specs.Words.{both, pick}
+use Rattle.words.specs.Words.{both}
 use Rattle.rules.specs.SheetFile.{patterns, entries, typeKind, typeFirst, typeCount, constructorFirst, constructorCount, patternA, patternFirst, patternCount, child}
 use Rattle.rules.specs.Patterns.{PatternKind, Discard, Variable, Assign, Integer, ByteString, ListOfAll, ListWithRest, Constructor, Pair, Tuple, Unknown, pattern, along, constructorOf, takesArguments, fits, fitAll}
 use Rattle.facts.specs.SheetFacts.{Laid, Counted, Typed, Shaped, Parent}

@@ -1,20 +1,21 @@
 -- Refusal 10 from what the code reads and asks: what is left to ask of a pattern answers whether it fits, and what it asks is there.
 use mathlib.Core.Path.{_≡_, refl, ap, ap₂, sym, _∙_}
-use mathlib.Core.Logic.{_⊎_, inl, inr, ⊎-elim}
+use mathlib.Core.Logic.{inl, inr, ⊎-elim}
 use mathlib.Core.Bool.{Bool, true, false, not}
 use mathlib.Core.List.{List}
-use Prim.Native.Nat.{ℕ, zero, suc, _+_, _-_, _*_, _≤_, _<_}
+use Prim.Native.Nat.{ℕ, zero, suc, _+_, _-_, _≤_, _<_}
 use native.Mathlib.Omega.{arith}
 use borrow.Author.Tests.{eqb-true, leb-true, not-true, not-false}
 use lib.Dec.{eqb, leb}
-use Rattle.words.specs.Words.{both, pick}
+use Rattle.words.specs.Words.{both}
 use Rattle.words.specs.WordsLaws.{both-true}
 use Rattle.rules.specs.Limits.{childrenMost, entriesMost}
-use Rattle.rules.specs.SheetFile.{types, constructors, entries, patterns, children, typeKind, typeFirst, typeCount, constructorFirst, constructorCount, entry, patternKind, patternA, patternFirst, patternCount, child, root}
-use Rattle.rules.specs.Patterns.{PatternKind, Discard, Variable, Assign, Integer, ByteString, ListOfAll, ListWithRest, Constructor, Pair, Tuple, Unknown, patternKindOf, Pat, Pats, Mark, many, decorated, oneConstructor, constructorOf, along, ofConstructor, ofKind, pattern, clausePattern, takesArguments, opensInto, fits, fitAll}
+use Rattle.rules.specs.SheetFile.{types, entries, patterns, children, typeKind, typeFirst, typeCount, constructorFirst, constructorCount, entry, patternKind, patternA, patternFirst, patternCount, child, root}
+use Rattle.rules.specs.Patterns.{PatternKind, Discard, Variable, Assign, Integer, ByteString, ListOfAll, ListWithRest, Constructor, Pair, Tuple, Unknown, patternKindOf, Pat, Pats, many, decorated, oneConstructor, constructorOf, along, ofConstructor, ofKind, pattern, clausePattern, takesArguments, opensInto, fits, fitAll}
 use Rattle.rules.specs.SheetRefusals.{hasChildren, misfit}
+use Rattle.rules.specs.SplittingLaws.{both-end}
 use Rattle.facts.specs.KindsLaws.{pattern-byte}
-use Rattle.facts.specs.SheetFacts.{Laid, Counted, Typed, Shaped, Parent, Owns, owned-pattern, owned-entry}
+use Rattle.facts.specs.SheetFacts.{Owns, owned-pattern, owned-entry}
 use Rattle.facts.specs.PatternsLaws.{along-none, along-some, many-along, pattern-of-kind}
 use Rattle.sheet.specs.declared.Map.{Map}
 use Rattle.sheet.specs.declared.fitting.Question.{Question}
@@ -28,10 +29,6 @@ answered-for : (s : List ℕ) (t : ℕ) (b : Bool) (j n e step : ℕ) → answer
 unfolding answered
 answered-for s t true j n e step = refl
 answered-for s t false j n e step = refl
-
-both-right-true : (b : Bool) → both b true ≡ b
-both-right-true true = refl
-both-right-true false = refl
 
 module _ (s : List ℕ) (m : Map) (ready : Ready s m) (p t : ℕ) (h : p < patterns s) where
   opens-as : (kind : PatternKind) → patternKindOf (patternKind s p) ≡ kind → pattern s p t ≡ ofKind (pattern s) s p t kind
@@ -72,7 +69,7 @@ module _ (s : List ℕ) (m : Map) (ready : Ready s m) (p t : ℕ) (h : p < patte
   by-kind ByteString e = refl
   by-kind ListOfAll e = sym (answered-for s t (eqb (typeKind s t) 2) (patternFirst s p) (patternCount s p) (typeFirst s t) 0)
   by-kind ListWithRest e =
-      rw (tail-fits e, both-right-true (fitAll (along (pattern s) s (patternFirst s p) (patternCount s p - 1) (typeFirst s t) 0) s))
+      rw (tail-fits e, both-end (fitAll (along (pattern s) s (patternFirst s p) (patternCount s p - 1) (typeFirst s t) 0) s))
       (sym (answered-for s t (eqb (typeKind s t) 2) (patternFirst s p) (patternCount s p - 1) (typeFirst s t) 0))
   by-kind Constructor e =
       by-constructor (oneConstructor s t) (along (pattern s) s (patternFirst s p) (patternCount s p) (constructorFirst s (constructorOf s t (patternA s p))) 1)

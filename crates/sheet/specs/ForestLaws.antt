@@ -1,12 +1,12 @@
 -- The clauses' patterns are trees that share no pattern: whatever is counted at each pattern, the counts of the trees come to no more
 -- than the count over all patterns. So a clause has at most as many names as there are patterns.
-use mathlib.Core.Path.{_≡_, refl, ap, ap₂, sym, _∙_}
+use mathlib.Core.Path.{_≡_, refl, ap, sym, _∙_}
 use mathlib.Core.Bool.{Bool, true, false}
-use mathlib.Core.List.{List, [], _∷_, _++_}
+use mathlib.Core.List.{List}
 use Prim.Native.Nat.{ℕ, zero, suc, _+_, _-_, _*_, _≤_, _<_}
 use native.Mathlib.Omega.{arith}
 use borrow.Author.Tests.{eqb-true, eq-eqb}
-use lib.Dec.{eqb, leb, ltb}
+use lib.Dec.{leb, ltb}
 use lib.ListN.{length, length-append}
 use Rattle.words.specs.Words.{both, pick}
 use Rattle.rules.specs.Limits.{patternsMost}
@@ -14,7 +14,7 @@ use Rattle.rules.specs.Searching.{times}
 use Rattle.rules.specs.SheetFile.{patterns, children, clauses, patternKind, patternFirst, patternCount, child, root}
 use Rattle.rules.specs.Patterns.{PatternKind, Discard, Variable, Assign, Integer, ByteString, ListOfAll, ListWithRest, Constructor, Pair, Tuple, Unknown, patternKindOf}
 use Rattle.rules.specs.SheetRefusals.{hasChildren, isRoot, isEntry, lists}
-use Rattle.facts.specs.SheetFacts.{Counted, Shaped, Parent, owns-listed, listed-owns}
+use Rattle.facts.specs.SheetFacts.{Counted, Shaped, owns-listed, listed-owns}
 use Rattle.sheet.specs.Shape.{childrenFirst, childrenCount}
 use Rattle.sheet.specs.Names.{nameOfKind, ownName, joined, namesTo, namesIn}
 use Rattle.sheet.specs.Sums.{sum, sum-same, sum-more, sum-most, sum-none, sum-add, sum-part, sum-exchange, sum-picked, sum-times, sum-run}

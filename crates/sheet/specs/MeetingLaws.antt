@@ -2,18 +2,18 @@
 -- Rests on the laws of `every` and `times` in rules and on those of a list after a store.
 use mathlib.Core.Path.{_≡_, refl, ap, sym, _∙_}
 use mathlib.Core.Bool.{Bool, true, false}
-use mathlib.Core.List.{List, []}
-use Prim.Native.Nat.{ℕ, zero, suc, _+_, _-_, _≤_, _<_}
+use mathlib.Core.List.{List}
+use Prim.Native.Nat.{ℕ, _+_, _-_, _≤_, _<_}
 use native.Mathlib.Omega.{arith}
 use native.Mathlib.Nat.{sub-zero}
-use borrow.Author.Tests.{eqb-true, eqb-false, leb-true, leb-false, ltb-true, ltb-false, eq-eqb, ne-eqb, le-leb, lt-leb, lt-ltb, le-ltb}
+use borrow.Author.Tests.{eqb-true, eqb-false, leb-true, leb-false, ltb-true, ltb-false, le-leb, lt-leb, lt-ltb, le-ltb}
 use lib.Dec.{eqb, leb, ltb}
 use lib.ListN.{length, getD, set, length-set, replicate, length-replicate, getD-replicate, List·getD-eq-default}
 use lib.Seq.{getD-set-same, getD-set-other}
 use Rattle.words.specs.Words.{both, pick}
-use Rattle.rules.specs.Searching.{every, times}
+use Rattle.rules.specs.Searching.{times}
 use Rattle.rules.specs.SearchingLaws.{every-true, times-yes, times-no, times-end, times-most}
-use Rattle.sheet.specs.Meeting.{noneMet, metOnce, among, Meets, NoneMet, Tally}
+use Rattle.sheet.specs.Meeting.{noneMet, among, Meets, NoneMet, Tally}
 
 -- ---- among
 module _ (i n k : ℕ) where

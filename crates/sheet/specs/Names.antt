@@ -1,7 +1,6 @@
 -- The names of a pattern by the sheet's numbers, from left to right, as the code collects them (refusal 11).
 use Prim.Native.Nat.{ℕ, zero, suc, _+_}
 use mathlib.Core.Path.{_≡_}
-use mathlib.Core.Bool.{Bool, true, false}
 use mathlib.Core.List.{List, [], _∷_, _++_}
 use lib.ListN.{length}
 use Rattle.words.specs.Words.{textAt}

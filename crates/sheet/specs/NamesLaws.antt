@@ -1,21 +1,21 @@
 -- The names by number are the names of the pattern, and how a buffer of names grows.
 -- Rests on the law by which a pattern opens one level.
 use mathlib.Core.Path.{_≡_, refl, ap, ap₂, sym, _∙_}
-use mathlib.Core.Bool.{Bool, true, false, not}
+use mathlib.Core.Bool.{Bool, true, false}
 use mathlib.Core.List.{List, [], _∷_, _++_, append-nil, append-assoc}
 use Prim.Native.Nat.{ℕ, zero, suc, _+_, _-_, _≤_, _<_}
 use native.Mathlib.Omega.{arith}
 use native.Mathlib.Numerals.{add-one}
 use borrow.Author.Tests.{eq-eqb, ne-eqb}
 use lib.Dec.{eqb}
-use lib.ListN.{length, getD, set, take, drop, length-set, length-append}
+use lib.ListN.{length, getD, set, length-set, length-append}
 use lib.Seq.{take-suc-set}
-use Rattle.words.specs.Words.{Bytes, either, pick, textAt}
+use Rattle.words.specs.Words.{Bytes, either, textAt}
 use Rattle.words.specs.WordsLaws.{wordAt-small}
 use Rattle.rules.specs.Limits.{patternsMost}
-use Rattle.rules.specs.SheetFile.{patterns, children, clauses, typeFirst, constructorFirst, patternKind, patternA, patternFirst, patternCount, child, root}
-use Rattle.rules.specs.Patterns.{PatternKind, Discard, Variable, Assign, Integer, ByteString, ListOfAll, ListWithRest, Constructor, Pair, Tuple, Unknown, patternKindOf, Pat, Pats, pnil, pcons, Mark, decorated, oneConstructor, constructorOf, along, ofConstructor, ofKind, patternTo, pattern, clausePattern, names, namesOf}
-use Rattle.rules.specs.SheetRefusals.{hasChildren, isIn, repeats, nameTwice}
+use Rattle.rules.specs.SheetFile.{patterns, clauses, typeFirst, constructorFirst, patternKind, patternA, patternFirst, patternCount, child, root}
+use Rattle.rules.specs.Patterns.{PatternKind, Discard, Variable, Assign, Integer, ByteString, ListOfAll, ListWithRest, Constructor, Pair, Tuple, Unknown, patternKindOf, Pat, Pats, Mark, decorated, oneConstructor, constructorOf, along, ofConstructor, ofKind, patternTo, pattern, clausePattern, names, namesOf}
+use Rattle.rules.specs.SheetRefusals.{hasChildren, isIn, repeats}
 use Rattle.facts.specs.KindsLaws.{pattern-byte}
 use Rattle.facts.specs.SheetFacts.{Counted, Shaped, Owns, owned-pattern}
 use Rattle.facts.specs.PatternsLaws.{pattern-open}
@@ -26,11 +26,6 @@ use Rattle.sheet.specs.TextsLaws.{text-cons}
 use Rattle.sheet.specs.Names.{nameOfKind, ownName, joined, namesTo, namesIn, Names, inBuffer, held, Adds, Lacks}
 
 -- ---- lists joined
-pub joined-same : (f g : ℕ → List ℕ) (i n : ℕ) → ((k : ℕ) → i ≤ k → k < i + n → f k ≡ g k) → joined f i n ≡ joined g i n
-unfolding joined
-joined-same f g i zero h = refl
-joined-same f g i (suc n) h = ap₂ _++_ (h i (omega arith) (omega arith)) (joined-same f g (i + 1) n (λ k low high. h k (omega arith) (omega arith)))
-
 -- the last apart
 joined-last : (f : ℕ → List ℕ) (i n : ℕ) → joined f i (suc n) ≡ joined f i n ++ f (i + n)
 unfolding joined

@@ -1,7 +1,7 @@
 -- The records of a sheet as the readers answer them: where the bytes are, and by their numbers.
 -- Rests on the fields that rules defines.
 use Prim.Native.Nat.{ℕ, _+_}
-use mathlib.Core.Bool.{Bool, true, false}
+use mathlib.Core.Bool.{Bool}
 use mathlib.Core.List.{List}
 use lib.ListN.{getD}
 use lib.Dec.{eqb}

@@ -1,5 +1,5 @@
 -- Where the records of a laid-out sheet are, by its map: inside the sheet, and each the one of its number.
-use mathlib.Core.Path.{_≡_, refl, ap, _∙_}
+use mathlib.Core.Path.{_≡_, ap, _∙_}
 use mathlib.Core.List.{List}
 use Prim.Native.Nat.{ℕ, _+_, _*_, _≤_, _<_}
 use native.Mathlib.Omega.{arith}
@@ -7,12 +7,12 @@ use lib.ListN.{length, getD}
 use Rattle.words.specs.Words.{wordAt}
 use Rattle.rules.specs.Limits.{typeSize, constructorSize, entrySize, patternSize, childSize, clauseSize}
 use Rattle.rules.specs.SheetFile.{types, constructors, entries, patterns, children, clauses, typeKind, typeFlag, typeFirst, typeCount, constructorFirst, constructorCount, entry, patternKind, patternZero, patternA, patternFirst, patternCount, child, root}
-use Rattle.facts.specs.SheetFacts.{Laid, type-inside, constructor-inside, entry-inside, pattern-inside, child-inside, clause-inside}
+use Rattle.facts.specs.SheetFacts.{Laid, type-inside, constructor-inside, entry-inside, clause-inside}
 use Rattle.sheet.specs.declared.Map.{Map}
 use Rattle.sheet.specs.declared.records.Run.{Run}
 use Rattle.sheet.specs.declared.records.PatternRecord.{PatternRecord}
 use Rattle.sheet.specs.Sections.{mapOf}
-use Rattle.sheet.specs.SectionsLaws.{Mapped, mapped}
+use Rattle.sheet.specs.SectionsLaws.{mapped}
 use Rattle.sheet.specs.Records.{typeFrom, typeOf, runFrom, constructorOf, patternFrom, patternOf}
 
 -- a pattern's record by its parts
@@ -33,12 +33,6 @@ module _ {s : List ℕ} {m : Map} (l : Laid s) (e : m ≡ mapOf s) where
 
   pub entry-room : (i : ℕ) → i < entries s → m .at .entries + entrySize * i + entrySize ≤ length s
   entry-room i h = omega (arith, mapped s m e .at-entries, entry-inside l i h)
-
-  pub pattern-room : (p : ℕ) → p < patterns s → m .at .patterns + patternSize * p + patternSize ≤ length s
-  pattern-room p h = omega (arith, mapped s m e .at-patterns, pattern-inside l p h)
-
-  pub child-room : (j : ℕ) → j < children s → m .at .children + childSize * j + childSize ≤ length s
-  child-room j h = omega (arith, mapped s m e .at-children, child-inside l j h)
 
   pub root-room : (c : ℕ) → c < clauses s → m .at .clauses + clauseSize * c + clauseSize ≤ length s
   root-room c h = omega (arith, mapped s m e .at-clauses, clause-inside l c h)

@@ -1,7 +1,7 @@
 -- Where the sections of a sheet are and how many records each has, as the check hands it on; refusals 3 and 5 over those numbers.
 -- Rests on the definitions of rules; SectionsLaws has that they agree.
 use Prim.Native.Nat.{ℕ, _-_, _/_}
-use mathlib.Core.Bool.{Bool, true, false}
+use mathlib.Core.Bool.{Bool}
 use mathlib.Core.List.{List}
 use lib.Dec.{eqb, leb}
 use Rattle.words.specs.Words.{both}

@@ -1,6 +1,6 @@
 -- That refusals 3 and 5 over starts and counts are those of rules, and what the fields of a sheet's map are.
 use mathlib.Core.Path.{_≡_, refl, ap}
-use mathlib.Core.Bool.{Bool, true, false}
+use mathlib.Core.Bool.{true}
 use mathlib.Core.List.{List}
 use Prim.Native.Nat.{ℕ, _≤_}
 use lib.Dec.{eqb}

@@ -1,14 +1,13 @@
 -- Refusal 8 in the parts that the code asks, each safe after those before it; ShapeLaws has that together they are refusal 8.
 use Prim.Native.Nat.{ℕ, _+_, _≤_, _<_}
-use mathlib.Core.Path.{_≡_}
-use mathlib.Core.Bool.{Bool, true, false}
+use mathlib.Core.Bool.{Bool, false}
 use mathlib.Core.List.{List}
 use lib.Dec.{eqb, leb, ltb}
 use Rattle.words.specs.Words.{both, pick}
 use Rattle.rules.specs.Searching.{every, times}
 use Rattle.rules.specs.SheetFile.{patterns, children, clauses, patternKind, patternZero, patternFirst, patternCount, child, root, runIn}
 use Rattle.rules.specs.Patterns.{PatternKind, Discard, Variable, Assign, Integer, ByteString, ListOfAll, ListWithRest, Constructor, Pair, Tuple, Unknown, patternKindOf}
-use Rattle.rules.specs.SheetRefusals.{hasChildren, tailFits, fieldsFit, isAbove, lists}
+use Rattle.rules.specs.SheetRefusals.{hasChildren, fieldsFit, isAbove, lists}
 use Rattle.sheet.specs.declared.records.PatternRecord.{PatternRecord}
 use Rattle.sheet.specs.declared.records.Run.{Run}
 use Rattle.sheet.specs.Records.{noRun}

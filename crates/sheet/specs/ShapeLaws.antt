@@ -1,29 +1,27 @@
 -- Refusal 8 from what the code reads and asks: the parts of Shape are refusal 8, and each part that holds makes the next ones safe.
 use mathlib.Core.Path.{_≡_, refl, ap, ap₂, sym, _∙_}
-use mathlib.Core.Logic.{_⊎_, inl, inr, ⊎-elim}
-use mathlib.Core.Bool.{Bool, true, false, not, true≢false}
+use mathlib.Core.Bool.{Bool, true, false, not}
 use mathlib.Core.List.{List}
-use Prim.Native.Nat.{ℕ, zero, suc, _+_, _-_, _≤_, _<_, min}
+use Prim.Native.Nat.{ℕ, zero, suc, _+_, _-_, _≤_, _<_}
 use native.Mathlib.Omega.{arith}
-use borrow.Author.Tests.{eqb-true, leb-true, leb-false, ltb-true, eq-eqb, ne-eqb, le-leb, lt-leb, lt-ltb, le-ltb}
+use borrow.Author.Tests.{leb-true, leb-false, ltb-true, eq-eqb, ne-eqb, le-leb, lt-leb, lt-ltb}
 use lib.Dec.{eqb, leb, ltb}
 use Rattle.words.specs.Words.{both, either, pick}
-use Rattle.words.specs.WordsLaws.{both-true, both-make}
-use Rattle.rules.specs.Limits.{depthMost}
-use Rattle.rules.specs.Searching.{every, times}
-use Rattle.rules.specs.SearchingLaws.{every-true}
-use Rattle.rules.specs.SheetFile.{patterns, children, clauses, poolSize, patternKind, patternZero, patternA, patternFirst, patternCount, child, root, runIn}
+use Rattle.words.specs.WordsLaws.{both-true, both-assoc}
+use Rattle.rules.specs.Searching.{every}
+use Rattle.rules.specs.SplittingLaws.{both-end}
+use Rattle.rules.specs.SheetFile.{patterns, children, clauses, poolSize, patternKind, patternZero, patternA, patternFirst, patternCount, child, runIn}
 use Rattle.rules.specs.Patterns.{PatternKind, Discard, Variable, Assign, Integer, ByteString, ListOfAll, ListWithRest, Constructor, Pair, Tuple, Unknown, patternKindOf}
-use Rattle.rules.specs.SheetRefusals.{hasChildren, tailFits, fieldsFit, isAbove, childrenAbove, standsOnce, patternKeepsRules, lists, childKeepsRules, rootKeepsRules, within, depthFits, shapeFits}
+use Rattle.rules.specs.SheetRefusals.{hasChildren, tailFits, fieldsFit, isAbove, childrenAbove, standsOnce, patternKeepsRules, childKeepsRules, rootKeepsRules, within, depthFits, shapeFits}
 use Rattle.facts.specs.KindsLaws.{patternNumber, pattern-number, pattern-byte}
 use Rattle.facts.specs.RunsLaws.{run-in, every-below}
-use Rattle.facts.specs.SheetFacts.{fields-run, fields-kind}
+use Rattle.facts.specs.SheetFacts.{fields-run}
 use Rattle.sheet.specs.declared.Map.{Map}
 use Rattle.sheet.specs.declared.records.PatternRecord.{PatternRecord}
 use Rattle.sheet.specs.declared.records.Run.{Run}
 use Rattle.sheet.specs.Sections.{mapOf}
 use Rattle.sheet.specs.SectionsLaws.{mapped}
-use Rattle.sheet.specs.Records.{patternOf, noRun}
+use Rattle.sheet.specs.Records.{patternOf}
 use Rattle.sheet.specs.TestsLaws.{passed, stopped}
 use Rattle.sheet.specs.Shape.{childrenFirst, childrenCount, childrenOf, plainRun, ownFields, recordFits, childKnown, ChildrenKnown, RootsKnown, RunsInside, listedOnce, allAbove}
 
@@ -33,21 +31,13 @@ same-truth true b f g = sym (f refl)
 same-truth false true f g = g refl
 same-truth false false f g = refl
 
-both-right-true : (a : Bool) → both a true ≡ a
-both-right-true true = refl
-both-right-true false = refl
-
 both-swap : (a b c : Bool) → both a (both b c) ≡ both b (both a c)
 both-swap true b c = refl
 both-swap false true c = refl
 both-swap false false c = refl
 
-both-assoc : (a b c : Bool) → both a (both b c) ≡ both (both a b) c
-both-assoc true b c = refl
-both-assoc false b c = refl
-
 both-rest : (a b c t : Bool) → both a (both b (both c t)) ≡ both (both b (both a c)) t
-both-rest true b c t = both-assoc b c t
+both-rest true b c t = sym (both-assoc b c t)
 both-rest false true c t = refl
 both-rest false false c t = refl
 
@@ -121,16 +111,16 @@ tailRule s p Unknown = true
 
 fields-are : (s : List ℕ) (p : ℕ) (kind : PatternKind) → fieldsFit s p kind ≡ both (ownFields (patternOf s p) (children s) (poolSize s) kind) (tailRule s p kind)
 unfolding fieldsFit ownFields tailRule
-fields-are s p Discard = sym (both-right-true _)
-fields-are s p Variable = sym (both-right-true _)
-fields-are s p Assign = sym (both-right-true _)
-fields-are s p Integer = sym (both-right-true _)
-fields-are s p ByteString = sym (both-right-true _)
-fields-are s p ListOfAll = sym (both-right-true _)
+fields-are s p Discard = sym (both-end _)
+fields-are s p Variable = sym (both-end _)
+fields-are s p Assign = sym (both-end _)
+fields-are s p Integer = sym (both-end _)
+fields-are s p ByteString = sym (both-end _)
+fields-are s p ListOfAll = sym (both-end _)
 fields-are s p ListWithRest = both-rest (eqb (patternA s p) 0) (leb 2 (patternCount s p)) (runIn (patternFirst s p) (patternCount s p) (children s)) (tailFits s p)
-fields-are s p Constructor = sym (both-right-true _)
-fields-are s p Pair = both-swap (eqb (patternA s p) 0) (eqb (patternCount s p) 2) (runIn (patternFirst s p) (patternCount s p) (children s)) ∙ sym (both-right-true _)
-fields-are s p Tuple = sym (both-right-true _)
+fields-are s p Constructor = sym (both-end _)
+fields-are s p Pair = both-swap (eqb (patternA s p) 0) (eqb (patternCount s p) 2) (runIn (patternFirst s p) (patternCount s p) (children s)) ∙ sym (both-end _)
+fields-are s p Tuple = sym (both-end _)
 fields-are s p Unknown = refl
 
 -- a kind other than list with tail asks nothing of a tail
@@ -239,7 +229,7 @@ above-is s p = go (hasChildren (patternKindOf (patternKind s p)))
 pattern-keeps : (s : List ℕ) (p : ℕ) → patternKeepsRules s p ≡ both (recordFits s p) (both (allAbove s p) (standsOnce s p))
 unfolding patternKeepsRules recordFits
 pattern-keeps s p =
-    both-assoc (eqb (patternZero s p) 0) (fieldsFit s p (patternKindOf (patternKind s p))) (both (childrenAbove s p (patternKindOf (patternKind s p))) (standsOnce s p))
+    sym (both-assoc (eqb (patternZero s p) 0) (fieldsFit s p (patternKindOf (patternKind s p))) (both (childrenAbove s p (patternKindOf (patternKind s p))) (standsOnce s p)))
     ∙ ap (λ (x : Bool). both (both (eqb (patternZero s p) 0) (fieldsFit s p (patternKindOf (patternKind s p)))) (both x (standsOnce s p))) (above-is s p)
 
 patterns-keep : (s : List ℕ) → every (patternKeepsRules s) 0 (patterns s)
@@ -311,7 +301,7 @@ tail-kind s j last tail e f = rw (f, e)
 
 pub above-known : (s : List ℕ) → ChildrenKnown s → (p j : ℕ) {q : ℕ} → j < children s → q ≡ child s j → ltb p q ≡ isAbove s p j
 unfolding isAbove
-above-known s known p j h e = rw (e, lt-ltb (child s j) (patterns s) (known .child-known j h)) (sym (both-right-true _))
+above-known s known p j h e = rw (e, lt-ltb (child s j) (patterns s) (known .child-known j h)) (sym (both-end _))
 
 -- ---- going over the children of a pattern
 module _ (s : List ℕ) where

@@ -5,13 +5,12 @@ use mathlib.Core.Bool.{Bool, true, false, true≢false}
 use mathlib.Core.List.{List}
 use Prim.Native.Nat.{ℕ, zero, suc, _+_, _-_, _≤_, _<_}
 use native.Mathlib.Omega.{arith}
-use borrow.Author.Tests.{eqb-true, eqb-false, leb-true, ltb-true, ne-eqb}
+use borrow.Author.Tests.{eqb-false, ne-eqb}
 use lib.Dec.{eqb, leb, ltb}
 use lib.ListN.{length, getD}
 use Rattle.words.specs.Words.{both, pick}
-use Rattle.words.specs.WordsLaws.{both-true}
 use Rattle.rules.specs.Searching.{every, times}
-use Rattle.rules.specs.SearchingLaws.{first-or-rest, every-false, times-some, times-most}
+use Rattle.rules.specs.SearchingLaws.{every-false, times-some, times-most}
 use Rattle.rules.specs.SheetFile.{patterns, children, clauses, patternKind, patternFirst, patternCount, child, root}
 use Rattle.rules.specs.Patterns.{patternKindOf}
 use Rattle.rules.specs.SheetRefusals.{hasChildren, isRoot, isEntry, standsOnce, lists}

@@ -9,10 +9,10 @@ use borrow.Author.Tests.{eq-eqb, ne-eqb, le-leb, lt-leb, lt-ltb, le-ltb, leb-tru
 use lib.Dec.{eqb, leb, ltb}
 use lib.ListN.{length, getD, take, drop}
 use lib.Seq.{drop-cons}
-use Rattle.words.specs.Words.{both, either, pick, textAt, sameText}
+use Rattle.words.specs.Words.{both, either, textAt, sameText}
 use Rattle.rules.specs.Limits.{textMost}
 use Rattle.rules.specs.Texts.{digits, natural, afterSign, canonical, shortText}
-use Rattle.rules.specs.SheetFile.{patterns, poolAt, poolSize, patternKind, patternFirst, patternCount, poolText}
+use Rattle.rules.specs.SheetFile.{patterns, patternKind, patternFirst, patternCount, poolText}
 use Rattle.rules.specs.Patterns.{PatternKind, Discard, Variable, Assign, Integer, ByteString, ListOfAll, ListWithRest, Constructor, Pair, Tuple, Unknown, patternKindOf}
 use Rattle.rules.specs.SheetRefusals.{textOfKind, badText}
 use Rattle.facts.specs.KindsLaws.{pattern-byte}

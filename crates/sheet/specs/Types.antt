@@ -1,6 +1,6 @@
 -- Refusal 6 of one type over the fields of its record.
 use Prim.Native.Nat.{ℕ}
-use mathlib.Core.Bool.{Bool, true, false}
+use mathlib.Core.Bool.{Bool, false}
 use lib.Dec.{eqb, leb}
 use Rattle.words.specs.Words.{both, either, pick}
 use Rattle.rules.specs.SheetFile.{runIn}

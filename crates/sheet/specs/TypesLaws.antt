@@ -1,21 +1,18 @@
 -- Refusals 6 and 7 of a sheet from what the code reads and asks: each law is one way out of a function.
-use mathlib.Core.Path.{_≡_, refl, ap, sym, _∙_}
+use mathlib.Core.Path.{_≡_, ap, sym, _∙_}
 use mathlib.Core.Bool.{Bool, true, false, not}
 use mathlib.Core.List.{List}
-use Prim.Native.Nat.{ℕ, _+_, _≤_, _<_}
+use Prim.Native.Nat.{ℕ, _<_}
 use native.Mathlib.Omega.{arith}
-use borrow.Author.Tests.{eq-eqb, ne-eqb, lt-ltb, le-ltb}
+use borrow.Author.Tests.{eq-eqb, ne-eqb}
 use lib.Dec.{eqb, ltb}
-use Rattle.words.specs.Words.{both}
-use Rattle.rules.specs.Searching.{every}
-use Rattle.rules.specs.SheetFile.{subject, types, constructors, entries, typeKind, typeFlag, typeFirst, typeCount, constructorFirst, constructorCount, entry, runIn}
-use Rattle.rules.specs.SheetRefusals.{typeParts, typeFlags, typeKeepsRules, constructorKeepsRules, entryKeepsRules, typesFit, transparent}
+use Rattle.rules.specs.SheetFile.{subject, types, constructors, entries, typeKind, typeFlag, typeFirst, typeCount, entry, runIn}
+use Rattle.rules.specs.SheetRefusals.{typeParts, typeFlags, typeKeepsRules, constructorKeepsRules, entryKeepsRules, transparent}
 use Rattle.facts.specs.SheetFacts.{Typed}
 use Rattle.sheet.specs.declared.Map.{Map}
 use Rattle.sheet.specs.declared.records.TypeRecord.{TypeRecord}
 use Rattle.sheet.specs.declared.records.Run.{Run}
 use Rattle.sheet.specs.Sections.{mapOf}
-use Rattle.sheet.specs.SectionsLaws.{mapped}
 use Rattle.sheet.specs.Records.{typeOf, constructorOf}
 use Rattle.sheet.specs.Types.{partsFit, flagsFit}
 use Rattle.sheet.specs.TestsLaws.{passed, stopped}

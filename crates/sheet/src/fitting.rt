@@ -17,7 +17,7 @@ ghost use Rattle.words.specs.Words.{both};
 ghost use Rattle.rules.specs.SheetFile.{types, constructors, patterns, clauses, patternKind};
 ghost use Rattle.rules.specs.Patterns.{patternKindOf, pattern, along, fits as Fits, fitAll};
 ghost use Rattle.rules.specs.SheetRefusals.{misfit, lowestMisfit};
-ghost use Rattle.facts.specs.SheetFacts.{Laid, Counted, Typed, Shaped};
+ghost use Rattle.facts.specs.SheetFacts.{Laid};
 ghost use Rattle.sheet.specs.Sections.{mapOf};
 ghost use Rattle.sheet.specs.Found.{foundOf};
 ghost use Rattle.sheet.specs.Fitting.{Ready, Room, asksFor, argumentsFit, asked};

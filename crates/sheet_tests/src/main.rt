@@ -2,17 +2,17 @@
 // The file stdout has the answers as 01 gives them, by hand.
 mod make;
 
-use make::Sizes;
-use make::bytes;
 use make::clauses;
-use make::end;
-use make::four;
 use make::list_of;
 use make::nested;
-use make::of;
-use make::three;
-use make::word;
 use sheet::Checked;
+use trials::Sizes;
+use trials::bytes;
+use trials::end;
+use trials::four;
+use trials::of;
+use trials::three;
+use trials::word;
 
 // ---- a case
 fn check(name: &[u8], s: &[u8]) {

@@ -1,7 +1,7 @@
 -- A pattern's children after it gave them their fields: each has those of its standing, every other byte is as it was.
 -- Rests on FieldsLaws, on the standing of a child, and on the shape of an accepted sheet.
 use mathlib.Core.Path.{_≡_, refl, sym, ap, _∙_}
-use mathlib.Core.Logic.{_⊎_, ⊎-elim}
+use mathlib.Core.Logic.{⊎-elim}
 use mathlib.Core.Bool.{Bool, true, false, not, true≢false}
 use mathlib.Core.List.{List}
 use Prim.Native.Nat.{ℕ, _+_, _-_, _*_, _≤_, _<_}

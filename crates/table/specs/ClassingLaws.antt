@@ -15,7 +15,7 @@ use lib.Seq.{drop-cons}
 use Rattle.words.specs.Words.{both, textAt}
 use Rattle.words.specs.WordsLaws.{pick-true, pick-false, length-textAt, textAt-add}
 use Rattle.words.specs.Stored.{stored}
-use Rattle.words.specs.StoredLaws.{set-stored, stored-nil, stored-append, getD-stored-below}
+use Rattle.words.specs.StoredLaws.{set-stored, stored-append, getD-stored-below}
 use Rattle.rules.specs.Limits.{patternsMost, depthMost}
 use Rattle.rules.specs.SheetFile.{subject, patterns, root}
 use Rattle.rules.specs.Patterns.{oneConstructor}
@@ -110,9 +110,6 @@ abbrev pub Copied : List ℕ → ℕ → ℕ → List ℕ → ℕ → Type 0
 Copied t from to u i = u ≡ stored t to (textAt t from i)
 
 module _ (t : List ℕ) (from to depth : ℕ) (long : length t ≡ tableSize) (below : from + depth ≤ to) (room : to + depth < tableSize) where
-  pub copied-none : Copied t from to t 0
-  copied-none = sym (stored-nil t to)
-
   -- one more element behind those copied
   behind : (u : List ℕ) (i x : ℕ) → i ≤ depth → Copied t from to u i → set u (to + i) x ≡ stored t to (textAt t from i ++ x ∷ [])
   behind u i x l e =

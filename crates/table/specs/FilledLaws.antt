@@ -5,7 +5,7 @@ use mathlib.Core.Logic.{_⊎_, inl, inr, ⊎-elim}
 use mathlib.Core.Bool.{Bool, true, false, true≢false}
 use mathlib.Core.List.{List, [], _∷_, _++_, map, map-append}
 use mathlib.Core.Option.{Option, none, some}
-use Prim.Native.Nat.{ℕ, zero, suc, _+_, _-_, _*_, _≤_, _<_}
+use Prim.Native.Nat.{ℕ, zero, suc, _+_, _*_, _≤_, _<_}
 use native.Mathlib.Omega.{arith}
 use native.Mathlib.Nat.{add-zero, zero-add, eq-or-lt-of-le}
 use native.Mathlib.Numerals.{add-one}
@@ -29,7 +29,7 @@ use Rattle.table.specs.PathsLaws.{length-into, length-follows, path-shor
 use Rattle.table.specs.ClassLaws.{class-below, class-above, class-by-step, step-steps}
 use Rattle.table.specs.ApartLaws.{same-test}
 use Rattle.table.specs.Table.{classAt, typeAt, stepAt, indexAt, depthAt, clauseAt, indicesAt, cellsAt, sameNumber, aboveIn, sameStepIn, classIn, classed, indexed, tested}
-use Rattle.table.specs.Tabled.{Placed, Classed, Indexed, Tabled, Filled, Ranged, RowBelow}
+use Rattle.table.specs.Tabled.{Placed, Classed, Indexed, Filled, Ranged, RowBelow}
 use Rattle.table.specs.FieldsLaws.{FieldAt, Fields, kept-fields}
 
 -- ---- searches: of tests that agree, and of one number more

@@ -13,9 +13,9 @@ use lib.Dec.{eqb}
 use Rattle.words.specs.Words.{both}
 use Rattle.words.specs.WordsLaws.{pick-false}
 use Rattle.rules.specs.SheetFile.{patterns, clauses, typeFirst, constructorFirst, entry, patternKind, patternA, patternFirst, patternCount, child, root}
-use Rattle.rules.specs.Patterns.{PatternKind, Discard, Variable, Assign, Integer, ByteString, ListOfAll, ListWithRest, Constructor, Pair, Tuple, Unknown, pairs, tuples, Pat, Pats, assign, opened, pnil, pcons, many, oneConstructor, decorated, constructorOf, along, ofConstructor, ofKind, pattern, clausePattern}
+use Rattle.rules.specs.Patterns.{PatternKind, Discard, Variable, Assign, Integer, ByteString, ListOfAll, ListWithRest, Constructor, Pair, Tuple, Unknown, pairs, tuples, Pat, Pats, pnil, pcons, many, oneConstructor, decorated, constructorOf, along, ofConstructor, ofKind, pattern, clausePattern}
 use Rattle.rules.specs.SheetRefusals.{hasChildren}
-use Rattle.rules.specs.Rows.{Step, constr, list, listtail, Path, into, opening, Binding, Cell, Row, columnsOf, columnsOfEach, bindingsOf, bindingsOfEach, clauseRow, openedColumns, openedBindings}
+use Rattle.rules.specs.Rows.{Step, constr, list, listtail, Path, into, opening, Binding, Cell, columnsOf, columnsOfEach, bindingsOf, bindingsOfEach, openedColumns, openedBindings}
 use Rattle.facts.specs.KindsLaws.{patternNumber, pattern-byte, unknown-pattern}
 use Rattle.facts.specs.SheetFacts.{Counted, Parent, Owns, Shaped, owned-pattern}
 use Rattle.facts.specs.PatternsLaws.{many-along, pattern-of-kind}

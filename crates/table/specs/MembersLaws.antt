@@ -15,9 +15,10 @@ use Rattle.rules.specs.SearchingLaws.{first-or-rest}
 use Rattle.rules.specs.SheetFile.{patterns, clauses, patternFirst, patternCount, child, root}
 use Rattle.rules.specs.SheetRefusals.{hasChildren, isIn}
 use Rattle.facts.specs.SheetFacts.{Counted, Owns, Shaped, owned-pattern}
+use Rattle.facts.specs.TreeFacts.{isIn-left, isIn-right}
 use Rattle.table.specs.Standing.{kindOf, clauseOf, ownerOf, isTest}
 use Rattle.table.specs.StandingLaws.{by-standing, by-children, clause-known, root-clause, root-owner, child-clause, child-owner, Owner, inside-none, inside-test, owner}
-use Rattle.table.specs.Seen.{eachOf, insideOf, seen, those, binds, testsOf, bindsOf, openedTests, openedBinds}
+use Rattle.table.specs.Seen.{eachOf, insideOf, seen, those, testsOf, openedTests}
 use Rattle.table.specs.SeenLaws.{insideOf-parent, insideOf-childless, seen-test, seen-parts, those-has, those-lacks}
 
 -- ---- a number among numbers
@@ -39,15 +40,6 @@ isIn-nil x h = true≢false (sym h)
 
 pub isIn-one : (x y : ℕ) → isIn x (y ∷ []) ≡ true → x ≡ y
 isIn-one x y h = ⊎-elim (λ e. e) (λ e. absurd (isIn-nil x e)) (isIn-cons x y [] h)
-
-pub isIn-left : (x : ℕ) (xs ys : List ℕ) → isIn x xs ≡ true → isIn x (xs ++ ys) ≡ true
-isIn-left x [] ys h = absurd (isIn-nil x h)
-isIn-left x (y ∷ xs) ys h =
-    ⊎-elim (λ e. rw e (isIn-head y (xs ++ ys))) (λ e. isIn-tail x y (xs ++ ys) (isIn-left x xs ys e)) (isIn-cons x y xs h)
-
-pub isIn-right : (x : ℕ) (xs ys : List ℕ) → isIn x ys ≡ true → isIn x (xs ++ ys) ≡ true
-isIn-right x [] ys h = h
-isIn-right x (y ∷ xs) ys h = isIn-tail x y (xs ++ ys) (isIn-right x xs ys h)
 
 pub isIn-append : (x : ℕ) (xs ys : List ℕ) → isIn x (xs ++ ys) ≡ true → (isIn x xs ≡ true) ⊎ (isIn x ys ≡ true)
 isIn-append x [] ys h = inr h
@@ -287,14 +279,3 @@ module _ {s : List ℕ} (sh : Shaped s) (few : Counted s) where
 
   pub in-test-test : (q o : ℕ) → q < patterns s → isTest s q ≡ true → ownerOf s q ≡ o + 1 → isIn q (openedTests s o) ≡ true
   in-test-test = in-test-those (isTest s) (testsOf s) testsOf-are
-
-  -- ---- bindings
-  bindsOf-are : (p : ℕ) → bindsOf s p ≡ those (binds s) (seen s p)
-  unfolding bindsOf
-  bindsOf-are p = refl
-
-  pub bind-at : (p q : ℕ) → p < patterns s → isIn q (bindsOf s p) ≡ true → (binds s q ≡ true) × SeenAt s p q
-  bind-at = those-at (binds s) (bindsOf s) bindsOf-are
-
-  pub bind-inside : (p q : ℕ) → p < patterns s → isTest s p ≡ true → isIn q (openedBinds s p) ≡ true → (binds s q ≡ true) × SeenInside s p q
-  bind-inside = those-inside (binds s) (bindsOf s) bindsOf-are

@@ -1,7 +1,7 @@
 -- No pattern is seen twice: the numbers of tests and bindings that a pattern gives, or a test opens to, are all different.
 -- Rests on ApartLaws (children of one pattern stand at different paths) and MembersLaws.
 use mathlib.Core.Path.{_≡_, refl, sym, ap, _∙_}
-use mathlib.Core.Logic.{_⊎_, ⊎-elim}
+use mathlib.Core.Logic.{⊎-elim}
 use mathlib.Core.Bool.{Bool, true, false, true≢false}
 use mathlib.Core.List.{List, [], _∷_, _++_, append-nil, append-assoc}
 use Prim.Native.Nat.{ℕ, zero, suc, _+_, _-_, _≤_, _<_}

@@ -8,17 +8,15 @@ use Prim.Native.Nat.{ℕ, zero, suc, _+_, _-_, _≤_, _<_}
 use native.Mathlib.Omega.{arith}
 use lib.ListN.{length, length-append}
 use Rattle.words.specs.Words.{both, pick}
-use Rattle.rules.specs.Limits.{typesMost, childrenMost, depthMost}
+use Rattle.rules.specs.Limits.{depthMost}
 use Rattle.rules.specs.SheetFile.{patterns, clauses, patternFirst, child, root}
 use Rattle.rules.specs.Patterns.{PatternKind, Discard, Variable, Assign, Integer, ByteString, ListOfAll, ListWithRest, Constructor, Pair, Tuple, Unknown, oneConstructor, decorated}
 use Rattle.rules.specs.SheetRefusals.{within}
 use Rattle.rules.specs.Rows.{Step, pair, tuple, constr, list, listtail, Path, into}
 use Rattle.rules.specs.Columns.{stepIndex}
-use Rattle.rules.specs.SplittingLaws.{All}
-use Rattle.facts.specs.SheetFacts.{Counted, Owns, Shaped, Accepted, within-child}
+use Rattle.facts.specs.SheetFacts.{Counted, Owns, Shaped, within-child}
 use Rattle.table.specs.Standing.{kindOf, isTail, stepTo, follows, pathOf, typeOf, aboveOf, stepType}
 use Rattle.table.specs.StandingLaws.{Place, as-root, as-child, place, by-standing, root-path, root-above, child-path, child-above, first-path}
-use Rattle.table.specs.TypesLaws.{type-known}
 
 pub length-into : (p : Path) (step : Step) → length (into p step) ≡ length p + 1
 unfolding into
@@ -107,39 +105,3 @@ stepTo-steps s p t i Constructor step e =
 stepTo-steps s p t i Pair step e = steps-from i t (pair i t) step e (record { index = refl; type = refl })
 stepTo-steps s p t i Tuple step e = steps-from i t (tuple i t) step e (record { index = refl; type = refl })
 stepTo-steps s p t i Unknown step e = absurd (none-some step e)
-
--- a step within the limits
-pub record SmallStep (step : Step) : Type 0 where
-  pub index-small : stepIndex step < childrenMost
-  pub type-small : stepType step < typesMost
-
-all-into : (P : Step → Type 0) (p : Path) (step : Step) → All P p → P step → All P (into p step)
-unfolding into
-all-into P [] step h last = (last, tt)
-all-into P (x ∷ p) step h last = (h .0, unfold into in (all-into P p step (h .1) last))
-
-module _ {s : List ℕ} (ok : Accepted s) where
-  pub path-small : (p : ℕ) → p < patterns s → All SmallStep (pathOf s p)
-  unfolding follows
-  path-small = by-standing (ok .is-shaped) (λ p. All SmallStep (pathOf s p)) at-root at-child
-    where
-      at-root : (c : ℕ) → c < clauses s → All SmallStep (pathOf s (root s c))
-      at-root c h = rw (root-path (ok .is-shaped) c h) tt
-
-      follow : (p j : ℕ) → p < patterns s → Owns s p j → All SmallStep (pathOf s p) → (step : Option Step)
-          → stepTo s p (typeOf s p) (kindOf s p) (j - patternFirst s p) ≡ step → All SmallStep (follows (pathOf s p) step)
-      follow p j h o ih none e = ih
-      follow p j h o ih (some step) e =
-          let w = stepTo-steps s p (typeOf s p) (j - patternFirst s p) (kindOf s p) step e in
-          let run = ok .is-shaped .children-run p h (o .parent) .inside in
-          let small : SmallStep step =
-          record {
-            index-small = omega (arith, w .index, o .from, o .to, run, ok .is-counted .children-most);
-            type-small = omega (arith, w .type, type-known ok p h, ok .is-counted .types-most);
-          }
-          in
-          all-into SmallStep (pathOf s p) step ih small
-
-      at-child : (p j : ℕ) → p < patterns s → Owns s p j → All SmallStep (pathOf s p) → All SmallStep (pathOf s (child s j))
-      at-child p j h o ih =
-          rw (child-path (ok .is-shaped) p j h o (ok .is-counted)) (follow p j h o ih (stepTo s p (typeOf s p) (kindOf s p) (j - patternFirst s p)) refl)

@@ -12,7 +12,7 @@ use native.Mathlib.Numerals.{add-one}
 use borrow.Author.Tests.{leb-true, leb-false}
 use lib.Dec.{leb}
 use Rattle.rules.specs.Limits.{patternsMost}
-use Rattle.rules.specs.SheetFile.{patterns, patternKind, patternFirst, patternCount, child, root}
+use Rattle.rules.specs.SheetFile.{patterns, patternKind, patternFirst, patternCount, child}
 use Rattle.rules.specs.Patterns.{PatternKind, Discard, Variable, Assign, Integer, ByteString, ListOfAll, ListWithRest, Constructor, Pair, Tuple, Unknown, oneConstructor}
 use Rattle.rules.specs.SheetRefusals.{hasChildren}
 use Rattle.facts.specs.KindsLaws.{patternNumber, pattern-number, byte-pattern}

@@ -8,7 +8,7 @@ use lib.Dec.{eqb}
 use Rattle.words.specs.Words.{both, pick}
 use Rattle.rules.specs.Limits.{patternsMost}
 use Rattle.rules.specs.Searching.{lowest}
-use Rattle.rules.specs.SheetFile.{subject, patterns, children, clauses, typeFirst, constructorFirst, entry, patternKind, patternA, patternFirst, patternCount, child}
+use Rattle.rules.specs.SheetFile.{subject, patterns, children, clauses, typeFirst, constructorFirst, entry, patternKind, patternA, patternFirst, patternCount}
 use Rattle.rules.specs.Patterns.{PatternKind, Discard, Variable, Assign, Integer, ByteString, ListOfAll, ListWithRest, Constructor, Pair, Tuple, Unknown, patternKindOf, Pat, oneConstructor, decorated, constructorOf, pattern}
 use Rattle.rules.specs.SheetRefusals.{isRoot, isEntry, lists}
 use Rattle.rules.specs.Rows.{Step, pair, tuple, constr, list, listtail, Path, into}

@@ -1,7 +1,7 @@
 -- Where a pattern stands, opened one level: a root by its clause, a child by its parent, and by these each fact of all patterns.
 -- Rests on the shape of the sheet: each pattern is one clause's root or one entry, and a child's number is larger than its parent's.
 use mathlib.Core.Path.{_≡_, refl, sym, ap, _∙_}
-use mathlib.Core.Logic.{_⊎_, ⊎-elim}
+use mathlib.Core.Logic.{⊎-elim}
 use mathlib.Core.Bool.{Bool, true, false, true≢false}
 use mathlib.Core.List.{List, []}
 use mathlib.Core.Option.{Option, none, some}

@@ -9,7 +9,7 @@ use lib.Dec.{eqb, ltb}
 use Rattle.words.specs.Words.{both, pick, textAt}
 use Rattle.words.specs.Stored.{stored}
 use Rattle.rules.specs.Searching.{lowest}
-use Rattle.rules.specs.SheetFile.{subject, clauses, typeFirst, constructorFirst, entry, patternA, patternFirst, patternCount, child, root}
+use Rattle.rules.specs.SheetFile.{subject, typeFirst, constructorFirst, entry, patternA, patternFirst, patternCount, child, root}
 use Rattle.rules.specs.Patterns.{PatternKind, Discard, Variable, Assign, Integer, ByteString, ListOfAll, ListWithRest, Constructor, Pair, Tuple, Unknown, oneConstructor, constructorOf}
 use Rattle.table.specs.Standing.{orSelf, standing, typeOf, ownerOf}
 

@@ -9,17 +9,13 @@ use borrow.Author.Tests.{leb-true}
 use lib.Dec.{leb, eqb}
 use lib.ListN.{length}
 use Rattle.words.specs.Words.{Bytes, both}
-use Rattle.words.specs.WordsLaws.{both-true}
+use Rattle.words.specs.WordsLaws.{both-true, both-assoc}
 use Rattle.rules.specs.TreeReader.{treeLength, lengthTrue, startsRise, nodesInPreOrder, treeFits}
 use Rattle.facts.specs.TreeFacts.{TreeRuled, TreeSound, tree-laid, tree-ruled, tree-sound}
 use Rattle.tree.specs.declared.layout.Map.{Map}
 use Rattle.tree.specs.declared.Checked.the-variants.{Accepted, Refused}
 use Rattle.tree.specs.Reading.{mapOf, Mapped, Ruled, checkedBy, checked, recordsKeepRules}
 use Rattle.tree.specs.ReadingLaws.{mapped}
-
-both-assoc : (a b c : Bool) → both (both a b) c ≡ both a (both b c)
-both-assoc true b c = refl
-both-assoc false b c = refl
 
 fits-by-stages : (t : List ℕ) → treeFits t ≡ both (lengthTrue t) (both (startsRise t) (both (recordsKeepRules t) (nodesInPreOrder t)))
 unfolding treeFits recordsKeepRules

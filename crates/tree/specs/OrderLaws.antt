@@ -11,6 +11,7 @@ use lib.Dec.{eqb}
 use borrow.Author.Tests.{eq-eqb, ne-eqb, lt-ltb, le-ltb}
 use Rattle.words.specs.Words.{both}
 use Rattle.rules.specs.Searching.{every}
+use Rattle.rules.specs.SplittingLaws.{both-end}
 use Rattle.rules.specs.TreeReader.{nodes, nodeKind, nodeWord, nodeFirstCase, nodeCases, nodeTailCases, nodeDefault, nodeChild, caseChild, caseChildren, defaultChild, nodeChildren, nodesInPreOrder}
 use Rattle.facts.specs.TreeFacts.{switch-children, hoist-children}
 use Rattle.tree.specs.declared.layout.Map.{Map}
@@ -66,13 +67,9 @@ pub childrenFollow-leaf : (t : List ℕ) (k : ℕ) → nodeChildren t k ≡ [] �
 unfolding chained
 childrenFollow-leaf t k e = childrenFollow-is t k [] e
 
-both-true-second : (a : Bool) → both a true ≡ a
-both-true-second true = refl
-both-true-second false = refl
-
 pub childrenFollow-hoist : (t : List ℕ) (k c : ℕ) → nodeChildren t k ≡ c ∷ [] → eqb c (k + 1) ≡ childrenFollow t k
 unfolding chained
-childrenFollow-hoist t k c e = sym (both-true-second (eqb c (k + 1))) ∙ childrenFollow-is t k (c ∷ []) e
+childrenFollow-hoist t k c e = sym (both-end (eqb c (k + 1))) ∙ childrenFollow-is t k (c ∷ []) e
 
 module _ (t : List ℕ) (e i : ℕ) where
   chain-cons : (n : ℕ) → chained t e (caseChildren t i (suc n)) ≡ both (eqb (caseChild t i) e) (chained t (endOf t (caseChild t i)) (caseChildren t (i + 1) n))
@@ -142,7 +139,7 @@ module _ (t : List ℕ) (e i n : ℕ) (some : 1 ≤ n) where
   chain-default zero h x = absurd (h refl)
   chain-default (suc d) h x =
       let p : suc d - 1 ≡ d = omega arith in
-      sym (chain-then t e i n some (d ∷ []) ∙ rw (x, p) (both-true-second (eqb d (endOf t (caseChild t (i + n - 1))))))
+      sym (chain-then t e i n some (d ∷ []) ∙ rw (x, p) (both-end (eqb d (endOf t (caseChild t (i + n - 1))))))
 
 -- ---- last children and ends, as the map counts nodes
 module _ {t : List ℕ} {m : Map} (w : Ruled t m) where

@@ -1,7 +1,7 @@
 -- A file's fields as the code reads them, from the map's starts on; and that a file with a true length and rising starts is mapped.
 -- Rests on Reading and the rules' definitions of the tree file.
 use mathlib.Core.Path.{_≡_, refl, sym, ap, subst, _∙_}
-use mathlib.Core.Bool.{Bool, true}
+use mathlib.Core.Bool.{Bool}
 use mathlib.Core.List.{List}
 use Prim.Native.Nat.{ℕ, _+_, _-_, _*_}
 use native.Mathlib.Omega.{arith}

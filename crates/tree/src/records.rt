@@ -18,7 +18,7 @@ ghost use mathlib.Core.Bool.{true};
 ghost use Prim.Native.Nat.{_+_, _<_, _≤_};
 ghost use Rattle.rules.specs.Searching.{every};
 ghost use Rattle.rules.specs.SheetFile.{runIn};
-ghost use Rattle.rules.specs.TreeReader.{NodeKind, Switch, List-switch, Leaf, Hoist-node, nodeOfKind, caseKind, caseKindOf, caseOfKind, isKind, switchParts, switchCases, listSwitchCases, bindingParts, nodeKeepsRules, caseKeepsRules, bindingKeepsRules, pathKeepsRules, stepKeepsRules};
+ghost use Rattle.rules.specs.TreeReader.{Switch, List-switch, Leaf, Hoist-node, nodeOfKind, caseKind, caseKindOf, caseOfKind, isKind, switchParts, switchCases, listSwitchCases, bindingParts, nodeKeepsRules, caseKeepsRules, bindingKeepsRules, pathKeepsRules, stepKeepsRules};
 ghost use Rattle.tree.specs.Reading.{Mapped};
 
 pub const NODE_BINDINGS_MOST: usize = 192;

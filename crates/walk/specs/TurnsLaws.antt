@@ -12,7 +12,7 @@ use Rattle.rules.specs.Searching.{lowest}
 use Rattle.rules.specs.SearchingLaws.{lowest-some}
 use Rattle.rules.specs.SheetRefusals.{isIn}
 use Rattle.rules.specs.Splitting.{Test, Constr, ListOf, ListWithTail, sameTest}
-use Rattle.rules.specs.Building.{Tree, Cases, switch, ccons}
+use Rattle.rules.specs.Building.{Tree, Cases, ccons}
 use Rattle.rules.specs.PanelFile.{recordKind, recordCount}
 use Rattle.rules.specs.TreeReader.{nodes, cases, nodeKind, Switch, List-switch, Leaf, Hoist-node, caseKind, caseNumber, caseChild, caseTest, startOfTest, caseChildren, defaultChild, nodeChildren, pathAt, casesFor, defaultFor, nodeFor, treeBelow, treeOf}
 use Rattle.rules.specs.Walking.{Position as Place, panelRoot, follow, Walked, stuck, shownAt, lengthAt, testKind, firstKind, ofThisKind, atPart, ofLength, atList, largestTail, atTail, ifSame, walk, walkCases}

@@ -5,11 +5,11 @@ mod rows;
 mod say;
 
 use rows::copies;
-use rows::copy;
 use rows::line_end;
 use rows::number;
 use rows::put_bytes;
 use say::walked;
+use trials::bytes;
 
 // The bytes of a row stand behind its letter and its first number.
 const BYTES_AT: usize = 6;
@@ -41,14 +41,14 @@ fn do_row(line: &[u8], tree: &mut [u8], tried: &mut [u8], panel: &mut [u8]) {
         }
         b'*' => {
             copies(line, tree, at);
-            copy(tree, tried);
+            bytes(tried, 0, tree);
         }
         b'=' => put_bytes(line, BYTES_AT, tried, at),
         b'p' => put_bytes(line, BYTES_AT, panel, at),
         b';' => {}
         _ => {
             walk_row(kind, line, tried, panel);
-            copy(tree, tried);
+            bytes(tried, 0, tree);
         }
     }
 }

@@ -115,11 +115,3 @@ pub fn copies(line: &[u8], b: &mut [u8], at: usize)
         k += 1;
     }
 }
-
-pub fn copy(from: &[u8], to: &mut [u8]) {
-    let mut i: usize = 0;
-    while i < from.len() {
-        put_byte(to, i, from[i]);
-        i += 1;
-    }
-}

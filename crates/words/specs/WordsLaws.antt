@@ -13,11 +13,11 @@ use borrow.Author.Fill.{fill-more}
 use borrow.Author.Tests.{eqb-true, eq-eqb}
 use lib.Bits.{bitOr, or-add-and, and-le-l, and-le-r}
 use lib.Dec.{eqb}
-use lib.ListN.{length, getD, set, take, drop, length-take, length-drop, List·getD-append}
+use lib.ListN.{length, getD, set, drop, length-take, length-drop, List·getD-append}
 use lib.Seq.{ext-getD, getD-take, getD-drop, getD-append-add, take-append-le, drop-append-le, drop-append-add, drop-drop, drop-length, take-add, take-length}
 use mir.Syntax.{w8}
 use mir.Val.{Fits}
-use Rattle.words.specs.Words.{wordAt, wordBytes, Bytes, both, either, pick, textAt, sameText, zeros, bitsAt}
+use Rattle.words.specs.Words.{wordAt, Bytes, both, either, pick, textAt, sameText, zeros, bitsAt}
 
 -- ---- tests
 
@@ -38,6 +38,10 @@ both-first-false a b f = rw f
 pub both-second-false : (a b : Bool) → b ≡ false → both a b ≡ false
 both-second-false true b f = f
 both-second-false false b f = refl
+
+pub both-assoc : (a b c : Bool) → both (both a b) c ≡ both a (both b c)
+both-assoc true b c = refl
+both-assoc false b c = refl
 
 pub either-true : (a b : Bool) → either a b ≡ true → (a ≡ true) ⊎ (b ≡ true)
 either-true true b h = inl refl
@@ -74,11 +78,6 @@ bytes-of-fits l f = record { byte = λ i. omega (arith, f i) }
 pub wordAt-small : {l : List ℕ} → Bytes l → (i : ℕ) → wordAt l i < 65536
 unfolding wordAt
 wordAt-small bytes i = omega (arith, bytes .byte i, bytes .byte (i + 1))
-
--- the word that a word's bytes hold is the word
-pub wordAt-wordBytes : (v : ℕ) → wordAt (wordBytes v) 0 ≡ v
-unfolding wordAt
-wordAt-wordBytes v = omega arith
 
 pub wordAt-append-left : (a b : List ℕ) (i : ℕ) → i + 1 < length a → wordAt (a ++ b) i ≡ wordAt a i
 unfolding wordAt

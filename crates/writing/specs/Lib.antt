@@ -9,5 +9,4 @@ pub mod ModelLaws
 pub mod Written
 pub mod RunLaws
 pub mod WrittenLaws
-pub mod AskedLaws
 pub mod Examples

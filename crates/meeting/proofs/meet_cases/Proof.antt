@@ -8,10 +8,6 @@ use Rattle.matrix.specs.InNumbersLaws.{cells-in}
 use Rattle.meeting.specs.MadeLaws.{column-known, column-meets}
 use Rattle.meeting.proofs.meet_cases.Statement.{statement}
 use Rattle.meeting.proofs.meet_cases.Tie as tie
-use Rattle.meeting.proofs.meet_cases.Reads as reads
-use Rattle.meeting.proofs.meet_cases.Lts as lts
-use Rattle.meeting.proofs.column.column_tests.Reads as column-tests-reads
-use Rattle.meeting.proofs.meet_both.Reads as meet-both-reads
 
 column-tests-requires : tie.Need-column-tests-requires
 column-tests-requires c κs =

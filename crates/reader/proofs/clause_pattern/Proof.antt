@@ -5,10 +5,6 @@ use Rattle.sheet.specs.Check.{checked}
 use Rattle.reader.specs.ReadingLaws.{clause-refused, root-pattern-asked, clause-missing, clause-there}
 use Rattle.reader.proofs.clause_pattern.Statement.{statement}
 use Rattle.reader.proofs.clause_pattern.Tie as tie
-use Rattle.reader.proofs.clause_pattern.Reads as reads
-use Rattle.reader.proofs.clause_pattern.Lts as lts
-use Rattle.reader.proofs.root_pattern.Reads as root-pattern-reads
-use Rattle.sheet.proofs.check.Reads as check-reads
 
 is-refused : (c : tie.After-known-told) → c .before .before .before .check .result ≡ Checked.Refused (c .before .number .given .0 .0) (c .before .number .given .0 .1 .0)
 is-refused c = search needs

@@ -7,15 +7,6 @@ use Rattle.sheet.specs.TestsLaws.{passed}
 use Rattle.sheet.specs.CheckLaws.{test-stops, test-passes, checked-is, long-enough, layout-is, counts-is, no-clause, some-clause, map-is, clause-refused, clause-there}
 use Rattle.sheet.proofs.check.Statement.{statement}
 use Rattle.sheet.proofs.check.Tie as tie
-use Rattle.sheet.proofs.check.Reads as reads
-use Rattle.sheet.proofs.check.Lts as lts
-use Rattle.sheet.proofs.check_types.Reads as check-types-reads
-use Rattle.sheet.proofs.layout.counts_fit.Reads as counts-fit-reads
-use Rattle.sheet.proofs.layout.counts_of.Reads as counts-of-reads
-use Rattle.sheet.proofs.layout.layout_fits.Reads as layout-fits-reads
-use Rattle.sheet.proofs.layout.length_fits.Reads as length-fits-reads
-use Rattle.sheet.proofs.layout.starts_of.Reads as starts-of-reads
-use Rattle.sheet.proofs.layout.subject_of.Reads as subject-of-reads
 
 length-fits-requires : tie.Need-length-fits-requires
 length-fits-requires c κs = search needs

@@ -6,10 +6,6 @@ use Rattle.sheet.specs.Check.{fromClauses}
 use Rattle.sheet.specs.CheckLaws.{search-stops, search-passes}
 use Rattle.sheet.proofs.check_clauses.Statement.{statement}
 use Rattle.sheet.proofs.check_clauses.Tie as tie
-use Rattle.sheet.proofs.check_clauses.Reads as reads
-use Rattle.sheet.proofs.check_clauses.Lts as lts
-use Rattle.sheet.proofs.fitting.lowest_misfit.Reads as lowest-misfit-reads
-use Rattle.sheet.proofs.names.lowest_name_twice.Reads as lowest-name-twice-reads
 
 lowest-misfit-requires : tie.Need-lowest-misfit-requires
 lowest-misfit-requires c κs = search needs

@@ -6,11 +6,6 @@ use Rattle.sheet.specs.TestsLaws.{passed}
 use Rattle.sheet.specs.CheckLaws.{test-stops, test-passes, search-stops, search-passes}
 use Rattle.sheet.proofs.check_patterns.Statement.{statement}
 use Rattle.sheet.proofs.check_patterns.Tie as tie
-use Rattle.sheet.proofs.check_patterns.Reads as reads
-use Rattle.sheet.proofs.check_patterns.Lts as lts
-use Rattle.sheet.proofs.check_clauses.Reads as check-clauses-reads
-use Rattle.sheet.proofs.shape.shape_fits.Reads as shape-fits-reads
-use Rattle.sheet.proofs.texts.lowest_bad_text.Reads as lowest-bad-text-reads
 
 shape-fits-requires : tie.Need-shape-fits-requires
 shape-fits-requires c κs = (c .before .pre .0, c .before .pre .1, c .before .pre .2)

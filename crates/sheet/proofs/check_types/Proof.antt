@@ -6,11 +6,6 @@ use Rattle.sheet.specs.TestsLaws.{passed}
 use Rattle.sheet.specs.CheckLaws.{test-stops, test-passes, search-stops, search-passes}
 use Rattle.sheet.proofs.check_types.Statement.{statement}
 use Rattle.sheet.proofs.check_types.Tie as tie
-use Rattle.sheet.proofs.check_types.Reads as reads
-use Rattle.sheet.proofs.check_types.Lts as lts
-use Rattle.sheet.proofs.check_patterns.Reads as check-patterns-reads
-use Rattle.sheet.proofs.types.lowest_transparent.Reads as lowest-transparent-reads
-use Rattle.sheet.proofs.types.types_fit.Reads as types-fit-reads
 
 types-fit-requires : tie.Need-types-fit-requires
 types-fit-requires c κs = (c .before .pre .0, c .before .pre .1)

@@ -4,9 +4,6 @@ use native.Mathlib.Omega.{arith}
 use lib.ListN.{length-take}
 use Rattle.sheet_tests.proofs.check_first.Statement.{statement}
 use Rattle.sheet_tests.proofs.check_first.Tie as tie
-use Rattle.sheet_tests.proofs.check_first.Reads as reads
-use Rattle.sheet_tests.proofs.check_first.Lts as lts
-use Rattle.sheet_tests.proofs.check.Reads as check-reads
 
 slice-aggregate-check : tie.Need-slice-aggregate-check
 slice-aggregate-check c = simp length-take (omega arith)

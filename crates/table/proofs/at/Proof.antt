@@ -2,8 +2,6 @@ use native.Mathlib.Omega.{arith}
 use borrow.Author.Needs.{needs}
 use Rattle.table.proofs.at.Statement.{statement}
 use Rattle.table.proofs.at.Tie as tie
-use Rattle.table.proofs.at.Reads as reads
-use Rattle.table.proofs.at.Lts as lts
 
 shared-slice-read-result : tie.Need-shared-slice-read-result
 shared-slice-read-result c = search needs

@@ -8,9 +8,6 @@ use Rattle.table.specs.ClassingLaws.{BeforeFrom, before-begins, second-e
 use borrow.Author.Needs.{needs}
 use Rattle.table.proofs.before.Statement.{statement}
 use Rattle.table.proofs.before.Tie as tie
-use Rattle.table.proofs.before.Reads as reads
-use Rattle.table.proofs.before.Lts as lts
-use Rattle.table.proofs.at.Reads as at-reads
 
 abbrev Inv-loop : tie.InvT-loop
 Inv-loop t a b x y i₀ i = (i ≤ x) × (i ≤ y) × BeforeFrom t (indicesAt + 12 * a) (indicesAt + 12 * b) x y i

@@ -4,9 +4,6 @@ use Rattle.table.specs.ClassingLaws.{LowestFrom, class-begins, class-fou
 use borrow.Author.Needs.{needs}
 use Rattle.table.proofs.class_of.Statement.{statement}
 use Rattle.table.proofs.class_of.Tie as tie
-use Rattle.table.proofs.class_of.Reads as reads
-use Rattle.table.proofs.class_of.Lts as lts
-use Rattle.table.proofs.same_step.Reads as same-step-reads
 
 abbrev Inv-loop : tie.InvT-loop
 Inv-loop t p from q₀ q = (q ≤ p) × LowestFrom t p q

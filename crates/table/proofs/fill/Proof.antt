@@ -11,10 +11,6 @@ use Rattle.table.specs.RootsLaws.{roots-filled, all-filled}
 use borrow.Author.Needs.{needs}
 use Rattle.table.proofs.fill.Statement.{statement}
 use Rattle.table.proofs.fill.Tie as tie
-use Rattle.table.proofs.fill.Reads as reads
-use Rattle.table.proofs.fill.Lts as lts
-use Rattle.table.proofs.fill_at.Reads as fill-at-reads
-use Rattle.table.proofs.put_roots.Reads as put-roots-reads
 
 abbrev Inv-loop : tie.InvT-loop
 Inv-loop s m t₀ p₀ t p = (p ≤ patterns s) × Filled s t p p p p

@@ -8,12 +8,6 @@ use Rattle.table.specs.ChildrenLaws.{children-filled}
 use borrow.Author.Needs.{needs}
 use Rattle.table.proofs.fill_at.Statement.{statement}
 use Rattle.table.proofs.fill_at.Tie as tie
-use Rattle.table.proofs.fill_at.Reads as reads
-use Rattle.table.proofs.fill_at.Lts as lts
-use Rattle.table.proofs.place_children.Reads as place-children-reads
-use Rattle.table.proofs.put_class.Reads as put-class-reads
-use Rattle.table.proofs.put_indices.Reads as put-indices-reads
-use Rattle.table.proofs.put_test.Reads as put-test-reads
 
 filled-as : {s t u : List ℕ} {a b i d : ℕ} → u ≡ t → Filled s t a b i d → Filled s u a b i d
 filled-as e f = rw e f

@@ -5,12 +5,6 @@ use Rattle.table.specs.ClassingLaws.{constructor-tests, plain-tests-not,
 use borrow.Author.Needs.{needs}
 use Rattle.table.proofs.is_test.Statement.{statement}
 use Rattle.table.proofs.is_test.Tie as tie
-use Rattle.table.proofs.is_test.Reads as reads
-use Rattle.table.proofs.is_test.Lts as lts
-use Rattle.sheet.proofs.records.pattern_at.Reads as pattern-at-reads
-use Rattle.sheet.proofs.records.type_at.Reads as type-at-reads
-use Rattle.table.proofs.at.Reads as at-reads
-use Rattle.table.proofs.one_constructor.Reads as one-constructor-reads
 
 pattern-at-requires : tie.Need-pattern-at-requires
 pattern-at-requires c κs = search needs

@@ -1,8 +1,6 @@
 use Rattle.table.specs.PlacingLaws.{other-kind, data-kind}
 use Rattle.table.proofs.one_constructor.Statement.{statement}
 use Rattle.table.proofs.one_constructor.Tie as tie
-use Rattle.table.proofs.one_constructor.Reads as reads
-use Rattle.table.proofs.one_constructor.Lts as lts
 
 returns : tie.Need-returns
 returns c = other-kind (c .before .before .args .ty .kind) (c .before .before .args .ty .count) (c .if1 .taken)

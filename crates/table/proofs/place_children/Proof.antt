@@ -10,16 +10,6 @@ use Rattle.table.specs.PlacingLaws.{known-small, type-small, reading-own
 use borrow.Author.Needs.{needs}
 use Rattle.table.proofs.place_children.Statement.{statement}
 use Rattle.table.proofs.place_children.Tie as tie
-use Rattle.table.proofs.place_children.Reads as reads
-use Rattle.table.proofs.place_children.Lts as lts
-use Rattle.sheet.proofs.records.child_at.Reads as child-at-reads
-use Rattle.sheet.proofs.records.pattern_at.Reads as pattern-at-reads
-use Rattle.sheet.proofs.records.type_at.Reads as type-at-reads
-use Rattle.table.proofs.at.Reads as at-reads
-use Rattle.table.proofs.place_fields.Reads as place-fields-reads
-use Rattle.table.proofs.place_tailed.Reads as place-tailed-reads
-use Rattle.table.proofs.put_child.Reads as put-child-reads
-use Rattle.table.proofs.put_children.Reads as put-children-reads
 
 -- what was read before the kinds part
 its-type : (c : tie.After-type-at) → c .before .before .at .result ≡ typeOf (c .before .before .before .before .before .before .before .args .s .now) (c .before .before .before .before .before .before .before .args .p)

@@ -6,11 +6,6 @@ use Rattle.table.specs.PlacingLaws.{known-small, constructor-known, fiel
 use borrow.Author.Needs.{needs}
 use Rattle.table.proofs.place_fields.Statement.{statement}
 use Rattle.table.proofs.place_fields.Tie as tie
-use Rattle.table.proofs.place_fields.Reads as reads
-use Rattle.table.proofs.place_fields.Lts as lts
-use Rattle.sheet.proofs.records.constructor_at.Reads as constructor-at-reads
-use Rattle.table.proofs.one_constructor.Reads as one-constructor-reads
-use Rattle.table.proofs.put_children.Reads as put-children-reads
 
 add-constructor-at : tie.Need-add-constructor-at
 add-constructor-at c = let start = c .before .before .before .before in omega (arith, constructor-known (start .pre .0) (start .pre .1), start .pre .0 .checked .ok .is-counted .constructors-most)

@@ -5,11 +5,6 @@ use Rattle.table.specs.PlacingLaws.{length-placedEach, known-small, type
 use borrow.Author.Needs.{needs}
 use Rattle.table.proofs.place_tailed.Statement.{statement}
 use Rattle.table.proofs.place_tailed.Tie as tie
-use Rattle.table.proofs.place_tailed.Reads as reads
-use Rattle.table.proofs.place_tailed.Lts as lts
-use Rattle.sheet.proofs.records.child_at.Reads as child-at-reads
-use Rattle.table.proofs.put_child.Reads as put-child-reads
-use Rattle.table.proofs.put_children.Reads as put-children-reads
 
 sub-n : tie.Need-sub-n
 sub-n c = let start = c .before .before .before in omega (arith, tail-some (start .pre .0) (start .pre .1))

@@ -5,8 +5,6 @@ use Rattle.table.specs.Table.{placed}
 use borrow.Author.Needs.{needs}
 use Rattle.table.proofs.put_child.Statement.{statement}
 use Rattle.table.proofs.put_child.Tie as tie
-use Rattle.table.proofs.put_child.Reads as reads
-use Rattle.table.proofs.put_child.Lts as lts
 
 add-clause : tie.Need-add-clause
 add-clause c = search needs

@@ -8,12 +8,6 @@ use Rattle.table.specs.PlacingLaws.{first-is, length-placed, placedEach-
 use borrow.Author.Needs.{needs}
 use Rattle.table.proofs.put_children.Statement.{statement}
 use Rattle.table.proofs.put_children.Tie as tie
-use Rattle.table.proofs.put_children.Reads as reads
-use Rattle.table.proofs.put_children.Lts as lts
-use Rattle.sheet.proofs.records.child_at.Reads as child-at-reads
-use Rattle.sheet.proofs.records.entry_at.Reads as entry-at-reads
-use Rattle.sheet.proofs.records.pattern_at.Reads as pattern-at-reads
-use Rattle.table.proofs.put_child.Reads as put-child-reads
 
 abbrev Inv-loop : tie.InvT-loop
 Inv-loop s m t₀ p n step e stride owner r i₀ t i =

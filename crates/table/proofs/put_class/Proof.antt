@@ -8,10 +8,6 @@ use Rattle.table.specs.ClassingLaws.{classIn-most, classed-same, classed
 use borrow.Author.Needs.{needs}
 use Rattle.table.proofs.put_class.Statement.{statement}
 use Rattle.table.proofs.put_class.Tie as tie
-use Rattle.table.proofs.put_class.Reads as reads
-use Rattle.table.proofs.put_class.Lts as lts
-use Rattle.table.proofs.at.Reads as at-reads
-use Rattle.table.proofs.class_of.Reads as class-of-reads
 
 -- the path of the pattern above has room for a step more
 deep : (c : tie.Start) (above : ℕ) → above ≡ aboveIn (c .args .t .now) (c .args .p) → getD (c .args .t .now) (depthAt + above) 0 + 1 < 12

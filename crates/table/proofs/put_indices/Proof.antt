@@ -8,9 +8,6 @@ use Rattle.table.specs.ClassingLaws.{Copied, copied-more, copied-all, Ro
 use borrow.Author.Needs.{needs}
 use Rattle.table.proofs.put_indices.Statement.{statement}
 use Rattle.table.proofs.put_indices.Tie as tie
-use Rattle.table.proofs.put_indices.Reads as reads
-use Rattle.table.proofs.put_indices.Lts as lts
-use Rattle.table.proofs.at.Reads as at-reads
 
 abbrev Inv-loop : tie.InvT-loop
 Inv-loop t₀ p above depth own i₀ t i = (i ≤ depth) × (length t ≡ tableSize) × Copied t₀ (indicesAt + 12 * above) (indicesAt + 12 * p) t i

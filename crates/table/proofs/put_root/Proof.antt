@@ -5,8 +5,6 @@ use Rattle.table.specs.Table.{rooted}
 use borrow.Author.Needs.{needs}
 use Rattle.table.proofs.put_root.Statement.{statement}
 use Rattle.table.proofs.put_root.Tie as tie
-use Rattle.table.proofs.put_root.Reads as reads
-use Rattle.table.proofs.put_root.Lts as lts
 
 add-t : tie.Need-add-t
 add-t c = search needs

@@ -10,10 +10,6 @@ use Rattle.table.specs.ClassingLaws.{length-rooted, rootedEach-on, roote
 use borrow.Author.Needs.{needs}
 use Rattle.table.proofs.put_roots.Statement.{statement}
 use Rattle.table.proofs.put_roots.Tie as tie
-use Rattle.table.proofs.put_roots.Reads as reads
-use Rattle.table.proofs.put_roots.Lts as lts
-use Rattle.sheet.proofs.records.root_at.Reads as root-at-reads
-use Rattle.table.proofs.put_root.Reads as put-root-reads
 
 abbrev Inv-loop : tie.InvT-loop
 Inv-loop s m t₀ c₀ t c = (c ≤ clauses s) × (length t ≡ tableSize) × (rootedEach s t c (clauses s - c) ≡ rootedEach s t₀ 0 (clauses s))

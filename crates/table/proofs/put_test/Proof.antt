@@ -6,10 +6,6 @@ use Rattle.table.specs.ClassingLaws.{tested-yes, tested-no, cell-inside}
 use borrow.Author.Needs.{needs}
 use Rattle.table.proofs.put_test.Statement.{statement}
 use Rattle.table.proofs.put_test.Tie as tie
-use Rattle.table.proofs.put_test.Reads as reads
-use Rattle.table.proofs.put_test.Lts as lts
-use Rattle.table.proofs.at.Reads as at-reads
-use Rattle.table.proofs.is_test.Reads as is-test-reads
 
 -- the cell that was found
 inside : (c : tie.After-at2) → cellsAt + 192 * c .before .before .at .result + c .at2 .result < tableSize

@@ -2,9 +2,6 @@ use Rattle.table.specs.ClassingLaws.{step-differs, index-differs, class-
 use borrow.Author.Needs.{needs}
 use Rattle.table.proofs.same_step.Statement.{statement}
 use Rattle.table.proofs.same_step.Tie as tie
-use Rattle.table.proofs.same_step.Reads as reads
-use Rattle.table.proofs.same_step.Lts as lts
-use Rattle.table.proofs.at.Reads as at-reads
 
 add-if1 : tie.Need-add-if1
 add-if1 c = search needs

@@ -1,9 +1,7 @@
 -- `words::bits_of` meets its contract. The loop's invariant: the bits of the first k bytes are found.
-use Prim.Native.Nat.{_+_, _-_, _≤_}
+use Prim.Native.Nat.{_-_, _≤_}
 use native.Mathlib.Omega.{arith}
 use mathlib.Core.Path.{_≡_, sym, ap, _∙_}
-use lib.Bits.{bitOr}
-use lib.ListN.{getD}
 use Rattle.words.specs.Words.{bitsAt}
 use Rattle.words.specs.WordsLaws.{bitsAt-start, bitsAt-more}
 use borrow.Author.Needs.{needs}

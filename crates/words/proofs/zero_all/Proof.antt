@@ -6,7 +6,7 @@ use mathlib.Core.List.{List}
 use lib.ListN.{length}
 use Rattle.words.specs.Words.{zeros}
 use Rattle.words.specs.Stored.{stored}
-use Rattle.words.specs.StoredLaws.{stored-nil, length-stored, zeros-next, zeros-whole}
+use Rattle.words.specs.StoredLaws.{stored-nil, zeros-next, zeros-whole}
 use borrow.Author.Needs.{needs}
 use Rattle.words.proofs.zero_all.Statement.{statement}
 use Rattle.words.proofs.zero_all.Tie as tie

@@ -5,7 +5,7 @@ use mathlib.Core.Path.{_≡_, sym, ap, _∙_}
 use lib.ListN.{length}
 use Rattle.words.specs.Words.{zeros}
 use Rattle.words.specs.Stored.{stored}
-use Rattle.words.specs.StoredLaws.{stored-nil, length-stored, zeros-more}
+use Rattle.words.specs.StoredLaws.{stored-nil, zeros-more}
 use borrow.Author.Needs.{needs}
 use Rattle.words.proofs.zero_bytes.Statement.{statement}
 use Rattle.words.proofs.zero_bytes.Tie as tie

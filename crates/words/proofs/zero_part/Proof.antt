@@ -1,5 +1,4 @@
 -- `words::zero_part` meets its contract: bytes without a bit between them are 0 as they are.
-use Prim.Native.Nat.{ℕ}
 use native.Mathlib.Omega.{arith}
 use mathlib.Core.Path.{_≡_, sym}
 use Rattle.words.specs.Words.{bitsAt}

@@ -1,5 +1,5 @@
 -- `build::trees::finish` meets its contract: by 12, by 13, or by the tree with its scopes.
-use mathlib.Core.Path.{_≡_, sym, ap, _∙_}
+use mathlib.Core.Path.{_≡_}
 use Prim.Native.Nat.{ℕ, _+_, _≤_}
 use native.Mathlib.Omega.{arith}
 use lib.ListN.{getD}

@@ -1,8 +1,6 @@
 use Rattle.building.specs.LeafLaws.{first-none, first-some}
 use Rattle.building.proofs.build.first_of.Statement.{statement}
 use Rattle.building.proofs.build.first_of.Tie as tie
-use Rattle.building.proofs.build.first_of.Reads as reads
-use Rattle.building.proofs.build.first_of.Lts as lts
 
 returns : tie.Need-returns
 returns c = first-none (c .before .args .count) (c .before .args .first) (c .if1 .taken)

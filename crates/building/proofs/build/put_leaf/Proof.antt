@@ -6,11 +6,6 @@ use lib.ListN.{set}
 use Rattle.building.specs.LeafLaws.{first-small, clause-small, leaf-top, leaf-step}
 use Rattle.building.proofs.build.put_leaf.Statement.{statement}
 use Rattle.building.proofs.build.put_leaf.Tie as tie
-use Rattle.building.proofs.build.put_leaf.Reads as reads
-use Rattle.building.proofs.build.put_leaf.Lts as lts
-use Rattle.arena.proofs.writing.put_node.Reads as put-node-reads
-use Rattle.building.proofs.build.first_of.Reads as first-of-reads
-use Rattle.leaves.proofs.leaf_bindings.Reads as leaf-bindings-reads
 
 leaf-bindings-requires : tie.Need-leaf-bindings-requires
 leaf-bindings-requires c κs = (c .before .before .before .before .pre .0, c .before .before .before .before .pre .1, record { long = c .before .before .before .before .pre .2 .long; most = c .before .before .before .before .pre .2 .bindings-most })

@@ -1,10 +1,6 @@
 use borrow.Author.Needs.{needs}
 use Rattle.building.proofs.build.put_switch.Statement.{statement}
 use Rattle.building.proofs.build.put_switch.Tie as tie
-use Rattle.building.proofs.build.put_switch.Reads as reads
-use Rattle.building.proofs.build.put_switch.Lts as lts
-use Rattle.arena.proofs.writing.put_node.Reads as put-node-reads
-use Rattle.building.proofs.build.switch_kind.Reads as switch-kind-reads
 
 switch-kind-requires : tie.Need-switch-kind-requires
 switch-kind-requires c κs = search needs

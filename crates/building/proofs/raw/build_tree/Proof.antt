@@ -2,10 +2,6 @@ use borrow.Author.Needs.{needs}
 use Rattle.building.specs.RawLaws.{raw-asked, raw-builds}
 use Rattle.building.proofs.raw.build_tree.Statement.{statement}
 use Rattle.building.proofs.raw.build_tree.Tie as tie
-use Rattle.building.proofs.raw.build_tree.Reads as reads
-use Rattle.building.proofs.raw.build_tree.Lts as lts
-use Rattle.building.proofs.build.do_build_tree.Reads as do-build-tree-reads
-use Rattle.matrix.proofs.splitting.first_matrix.Reads as first-matrix-reads
 
 first-matrix-requires : tie.Need-first-matrix-requires
 first-matrix-requires c κs = search needs

@@ -4,12 +4,6 @@ use native.Mathlib.Omega.{arith}
 use Rattle.matrix.specs.PuttingLaws.{gives-none, gives-assigned, gives-parts, gives-itself, gives-by-test, kind-known}
 use Rattle.matrix.proofs.columns.gives.Statement.{statement}
 use Rattle.matrix.proofs.columns.gives.Tie as tie
-use Rattle.matrix.proofs.columns.gives.Reads as reads
-use Rattle.matrix.proofs.columns.gives.Lts as lts
-use Rattle.matrix.proofs.columns.itself_or_inside.Reads as itself-or-inside-reads
-use Rattle.sheet.proofs.records.pattern_at.Reads as pattern-at-reads
-use Rattle.table.proofs.at.Reads as at-reads
-use Rattle.table.proofs.is_test.Reads as is-test-reads
 
 pattern-at-requires : tie.Need-pattern-at-requires
 pattern-at-requires c κs = search needs

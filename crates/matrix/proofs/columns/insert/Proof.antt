@@ -7,8 +7,6 @@ use lib.ListN.{length, length-set}
 use Rattle.matrix.specs.ListsLaws.{shifted, shifted-none, shift-on, shift-end}
 use Rattle.matrix.proofs.columns.insert.Statement.{statement}
 use Rattle.matrix.proofs.columns.insert.Tie as tie
-use Rattle.matrix.proofs.columns.insert.Reads as reads
-use Rattle.matrix.proofs.columns.insert.Lts as lts
 
 abbrev Inv-loop : tie.InvT-loop
 Inv-loop list₀ count place class i₀ list i = (place ≤ i) × (i ≤ count) × (length list ≡ 192) × (list ≡ shifted list₀ count i)

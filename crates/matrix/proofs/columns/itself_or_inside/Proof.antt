@@ -1,8 +1,6 @@
 -- `columns::itself_or_inside`: one choice.
 use Rattle.matrix.proofs.columns.itself_or_inside.Statement.{statement}
 use Rattle.matrix.proofs.columns.itself_or_inside.Tie as tie
-use Rattle.matrix.proofs.columns.itself_or_inside.Reads as reads
-use Rattle.matrix.proofs.columns.itself_or_inside.Lts as lts
 
 returns : tie.Need-returns
 returns c = rw (c .if1 .taken)

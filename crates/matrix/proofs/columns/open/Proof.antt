@@ -3,10 +3,6 @@ use borrow.Author.Needs.{needs}
 use Rattle.matrix.specs.PuttingLaws.{open-none, open-children, open-room, open-is}
 use Rattle.matrix.proofs.columns.open.Statement.{statement}
 use Rattle.matrix.proofs.columns.open.Tie as tie
-use Rattle.matrix.proofs.columns.open.Reads as reads
-use Rattle.matrix.proofs.columns.open.Lts as lts
-use Rattle.matrix.proofs.columns.map_patterns_to_row.Reads as map-patterns-to-row-reads
-use Rattle.sheet.proofs.records.pattern_at.Reads as pattern-at-reads
 
 pattern-at-requires : tie.Need-pattern-at-requires
 pattern-at-requires c κs = search needs

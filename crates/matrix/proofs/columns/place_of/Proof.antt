@@ -9,9 +9,6 @@ use Rattle.matrix.specs.Lists.{firstPlace}
 use Rattle.matrix.specs.ListsLaws.{place-here, place-on, place-end}
 use Rattle.matrix.proofs.columns.place_of.Statement.{statement}
 use Rattle.matrix.proofs.columns.place_of.Tie as tie
-use Rattle.matrix.proofs.columns.place_of.Reads as reads
-use Rattle.matrix.proofs.columns.place_of.Lts as lts
-use Rattle.matrix.proofs.wide.Reads as wide-reads
 
 abbrev Inv-loop : tie.InvT-loop
 Inv-loop cs n class i₀ i = (i ≤ n) × (firstPlace class (take n cs) ≡ i + firstPlace class (slice i n cs))

@@ -3,8 +3,6 @@ use borrow.Author.Needs.{needs}
 use Rattle.matrix.specs.ListsLaws.{holds-push}
 use Rattle.matrix.proofs.columns.push.Statement.{statement}
 use Rattle.matrix.proofs.columns.push.Tie as tie
-use Rattle.matrix.proofs.columns.push.Reads as reads
-use Rattle.matrix.proofs.columns.push.Lts as lts
 
 cast-list : tie.Need-cast-list
 cast-list c = search needs

@@ -12,11 +12,6 @@ use Rattle.matrix.specs.ReadingLaws.{all-at}
 use Rattle.matrix.specs.PuttingLaws.{Passed, put-there, put-before, put-behind, put-last, insert-room}
 use Rattle.matrix.proofs.columns.put.Statement.{statement}
 use Rattle.matrix.proofs.columns.put.Tie as tie
-use Rattle.matrix.proofs.columns.put.Reads as reads
-use Rattle.matrix.proofs.columns.put.Lts as lts
-use Rattle.matrix.proofs.columns.insert.Reads as insert-reads
-use Rattle.matrix.proofs.wide.Reads as wide-reads
-use Rattle.table.proofs.before.Reads as before-reads
 
 abbrev Inv-loop : tie.InvT-loop
 Inv-loop t list₀ count class i₀ list i = (list ≡ list₀) × (i ≤ count) × Passed (firstIn t) class list₀ count i

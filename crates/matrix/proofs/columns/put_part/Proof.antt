@@ -9,8 +9,6 @@ use lib.Seq.{slice}
 use Rattle.matrix.specs.ListsLaws.{part-more, part-all}
 use Rattle.matrix.proofs.columns.put_part.Statement.{statement}
 use Rattle.matrix.proofs.columns.put_part.Tie as tie
-use Rattle.matrix.proofs.columns.put_part.Reads as reads
-use Rattle.matrix.proofs.columns.put_part.Lts as lts
 
 abbrev Inv-loop : tie.InvT-loop
 Inv-loop list₀ count cs from to n₀ i₀ list n i =

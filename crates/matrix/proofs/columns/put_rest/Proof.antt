@@ -4,10 +4,6 @@ use Rattle.matrix.specs.Lists.{asClasses}
 use Rattle.matrix.specs.ListsLaws.{rest-place, rest-count, rest-are, whole}
 use Rattle.matrix.proofs.columns.put_rest.Statement.{statement}
 use Rattle.matrix.proofs.columns.put_rest.Tie as tie
-use Rattle.matrix.proofs.columns.put_rest.Reads as reads
-use Rattle.matrix.proofs.columns.put_rest.Lts as lts
-use Rattle.matrix.proofs.columns.place_of.Reads as place-of-reads
-use Rattle.matrix.proofs.columns.put_part.Reads as put-part-reads
 
 place-of-requires : tie.Need-place-of-requires
 place-of-requires c κs = c .pre .1

@@ -6,13 +6,6 @@ use Rattle.matrix.specs.Meant.{coversRead}
 use Rattle.matrix.specs.MeantLaws.{pool-text, covers-by, record-text}
 use Rattle.matrix.proofs.covering.covers.Statement.{statement}
 use Rattle.matrix.proofs.covering.covers.Tie as tie
-use Rattle.matrix.proofs.covering.covers.Reads as reads
-use Rattle.matrix.proofs.covering.covers.Lts as lts
-use Rattle.matrix.proofs.covering.covers_constructor.Reads as covers-constructor-reads
-use Rattle.matrix.proofs.covering.covers_list.Reads as covers-list-reads
-use Rattle.matrix.proofs.covering.covers_tailed.Reads as covers-tailed-reads
-use Rattle.matrix.proofs.covering.covers_text.Reads as covers-text-reads
-use Rattle.sheet.proofs.records.pattern_at.Reads as pattern-at-reads
 
 pattern-at-requires : tie.Need-pattern-at-requires
 pattern-at-requires c κs = let s = c .before in (s .pre .0 .ok .is-laid, s .pre .0 .is-map, s .pre .1 .known)

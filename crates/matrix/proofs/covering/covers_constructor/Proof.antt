@@ -2,8 +2,6 @@
 use Rattle.matrix.specs.MeantLaws.{constructor-not, constructor-is}
 use Rattle.matrix.proofs.covering.covers_constructor.Statement.{statement}
 use Rattle.matrix.proofs.covering.covers_constructor.Tie as tie
-use Rattle.matrix.proofs.covering.covers_constructor.Reads as reads
-use Rattle.matrix.proofs.covering.covers_constructor.Lts as lts
 
 returns : tie.Need-returns
 returns c = let a = c .before .before .args in constructor-not (a .r) (a .number) (c .if1 .taken)

@@ -3,9 +3,6 @@ use borrow.Author.Needs.{needs}
 use Rattle.matrix.specs.MeantLaws.{list-is, list-not}
 use Rattle.matrix.proofs.covering.covers_list.Statement.{statement}
 use Rattle.matrix.proofs.covering.covers_list.Tie as tie
-use Rattle.matrix.proofs.covering.covers_list.Reads as reads
-use Rattle.matrix.proofs.covering.covers_list.Lts as lts
-use Rattle.matrix.proofs.covering.covers_tailed.Reads as covers-tailed-reads
 
 returns : tie.Need-returns
 returns c = let a = c .before .before .before .args in list-is (a .r) (a .n) (c .before .if1 .taken)

@@ -3,8 +3,6 @@ use borrow.Author.Needs.{needs}
 use Rattle.matrix.specs.MeantLaws.{tailed-not, tailed-is}
 use Rattle.matrix.proofs.covering.covers_tailed.Statement.{statement}
 use Rattle.matrix.proofs.covering.covers_tailed.Tie as tie
-use Rattle.matrix.proofs.covering.covers_tailed.Reads as reads
-use Rattle.matrix.proofs.covering.covers_tailed.Lts as lts
 
 returns : tie.Need-returns
 returns c = let a = c .before .before .args in tailed-not (a .r) (a .n) (c .if1 .taken)

@@ -4,10 +4,6 @@ use native.Mathlib.Omega.{arith}
 use Rattle.matrix.specs.MeantLaws.{text-pattern-most, text-not, text-is}
 use Rattle.matrix.proofs.covering.covers_text.Statement.{statement}
 use Rattle.matrix.proofs.covering.covers_text.Tie as tie
-use Rattle.matrix.proofs.covering.covers_text.Reads as reads
-use Rattle.matrix.proofs.covering.covers_text.Lts as lts
-use Rattle.matrix.proofs.covering.same_texts.Reads as same-texts-reads
-use Rattle.matrix.proofs.covering.text_pattern.Reads as text-pattern-reads
 
 text-pattern-requires : tie.Need-text-pattern-requires
 text-pattern-requires c κs = search needs

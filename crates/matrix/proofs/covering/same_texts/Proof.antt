@@ -3,9 +3,6 @@ use native.Mathlib.Omega.{arith}
 use Rattle.matrix.specs.MeantLaws.{text-there, texts-not, texts-are}
 use Rattle.matrix.proofs.covering.same_texts.Statement.{statement}
 use Rattle.matrix.proofs.covering.same_texts.Tie as tie
-use Rattle.matrix.proofs.covering.same_texts.Reads as reads
-use Rattle.matrix.proofs.covering.same_texts.Lts as lts
-use Rattle.words.proofs.same_text.Reads as same-text-reads
 
 returns : tie.Need-returns
 returns c =

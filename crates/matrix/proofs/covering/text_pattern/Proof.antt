@@ -2,8 +2,6 @@
 use borrow.Author.Tests.{eq-eqb, ne-eqb}
 use Rattle.matrix.proofs.covering.text_pattern.Statement.{statement}
 use Rattle.matrix.proofs.covering.text_pattern.Tie as tie
-use Rattle.matrix.proofs.covering.text_pattern.Reads as reads
-use Rattle.matrix.proofs.covering.text_pattern.Lts as lts
 
 returns : tie.Need-returns
 returns c = rw (eq-eqb (c .before .args .kind) 1 (c .if1 .taken))

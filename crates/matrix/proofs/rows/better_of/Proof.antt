@@ -3,8 +3,6 @@ use native.Mathlib.Omega.{arith}
 use borrow.Author.Tests.{lt-ltb, le-ltb}
 use Rattle.matrix.proofs.rows.better_of.Statement.{statement}
 use Rattle.matrix.proofs.rows.better_of.Tie as tie
-use Rattle.matrix.proofs.rows.better_of.Reads as reads
-use Rattle.matrix.proofs.rows.better_of.Lts as lts
 
 returns : tie.Need-returns
 returns c = let a = c .before .before .args in rw (lt-ltb (a .best .amount) (a .amount) (c .if1 .taken))

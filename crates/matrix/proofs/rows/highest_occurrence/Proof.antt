@@ -12,11 +12,6 @@ use Rattle.matrix.specs.Reading.{heldIn, InTable, bettered}
 use Rattle.matrix.specs.ReadingLaws.{best-more, best-end, all-at, slice-on, slice-end}
 use Rattle.matrix.proofs.rows.highest_occurrence.Statement.{statement}
 use Rattle.matrix.proofs.rows.highest_occurrence.Tie as tie
-use Rattle.matrix.proofs.rows.highest_occurrence.Reads as reads
-use Rattle.matrix.proofs.rows.highest_occurrence.Lts as lts
-use Rattle.matrix.proofs.rows.better_of.Reads as better-of-reads
-use Rattle.matrix.proofs.rows.occurrence.Reads as occurrence-reads
-use Rattle.matrix.proofs.wide.Reads as wide-reads
 
 abbrev Inv-loop : tie.InvT-loop
 Inv-loop t rows n columns k opened best₀ i₀ best i =

@@ -4,9 +4,6 @@ use Rattle.matrix.specs.Lists.{asRows}
 use Rattle.matrix.specs.ReadingLaws.{keep-none, keep-one}
 use Rattle.matrix.proofs.rows.keep_wild.Statement.{statement}
 use Rattle.matrix.proofs.rows.keep_wild.Tie as tie
-use Rattle.matrix.proofs.rows.keep_wild.Reads as reads
-use Rattle.matrix.proofs.rows.keep_wild.Lts as lts
-use Rattle.matrix.proofs.rows.put_row.Reads as put-row-reads
 
 enum-told : tie.Need-enum-told
 enum-told c = search needs

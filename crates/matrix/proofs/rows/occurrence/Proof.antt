@@ -11,11 +11,6 @@ use Rattle.matrix.specs.Reading.{heldIn, InTable, hasTest}
 use Rattle.matrix.specs.ReadingLaws.{count-here, count-on, count-end, all-at}
 use Rattle.matrix.proofs.rows.occurrence.Statement.{statement}
 use Rattle.matrix.proofs.rows.occurrence.Tie as tie
-use Rattle.matrix.proofs.rows.occurrence.Reads as reads
-use Rattle.matrix.proofs.rows.occurrence.Lts as lts
-use Rattle.matrix.proofs.rows.has_test.Reads as has-test-reads
-use Rattle.matrix.proofs.rows.test_at.Reads as test-at-reads
-use Rattle.matrix.proofs.wide.Reads as wide-reads
 
 abbrev Inv-loop : tie.InvT-loop
 Inv-loop t rows n opened class i₀ i = (i ≤ n) × (countOf (heldIn t opened class) (take n rows) ≡ i + countOf (heldIn t opened class) (slice i n rows))

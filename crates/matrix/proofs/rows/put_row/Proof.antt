@@ -3,8 +3,6 @@ use borrow.Author.Needs.{needs}
 use Rattle.matrix.specs.ListsLaws.{holds-push-row}
 use Rattle.matrix.proofs.rows.put_row.Statement.{statement}
 use Rattle.matrix.proofs.rows.put_row.Tie as tie
-use Rattle.matrix.proofs.rows.put_row.Reads as reads
-use Rattle.matrix.proofs.rows.put_row.Lts as lts
 
 element-write-list : tie.Need-element-write-list
 element-write-list c = search needs

@@ -4,9 +4,6 @@ use native.Mathlib.Omega.{arith}
 use Rattle.matrix.specs.ReadingLaws.{held-none, held-opened, held-free, held-shut, held-inside, owner-most}
 use Rattle.matrix.proofs.rows.test_at.Statement.{statement}
 use Rattle.matrix.proofs.rows.test_at.Tie as tie
-use Rattle.matrix.proofs.rows.test_at.Reads as reads
-use Rattle.matrix.proofs.rows.test_at.Lts as lts
-use Rattle.table.proofs.at.Reads as at-reads
 
 mul-at : tie.Need-mul-at
 mul-at c = search needs

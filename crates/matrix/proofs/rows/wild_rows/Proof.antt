@@ -13,11 +13,6 @@ use Rattle.matrix.specs.Reading.{heldIn, InTable, kept}
 use Rattle.matrix.specs.ReadingLaws.{kept-most, wild-step, wild-end, all-at, slice-on, slice-end}
 use Rattle.matrix.proofs.rows.wild_rows.Statement.{statement}
 use Rattle.matrix.proofs.rows.wild_rows.Tie as tie
-use Rattle.matrix.proofs.rows.wild_rows.Reads as reads
-use Rattle.matrix.proofs.rows.wild_rows.Lts as lts
-use Rattle.matrix.proofs.rows.keep_wild.Reads as keep-wild-reads
-use Rattle.matrix.proofs.rows.test_at.Reads as test-at-reads
-use Rattle.matrix.proofs.wide.Reads as wide-reads
 
 abbrev Inv-loop : tie.InvT-loop
 Inv-loop t rows n opened class list₀ count₀ i₀ list count i =

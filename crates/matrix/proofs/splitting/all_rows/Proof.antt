@@ -9,8 +9,6 @@ use Rattle.matrix.specs.RowStates.{upFrom}
 use Rattle.matrix.specs.SplitLaws.{rows-none, rows-more, rows-all}
 use Rattle.matrix.proofs.splitting.all_rows.Statement.{statement}
 use Rattle.matrix.proofs.splitting.all_rows.Tie as tie
-use Rattle.matrix.proofs.splitting.all_rows.Reads as reads
-use Rattle.matrix.proofs.splitting.all_rows.Lts as lts
 
 abbrev Inv-loop : tie.InvT-loop
 Inv-loop n list₀ c₀ list c = (c ≤ n) × (length list ≡ 32) × (take c list ++ upFrom c (n - c) ≡ upFrom 0 n)

@@ -11,13 +11,6 @@ use Rattle.matrix.specs.Meant.{meant}
 use Rattle.matrix.specs.SplitLaws.{joined-there, joined-low, joined-room, joined-rest, case-stands}
 use Rattle.matrix.proofs.splitting.case_matrix.Statement.{statement}
 use Rattle.matrix.proofs.splitting.case_matrix.Tie as tie
-use Rattle.matrix.proofs.splitting.case_matrix.Reads as reads
-use Rattle.matrix.proofs.splitting.case_matrix.Lts as lts
-use Rattle.matrix.proofs.columns.push.Reads as push-reads
-use Rattle.matrix.proofs.columns.put_rest.Reads as put-rest-reads
-use Rattle.matrix.proofs.splitting.join_rows.Reads as join-rows-reads
-use Rattle.matrix.proofs.splitting.mark.Reads as mark-reads
-use Rattle.matrix.proofs.splitting.open_all.Reads as open-all-reads
 
 join-rows-requires : tie.Need-join-rows-requires
 join-rows-requires c κs =

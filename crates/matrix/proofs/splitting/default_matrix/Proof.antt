@@ -6,11 +6,6 @@ use Rattle.matrix.specs.InNumbers.{inNumbers, matrixOf, defaultRead}
 use Rattle.matrix.specs.InNumbersLaws.{stands-for}
 use Rattle.matrix.proofs.splitting.default_matrix.Statement.{statement}
 use Rattle.matrix.proofs.splitting.default_matrix.Tie as tie
-use Rattle.matrix.proofs.splitting.default_matrix.Reads as reads
-use Rattle.matrix.proofs.splitting.default_matrix.Lts as lts
-use Rattle.matrix.proofs.columns.push.Reads as push-reads
-use Rattle.matrix.proofs.columns.put_rest.Reads as put-rest-reads
-use Rattle.matrix.proofs.rows.wild_rows.Reads as wild-rows-reads
 
 wild-rows-requires : tie.Need-wild-rows-requires
 wild-rows-requires c κs = let s = c .before .before in (s .pre .0 .whole .whole-rows, s .pre .0 .cells, s .pre .1 .0)

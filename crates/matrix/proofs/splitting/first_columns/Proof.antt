@@ -1,7 +1,7 @@
 -- `splitting::first_columns`: the columns of the clauses from one on, the last first.
 use mathlib.Core.Path.{_≡_, refl, sym, ap, _∙_}
 use mathlib.Core.List.{[]}
-use Prim.Native.Nat.{_-_, _≤_}
+use Prim.Native.Nat.{_≤_}
 use native.Mathlib.Omega.{arith}
 use Rattle.words.specs.Words.{zeros}
 use Rattle.rules.specs.SheetFile.{clauses}
@@ -12,10 +12,6 @@ use Rattle.matrix.specs.Ready.{Listed}
 use Rattle.matrix.specs.SplitLaws.{columnsFrom, columns-none, columns-all, root-known, root-room, next-listed, next-columns}
 use Rattle.matrix.proofs.splitting.first_columns.Statement.{statement}
 use Rattle.matrix.proofs.splitting.first_columns.Tie as tie
-use Rattle.matrix.proofs.splitting.first_columns.Reads as reads
-use Rattle.matrix.proofs.splitting.first_columns.Lts as lts
-use Rattle.matrix.proofs.columns.map_pattern_to_row.Reads as map-pattern-to-row-reads
-use Rattle.sheet.proofs.records.root_at.Reads as root-at-reads
 
 abbrev Inv-loop : tie.InvT-loop
 Inv-loop s m t list₀ count₀ c₀ list count c = (c ≤ clauses s) × Listed s (asClasses list count) × Holds (asClasses list count) (columnsFrom s c)

@@ -11,11 +11,6 @@ use Rattle.matrix.specs.Numbered.{firstNumbered}
 use Rattle.matrix.specs.InNumbersLaws.{stands-for}
 use Rattle.matrix.proofs.splitting.first_matrix.Statement.{statement}
 use Rattle.matrix.proofs.splitting.first_matrix.Tie as tie
-use Rattle.matrix.proofs.splitting.first_matrix.Reads as reads
-use Rattle.matrix.proofs.splitting.first_matrix.Lts as lts
-use Rattle.matrix.proofs.columns.empty.Reads as empty-reads
-use Rattle.matrix.proofs.splitting.all_rows.Reads as all-rows-reads
-use Rattle.matrix.proofs.splitting.first_columns.Reads as first-columns-reads
 
 all-rows-requires : tie.Need-all-rows-requires
 all-rows-requires c κs =

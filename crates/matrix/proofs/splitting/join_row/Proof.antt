@@ -10,10 +10,6 @@ use Rattle.matrix.specs.Meant.{meant}
 use Rattle.matrix.specs.SplitLaws.{joined-not, joined-test, joined-wild, held-test}
 use Rattle.matrix.proofs.splitting.join_row.Statement.{statement}
 use Rattle.matrix.proofs.splitting.join_row.Tie as tie
-use Rattle.matrix.proofs.splitting.join_row.Reads as reads
-use Rattle.matrix.proofs.splitting.join_row.Lts as lts
-use Rattle.matrix.proofs.covering.covers.Reads as covers-reads
-use Rattle.matrix.proofs.rows.put_row.Reads as put-row-reads
 
 enum-known-held : tie.Need-enum-known-held
 enum-known-held c = search needs

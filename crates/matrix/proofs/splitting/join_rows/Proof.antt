@@ -16,11 +16,6 @@ use Rattle.matrix.specs.Meant.{meant}
 use Rattle.matrix.specs.SplitLaws.{Joining, joining-on, joining-few, joining-end, held-live}
 use Rattle.matrix.proofs.splitting.join_rows.Statement.{statement}
 use Rattle.matrix.proofs.splitting.join_rows.Tie as tie
-use Rattle.matrix.proofs.splitting.join_rows.Reads as reads
-use Rattle.matrix.proofs.splitting.join_rows.Lts as lts
-use Rattle.matrix.proofs.rows.test_at.Reads as test-at-reads
-use Rattle.matrix.proofs.splitting.join_row.Reads as join-row-reads
-use Rattle.matrix.proofs.wide.Reads as wide-reads
 
 abbrev Inv-loop : tie.InvT-loop
 Inv-loop s m t from n opened class test rows₀ opens₀ o₀ i₀ rows opens o i =

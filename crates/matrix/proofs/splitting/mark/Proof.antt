@@ -9,9 +9,6 @@ use Rattle.matrix.specs.ReadingLaws.{all-at}
 use Rattle.matrix.specs.SplitLaws.{mark-on, mark-end}
 use Rattle.matrix.proofs.splitting.mark.Statement.{statement}
 use Rattle.matrix.proofs.splitting.mark.Tie as tie
-use Rattle.matrix.proofs.splitting.mark.Reads as reads
-use Rattle.matrix.proofs.splitting.mark.Lts as lts
-use Rattle.matrix.proofs.wide.Reads as wide-reads
 
 abbrev Inv-loop : tie.InvT-loop
 Inv-loop opened₀ opens n time i₀ opened i = (i ≤ n) × (length opened ≡ 192) × (marked time opened (slice i n opens) ≡ marked time opened₀ (take n opens))

@@ -9,10 +9,6 @@ use Rattle.matrix.specs.Ready.{Listed}
 use Rattle.matrix.specs.SplitLaws.{opensFrom, opens-none, test-known, test-room, opened-listed, opened-columns}
 use Rattle.matrix.proofs.splitting.open_all.Statement.{statement}
 use Rattle.matrix.proofs.splitting.open_all.Tie as tie
-use Rattle.matrix.proofs.splitting.open_all.Reads as reads
-use Rattle.matrix.proofs.splitting.open_all.Lts as lts
-use Rattle.matrix.proofs.columns.open.Reads as open-reads
-use Rattle.matrix.proofs.wide.Reads as wide-reads
 
 abbrev Inv-loop : tie.InvT-loop
 Inv-loop s m t opens n list₀ count₀ i₀ list count i = (i ≤ n) × Listed s (asClasses list count) × Holds (asClasses list count) (opensFrom s opens n i)

@@ -15,11 +15,6 @@ use Rattle.meeting.specs.Rows.{heldTest}
 use Rattle.meeting.specs.ColumnLaws.{held-small, tests-step, tests-end, heldTest-most}
 use Rattle.meeting.proofs.column.column_tests.Statement.{statement}
 use Rattle.meeting.proofs.column.column_tests.Tie as tie
-use Rattle.meeting.proofs.column.column_tests.Reads as reads
-use Rattle.meeting.proofs.column.column_tests.Lts as lts
-use Rattle.matrix.proofs.rows.test_at.Reads as test-at-reads
-use Rattle.matrix.proofs.wide.Reads as wide-reads
-use Rattle.meeting.proofs.column.keep_test.Reads as keep-test-reads
 
 abbrev Inv-loop : tie.InvT-loop
 Inv-loop t rows n opened class list₀ count₀ i₀ list count i =

@@ -7,9 +7,6 @@ use Rattle.matrix.specs.Lists.{asRows}
 use Rattle.meeting.specs.ColumnLaws.{test-in-byte, keep-one, keep-none}
 use Rattle.meeting.proofs.column.keep_test.Statement.{statement}
 use Rattle.meeting.proofs.column.keep_test.Tie as tie
-use Rattle.meeting.proofs.column.keep_test.Reads as reads
-use Rattle.meeting.proofs.column.keep_test.Lts as lts
-use Rattle.matrix.proofs.rows.put_row.Reads as put-row-reads
 
 enum-known-held : tie.Need-enum-known-held
 enum-known-held c = search needs

@@ -1,7 +1,7 @@
 -- `panel::layout::map_of` meets its contract: the sections of a laid panel rise, and its records start at 0.
 use native.Mathlib.Omega.{arith}
 use borrow.Author.Needs.{needs}
-use Rattle.rules.specs.PanelFile.{partsAt, panelPoolAt, records}
+use Rattle.rules.specs.PanelFile.{partsAt, panelPoolAt}
 use Rattle.panel.specs.LayoutLaws.{map-read}
 use Rattle.panel.proofs.layout.map_of.Statement.{statement}
 use Rattle.panel.proofs.layout.map_of.Tie as tie

@@ -10,7 +10,6 @@ use Rattle.rules.specs.Limits.{recordsMost}
 use Rattle.rules.specs.PanelFile.{records}
 use Rattle.panel.specs.Shape.{met, enterRecords}
 use Rattle.panel.specs.ShapeSteps.{records-end, records-go, records-broke}
-use borrow.Author.Needs.{needs}
 use Rattle.panel.proofs.shape.enter_records.Statement.{statement}
 use Rattle.panel.proofs.shape.enter_records.Tie as tie
 

@@ -3,9 +3,6 @@ use mathlib.Core.Path.{_∙_}
 use Rattle.reader.specs.ReadingLaws.{root-there}
 use Rattle.reader.proofs.places.root_in.Statement.{statement}
 use Rattle.reader.proofs.places.root_in.Tie as tie
-use Rattle.reader.proofs.places.root_in.Reads as reads
-use Rattle.reader.proofs.places.root_in.Lts as lts
-use Rattle.words.proofs.word_at.Reads as word-at-reads
 
 mul-word-at : tie.Need-mul-word-at
 mul-word-at c = search needs

@@ -1,8 +1,7 @@
 use borrow.Author.Needs.{needs}
-use mathlib.Core.Path.{_≡_, sym, _∙_}
-use Prim.Native.Nat.{_+_, _-_, _*_, _≤_, ℕ, _<_}
+use Prim.Native.Nat.{_+_, _-_, _*_, ℕ, _<_}
 use native.Mathlib.Omega.{arith}
-use Rattle.sheet.specs.FittingLaws.{settled-is, inside-there, inside-is, each-room, each-is, room-few, Here, here, all-none, all-stop, all-go-on}
+use Rattle.sheet.specs.FittingLaws.{settled-is, inside-there, inside-is, each-room, each-is, room-few, here, all-none, all-stop, all-go-on}
 use borrow.Fn.Kinds.{In}
 use borrow.Fn.PlainCycle.{Measures, is, falls, and}
 use Rattle.sheet.proofs.fitting.fits.Reads as fits

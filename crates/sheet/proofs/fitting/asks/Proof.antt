@@ -3,14 +3,6 @@ use native.Mathlib.Omega.{arith}
 use Rattle.sheet.specs.AskingLaws.{discard-asks, variable-asks, assign-asks, integer-asks, bytes-asks, list-asks, rest-asks, constructor-asks, pair-asks, tuple-asks, unknown-asks, assign-child, rest-some, constructors-there}
 use Rattle.sheet.proofs.fitting.asks.Statement.{statement}
 use Rattle.sheet.proofs.fitting.asks.Tie as tie
-use Rattle.sheet.proofs.fitting.asks.Reads as reads
-use Rattle.sheet.proofs.fitting.asks.Lts as lts
-use Rattle.sheet.proofs.fitting.asks_each.Reads as asks-each-reads
-use Rattle.sheet.proofs.fitting.asks_fields.Reads as asks-fields-reads
-use Rattle.sheet.proofs.fitting.asks_parts.Reads as asks-parts-reads
-use Rattle.sheet.proofs.records.child_at.Reads as child-at-reads
-use Rattle.sheet.proofs.records.pattern_at.Reads as pattern-at-reads
-use Rattle.sheet.proofs.records.type_at.Reads as type-at-reads
 
 pattern-at-requires : tie.Need-pattern-at-requires
 pattern-at-requires c κs = (c .before .pre .0 .is-laid, c .before .pre .0 .is-map, c .before .pre .1)

@@ -1,7 +1,5 @@
 use Rattle.sheet.proofs.fitting.asks_each.Statement.{statement}
 use Rattle.sheet.proofs.fitting.asks_each.Tie as tie
-use Rattle.sheet.proofs.fitting.asks_each.Reads as reads
-use Rattle.sheet.proofs.fitting.asks_each.Lts as lts
 
 returns : tie.Need-returns
 returns c = rw (c .if1 .taken)

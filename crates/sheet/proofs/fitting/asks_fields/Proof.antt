@@ -3,10 +3,6 @@ use native.Mathlib.Omega.{arith}
 use Rattle.sheet.specs.AskingLaws.{no-data, no-constructor, arguments-are}
 use Rattle.sheet.proofs.fitting.asks_fields.Statement.{statement}
 use Rattle.sheet.proofs.fitting.asks_fields.Tie as tie
-use Rattle.sheet.proofs.fitting.asks_fields.Reads as reads
-use Rattle.sheet.proofs.fitting.asks_fields.Lts as lts
-use Rattle.sheet.proofs.fitting.asks_each.Reads as asks-each-reads
-use Rattle.sheet.proofs.records.constructor_at.Reads as constructor-at-reads
 
 returns : tie.Need-returns
 returns c = no-data (c .before .before .before .args .s .now) (c .before .before .before .args .r) (c .before .before .before .args .ty) (c .if1 .taken)

@@ -2,9 +2,6 @@ use borrow.Author.Needs.{needs}
 use borrow.Author.Tests.{eq-eqb, ne-eqb}
 use Rattle.sheet.proofs.fitting.asks_parts.Statement.{statement}
 use Rattle.sheet.proofs.fitting.asks_parts.Tie as tie
-use Rattle.sheet.proofs.fitting.asks_parts.Reads as reads
-use Rattle.sheet.proofs.fitting.asks_parts.Lts as lts
-use Rattle.sheet.proofs.fitting.asks_each.Reads as asks-each-reads
 
 returns : tie.Need-returns
 returns c = rw (ne-eqb _ _ (c .if1 .taken))

@@ -8,9 +8,6 @@ use Rattle.sheet.specs.SectionsLaws.{mapped}
 use Rattle.sheet.specs.LoopsLaws.{LowestLeft, lowest-begins, lowest-goes-on, lowest-stops, lowest-ends}
 use Rattle.sheet.proofs.fitting.lowest_misfit.Statement.{statement}
 use Rattle.sheet.proofs.fitting.lowest_misfit.Tie as tie
-use Rattle.sheet.proofs.fitting.lowest_misfit.Reads as reads
-use Rattle.sheet.proofs.fitting.lowest_misfit.Lts as lts
-use Rattle.sheet.proofs.fitting.misfits.Reads as misfits-reads
 
 abbrev Inv-loop : tie.InvT-loop
 Inv-loop s m c₀ c = (c ≤ clauses s) × LowestLeft (misfit s) (clauses s) c

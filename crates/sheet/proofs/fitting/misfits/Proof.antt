@@ -3,10 +3,6 @@ use Rattle.sheet.specs.SectionsLaws.{mapped}
 use Rattle.sheet.specs.FittingLaws.{misfit-is}
 use Rattle.sheet.proofs.fitting.misfits.Statement.{statement}
 use Rattle.sheet.proofs.fitting.misfits.Tie as tie
-use Rattle.sheet.proofs.fitting.misfits.Reads as reads
-use Rattle.sheet.proofs.fitting.misfits.Lts as lts
-use Rattle.sheet.proofs.fitting.fits.Reads as fits-reads
-use Rattle.sheet.proofs.records.root_at.Reads as root-at-reads
 
 root-at-requires : tie.Need-root-at-requires
 root-at-requires c κs = (c .before .pre .0 .is-laid, c .before .pre .0 .is-map, c .before .pre .1)

@@ -2,8 +2,6 @@ use borrow.Author.Tests.{le-leb, lt-leb}
 use Rattle.sheet.specs.Sections.{fewEnough}
 use Rattle.sheet.proofs.layout.counts_fit.Statement.{statement}
 use Rattle.sheet.proofs.layout.counts_fit.Tie as tie
-use Rattle.sheet.proofs.layout.counts_fit.Reads as reads
-use Rattle.sheet.proofs.layout.counts_fit.Lts as lts
 
 returns : tie.Need-returns
 unfolding fewEnough

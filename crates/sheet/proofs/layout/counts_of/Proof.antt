@@ -3,8 +3,6 @@ use native.Mathlib.Omega.{arith}
 use Rattle.sheet.specs.SectionsLaws.{rising}
 use Rattle.sheet.proofs.layout.counts_of.Statement.{statement}
 use Rattle.sheet.proofs.layout.counts_of.Tie as tie
-use Rattle.sheet.proofs.layout.counts_of.Reads as reads
-use Rattle.sheet.proofs.layout.counts_of.Lts as lts
 
 sub-t2 : tie.Need-sub-t2
 sub-t2 c = omega (arith, rising (c .before .args .at) (c .before .pre))

@@ -4,9 +4,6 @@ use Rattle.sheet.specs.TestsLaws.{passed, stopped}
 use borrow.Author.Needs.{needs}
 use Rattle.sheet.proofs.layout.layout_fits.Statement.{statement}
 use Rattle.sheet.proofs.layout.layout_fits.Tie as tie
-use Rattle.sheet.proofs.layout.layout_fits.Reads as reads
-use Rattle.sheet.proofs.layout.layout_fits.Lts as lts
-use Rattle.sheet.proofs.layout.whole_records.Reads as whole-records-reads
 
 returns : tie.Need-returns
 unfolding startsFit

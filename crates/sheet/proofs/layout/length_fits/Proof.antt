@@ -4,9 +4,6 @@ use Rattle.rules.specs.SheetFile.{sheetLength}
 use borrow.Author.Needs.{needs}
 use Rattle.sheet.proofs.layout.length_fits.Statement.{statement}
 use Rattle.sheet.proofs.layout.length_fits.Tie as tie
-use Rattle.sheet.proofs.layout.length_fits.Reads as reads
-use Rattle.sheet.proofs.layout.length_fits.Lts as lts
-use Rattle.words.proofs.word_at.Reads as word-at-reads
 
 returns : tie.Need-returns
 unfolding lengthFits

@@ -2,9 +2,6 @@ use Rattle.rules.specs.SheetFile.{sheetStart}
 use borrow.Author.Needs.{needs}
 use Rattle.sheet.proofs.layout.start.Statement.{statement}
 use Rattle.sheet.proofs.layout.start.Tie as tie
-use Rattle.sheet.proofs.layout.start.Reads as reads
-use Rattle.sheet.proofs.layout.start.Lts as lts
-use Rattle.words.proofs.word_at.Reads as word-at-reads
 
 sub-word-at : tie.Need-sub-word-at
 sub-word-at c = search needs

@@ -2,9 +2,6 @@ use borrow.Author.Needs.{needs}
 use Rattle.rules.specs.SheetFile.{typesAt, constructorsAt, entriesAt, patternsAt, childrenAt, clausesAt, poolAt, poolEnd}
 use Rattle.sheet.proofs.layout.starts_of.Statement.{statement}
 use Rattle.sheet.proofs.layout.starts_of.Tie as tie
-use Rattle.sheet.proofs.layout.starts_of.Reads as reads
-use Rattle.sheet.proofs.layout.starts_of.Lts as lts
-use Rattle.sheet.proofs.layout.start.Reads as start-reads
 
 start-requires : tie.Need-start-requires
 start-requires c κs = search needs

@@ -2,9 +2,6 @@ use Rattle.rules.specs.SheetFile.{subject}
 use borrow.Author.Needs.{needs}
 use Rattle.sheet.proofs.layout.subject_of.Statement.{statement}
 use Rattle.sheet.proofs.layout.subject_of.Tie as tie
-use Rattle.sheet.proofs.layout.subject_of.Reads as reads
-use Rattle.sheet.proofs.layout.subject_of.Lts as lts
-use Rattle.words.proofs.word_at.Reads as word-at-reads
 
 sub-word-at : tie.Need-sub-word-at
 sub-word-at c = search needs

@@ -3,8 +3,6 @@ use Rattle.rules.specs.SheetRefusals.{wholeRecords}
 use borrow.Author.Needs.{needs}
 use Rattle.sheet.proofs.layout.whole_records.Statement.{statement}
 use Rattle.sheet.proofs.layout.whole_records.Tie as tie
-use Rattle.sheet.proofs.layout.whole_records.Reads as reads
-use Rattle.sheet.proofs.layout.whole_records.Lts as lts
 
 returns : tie.Need-returns
 unfolding wholeRecords

@@ -2,10 +2,6 @@ use borrow.Author.Needs.{needs}
 use Rattle.sheet.specs.ShapeLaws.{children-there, children-absent}
 use Rattle.sheet.proofs.records.children_in.Statement.{statement}
 use Rattle.sheet.proofs.records.children_in.Tie as tie
-use Rattle.sheet.proofs.records.children_in.Reads as reads
-use Rattle.sheet.proofs.records.children_in.Lts as lts
-use Rattle.sheet.proofs.records.pattern_in.Reads as pattern-in-reads
-use Rattle.sheet.proofs.records.has_children.Reads as has-children-reads
 
 pattern-in-requires : tie.Need-pattern-in-requires
 pattern-in-requires c κs = search needs

@@ -4,9 +4,6 @@ use native.Mathlib.Omega.{arith}
 use Rattle.sheet.specs.RecordsLaws.{constructor-room, constructor-is}
 use Rattle.sheet.proofs.records.constructor_at.Statement.{statement}
 use Rattle.sheet.proofs.records.constructor_at.Tie as tie
-use Rattle.sheet.proofs.records.constructor_at.Reads as reads
-use Rattle.sheet.proofs.records.constructor_at.Lts as lts
-use Rattle.sheet.proofs.records.run_from.Reads as run-from-reads
 
 mul-run-from : tie.Need-mul-run-from
 mul-run-from c = search needs

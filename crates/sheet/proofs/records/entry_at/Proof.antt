@@ -4,9 +4,6 @@ use native.Mathlib.Omega.{arith}
 use Rattle.sheet.specs.RecordsLaws.{entry-room, entry-is}
 use Rattle.sheet.proofs.records.entry_at.Statement.{statement}
 use Rattle.sheet.proofs.records.entry_at.Tie as tie
-use Rattle.sheet.proofs.records.entry_at.Reads as reads
-use Rattle.sheet.proofs.records.entry_at.Lts as lts
-use Rattle.words.proofs.word_at.Reads as word-at-reads
 
 mul-word-at : tie.Need-mul-word-at
 mul-word-at c = search needs

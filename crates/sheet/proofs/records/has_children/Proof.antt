@@ -1,8 +1,6 @@
 use Rattle.sheet.specs.ShapeLaws.{assign-has-children, low-has-none, high-has-children}
 use Rattle.sheet.proofs.records.has_children.Statement.{statement}
 use Rattle.sheet.proofs.records.has_children.Tie as tie
-use Rattle.sheet.proofs.records.has_children.Reads as reads
-use Rattle.sheet.proofs.records.has_children.Lts as lts
 
 returns : tie.Need-returns
 returns c = assign-has-children (c .before .args .kind) (c .if1 .taken)

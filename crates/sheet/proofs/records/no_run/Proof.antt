@@ -1,8 +1,6 @@
 use borrow.Author.Tests.{eq-eqb, ne-eqb}
 use Rattle.sheet.proofs.records.no_run.Statement.{statement}
 use Rattle.sheet.proofs.records.no_run.Tie as tie
-use Rattle.sheet.proofs.records.no_run.Reads as reads
-use Rattle.sheet.proofs.records.no_run.Lts as lts
 
 returns : tie.Need-returns
 returns c = rw (ne-eqb _ _ (c .if1 .taken))

@@ -2,10 +2,6 @@ use borrow.Author.Needs.{needs}
 use Rattle.sheet.specs.RecordsLaws.{pattern-parts}
 use Rattle.sheet.proofs.records.pattern_from.Statement.{statement}
 use Rattle.sheet.proofs.records.pattern_from.Tie as tie
-use Rattle.sheet.proofs.records.pattern_from.Reads as reads
-use Rattle.sheet.proofs.records.pattern_from.Lts as lts
-use Rattle.sheet.proofs.records.run_from.Reads as run-from-reads
-use Rattle.words.proofs.word_at.Reads as word-at-reads
 
 shared-slice-read-kind : tie.Need-shared-slice-read-kind
 shared-slice-read-kind c = search needs

@@ -4,9 +4,6 @@ use native.Mathlib.Omega.{arith}
 use Rattle.sheet.specs.RecordsLaws.{root-room, root-is}
 use Rattle.sheet.proofs.records.root_at.Statement.{statement}
 use Rattle.sheet.proofs.records.root_at.Tie as tie
-use Rattle.sheet.proofs.records.root_at.Reads as reads
-use Rattle.sheet.proofs.records.root_at.Lts as lts
-use Rattle.words.proofs.word_at.Reads as word-at-reads
 
 mul-word-at : tie.Need-mul-word-at
 mul-word-at c = search needs

@@ -1,9 +1,6 @@
 use borrow.Author.Needs.{needs}
 use Rattle.sheet.proofs.records.run_from.Statement.{statement}
 use Rattle.sheet.proofs.records.run_from.Tie as tie
-use Rattle.sheet.proofs.records.run_from.Reads as reads
-use Rattle.sheet.proofs.records.run_from.Lts as lts
-use Rattle.words.proofs.word_at.Reads as word-at-reads
 
 word-at-requires : tie.Need-word-at-requires
 word-at-requires c κs = search needs

@@ -1,11 +1,9 @@
 use Prim.Native.Nat.{_+_}
 use native.Mathlib.Omega.{arith}
-use borrow.Author.Tests.{le-leb, lt-leb, lt-ltb, le-ltb, eq-eqb, ne-eqb}
+use borrow.Author.Tests.{le-leb, lt-leb, lt-ltb, le-ltb}
 use Rattle.rules.specs.SheetFile.{runIn}
 use Rattle.sheet.proofs.records.run_in.Statement.{statement}
 use Rattle.sheet.proofs.records.run_in.Tie as tie
-use Rattle.sheet.proofs.records.run_in.Reads as reads
-use Rattle.sheet.proofs.records.run_in.Lts as lts
 
 returns : tie.Need-returns
 unfolding runIn

@@ -4,9 +4,6 @@ use native.Mathlib.Omega.{arith}
 use Rattle.sheet.specs.RecordsLaws.{type-room, type-is}
 use Rattle.sheet.proofs.records.type_at.Statement.{statement}
 use Rattle.sheet.proofs.records.type_at.Tie as tie
-use Rattle.sheet.proofs.records.type_at.Reads as reads
-use Rattle.sheet.proofs.records.type_at.Lts as lts
-use Rattle.sheet.proofs.records.type_from.Reads as type-from-reads
 
 mul-type-from : tie.Need-mul-type-from
 mul-type-from c = search needs

@@ -1,9 +1,6 @@
 use borrow.Author.Needs.{needs}
 use Rattle.sheet.proofs.records.type_from.Statement.{statement}
 use Rattle.sheet.proofs.records.type_from.Tie as tie
-use Rattle.sheet.proofs.records.type_from.Reads as reads
-use Rattle.sheet.proofs.records.type_from.Lts as lts
-use Rattle.words.proofs.word_at.Reads as word-at-reads
 
 shared-slice-read-kind : tie.Need-shared-slice-read-kind
 shared-slice-read-kind c = search needs

@@ -8,9 +8,6 @@ use Rattle.sheet.specs.LoopsLaws.{EveryLeft, every-begins, every-goes-on
 use Rattle.sheet.specs.TestsLaws.{passed, stopped}
 use Rattle.sheet.proofs.shape.all_children_above.Statement.{statement}
 use Rattle.sheet.proofs.shape.all_children_above.Tie as tie
-use Rattle.sheet.proofs.shape.all_children_above.Reads as reads
-use Rattle.sheet.proofs.shape.all_children_above.Lts as lts
-use Rattle.sheet.proofs.shape.children_above.Reads as children-above-reads
 
 abbrev Inv-loop : tie.InvT-loop
 Inv-loop s m p₀ p = (p ≤ patterns s) × EveryLeft (allAbove s) (patterns s) p

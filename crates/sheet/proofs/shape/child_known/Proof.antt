@@ -1,14 +1,10 @@
 use borrow.Author.Needs.{needs}
 use mathlib.Core.Path.{ap₂}
-use Prim.Native.Nat.{ℕ}
 use lib.Dec.{ltb}
 use Rattle.sheet.specs.Shape.{childKnown}
 use Rattle.sheet.specs.SectionsLaws.{mapped}
 use Rattle.sheet.proofs.shape.child_known.Statement.{statement}
 use Rattle.sheet.proofs.shape.child_known.Tie as tie
-use Rattle.sheet.proofs.shape.child_known.Reads as reads
-use Rattle.sheet.proofs.shape.child_known.Lts as lts
-use Rattle.sheet.proofs.records.child_at.Reads as child-at-reads
 
 child-at-requires : tie.Need-child-at-requires
 child-at-requires c κs = search needs

@@ -1,6 +1,6 @@
 use borrow.Author.Needs.{needs}
 use mathlib.Core.Path.{_∙_}
-use Prim.Native.Nat.{ℕ, _+_, _-_, _≤_, _<_}
+use Prim.Native.Nat.{_+_, _-_, _≤_, _<_}
 use native.Mathlib.Omega.{arith}
 use Rattle.rules.specs.SheetFile.{children}
 use Rattle.rules.specs.SheetRefusals.{isAbove}
@@ -10,10 +10,6 @@ use Rattle.sheet.specs.TestsLaws.{passed, stopped}
 use Rattle.sheet.specs.LoopsLaws.{EveryFrom, from-begins, from-goes-on, from-stops, from-ends}
 use Rattle.sheet.proofs.shape.children_above.Statement.{statement}
 use Rattle.sheet.proofs.shape.children_above.Tie as tie
-use Rattle.sheet.proofs.shape.children_above.Reads as reads
-use Rattle.sheet.proofs.shape.children_above.Lts as lts
-use Rattle.sheet.proofs.records.children_of.Reads as children-of-reads
-use Rattle.sheet.proofs.shape.is_above.Reads as is-above-reads
 
 abbrev Inv-loop : tie.InvT-loop
 Inv-loop s m p run k₀ k = (k ≤ run .count) × EveryFrom (isAbove s p) (run .count) (run .first) k

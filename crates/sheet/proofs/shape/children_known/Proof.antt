@@ -8,9 +8,6 @@ use Rattle.sheet.specs.LoopsLaws.{EveryLeft, every-begins, every-goes-on
 use Rattle.sheet.specs.TestsLaws.{passed, stopped}
 use Rattle.sheet.proofs.shape.children_known.Statement.{statement}
 use Rattle.sheet.proofs.shape.children_known.Tie as tie
-use Rattle.sheet.proofs.shape.children_known.Reads as reads
-use Rattle.sheet.proofs.shape.children_known.Lts as lts
-use Rattle.sheet.proofs.shape.child_known.Reads as child-known-reads
 
 abbrev Inv-loop : tie.InvT-loop
 Inv-loop s m j₀ j = (j ≤ children s) × EveryLeft (childKnown s) (children s) j

@@ -6,10 +6,6 @@ use Rattle.sheet.specs.declared.Map.{Map}
 use Rattle.rules.specs.SheetRefusals.{within as Within, depthFits}
 use Rattle.sheet.proofs.shape.depth_fits.Statement.{statement}
 use Rattle.sheet.proofs.shape.depth_fits.Tie as tie
-use Rattle.sheet.proofs.shape.depth_fits.Reads as reads
-use Rattle.sheet.proofs.shape.depth_fits.Lts as lts
-use Rattle.sheet.proofs.records.root_at.Reads as root-at-reads
-use Rattle.sheet.proofs.shape.within.Reads as within-reads
 
 root-at-requires : tie.Need-root-at-requires
 root-at-requires c κs = search needs

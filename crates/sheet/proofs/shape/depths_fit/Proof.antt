@@ -8,9 +8,6 @@ use Rattle.sheet.specs.LoopsLaws.{EveryLeft, every-begins, every-goes-on
 use Rattle.sheet.specs.TestsLaws.{passed, stopped}
 use Rattle.sheet.proofs.shape.depths_fit.Statement.{statement}
 use Rattle.sheet.proofs.shape.depths_fit.Tie as tie
-use Rattle.sheet.proofs.shape.depths_fit.Reads as reads
-use Rattle.sheet.proofs.shape.depths_fit.Lts as lts
-use Rattle.sheet.proofs.shape.depth_fits.Reads as depth-fits-reads
 
 abbrev Inv-loop : tie.InvT-loop
 Inv-loop s m c₀ c = (c ≤ clauses s) × EveryLeft (depthFits s) (clauses s) c

@@ -1,15 +1,9 @@
 use borrow.Author.Needs.{needs}
-use native.Mathlib.Omega.{arith}
 use borrow.Author.Tests.{eq-eqb, ne-eqb, le-leb, lt-leb}
 use Rattle.rules.specs.Patterns.{patternKindOf}
 use Rattle.sheet.specs.Shape.{ownFields}
 use Rattle.sheet.proofs.shape.fields_fit.Statement.{statement}
 use Rattle.sheet.proofs.shape.fields_fit.Tie as tie
-use Rattle.sheet.proofs.shape.fields_fit.Reads as reads
-use Rattle.sheet.proofs.shape.fields_fit.Lts as lts
-use Rattle.sheet.proofs.records.no_run.Reads as no-run-reads
-use Rattle.sheet.proofs.records.run_in.Reads as run-in-reads
-use Rattle.sheet.proofs.shape.plain_run.Reads as plain-run-reads
 
 returns : tie.Need-returns
 unfolding ownFields patternKindOf

@@ -2,9 +2,6 @@ use borrow.Author.Needs.{needs}
 use Rattle.sheet.specs.ShapeLaws.{above-known}
 use Rattle.sheet.proofs.shape.is_above.Statement.{statement}
 use Rattle.sheet.proofs.shape.is_above.Tie as tie
-use Rattle.sheet.proofs.shape.is_above.Reads as reads
-use Rattle.sheet.proofs.shape.is_above.Lts as lts
-use Rattle.sheet.proofs.records.child_at.Reads as child-at-reads
 
 child-at-requires : tie.Need-child-at-requires
 child-at-requires c κs = search needs

@@ -2,9 +2,6 @@ use borrow.Author.Needs.{needs}
 use borrow.Author.Tests.{eq-eqb, ne-eqb}
 use Rattle.sheet.proofs.shape.plain_run.Statement.{statement}
 use Rattle.sheet.proofs.shape.plain_run.Tie as tie
-use Rattle.sheet.proofs.shape.plain_run.Reads as reads
-use Rattle.sheet.proofs.shape.plain_run.Lts as lts
-use Rattle.sheet.proofs.records.run_in.Reads as run-in-reads
 
 returns : tie.Need-returns
 returns c = rw (ne-eqb _ _ (c .if1 .taken))

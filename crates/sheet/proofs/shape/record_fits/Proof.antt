@@ -2,11 +2,6 @@ use borrow.Author.Needs.{needs}
 use Rattle.sheet.specs.ShapeLaws.{zero-stops, own-stops, without-tail, tail-room, with-tail}
 use Rattle.sheet.proofs.shape.record_fits.Statement.{statement}
 use Rattle.sheet.proofs.shape.record_fits.Tie as tie
-use Rattle.sheet.proofs.shape.record_fits.Reads as reads
-use Rattle.sheet.proofs.shape.record_fits.Lts as lts
-use Rattle.sheet.proofs.records.pattern_at.Reads as pattern-at-reads
-use Rattle.sheet.proofs.shape.fields_fit.Reads as fields-fit-reads
-use Rattle.sheet.proofs.shape.tail_fits.Reads as tail-fits-reads
 
 pattern-at-requires : tie.Need-pattern-at-requires
 pattern-at-requires c κs = search needs

@@ -8,9 +8,6 @@ use Rattle.sheet.specs.LoopsLaws.{EveryLeft, every-begins, every-goes-on
 use Rattle.sheet.specs.TestsLaws.{passed, stopped}
 use Rattle.sheet.proofs.shape.records_fit.Statement.{statement}
 use Rattle.sheet.proofs.shape.records_fit.Tie as tie
-use Rattle.sheet.proofs.shape.records_fit.Reads as reads
-use Rattle.sheet.proofs.shape.records_fit.Lts as lts
-use Rattle.sheet.proofs.shape.record_fits.Reads as record-fits-reads
 
 abbrev Inv-loop : tie.InvT-loop
 Inv-loop s m p₀ p = (p ≤ patterns s) × EveryLeft (recordFits s) (patterns s) p

@@ -1,14 +1,10 @@
 use borrow.Author.Needs.{needs}
 use mathlib.Core.Path.{ap₂}
-use Prim.Native.Nat.{ℕ}
 use lib.Dec.{ltb}
 use Rattle.rules.specs.SheetRefusals.{rootKeepsRules}
 use Rattle.sheet.specs.SectionsLaws.{mapped}
 use Rattle.sheet.proofs.shape.root_known.Statement.{statement}
 use Rattle.sheet.proofs.shape.root_known.Tie as tie
-use Rattle.sheet.proofs.shape.root_known.Reads as reads
-use Rattle.sheet.proofs.shape.root_known.Lts as lts
-use Rattle.sheet.proofs.records.root_at.Reads as root-at-reads
 
 root-at-requires : tie.Need-root-at-requires
 root-at-requires c κs = search needs

@@ -8,9 +8,6 @@ use Rattle.sheet.specs.LoopsLaws.{EveryLeft, every-begins, every-goes-on
 use Rattle.sheet.specs.TestsLaws.{passed, stopped}
 use Rattle.sheet.proofs.shape.roots_known.Statement.{statement}
 use Rattle.sheet.proofs.shape.roots_known.Tie as tie
-use Rattle.sheet.proofs.shape.roots_known.Reads as reads
-use Rattle.sheet.proofs.shape.roots_known.Lts as lts
-use Rattle.sheet.proofs.shape.root_known.Reads as root-known-reads
 
 abbrev Inv-loop : tie.InvT-loop
 Inv-loop s m c₀ c = (c ≤ clauses s) × EveryLeft (rootKeepsRules s) (clauses s) c

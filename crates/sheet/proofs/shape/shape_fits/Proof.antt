@@ -4,15 +4,6 @@ use Rattle.sheet.specs.ShapeLaws.{children-known, roots-known, runs-insi
 use Rattle.sheet.specs.TestsLaws.{passed, stopped}
 use Rattle.sheet.proofs.shape.shape_fits.Statement.{statement}
 use Rattle.sheet.proofs.shape.shape_fits.Tie as tie
-use Rattle.sheet.proofs.shape.shape_fits.Reads as reads
-use Rattle.sheet.proofs.shape.shape_fits.Lts as lts
-use Rattle.sheet.proofs.shape.all_children_above.Reads as all-children-above-reads
-use Rattle.sheet.proofs.shape.children_known.Reads as children-known-reads
-use Rattle.sheet.proofs.shape.depths_fit.Reads as depths-fit-reads
-use Rattle.sheet.proofs.standing.entries_listed_once.Reads as entries-listed-once-reads
-use Rattle.sheet.proofs.standing.patterns_stand_once.Reads as patterns-stand-once-reads
-use Rattle.sheet.proofs.shape.records_fit.Reads as records-fit-reads
-use Rattle.sheet.proofs.shape.roots_known.Reads as roots-known-reads
 
 roots-known-requires : tie.Need-roots-known-requires
 roots-known-requires c κs = search needs

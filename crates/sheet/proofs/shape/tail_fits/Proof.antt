@@ -1,13 +1,8 @@
 use borrow.Author.Needs.{needs}
 use Prim.Native.Nat.{_+_, _-_}
-use native.Mathlib.Omega.{arith}
 use Rattle.sheet.specs.ShapeLaws.{tail-known, tail-kind}
 use Rattle.sheet.proofs.shape.tail_fits.Statement.{statement}
 use Rattle.sheet.proofs.shape.tail_fits.Tie as tie
-use Rattle.sheet.proofs.shape.tail_fits.Reads as reads
-use Rattle.sheet.proofs.shape.tail_fits.Lts as lts
-use Rattle.sheet.proofs.records.child_at.Reads as child-at-reads
-use Rattle.sheet.proofs.records.pattern_at.Reads as pattern-at-reads
 
 sub-child-at : tie.Need-sub-child-at
 sub-child-at c = search needs

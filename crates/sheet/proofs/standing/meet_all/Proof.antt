@@ -1,4 +1,4 @@
-use Prim.Native.Nat.{_+_, _-_, _≤_}
+use Prim.Native.Nat.{_-_, _≤_}
 use native.Mathlib.Omega.{arith}
 use Rattle.sheet.specs.Meeting.{Meets}
 use Rattle.sheet.specs.MeetingLaws.{meets-none, meets-more, room-to-meet, meets-all}

@@ -3,10 +3,6 @@ use native.Mathlib.Omega.{arith}
 use Rattle.sheet.specs.TextsLaws.{integer-long, bytes-long, no-text, text-room, integer-asked}
 use Rattle.sheet.proofs.texts.bad_text.Statement.{statement}
 use Rattle.sheet.proofs.texts.bad_text.Tie as tie
-use Rattle.sheet.proofs.texts.bad_text.Reads as reads
-use Rattle.sheet.proofs.texts.bad_text.Lts as lts
-use Rattle.sheet.proofs.records.pattern_at.Reads as pattern-at-reads
-use Rattle.sheet.proofs.texts.canonical.Reads as canonical-reads
 
 pattern-at-requires : tie.Need-pattern-at-requires
 pattern-at-requires c κs = search needs

@@ -2,9 +2,6 @@ use borrow.Author.Needs.{needs}
 use Rattle.sheet.specs.TextsLaws.{canonical-none, canonical-zero, canonical-negative, canonical-plain}
 use Rattle.sheet.proofs.texts.canonical.Statement.{statement}
 use Rattle.sheet.proofs.texts.canonical.Tie as tie
-use Rattle.sheet.proofs.texts.canonical.Reads as reads
-use Rattle.sheet.proofs.texts.canonical.Lts as lts
-use Rattle.sheet.proofs.texts.natural.Reads as natural-reads
 
 returns : tie.Need-returns
 returns c = canonical-none (c .before .before .args .s .now) (c .before .before .args .start) (c .before .before .args .len) (c .if1 .taken)

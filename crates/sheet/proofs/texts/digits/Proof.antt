@@ -4,8 +4,6 @@ use native.Mathlib.Omega.{arith}
 use Rattle.sheet.specs.TextsLaws.{DigitsLeft, digits-begin, digits-low, digits-high, digits-go-on, digits-end}
 use Rattle.sheet.proofs.texts.digits.Statement.{statement}
 use Rattle.sheet.proofs.texts.digits.Tie as tie
-use Rattle.sheet.proofs.texts.digits.Reads as reads
-use Rattle.sheet.proofs.texts.digits.Lts as lts
 
 abbrev Inv-loop : tie.InvT-loop
 Inv-loop s start len k₀ k = (k ≤ len) × DigitsLeft s start len k

@@ -8,9 +8,6 @@ use Rattle.sheet.specs.SectionsLaws.{mapped}
 use Rattle.sheet.specs.LoopsLaws.{LowestLeft, lowest-begins, lowest-goes-on, lowest-stops, lowest-ends}
 use Rattle.sheet.proofs.texts.lowest_bad_text.Statement.{statement}
 use Rattle.sheet.proofs.texts.lowest_bad_text.Tie as tie
-use Rattle.sheet.proofs.texts.lowest_bad_text.Reads as reads
-use Rattle.sheet.proofs.texts.lowest_bad_text.Lts as lts
-use Rattle.sheet.proofs.texts.bad_text.Reads as bad-text-reads
 
 abbrev Inv-loop : tie.InvT-loop
 Inv-loop s m p₀ p = (p ≤ patterns s) × LowestLeft (badText s) (patterns s) p

@@ -2,9 +2,6 @@ use borrow.Author.Needs.{needs}
 use Rattle.sheet.specs.TextsLaws.{natural-none, natural-low, natural-high, natural-rest}
 use Rattle.sheet.proofs.texts.natural.Statement.{statement}
 use Rattle.sheet.proofs.texts.natural.Tie as tie
-use Rattle.sheet.proofs.texts.natural.Reads as reads
-use Rattle.sheet.proofs.texts.natural.Lts as lts
-use Rattle.sheet.proofs.texts.digits.Reads as digits-reads
 
 returns : tie.Need-returns
 returns c = natural-none (c .before .before .args .s .now) (c .before .before .args .start) (c .before .before .args .len) (c .if1 .taken)

@@ -2,10 +2,6 @@ use borrow.Author.Needs.{needs}
 use Rattle.sheet.specs.TypesLaws.{constructor-keeps}
 use Rattle.sheet.proofs.types.constructor_keeps_rules.Statement.{statement}
 use Rattle.sheet.proofs.types.constructor_keeps_rules.Tie as tie
-use Rattle.sheet.proofs.types.constructor_keeps_rules.Reads as reads
-use Rattle.sheet.proofs.types.constructor_keeps_rules.Lts as lts
-use Rattle.sheet.proofs.records.constructor_at.Reads as constructor-at-reads
-use Rattle.sheet.proofs.records.run_in.Reads as run-in-reads
 
 constructor-at-requires : tie.Need-constructor-at-requires
 constructor-at-requires c κs = search needs

@@ -8,9 +8,6 @@ use Rattle.sheet.specs.LoopsLaws.{EveryLeft, every-begins, every-goes-on
 use Rattle.sheet.specs.TestsLaws.{passed, stopped}
 use Rattle.sheet.proofs.types.constructors_keep_rules.Statement.{statement}
 use Rattle.sheet.proofs.types.constructors_keep_rules.Tie as tie
-use Rattle.sheet.proofs.types.constructors_keep_rules.Reads as reads
-use Rattle.sheet.proofs.types.constructors_keep_rules.Lts as lts
-use Rattle.sheet.proofs.types.constructor_keeps_rules.Reads as constructor-keeps-rules-reads
 
 abbrev Inv-loop : tie.InvT-loop
 Inv-loop s m c₀ c = (c ≤ constructors s) × EveryLeft (constructorKeepsRules s) (constructors s) c

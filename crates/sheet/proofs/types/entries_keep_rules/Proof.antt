@@ -8,9 +8,6 @@ use Rattle.sheet.specs.LoopsLaws.{EveryLeft, every-begins, every-goes-on
 use Rattle.sheet.specs.TestsLaws.{passed, stopped}
 use Rattle.sheet.proofs.types.entries_keep_rules.Statement.{statement}
 use Rattle.sheet.proofs.types.entries_keep_rules.Tie as tie
-use Rattle.sheet.proofs.types.entries_keep_rules.Reads as reads
-use Rattle.sheet.proofs.types.entries_keep_rules.Lts as lts
-use Rattle.sheet.proofs.types.entry_keeps_rules.Reads as entry-keeps-rules-reads
 
 abbrev Inv-loop : tie.InvT-loop
 Inv-loop s m e₀ e = (e ≤ entries s) × EveryLeft (entryKeepsRules s) (entries s) e

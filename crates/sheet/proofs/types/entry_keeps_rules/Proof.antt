@@ -2,9 +2,6 @@ use borrow.Author.Needs.{needs}
 use Rattle.sheet.specs.TypesLaws.{entry-keeps}
 use Rattle.sheet.proofs.types.entry_keeps_rules.Statement.{statement}
 use Rattle.sheet.proofs.types.entry_keeps_rules.Tie as tie
-use Rattle.sheet.proofs.types.entry_keeps_rules.Reads as reads
-use Rattle.sheet.proofs.types.entry_keeps_rules.Lts as lts
-use Rattle.sheet.proofs.records.entry_at.Reads as entry-at-reads
 
 entry-at-requires : tie.Need-entry-at-requires
 entry-at-requires c κs = search needs

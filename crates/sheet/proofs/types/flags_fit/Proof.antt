@@ -2,8 +2,6 @@ use borrow.Author.Tests.{eq-eqb, ne-eqb}
 use Rattle.sheet.specs.Types.{flagsFit}
 use Rattle.sheet.proofs.types.flags_fit.Statement.{statement}
 use Rattle.sheet.proofs.types.flags_fit.Tie as tie
-use Rattle.sheet.proofs.types.flags_fit.Reads as reads
-use Rattle.sheet.proofs.types.flags_fit.Lts as lts
 
 returns : tie.Need-returns
 unfolding flagsFit

@@ -8,9 +8,6 @@ use Rattle.sheet.specs.SectionsLaws.{mapped}
 use Rattle.sheet.specs.LoopsLaws.{LowestLeft, lowest-begins, lowest-goes-on, lowest-stops, lowest-ends}
 use Rattle.sheet.proofs.types.lowest_transparent.Statement.{statement}
 use Rattle.sheet.proofs.types.lowest_transparent.Tie as tie
-use Rattle.sheet.proofs.types.lowest_transparent.Reads as reads
-use Rattle.sheet.proofs.types.lowest_transparent.Lts as lts
-use Rattle.sheet.proofs.types.transparent.Reads as transparent-reads
 
 abbrev Inv-loop : tie.InvT-loop
 Inv-loop s m t₀ t = (t ≤ types s) × LowestLeft (transparent s) (types s) t

@@ -4,10 +4,6 @@ use borrow.Author.Tests.{eq-eqb, ne-eqb, le-leb, lt-leb}
 use Rattle.sheet.specs.Types.{partsFit}
 use Rattle.sheet.proofs.types.parts_fit.Statement.{statement}
 use Rattle.sheet.proofs.types.parts_fit.Tie as tie
-use Rattle.sheet.proofs.types.parts_fit.Reads as reads
-use Rattle.sheet.proofs.types.parts_fit.Lts as lts
-use Rattle.sheet.proofs.records.no_run.Reads as no-run-reads
-use Rattle.sheet.proofs.records.run_in.Reads as run-in-reads
 
 returns : tie.Need-returns
 unfolding partsFit

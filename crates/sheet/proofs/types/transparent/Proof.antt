@@ -2,10 +2,6 @@ use borrow.Author.Needs.{needs}
 use Rattle.sheet.specs.TypesLaws.{not-data, not-opaque-only, not-one, only-constructor, transparent-field}
 use Rattle.sheet.proofs.types.transparent.Statement.{statement}
 use Rattle.sheet.proofs.types.transparent.Tie as tie
-use Rattle.sheet.proofs.types.transparent.Reads as reads
-use Rattle.sheet.proofs.types.transparent.Lts as lts
-use Rattle.sheet.proofs.records.constructor_at.Reads as constructor-at-reads
-use Rattle.sheet.proofs.records.type_at.Reads as type-at-reads
 
 type-at-requires : tie.Need-type-at-requires
 type-at-requires c κs = search needs

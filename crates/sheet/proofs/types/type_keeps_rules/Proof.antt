@@ -2,11 +2,6 @@ use borrow.Author.Needs.{needs}
 use Rattle.sheet.specs.TypesLaws.{type-stops, type-goes-on}
 use Rattle.sheet.proofs.types.type_keeps_rules.Statement.{statement}
 use Rattle.sheet.proofs.types.type_keeps_rules.Tie as tie
-use Rattle.sheet.proofs.types.type_keeps_rules.Reads as reads
-use Rattle.sheet.proofs.types.type_keeps_rules.Lts as lts
-use Rattle.sheet.proofs.records.type_at.Reads as type-at-reads
-use Rattle.sheet.proofs.types.flags_fit.Reads as flags-fit-reads
-use Rattle.sheet.proofs.types.parts_fit.Reads as parts-fit-reads
 
 type-at-requires : tie.Need-type-at-requires
 type-at-requires c κs = search needs

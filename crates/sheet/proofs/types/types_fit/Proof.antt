@@ -1,15 +1,9 @@
 use borrow.Author.Needs.{needs}
-use mathlib.Core.Path.{sym}
 use Rattle.rules.specs.SheetRefusals.{typesFit}
 use Rattle.sheet.specs.TestsLaws.{passed, stopped}
 use Rattle.sheet.specs.TypesLaws.{subject-known}
 use Rattle.sheet.proofs.types.types_fit.Statement.{statement}
 use Rattle.sheet.proofs.types.types_fit.Tie as tie
-use Rattle.sheet.proofs.types.types_fit.Reads as reads
-use Rattle.sheet.proofs.types.types_fit.Lts as lts
-use Rattle.sheet.proofs.types.constructors_keep_rules.Reads as constructors-keep-rules-reads
-use Rattle.sheet.proofs.types.entries_keep_rules.Reads as entries-keep-rules-reads
-use Rattle.sheet.proofs.types.types_keep_rules.Reads as types-keep-rules-reads
 
 types-keep-rules-requires : tie.Need-types-keep-rules-requires
 types-keep-rules-requires c κs = search needs

@@ -2,15 +2,9 @@
 use borrow.Author.Needs.{needs}
 use mathlib.Core.Path.{_≡_}
 use Prim.Native.Nat.{_-_, _≤_}
-use native.Mathlib.Omega.{arith}
 use lib.ListN.{length}
 use Rattle.sheet_tests.proofs.make.clauses.Statement.{statement}
 use Rattle.sheet_tests.proofs.make.clauses.Tie as tie
-use Rattle.sheet_tests.proofs.make.clauses.Reads as reads
-use Rattle.sheet_tests.proofs.make.clauses.Lts as lts
-use Rattle.sheet_tests.proofs.make.end.Reads as end-reads
-use Rattle.sheet_tests.proofs.make.of.Reads as of-reads
-use Rattle.sheet_tests.proofs.make.word.Reads as word-reads
 
 abbrev Inv-loop : tie.InvT-loop
 Inv-loop b₀ n c₀ b c = (c ≤ n) × (length b ≡ length b₀)

@@ -2,17 +2,9 @@
 use borrow.Author.Needs.{needs}
 use mathlib.Core.Path.{_≡_}
 use Prim.Native.Nat.{_-_, _≤_}
-use native.Mathlib.Omega.{arith}
 use lib.ListN.{length}
 use Rattle.sheet_tests.proofs.make.list_of.Statement.{statement}
 use Rattle.sheet_tests.proofs.make.list_of.Tie as tie
-use Rattle.sheet_tests.proofs.make.list_of.Reads as reads
-use Rattle.sheet_tests.proofs.make.list_of.Lts as lts
-use Rattle.sheet_tests.proofs.make.end.Reads as end-reads
-use Rattle.sheet_tests.proofs.make.four.Reads as four-reads
-use Rattle.sheet_tests.proofs.make.of.Reads as of-reads
-use Rattle.sheet_tests.proofs.make.three.Reads as three-reads
-use Rattle.sheet_tests.proofs.make.word.Reads as word-reads
 
 abbrev Inv-loop : tie.InvT-loop
 Inv-loop b₀ n j₀ b j = (j ≤ n) × (length b ≡ length b₀)

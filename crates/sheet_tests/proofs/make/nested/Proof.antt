@@ -1,17 +1,10 @@
 -- `sheet_tests::make::nested` is safe and ends: the buffer keeps its length.
 use borrow.Author.Needs.{needs}
 use mathlib.Core.Path.{_≡_}
-use Prim.Native.Nat.{_-_, _≤_, _<_}
-use native.Mathlib.Omega.{arith}
+use Prim.Native.Nat.{_-_, _<_}
 use lib.ListN.{length}
 use Rattle.sheet_tests.proofs.make.nested.Statement.{statement}
 use Rattle.sheet_tests.proofs.make.nested.Tie as tie
-use Rattle.sheet_tests.proofs.make.nested.Reads as reads
-use Rattle.sheet_tests.proofs.make.nested.Lts as lts
-use Rattle.sheet_tests.proofs.make.end.Reads as end-reads
-use Rattle.sheet_tests.proofs.make.four.Reads as four-reads
-use Rattle.sheet_tests.proofs.make.of.Reads as of-reads
-use Rattle.sheet_tests.proofs.make.word.Reads as word-reads
 
 abbrev Inv-loop : tie.InvT-loop
 Inv-loop b₀ n p₀ b p = (p < n) × (length b ≡ length b₀)

@@ -1,6 +1,6 @@
 -- `writing::bindings::put_bindings` meets its contract. The loop's invariant: with the bindings from first + i on the whole is stored.
 use native.Mathlib.Omega.{arith}
-use Prim.Native.Nat.{_+_, _-_}
+use Prim.Native.Nat.{_-_}
 use Rattle.writing.specs.Uses.{usesOf}
 use Rattle.writing.specs.ModelLaws.{BindingsLeft, binding-asked, bindings-start, bindings-next, bindings-end}
 use Rattle.writing.proofs.bindings.put_bindings.Statement.{statement}

@@ -47,7 +47,16 @@ same-length : tie.Need-same-length
 same-length c = c .before .before .put-word3 .kept .0 ∙ c .before .before .before .before .before .before .put-word2 .kept .0 ∙ (simp length-set at (c .before .before .before .before .before .before .before .before .before .before .put-word .kept .0))
 
 returns : tie.Need-returns
-returns c = case-put (c .before .before .before .before .before .before .before .before .before .before .before .before .before .before .before .before .before .args .w .now) (c .before .before .before .before .before .before .before .before .before .before .before .before .before .before .before .before .before .args .i) (c .before .before .before .before .before .before .before .before .before .before .before .before .before .before .before .before .before .args .tree .now) (c .before .before .before .before .before .before .before .before .before .before .before .before .before .before .before .before .before .args .at) (c .before .before .before .before .before .before .before .before .before .before .before .before .before .before .case-kind .result) (c .before .before .before .before .before .before .before .before .before .before .before .before .before .case-number .result) (c .before .before .before .before .before .before .before .before .before .before .before .before .case-length .result) (c .before .before .before .before .before .before .before .before .before .before .before .before .before .before .before .before .before .args .child) (c .before .before .before .before .before .before .before .before .before .before .before .before .before .before .case-kind .ensures) (c .before .before .before .before .before .before .before .before .before .before .before .before .before .case-number .ensures) (c .before .before .before .before .before .before .before .before .before .before .before .before .case-length .ensures) (c .before .before .before .before .before .before .before .before .before .before .put-word .ensures) (c .before .before .before .before .before .before .put-word2 .ensures) (c .before .before .put-word3 .ensures)
+returns c =
+    let third = c .before .before in
+    let second = third .before .before .before .before in
+    let first = second .before .before .before .before in
+    let count = first .before .before in
+    let number = count .before in
+    let kind = number .before in
+    let a = kind .before .before .before .args in
+    case-put (a .w .now) (a .i) (a .tree .now) (a .at) (kind .case-kind .result) (number .case-number .result) (count .case-length .result) (a .child)
+    (kind .case-kind .ensures) (number .case-number .ensures) (count .case-length .ensures) (first .put-word .ensures) (second .put-word2 .ensures) (third .put-word3 .ensures)
 
 pub put-case-spec : {M : Type 1} → statement M
 put-case-spec =

@@ -1,6 +1,5 @@
 -- `writing::hoists::next_hoist` meets its contract. The loop's invariant: no clause from c up to d is hoisted above node k.
 use borrow.Author.Needs.{needs}
-use native.Mathlib.Omega.{arith}
 use mathlib.Core.Path.{sym, _∙_}
 use Prim.Native.Nat.{_-_}
 use Rattle.writing.specs.Model.{nodeIn}
