@@ -61,7 +61,7 @@ fn zero_bytes(b: &mut [u8], i: usize, n: usize)
     }
 }
 
-// The same. Where they are 0 already none is written: to read them takes half the time of writing them.
+// The same. Where they are 0 already none is written: to read them is quicker than to write them.
 fn zero_part(b: &mut [u8], i: usize, n: usize)
     requires { ⌜ i + n ≤ length (now b) ⌝ }
     ensures { λ _. ⌜ now (b .exit) ≡ stored (now (b .entry)) i (zeros n) ⌝ }
