@@ -12,7 +12,7 @@ use Rattle.words.specs.Stored.{stored}
 use Rattle.words.specs.StoredLaws.{stored-zeros}
 use Rattle.rules.specs.Limits.{nodesMost, bindingsMost, clausesMost, treeRoom, nodeSize, caseSize, bindingSize}
 use Rattle.rules.specs.Searching.{lowest, times}
-use Rattle.rules.specs.SearchingLaws.{lowest-some}
+use Rattle.rules.specs.SearchingLaws.{lowest-some, times-agree}
 use Rattle.rules.specs.SheetFile.{clauses, patterns, pool}
 use Rattle.rules.specs.SheetRefusals.{accepted, refused, verdict}
 use Rattle.rules.specs.Patterns.{names, clausePattern}
@@ -56,16 +56,6 @@ use Rattle.build.specs.CoveredLaws.{length-paths, raw-covered}
 use Rattle.build.specs.Raw.{Raw, Hoistable, Whole}
 
 -- ---- sums that agree one by one
-times-agree : (f g : ℕ → Bool) (i n : ℕ) → ((k : ℕ) → i ≤ k → k < i + n → f k ≡ g k) → times f i n ≡ times g i n
-unfolding times
-times-agree f g i zero e = refl
-times-agree f g i (suc n) e =
-    go (g i) refl (times-agree f g (i + 1) n (λ k l h. e k (omega arith) (omega arith)))
-  where
-    go : (b : Bool) → g i ≡ b → times f (i + 1) n ≡ times g (i + 1) n → times f i (suc n) ≡ times g i (suc n)
-    go true x ih = rw (e i (omega arith) (omega arith) ∙ x, x, times) (ap suc ih)
-    go false x ih = rw (e i (omega arith) (omega arith) ∙ x, x, times) ih
-
 sum-agree : (f g : ℕ → ℕ) (i n : ℕ) → ((k : ℕ) → i ≤ k → k < i + n → f k ≡ g k) → sum f i n ≡ sum g i n
 unfolding sum
 sum-agree f g i zero e = refl

@@ -5,20 +5,20 @@
 -- what it answers. An answer that fits a call's contract is a refusal with a number and a place exactly if there is that reason for it
 -- (Reasons has 01's order for each call), and the tests behind the numbers are 01's, tried in 01's order.
 use mathlib.Core.Path.{_≡_, sym, ap, _∙_}
-use mathlib.Core.Bool.{Bool, true, false, not}
+use mathlib.Core.Bool.{false, not}
 use mathlib.Core.Logic.{_↔_}
-use mathlib.Core.List.{List, [], _++_}
-use Prim.Native.Nat.{ℕ, _-_, _<_, _≤_}
+use mathlib.Core.List.{List, []}
+use Prim.Native.Nat.{ℕ, _<_}
 use lib.ListN.{length}
 use Rattle.words.specs.Words.{textAt, zeros}
 use Rattle.rules.specs.Limits.{nodesMost, bindingsMost}
 use Rattle.rules.specs.SearchingLaws.{Lowest}
 use Rattle.rules.specs.SheetFile.{types, patterns, clauses}
-use Rattle.rules.specs.SheetRefusals.{Verdict, accepted, refused, verdict, lengthFits, layoutFits, hasClause, countsFit, typesFit, transparent, shapeFits, badText, misfit, nameTwice}
+use Rattle.rules.specs.SheetRefusals.{accepted, refused, verdict, lengthFits, layoutFits, hasClause, countsFit, typesFit, transparent, shapeFits, badText, misfit, nameTwice}
 use Rattle.rules.specs.PanelFile.{panelVerdict, panelLengthFits, panelLayoutFits, panelShapeFits, panelTextsFit}
 use Rattle.rules.specs.Building.{Tree}
 use Rattle.rules.specs.Hoisting.{hasLeaf, nodesIn, bindingsIn}
-use Rattle.rules.specs.Calls.{Answer, answers, refuses, treeVerdict, BuildCall, buildAnswer, buildCall, fitCall, WalkCall, walkAnswer, walkCall, textCall, textPart, partOfSpan}
+use Rattle.rules.specs.Calls.{treeVerdict, BuildCall, buildAnswer, buildCall, WalkCall, walkAnswer, walkCall, textPart, partOfSpan}
 use Rattle.meaning.specs.Said.{Passes2, Passes3, Passes4, Passes5, Passes6, Passes7, Passes8, Passes9, Passes10, Passes11, Passes12, Passes13, Passes14, Passes21, Passes22, Passes23, Passes24}
 use Rattle.meaning.specs.CallsLaws.{build-refused-writes, walk-refused-writes}
 use Rattle.meaning.specs.Theorems.{accepted-exactly, tree-accepted-exactly, panel-accepted-exactly, refused-2-exactly, refused-3-exactly, refused-4-exactly, refused-5-exactly, refused-6-exactly, refused-7-exactly, refused-8-exactly, refused-9-exactly, refused-10-exactly, refused-11-exactly, refused-12-exactly, refused-13-exactly, refused-21-exactly, refused-22-exactly, refused-23-exactly, refused-24-exactly}

@@ -4,8 +4,7 @@
 -- its tree `sheetTree s`, with zeros after it, the work buffer is zero, and the three numbers are the file's own. The file says the whole tree: a reader accepts it and reads
 -- that tree back. `sheetTree` is rules 1 to 7 of 01 (crate rules: Rows, Columns, Splitting, Building, Hoisting), and nothing else.
 use mathlib.Core.Path.{_≡_, refl, sym, ap, _∙_}
-use mathlib.Core.Bool.{Bool, true}
-use mathlib.Core.Logic.{_↔_}
+use mathlib.Core.Bool.{true}
 use mathlib.Core.List.{List, _++_}
 use Prim.Native.Nat.{ℕ, _-_, _<_, _≤_}
 use native.Mathlib.Omega.{arith}
@@ -13,10 +12,10 @@ use lib.ListN.{length}
 use Rattle.words.specs.Words.{zeros}
 use Rattle.rules.specs.Limits.{treeRoom, workRoom}
 use Rattle.rules.specs.TreeReader.{treeFits, treeOf, nodes, bindings}
-use Rattle.rules.specs.Calls.{Answer, answers, refuses, Built as BuiltTree, BuildCall, builtOf, buildAnswer, buildCall, sheetTree, sheetTreeFile}
+use Rattle.rules.specs.Calls.{answers, Built as BuiltTree, BuildCall, builtOf, buildAnswer, buildCall, sheetTree, sheetTreeFile}
 use Rattle.meaning.specs.Said.{Builds}
-use Rattle.meaning.specs.CallsLaws.{BuildAnswers, build-answers, build-answers-only, build-writes}
-use Rattle.meaning.specs.Theorems.{the-file-fits, the-file-says-the-tree, the-file-is-small, the-answer-tells-the-file}
+use Rattle.meaning.specs.CallsLaws.{build-answers, build-answers-only, build-writes}
+use Rattle.meaning.specs.Theorems.{the-file-fits, the-file-says-the-tree, the-answer-tells-the-file}
 use Rattle.build.specs.declared.Built.{Built}
 use Rattle.build.specs.declared.Built.the-variants.{Tree}
 use Rattle.build.specs.Answers.{answerOf}

@@ -5,8 +5,7 @@
 -- The three calls as a controller makes them: the build answered Tree bytes .., the fit check answered Fits, and the walk is given the
 -- first `bytes` bytes of the tree buffer. Matching, and what a pattern gives each of its names, are definitions of the patterns alone
 -- (crate rules, Meaning): they know of no tree.
-use mathlib.Core.Path.{_≡_, refl, sym, ap, _∙_}
-use mathlib.Core.Bool.{Bool, true}
+use mathlib.Core.Path.{_≡_, sym, ap, _∙_}
 use mathlib.Core.Logic.{_⊎_, inl, inr}
 use mathlib.Core.List.{List, _++_}
 use Prim.Native.Nat.{ℕ, _-_, _*_, _<_, _≤_}
@@ -22,7 +21,7 @@ use Rattle.rules.specs.Positions.{panelRoot}
 use Rattle.rules.specs.TreeReader.{treeOf}
 use Rattle.rules.specs.Walking.{Bound}
 use Rattle.rules.specs.Meaning.{gives}
-use Rattle.rules.specs.Calls.{Answer, answers, refuses, Built as BuiltTree, BuildCall, buildAnswer, buildCall, WalkCall, walkAnswer, walkCall, boundWords, walkedWords, leafOf, withoutLeaf, sheetTreeFile}
+use Rattle.rules.specs.Calls.{answers, Built as BuiltTree, BuildCall, buildAnswer, buildCall, WalkCall, walkAnswer, walkCall, boundWords, walkedWords, sheetTreeFile}
 use Rattle.hoisting.specs.Trees.{hoistsOf, Above}
 use Rattle.matching.specs.Bindings.{SameUpToOrder}
 use Rattle.meaning.specs.Said.{Builds, Fits, FirstMatch, NoMatch, timesBound}
@@ -33,7 +32,6 @@ use Rattle.walk.specs.declared.Walked.{Walked}
 use Rattle.walk.specs.declared.Walked.the-variants.{Leaf, NoLeaf}
 use Rattle.walk.specs.Answers.{answerOf}
 use Rattle.build.specs.declared.Built.the-variants.{Tree}
-use Rattle.build.specs.Answers.{answerOf as buildAnswerOf}
 use Rattle.dewmycel.specs.Contracts.{BuildFits, FitFits, WalkFits}
 use Rattle.demands.specs.OneAnswer.{walk-known}
 

@@ -3,8 +3,7 @@ use mathlib.Core.Path.{_≡_, refl, sym, ap, _∙_}
 use mathlib.Core.List.{List}
 use Prim.Native.Nat.{ℕ}
 use native.Mathlib.Omega.{arith}
-use Rattle.rules.specs.SheetRefusals.{Verdict, accepted, refused}
-use Rattle.rules.specs.Calls.{Answer, answers, refuses, Built as BuiltTree, BuildCall, WalkEnd, leafOf, withoutLeaf, WalkCall, Span}
+use Rattle.rules.specs.Calls.{Built as BuiltTree, BuildCall, leafOf, withoutLeaf, WalkCall, Span}
 use Rattle.panel.specs.declared.Fitted.{Fitted}
 use Rattle.panel.specs.declared.Fitted.the-variants.{Fits, Refused as NotFitted}
 use Rattle.panel.specs.declared.Located.{Located}

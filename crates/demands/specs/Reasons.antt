@@ -7,7 +7,7 @@ use mathlib.Core.List.{List}
 use Prim.Native.Nat.{ℕ, _≤_, _<_}
 use Rattle.rules.specs.Limits.{treeRoom, workRoom, boundRoom}
 use Rattle.rules.specs.SheetFile.{clauses}
-use Rattle.rules.specs.SheetRefusals.{Verdict, accepted, refused, verdict}
+use Rattle.rules.specs.SheetRefusals.{accepted, refused, verdict}
 use Rattle.rules.specs.PanelFile.{panelVerdict}
 use Rattle.rules.specs.TreeReader.{treeFits, treeOf}
 use Rattle.rules.specs.Fitting.{panelFits}

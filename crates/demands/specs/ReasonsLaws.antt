@@ -1,10 +1,10 @@
 -- The reasons are the calls' own: a call's definition refuses with a number and a place exactly if there is such a reason.
 -- Rests on the laws of the calls in crate meaning.
-use mathlib.Core.Path.{_≡_, refl, sym, ap, _∙_}
+use mathlib.Core.Path.{_≡_, refl, sym, _∙_}
 use mathlib.Core.Bool.{Bool, true, false}
-use mathlib.Core.Logic.{_⊎_, inl, inr, _↔_}
+use mathlib.Core.Logic.{inl, inr}
 use mathlib.Core.List.{List}
-use Prim.Native.Nat.{ℕ, _≤_, _<_}
+use Prim.Native.Nat.{ℕ, _≤_}
 use native.Mathlib.Omega.{arith}
 use borrow.Author.Tests.{leb-true, leb-false}
 use lib.Dec.{leb}
@@ -15,7 +15,7 @@ use Rattle.rules.specs.SheetRefusals.{Verdict, accepted, refused, require, verd
 use Rattle.rules.specs.PanelFile.{panelVerdict}
 use Rattle.rules.specs.TreeReader.{treeFits, treeOf}
 use Rattle.rules.specs.Fitting.{panelFits}
-use Rattle.rules.specs.Walking.{Bound, Walked, reached, noLeaf, stuck, walk}
+use Rattle.rules.specs.Walking.{Walked, reached, noLeaf, stuck, walk}
 use Rattle.rules.specs.Calls.{Answer, answers, refuses, unless, andThen, sheetTree, sheetTreeFile, treeVerdict, Built, builtOf, buildRoom, buildAnswer, fitCall, walkRoom, treeFileVerdict, WalkEnd, walkEnd, walkAnswer, Span, hasText, textCall}
 use Rattle.meaning.specs.CallsLaws.{build-room, build-sheet, build-tree, fit-sheet, fit-panel, fit-type, walk-room, walk-tree, walk-panel, walk-stuck, text-panel, text-none}
 use Rattle.demands.specs.Reasons.{BuildRefuses, FitRefuses, WalkRefuses, TextRefuses}

@@ -1,6 +1,6 @@
 -- What 01 has shut out by name, each as a theorem that no such answer fits: on 01's own sheet and panels (crate rules, Samples).
 use mathlib.Core.Path.{_≡_, refl, sym, ap, _∙_}
-use mathlib.Core.List.{List, [], _∷_, _++_}
+use mathlib.Core.List.{List}
 use Prim.Native.Nat.{ℕ}
 use native.Mathlib.Omega.{arith}
 use lib.ListN.{getD}
@@ -8,7 +8,6 @@ use Rattle.words.specs.Words.{textAt}
 use Rattle.rules.specs.Limits.{treeRoom, workRoom, boundRoom}
 use Rattle.rules.specs.Calls.{Answer, answers, refuses, Built as BuiltTree, BuildCall, buildAnswer, buildCall, WalkEnd, leafOf, withoutLeaf, WalkCall, walkAnswer, walkCall, sheetTreeFile}
 use Rattle.rules.specs.Samples.{sheet1, sheet6, sheet11, file1, panel2}
-use Rattle.walk.specs.declared.Walked.{Walked}
 use Rattle.walk.specs.declared.Walked.the-variants.{NoLeaf}
 use Rattle.build.specs.declared.Built.{Built}
 use Rattle.build.specs.declared.Built.the-variants.{Tree, Refused}

@@ -12,6 +12,7 @@ use lib.Seq.{getD-set-same, getD-set-other}
 use Rattle.words.specs.Words.{both, pick}
 use Rattle.rules.specs.Limits.{patternsMost}
 use Rattle.rules.specs.Searching.{times}
+use Rattle.rules.specs.SearchingLaws.{times-agree}
 use Rattle.rules.specs.SheetFile.{patterns, clauses, root}
 use Rattle.rules.specs.SheetRefusals.{isIn}
 use Rattle.rules.specs.Patterns.{clausePatterns}
@@ -29,7 +30,7 @@ use Rattle.matrix.specs.declared.Held.{Held}
 use Rattle.matrix.specs.declared.Held.the-variants.{Test as HeldTest, Wildcard}
 use Rattle.matrix.specs.declared.Choice.the-variants.{Leaf}
 use Rattle.matrix.specs.RowStates.{rowAfter, rowOf, rowsOf, upFrom, clause-rows}
-use Rattle.matrix.specs.Numbers.{length-times, times-same, times-add, all-copies}
+use Rattle.matrix.specs.Numbers.{length-times, times-add, all-copies}
 use Rattle.matrix.specs.Live.{available, liveIn, isTestOf, isInside, IsClass, State}
 use Rattle.matrix.specs.MeetingLaws.{meeting, copies-in}
 use Rattle.matrix.specs.LiveLaws.{TestOf, IsCell, Live, live-test, inside-shut, inside-free, elsewhere, state-agree, state-first, held, state-wild, state-open, paths-next, length-next}
@@ -431,7 +432,7 @@ module _ {s : List ℕ} (ok : Accepted s) where
         )
 
     from-all : times (from 0) 0 (patterns s) ≡ times (reached s opened) 0 (patterns s)
-    from-all = times-same (from 0) (reached s opened) (patterns s) (λ q l. whole (reached s opened q) (clauseOf s q))
+    from-all = times-agree (from 0) (reached s opened) 0 (patterns s) (λ q low high. whole (reached s opened q) (clauseOf s q))
       where
         whole : (b : Bool) (n : ℕ) → both b (leb 0 n) ≡ b
         whole true n = le-leb 0 n (omega arith)

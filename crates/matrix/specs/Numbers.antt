@@ -1,6 +1,6 @@
 -- Lists of numbers: how often a number stands in one, the first of which a test holds, the list without that one; and counts over
 -- the numbers below a bound. Rests on the library's lists and on arithmetic.
-use mathlib.Core.Path.{_≡_, refl, sym, ap, ap₂, _∙_}
+use mathlib.Core.Path.{_≡_, refl, sym, ap₂, _∙_}
 use mathlib.Core.Bool.{Bool, true, false}
 use mathlib.Core.List.{List, [], _∷_, _++_}
 use mathlib.Core.Option.{Option, none, some}
@@ -128,10 +128,6 @@ length-sum n (x ∷ xs) h =
 pub length-times : (f : ℕ → Bool) (n : ℕ) (xs : List ℕ) → All (λ x. x < n) xs → ((q : ℕ) → q < n → copies q xs ≡ bit (f q)) → length xs ≡ times f 0 n
 length-times f n xs h e =
     length-sum n xs h ∙ sumOf-same (λ q. copies q xs) (λ q. bit (f q)) 0 n (λ q low high. e q (omega arith)) ∙ sym (times-sum f 0 n)
-
-pub times-same : (f g : ℕ → Bool) (n : ℕ) → ((q : ℕ) → q < n → f q ≡ g q) → times f 0 n ≡ times g 0 n
-times-same f g n e =
-    times-sum f 0 n ∙ sumOf-same (λ q. bit (f q)) (λ q. bit (g q)) 0 n (λ q low high. ap bit (e q (omega arith))) ∙ sym (times-sum g 0 n)
 
 -- counts add up where the tests do
 pub times-add : (f g h : ℕ → Bool) (n : ℕ) → ((q : ℕ) → q < n → bit (f q) ≡ bit (g q) + bit (h q)) → times f 0 n ≡ times g 0 n + times h 0 n

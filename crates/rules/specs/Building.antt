@@ -3,12 +3,12 @@
 use Prim.Native.Nat.{ℕ, zero, suc, _+_}
 use mathlib.Core.Bool.{Bool, true, false, not}
 use mathlib.Core.List.{List, [], _∷_, _++_}
-use mathlib.Core.Option.{Option, none, some}
+use mathlib.Core.Option.{none, some}
 use Rattle.words.specs.Words.{either}
-use Rattle.rules.specs.Patterns.{Mark, Pat, Pats, discard, variable, assign, integer, bytestring, listed, tailed, constructor, opened, pnil, pcons}
+use Rattle.rules.specs.Patterns.{Pat, Pats, discard, variable, assign, integer, bytestring, listed, tailed, constructor, opened, pnil, pcons}
 use Rattle.rules.specs.Rows.{Path, Binding, Cell, Row, clauseRows}
 use Rattle.rules.specs.Columns.{union, columns, without, choice}
-use Rattle.rules.specs.Splitting.{Test, Constr, Int, Bytes, ListOf, ListWithTail, column, Group, Split, split}
+use Rattle.rules.specs.Splitting.{Test, Constr, Int, Bytes, ListOf, ListWithTail, column, Group, split}
 
 -- A case holds its test, where its text starts, and its subtree.
 mutual

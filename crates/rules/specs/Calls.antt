@@ -1,9 +1,9 @@
 -- 01, "Refusal numbers" and "What the contracts have to say": for each call its whole answer, that is the numbers and every byte of
 -- every writable lent buffer after it, on refused input too.
-use Prim.Native.Nat.{ℕ, zero, suc, _+_, _-_}
-use mathlib.Core.Bool.{Bool, true, false, not}
+use Prim.Native.Nat.{ℕ, _+_, _-_}
+use mathlib.Core.Bool.{Bool, not}
 use mathlib.Core.List.{List, [], _∷_, _++_}
-use mathlib.Core.Option.{Option, none, some}
+use mathlib.Core.Option.{Option}
 use lib.ListN.{length}
 use lib.Dec.{eqb, leb, ltb}
 use Rattle.words.specs.Words.{both, textAt, zeros}
@@ -18,7 +18,7 @@ use Rattle.rules.specs.TreeFile.{treeFile}
 use Rattle.rules.specs.TreeReader.{treeFits, treeOf}
 use Rattle.rules.specs.PanelFile.{records, recordKind, recordFirst, recordCount, panelPoolAt, panelVerdict}
 use Rattle.rules.specs.Fitting.{panelFits}
-use Rattle.rules.specs.Walking.{Position, Bound, Walked, reached, noLeaf, stuck, walk}
+use Rattle.rules.specs.Walking.{Bound, Walked, reached, noLeaf, stuck, walk}
 use Rattle.rules.specs.Meaning.{firstMatch}
 
 -- A call's answer: what it gives, or a refusal with number and place.

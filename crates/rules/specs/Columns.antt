@@ -1,6 +1,6 @@
 -- 01, "How a tree is built", rules 2 and 3: the columns of a matrix, and the one that is tested.
 -- A matrix is its columns' paths, in order, and its rows.
-use Prim.Native.Nat.{ℕ, zero, suc}
+use Prim.Native.Nat.{ℕ, suc}
 use mathlib.Core.Bool.{Bool, true, false}
 use mathlib.Core.List.{List, [], _∷_, _++_}
 use mathlib.Core.Option.{Option, none, some}

@@ -3,10 +3,10 @@
 use Prim.Native.Nat.{ℕ, zero, suc, _+_}
 use mathlib.Core.Bool.{Bool, true, false}
 use mathlib.Core.List.{List}
-use lib.Dec.{eqb, ltb}
+use lib.Dec.{eqb}
 use Rattle.words.specs.Words.{both}
 use Rattle.rules.specs.Limits.{recordsMost}
-use Rattle.rules.specs.SheetFile.{subject, typeKind, typeFirst, typeCount, constructorFirst, constructorCount, entry}
+use Rattle.rules.specs.SheetFile.{subject, typeKind, typeFirst, typeCount, constructorFirst, entry}
 use Rattle.rules.specs.Patterns.{constructorOf, takesArguments}
 use Rattle.rules.specs.PanelFile.{recordKind, recordA, recordFirst, recordCount, part, RecordKind, Integer-record, Bytes-record, List-record, Pair-record, Tuple-record, Constructor-record, Unknown-record, recordKindOf}
 

@@ -8,8 +8,7 @@ use lib.ListN.{length}
 use lib.Dec.{eqb}
 use Rattle.words.specs.Words.{either, sameText}
 use Rattle.rules.specs.Patterns.{Pat}
-use Rattle.rules.specs.Rows.{Path, Binding}
-use Rattle.rules.specs.Splitting.{Test}
+use Rattle.rules.specs.Rows.{Binding}
 use Rattle.rules.specs.Building.{Tree, Cases, absent, leaf, hoist, switch, listswitch, cnil, ccons, plainTree}
 
 -- ---- rule 6: "A place is the steps Case(i) or Fallback from the root": Fallback is written 0, Case(i) i + 1

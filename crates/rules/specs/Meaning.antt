@@ -1,11 +1,11 @@
 -- What a sheet means on a panel: the first clause whose pattern matches, with the position that the pattern gives each name.
 -- By patterns and panel alone: there is no path, column, matrix or tree in it.
-use Prim.Native.Nat.{ℕ, zero, suc, _+_, _-_}
+use Prim.Native.Nat.{ℕ, _+_, _-_}
 use mathlib.Core.Bool.{Bool, true, false}
 use mathlib.Core.List.{List, [], _∷_, _++_}
 use lib.Dec.{eqb, leb}
 use Rattle.words.specs.Words.{both, sameText}
-use Rattle.rules.specs.Patterns.{Mark, Opens, pairs, tuples, fields, Pat, Pats, discard, variable, assign, integer, bytestring, listed, tailed, constructor, opened, pnil, pcons, many}
+use Rattle.rules.specs.Patterns.{Opens, pairs, tuples, fields, Pat, Pats, discard, variable, assign, integer, bytestring, listed, tailed, constructor, opened, pnil, pcons, many}
 use Rattle.rules.specs.PanelFile.{recordKind, recordA, recordFirst, recordCount, part, recordText}
 use Rattle.rules.specs.Positions.{Position, Bound, panelRoot, Walked, reached, noLeaf}
 

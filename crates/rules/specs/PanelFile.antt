@@ -10,7 +10,7 @@ use Rattle.rules.specs.Limits.{recordSize, partSize, panelTrailer, panel
 use Rattle.rules.specs.Searching.{every, times}
 use Rattle.rules.specs.SheetFile.{runIn}
 use Rattle.rules.specs.Texts.{canonical, shortText}
-use Rattle.rules.specs.SheetRefusals.{Verdict, accepted, refused, require, wholeRecords}
+use Rattle.rules.specs.SheetRefusals.{Verdict, accepted, require, wholeRecords}
 
 -- ---- sections: "Panel records are 8 bytes like patterns ..; then children, pool, and a trailer of three starts and the length"
 unfoldable pub panelStart : List ℕ → ℕ → ℕ

@@ -1,19 +1,18 @@
 -- 01, "Proved cases": P1 to P12 over the definitions, from the bytes of sheets and panels; four sheets and a list switch more (P13 to P17), and refusal 1.
 -- Each holds by computing; the bytes are in Samples.
-use Prim.Native.Nat.{ℕ}
 use mathlib.Core.Path.{_≡_, refl}
-use mathlib.Core.Bool.{Bool, true, false}
+use mathlib.Core.Bool.{true, false}
 use mathlib.Core.List.{List, [], _∷_}
 use Rattle.words.specs.Words.{zeros}
 use Rattle.rules.specs.Limits.{treeRoom, workRoom, boundRoom}
-use Rattle.rules.specs.SheetRefusals.{Verdict, accepted, refused, verdict}
-use Rattle.rules.specs.Rows.{Step, pair, tuple, constr, list, listtail, Path, Binding}
-use Rattle.rules.specs.Splitting.{Test, Constr, Int, Bytes, ListOf, ListWithTail}
-use Rattle.rules.specs.Building.{Tree, Cases, absent, leaf, hoist, switch, listswitch, cnil, ccons}
+use Rattle.rules.specs.SheetRefusals.{accepted, refused, verdict}
+use Rattle.rules.specs.Rows.{tuple, constr, list, listtail, Path, Binding}
+use Rattle.rules.specs.Splitting.{Constr, Int, ListOf, ListWithTail}
+use Rattle.rules.specs.Building.{Tree, absent, leaf, hoist, switch, listswitch, cnil, ccons}
 use Rattle.rules.specs.TreeReader.{treeFits, treeOf}
-use Rattle.rules.specs.Walking.{Position, Bound, Walked, reached, noLeaf, stuck, walk}
-use Rattle.rules.specs.Calls.{Answer, answers, refuses, Built, WalkEnd, leafOf, withoutLeaf, sheetTree, sheetTreeFile, buildAnswer, fitCall, walkCall, textPart, meaning}
-use Rattle.rules.specs.Listing.{listing, sheetListing}
+use Rattle.rules.specs.Walking.{reached, noLeaf, walk}
+use Rattle.rules.specs.Calls.{answers, refuses, leafOf, withoutLeaf, sheetTree, sheetTreeFile, buildAnswer, fitCall, walkCall, textPart, meaning}
+use Rattle.rules.specs.Listing.{sheetListing}
 use Rattle.rules.specs.Samples.{sheet1, panel2, panel3, panel4, panel5, sheet6, sheet7, panel7, sheet8, sheet9, sheet10, sheet11, sheet12, sheet13, sheet14, sheet15, sheet16, file1, listing1}
 
 -- ---- P1 "this tree"

@@ -1,11 +1,10 @@
 -- 01, "How a tree is built", rule 1: a pattern becomes bindings and columns.
 -- A row keeps only its tests, each with its path: a column that a row lacks is its wildcard.
-use Prim.Native.Nat.{ℕ, zero, suc, _+_}
+use Prim.Native.Nat.{ℕ, _+_}
 use mathlib.Core.Bool.{Bool, true, false}
 use mathlib.Core.List.{List, [], _∷_, _++_}
-use lib.Dec.{eqb}
 use Rattle.words.specs.Words.{both, sameText}
-use Rattle.rules.specs.Patterns.{Text, Mark, Opens, pairs, tuples, fields, Pat, Pats, discard, variable, assign, integer, bytestring, listed, tailed, constructor, opened, pnil, pcons, many}
+use Rattle.rules.specs.Patterns.{Opens, pairs, tuples, fields, Pat, Pats, discard, variable, assign, integer, bytestring, listed, tailed, constructor, opened, pnil, pcons, many}
 
 -- A step into a part: its index, for a constructor's field 01's b, and last the type of the part stepped from.
 pub data Step : Type 0 where

@@ -1,6 +1,6 @@
 -- Laws of `every`, `lowest` and `times`: what a loop over i, i + 1, .. uses, and what their answers say of each number.
 -- In the `-next` laws n - i numbers are left from i on, as in a loop's invariant.
-use mathlib.Core.Path.{_≡_, refl, ap, ap₂, _∙_, sym}
+use mathlib.Core.Path.{_≡_, refl, ap, _∙_, sym}
 use mathlib.Core.Logic.{_⊎_, inl, inr, ⊎-elim}
 use mathlib.Core.Bool.{Bool, true, false}
 use mathlib.Core.Option.{Option, none, some}
@@ -193,3 +193,23 @@ module _ (f : ℕ → Bool) where
       go false x y (inl a) (inr b) ih = absurd (clash x j ej a)
       go false x y (inr a) (inl b) ih = absurd (clash x k ek b)
       go false x y (inr a) (inr b) ih = ih y a b
+
+-- ---- tests that agree
+pub lowest-agree : (f g : ℕ → Bool) (i n : ℕ) → ((k : ℕ) → i ≤ k → k < i + n → f k ≡ g k) → lowest f i n ≡ lowest g i n
+unfolding lowest
+lowest-agree f g i zero h = refl
+lowest-agree f g i (suc n) h = go (g i) (h i (omega arith) (omega arith)) (lowest-agree f g (i + 1) n (λ k low high. h k (omega arith) (omega arith)))
+  where
+    go : (b : Bool) → f i ≡ b → lowest f (i + 1) n ≡ lowest g (i + 1) n
+        → _≡_ {A = Option ℕ} (elim (f i) [ true ↦ some i | false ↦ lowest f (i + 1) n ]) (elim b [ true ↦ some i | false ↦ lowest g (i + 1) n ])
+    go true e ih = rw e
+    go false e ih = rw e ih
+
+pub times-agree : (f g : ℕ → Bool) (i n : ℕ) → ((k : ℕ) → i ≤ k → k < i + n → f k ≡ g k) → times f i n ≡ times g i n
+unfolding times
+times-agree f g i zero h = refl
+times-agree f g i (suc n) h = go (g i) refl (times-agree f g (i + 1) n (λ k low high. h k (omega arith) (omega arith)))
+  where
+    go : (b : Bool) → g i ≡ b → times f (i + 1) n ≡ times g (i + 1) n → times f i (suc n) ≡ times g i (suc n)
+    go true e ih = rw (h i (omega arith) (omega arith) ∙ e, e, times) (ap suc ih)
+    go false e ih = rw (h i (omega arith) (omega arith) ∙ e, e, times) ih

@@ -3,11 +3,11 @@
 use Prim.Native.Nat.{ℕ, zero, suc, _+_, _-_}
 use mathlib.Core.Bool.{Bool, true, false}
 use mathlib.Core.List.{List, [], _∷_, _++_}
-use mathlib.Core.Option.{Option, none, some}
-use lib.Dec.{eqb, leb}
+use mathlib.Core.Option.{none, some}
+use lib.Dec.{leb}
 use Rattle.words.specs.Words.{either, pick, sameText}
-use Rattle.rules.specs.Patterns.{Text, Mark, Pat, Pats, discard, variable, assign, integer, bytestring, listed, tailed, constructor, opened, many}
-use Rattle.rules.specs.Rows.{Path, samePath, Binding, Cell, Row, openedColumns, openedBindings}
+use Rattle.rules.specs.Patterns.{Text, Pat, discard, variable, assign, integer, bytestring, listed, tailed, constructor, opened, many}
+use Rattle.rules.specs.Rows.{Path, samePath, Cell, Row, openedColumns, openedBindings}
 use Rattle.rules.specs.Columns.{testAt}
 
 -- A case's test.

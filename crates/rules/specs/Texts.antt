@@ -3,7 +3,6 @@
 use Prim.Native.Nat.{ℕ}
 use mathlib.Core.Bool.{Bool, true, false}
 use mathlib.Core.List.{List, [], _∷_}
-use lib.ListN.{length}
 use lib.Dec.{eqb, leb}
 use Rattle.words.specs.Words.{both, either, pick, sameText}
 use Rattle.rules.specs.Limits.{textMost}

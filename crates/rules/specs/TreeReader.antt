@@ -1,6 +1,6 @@
 -- 01, "The tree file": the fields of a tree file, what "A reader asks, else 31", and the tree that a file stands for.
 -- A tree file is the list of its bytes; a field that is not there reads 0.
-use Prim.Native.Nat.{ℕ, zero, suc, _+_, _-_, _*_, _/_, _%_}
+use Prim.Native.Nat.{ℕ, zero, suc, _+_, _-_, _*_, _/_}
 use mathlib.Core.Bool.{Bool, true, false}
 use mathlib.Core.List.{List, [], _∷_, _++_}
 use lib.ListN.{length, getD}

@@ -19,6 +19,7 @@ use Rattle.words.specs.Stored.{stored}
 use Rattle.words.specs.StoredLaws.{length-stored, getD-stored-below, getD-stored-above, textAt-stored-inside}
 use Rattle.rules.specs.Limits.{patternsMost, depthMost}
 use Rattle.rules.specs.Searching.{lowest}
+use Rattle.rules.specs.SearchingLaws.{lowest-agree}
 use Rattle.rules.specs.SheetFile.{patterns, clauses}
 use Rattle.rules.specs.Rows.{Step, pair, tuple, constr, list, listtail, Path, into}
 use Rattle.rules.specs.Columns.{stepIndex}
@@ -32,15 +33,9 @@ use Rattle.table.specs.Table.{classAt, typeAt, stepAt, indexAt, depthAt,
 use Rattle.table.specs.Tabled.{Placed, Classed, Indexed, Filled, Ranged, RowBelow}
 use Rattle.table.specs.FieldsLaws.{FieldAt, Fields, kept-fields}
 
--- ---- searches: of tests that agree, and of one number more
+-- ---- searches of one number more
 abbrev or-later : ℕ → Bool → Option ℕ → Option ℕ
 or-later i here rest = elim here [ true ↦ some i | false ↦ rest ]
-
-lowest-agree : (f g : ℕ → Bool) (i n : ℕ) → ((k : ℕ) → i ≤ k → k < i + n → f k ≡ g k) → lowest f i n ≡ lowest g i n
-unfolding lowest
-lowest-agree f g i zero h = refl
-lowest-agree f g i (suc n) h =
-    ap₂ (or-later i) (h i (omega arith) (omega arith)) (lowest-agree f g (i + 1) n (λ k low high. h k (omega arith) (omega arith)))
 
 lowest-longer : (f : ℕ → Bool) (i n : ℕ) → f (i + n) ≡ false → lowest f i (suc n) ≡ lowest f i n
 unfolding lowest

@@ -12,6 +12,7 @@ use lib.ListN.{length}
 use Rattle.words.specs.Words.{textAt, both, pick, sameText}
 use Rattle.words.specs.WordsLaws.{length-textAt, not-sameText}
 use Rattle.rules.specs.Searching.{lowest}
+use Rattle.rules.specs.SearchingLaws.{lowest-agree}
 use Rattle.rules.specs.Splitting.{Test, Constr, Int, Bytes, ListOf, ListWithTail, testFields, sameTest}
 use Rattle.rules.specs.Building.{Tree, Cases, ccons}
 use Rattle.rules.specs.PanelFile.{records, recordKind, recordText, RecordKind, Integer-record, Bytes-record, List-record, Pair-record, Tuple-record, Constructor-record, Unknown-record, recordKindOf}
@@ -160,30 +161,20 @@ module _ (t : List ℕ) (i : ℕ) where
   tail-number-of n k = ap (tailNumber n) (test-of t i List-with-tail-case k)
 
 -- ---- the search of a run of one kind is that of a test
-lowest-alike : (f g : ℕ → Bool) (i n : ℕ) → ((j : ℕ) → i ≤ j → j < i + n → f j ≡ g j) → lowest f i n ≡ lowest g i n
-unfolding lowest
-lowest-alike f g i zero h = refl
-lowest-alike f g i (suc n) h = go (g i) (h i (omega arith) (omega arith)) (lowest-alike f g (i + 1) n (λ j low high. h j (omega arith) (omega arith)))
-  where
-    go : (b : Bool) → f i ≡ b → lowest f (i + 1) n ≡ lowest g (i + 1) n
-        → _≡_ {A = Option ℕ} (elim (f i) [ true ↦ some i | false ↦ lowest f (i + 1) n ]) (elim b [ true ↦ some i | false ↦ lowest g (i + 1) n ])
-    go true e ih = rw e
-    go false e ih = rw e ih
-
 module _ (t : List ℕ) (i n : ℕ) where
   pub numbered-constr : (a : ℕ) → AllKind t 0 i n → firstNumbered t a i n ≡ firstCase t (Constr a) i n
-  numbered-constr a k = lowest-alike (λ j. eqb a (caseNumber t j)) (λ j. sameTest (Constr a) (caseTest t j)) i n (λ j low high. constr-same t j a (k j low high))
+  numbered-constr a k = lowest-agree (λ j. eqb a (caseNumber t j)) (λ j. sameTest (Constr a) (caseTest t j)) i n (λ j low high. constr-same t j a (k j low high))
 
   pub numbered-list : (a : ℕ) → AllKind t 3 i n → firstNumbered t a i n ≡ firstCase t (ListOf a) i n
-  numbered-list a k = lowest-alike (λ j. eqb a (caseNumber t j)) (λ j. sameTest (ListOf a) (caseTest t j)) i n (λ j low high. list-same t j a (k j low high))
+  numbered-list a k = lowest-agree (λ j. eqb a (caseNumber t j)) (λ j. sameTest (ListOf a) (caseTest t j)) i n (λ j low high. list-same t j a (k j low high))
 
   pub numbered-tail : (a : ℕ) → AllKind t 4 i n → firstNumbered t a i n ≡ firstCase t (ListWithTail a) i n
   numbered-tail a k =
-      lowest-alike (λ j. eqb a (caseNumber t j)) (λ j. sameTest (ListWithTail a) (caseTest t j)) i n (λ j low high. tail-same t j a (k j low high))
+      lowest-agree (λ j. eqb a (caseNumber t j)) (λ j. sameTest (ListWithTail a) (caseTest t j)) i n (λ j low high. tail-same t j a (k j low high))
 
   pub text-first : (integer : Bool) (w : List ℕ) → AllKind t (pick integer 1 2) i n → firstText t w i n ≡ firstCase t (textTest integer w) i n
   text-first integer w k =
-      lowest-alike (λ j. sameText w (caseText t j)) (λ j. sameTest (textTest integer w) (caseTest t j)) i n (λ j low high. text-same t j integer w (k j low high))
+      lowest-agree (λ j. sameText w (caseText t j)) (λ j. sameTest (textTest integer w) (caseTest t j)) i n (λ j low high. text-same t j integer w (k j low high))
 
 -- a loop over the run begins with all of it
 pub run-start : (f : ℕ → Bool) (i n : ℕ) → lowest f i (i + n - i) ≡ lowest f i n
