@@ -1,10 +1,10 @@
 //! Speed: a build by the Rust and by the proved library on the same sheets, and the library's walk beside a plain
 //! walker, in one run. Each call is timed in many short batches, and the batches of what is compared take turns.
 //! Of a build the least batch counts: what else the machine does at the time makes a batch longer, never shorter.
-//! The walk itself is a small difference of larger times, and no way to reckon it was seen to hold still: on one
-//! library and the same sheets its ratio to the plain walker moved by a factor of two between runs, and between builds
-//! of this tool. So it is shown in two ways (the median of the differences of one turn each, over a family's walks
-//! their median; and from least times and means), bench.sh runs it in several processes, and counts.sh counts instead.
+//! The walk itself is a small difference of larger times, and no way to reckon it holds quite still between runs, or
+//! between builds of this tool. So it is shown in three ways (the median of the differences of one turn each, over a
+//! family's walks their median; from least times and means; and beside the plain walker behind the same passes),
+//! bench.sh runs it in several processes, and counts.sh counts instead.
 
 use std::hint::black_box;
 use std::time::{Duration, Instant};
