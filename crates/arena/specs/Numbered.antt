@@ -11,7 +11,7 @@ use Rattle.rules.specs.Building.{Tree, Cases, absent, leaf, hoist, switch, list
 use Rattle.rules.specs.Hoisting.{howMany, nodesIn, nodesInOf, bindingsIn}
 use Rattle.rules.specs.TreeFile.{casesIn, defaultField, ownCases, bindingsBytes}
 use Rattle.filing.specs.StandingLaws.{Stands}
-use Rattle.arena.specs.Arena.{casesStart, casesMost, bindingsStart, arenaEnd, nodeKind, nodeWord, caseChild, Held}
+use Rattle.arena.specs.Arena.{casesStart, casesMost, bindingsStart, arenaEnd, nodeKind, nodeWord, Held}
 
 -- ---- subtrees
 -- the subtrees of a tree that are there, itself first, in the order of their nodes

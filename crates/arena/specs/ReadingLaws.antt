@@ -4,7 +4,7 @@ use mathlib.Core.Path.{_≡_, refl, sym, ap, _∙_}
 use mathlib.Core.List.{List, [], _∷_, _++_}
 use Prim.Native.Nat.{ℕ, _+_}
 use native.Mathlib.Numerals.{add-one}
-use lib.ListN.{length, set}
+use lib.ListN.{set}
 use Rattle.words.specs.Words.{wordBytes}
 use Rattle.words.specs.Stored.{stored}
 use Rattle.words.specs.StoredLaws.{stored-append}

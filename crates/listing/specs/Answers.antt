@@ -1,6 +1,5 @@
 -- The two calls of this crate, whole: the answer and every byte of the lent buffer, for whatever file and buffer.
 -- Rests on the rules' listing and on their test of a tree file, which alone refuses, with 31.
-use mathlib.Core.Bool.{Bool, true, false}
 use mathlib.Core.List.{List, _++_}
 use Prim.Native.Nat.{ℕ, _-_}
 use lib.Dec.{leb}

@@ -1,9 +1,9 @@
 -- What a buffer holds after a text was written into it from its front, when it was zero before: all of the text, or more than it has
 -- room for; and the two calls put together of that.
-use mathlib.Core.Path.{_≡_, refl, sym, ap, _∙_}
+use mathlib.Core.Path.{_≡_, refl, ap, _∙_}
 use mathlib.Core.Bool.{Bool, true, false}
-use mathlib.Core.List.{List, _++_}
-use Prim.Native.Nat.{ℕ, zero, suc, _+_, _-_, _≤_, _<_}
+use mathlib.Core.List.{List}
+use Prim.Native.Nat.{ℕ, _≤_, _<_}
 use native.Mathlib.Omega.{arith}
 use borrow.Author.Tests.{le-leb, lt-leb, leb-true, leb-false}
 use lib.Dec.{leb}
@@ -12,12 +12,12 @@ use Rattle.words.specs.Words.{pick, zeros}
 use Rattle.words.specs.Stored.{stored}
 use Rattle.words.specs.StoredLaws.{stored-zeros}
 use Rattle.rules.specs.TreeReader.{treeFits}
-use Rattle.rules.specs.Calls.{Answer, answers, refuses}
+use Rattle.rules.specs.Calls.{answers}
 use Rattle.rules.specs.Listing.{listing, refusedLine}
 use Rattle.listing.specs.declared.Listed.{Listed}
 use Rattle.listing.specs.Writing.{Writes}
 use Rattle.listing.specs.WritingLaws.{length-written}
-use Rattle.listing.specs.Answers.{End, written, full, answerOf, textIn, endIn, callOf, listingCall, lineOf, refusedLineCall}
+use Rattle.listing.specs.Answers.{written, full, answerOf, textIn, endIn, callOf, listingCall, lineOf, refusedLineCall}
 
 -- ---- a text in a buffer that was made zero; the buffer's length is asked before and after
 module _ (first : List ℕ) {before after : List ℕ} {end : ℕ} {text : List ℕ} (empty : before ≡ zeros (length first)) (w : Writes before after 0 end text) where

@@ -1,16 +1,16 @@
 -- A run of records is written record by record; a path by its steps; and a test and a node are written as the reader gives them.
 -- Rests on the rules' definitions of a listing and on what a file has whose records keep the rules.
 use mathlib.Core.Path.{_≡_, refl, sym, ap, ap₂, _∙_}
-use mathlib.Core.Bool.{Bool, true, false}
+use mathlib.Core.Bool.{Bool}
 use mathlib.Core.List.{List, [], _∷_, _++_, append-assoc}
-use Prim.Native.Nat.{ℕ, zero, suc, _+_, _-_, _≤_, _<_}
+use Prim.Native.Nat.{ℕ, suc, _+_, _-_, _≤_, _<_}
 use native.Mathlib.Omega.{arith}
 use native.Mathlib.Nat.{add-zero, zero-add, sub-zero}
-use borrow.Author.Tests.{eq-eqb, ne-eqb}
+use borrow.Author.Tests.{ne-eqb}
 use lib.Dec.{eqb}
 use lib.ListN.{length}
 use Rattle.words.specs.Words.{textAt}
-use Rattle.rules.specs.TreeReader.{nodes, cases, nodeKind, nodeTailCases, nodeCases, NodeKind, Switch, List-switch, Leaf, Hoist-node, Unknown-node, nodeKindOf, nodePath, nodeFirstCase, nodeDefault, nodeFirstBinding, nodeBindings, caseKind, CaseKind, Constr-case, Int-case, Bytes-case, List-case, List-with-tail-case, Unknown-case, caseKindOf, testOfKind, caseText, caseTest, caseChild, stepOfFields, stepAt, stepsFrom, pathAt, pathFirst, pathCount, bindingName, bindingPath}
+use Rattle.rules.specs.TreeReader.{nodes, cases, nodeKind, nodeTailCases, nodeCases, NodeKind, Switch, List-switch, Leaf, Hoist-node, Unknown-node, nodeKindOf, nodePath, nodeFirstCase, nodeDefault, caseKind, CaseKind, Constr-case, Int-case, Bytes-case, List-case, List-with-tail-case, Unknown-case, caseKindOf, testOfKind, caseText, caseTest, caseChild, stepOfFields, stepAt, stepsFrom, pathAt}
 use Rattle.rules.specs.Listing.{treeWord, refusedWord, trueFlag, falseFlag, switchWord, elseWord, pairStep, tupleStep, constrStep, listStep, listtailStep, decimal, flagText, stepText, moreSteps, pathText, testText, casesText, bindingsText, defaultText, switchText, nodeText, nodeLines, firstLine, listing, refusedLine}
 use Rattle.facts.specs.KindsLaws.{node-byte, unknown-node, case-byte, unknown-case}
 use Rattle.tree.specs.declared.layout.Map.{Map}

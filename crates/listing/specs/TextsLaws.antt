@@ -1,6 +1,6 @@
 -- The texts of numbers and bytes, opened as the code writes them: a decimal digit behind the others, a byte in hex before the others.
 -- Rests on the rules' definitions of a listing.
-use mathlib.Core.Path.{_≡_, refl, sym, ap, _∙_}
+use mathlib.Core.Path.{_≡_, sym, ap, _∙_}
 use mathlib.Core.List.{List, [], _∷_, _++_}
 use Prim.Native.Nat.{ℕ, zero, suc, _+_, _*_, _/_, _%_, _≤_, _<_}
 use native.Mathlib.Omega.{arith}

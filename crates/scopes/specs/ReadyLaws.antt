@@ -2,35 +2,34 @@
 -- down goes on in the first child that is marked. Rests on the nodes by number and on the laws of switches.
 use mathlib.Core.Path.{_≡_, refl, sym, ap, ap₂, _∙_, subst}
 use mathlib.Core.Logic.{_⊎_, inl, inr, ⊎-elim}
-use mathlib.Core.Bool.{Bool, true, false, true≢false, false≢true}
-use mathlib.Core.List.{List, [], _∷_, _++_}
-use mathlib.Core.Option.{Option, none, some}
+use mathlib.Core.Bool.{Bool, true, false, false≢true}
+use mathlib.Core.List.{List, [], _++_}
+use mathlib.Core.Option.{Option, some}
 use Prim.Native.Nat.{ℕ, zero, suc, _+_, _-_, _*_, _≤_, _<_}
 use native.Mathlib.Omega.{arith}
-use native.Mathlib.Nat.{zero-add}
 use lib.ListN.{length, getD}
-use lib.Dec.{eqb, ltb, leb}
+use lib.Dec.{eqb, ltb}
 use borrow.Author.Tests.{eq-eqb, ne-eqb, lt-ltb, le-ltb}
-use Rattle.words.specs.Words.{either, pick}
-use Rattle.words.specs.WordsLaws.{either-true, pick-true, pick-false}
-use Rattle.rules.specs.Limits.{clausesMost, nodesMost, caseSize}
-use Rattle.rules.specs.Rows.{Path, Binding, bit}
+use Rattle.words.specs.Words.{pick}
+use Rattle.words.specs.WordsLaws.{pick-true, pick-false}
+use Rattle.rules.specs.Limits.{clausesMost, caseSize}
+use Rattle.rules.specs.Rows.{bit}
 use Rattle.rules.specs.Building.{Tree, Cases, absent, leaf, hoist, switch, listswitch, cnil, ccons}
 use Rattle.rules.specs.Hoisting.{howMany, nodesIn, nodesInOf, bindingsIn, hasLeaf, hasLeafOf}
 use Rattle.rules.specs.TreeFile.{casesIn, ownCases}
 use Rattle.filing.specs.StandingLaws.{Stands}
 use Rattle.filing.specs.TreeStandsLaws.{own-rest}
 use Rattle.hoisting.specs.Trees.{Plain, PlainOf, isPresent, WellMade, WellMadeOf}
-use Rattle.hoisting.specs.Scopes.{later, lastLeaf, lastLeafOf, isClause}
-use Rattle.hoisting.specs.Descent.{casesWith, childrenWith, isScope}
-use Rattle.arena.specs.Arena.{casesStart, casesMost, nodeKind, nodeWord, caseChild}
+use Rattle.hoisting.specs.Scopes.{later, lastLeaf, lastLeafOf}
+use Rattle.hoisting.specs.Descent.{casesWith, childrenWith}
+use Rattle.arena.specs.Arena.{casesStart, nodeKind, nodeWord, caseChild}
 use Rattle.arena.specs.RecordsLaws.{own-first}
-use Rattle.arena.specs.Numbered.{subtrees, subtreesOf, subtreeAt, Within, Each, isSwitch, casesUnder, defaultUnder, AllThere, HeldAt, SwitchNode, ChildNode, Nodes}
-use Rattle.arena.specs.NumberedLaws.{length-subtrees, subtreeAt-root, each-append, each-at, within-first, within-inside, first-within, rest-within, leaf-node, cases-within, default-within, switch-shown, case-node, default-node, default-none, defaultField-some, length-subtreesOf}
+use Rattle.arena.specs.Numbered.{subtrees, subtreesOf, subtreeAt, Within, Each, isSwitch, casesUnder, defaultUnder, AllThere, HeldAt}
+use Rattle.arena.specs.NumberedLaws.{length-subtrees, each-append, each-at, within-first, within-inside, first-within, rest-within, leaf-node, cases-within, default-within, switch-shown, case-node, default-node, default-none, defaultField-some}
 use Rattle.scopes.specs.Numbers.{descent, descentOf}
-use Rattle.scopes.specs.SwitchLaws.{hasLeaf-switch, lastLeaf-switch, childrenWith-switch, descent-switch, hasLeaf-some, present-nodes, made-cases-there, made-some-case}
+use Rattle.scopes.specs.SwitchLaws.{hasLeaf-switch, lastLeaf-switch, childrenWith-switch, hasLeaf-some, made-cases-there, made-some-case}
 use Rattle.scopes.specs.NumbersLaws.{other-has, either-turn}
-use Rattle.scopes.specs.Marks.{Ready, LeafThere, SwitchThere, Marked, LastMarked, CasesInside, SwitchInside, NodeInside, markedCases, firstMarked, markedDefault, markedChildren, firstChild, lastChild, nodeMarked, lastOf, scopeHere}
+use Rattle.scopes.specs.Marks.{Ready, LeafThere, SwitchThere, Marked, LastMarked, SwitchInside, NodeInside, markedCases, firstMarked, markedDefault, markedChildren, firstChild, lastChild, nodeMarked, lastOf}
 
 -- ---- subtrees of a plain and well made tree are so
 record Good (n : ℕ) (s : Tree) : Type 0 where
