@@ -150,7 +150,7 @@ fn put_two_numbers(out: &mut [u8], word: &[u8], a: u16, b: u16) -> usize
     put(out, second, b'\n')
 }
 
-pub fn put_listing(out: &mut [u8], t: &[u8], m: Map) -> usize
+pub(crate) fn put_listing(out: &mut [u8], t: &[u8], m: Map) -> usize
     requires { ⌜ Ruled (now t) m ⌝ }
     ensures { λ r. ⌜ Writes (now (out .entry)) (now (out .exit)) 0 r (listingText (now (t .entry))) ⌝ }
 {

@@ -119,15 +119,15 @@ zeros-next l i j k n e =
     ∙ ap (stored l i) (replicate-append-replicate k n 0)
 
 -- one behind zeros, as an assignment leaves it
-pub zeros-more : (l : List ℕ) (i k : ℕ) → set (stored l i (zeros k)) (i + k) 0 ≡ stored l i (zeros (k + 1))
-zeros-more l i k = set-stored (stored l i (zeros k)) (i + k) 0 ∙ zeros-next l i (i + k) k 1 refl
+pub zeros-more : (l : List ℕ) (i j k : ℕ) → i + k ≡ j → set (stored l i (zeros k)) j 0 ≡ stored l i (zeros (k + 1))
+zeros-more l i j k e = set-stored (stored l i (zeros k)) j 0 ∙ zeros-next l i j k 1 e
 
 -- where zeros stand already
 pub zeros-there : (l : List ℕ) (i n : ℕ) → ((k : ℕ) → k < n → getD l (i + k) 0 ≡ 0) → stored l i (zeros n) ≡ l
 zeros-there l i zero h = stored-nil l i
 zeros-there l i (suc n) h =
     ap (λ (k : ℕ). stored l i (zeros k)) (sym (add-one n))
-    ∙ sym (zeros-more l i n)
+    ∙ sym (zeros-more l i (i + n) n refl)
     ∙ ap (λ (r : List ℕ). set r (i + n) 0) (zeros-there l i n (λ k q. h k (omega arith)))
     ∙ ap (set l (i + n)) (sym (h n (omega arith)))
     ∙ set-getD l (i + n) 0

@@ -3,18 +3,17 @@
 use mathlib.Core.Path.{_≡_, refl, sym, ap, _∙_}
 use mathlib.Core.Logic.{_⊎_, inl, inr}
 use mathlib.Core.Bool.{Bool, true, false, true≢false}
-use mathlib.Core.List.{List, [], _∷_, _++_, append-nil}
+use mathlib.Core.List.{List, [], _∷_, _++_}
 use Prim.Native.Nat.{ℕ, zero, suc, _+_, _-_, _<_, _≤_}
 use native.Mathlib.Omega.{arith}
 use native.Mathlib.Nat.{sub-zero, suc-sub-suc, zero-sub}
 use native.Mathlib.Numerals.{add-one}
 use borrow.Author.Count.{below-more}
-use borrow.Author.Fill.{fill-more}
 use borrow.Author.Tests.{eqb-true, eq-eqb}
 use lib.Bits.{bitOr, or-add-and, and-le-l, and-le-r}
 use lib.Dec.{eqb}
-use lib.ListN.{length, getD, set, drop, length-take, length-drop, List·getD-append}
-use lib.Seq.{ext-getD, getD-take, getD-drop, getD-append-add, take-append-le, drop-append-le, drop-append-add, drop-drop, drop-length, take-add, take-length}
+use lib.ListN.{length, getD, drop, length-take, length-drop, List·getD-append}
+use lib.Seq.{ext-getD, getD-take, getD-drop, getD-append-add, take-append-le, drop-append-le, drop-append-add, drop-drop, take-add, take-length}
 use mir.Syntax.{w8}
 use mir.Val.{Fits}
 use Rattle.words.specs.Words.{wordAt, Bytes, both, either, pick, textAt, sameText, zeros, bitsAt}
@@ -178,16 +177,6 @@ pub drop-zeros : (m n : ℕ) → drop m (zeros n) ≡ zeros (n - m)
 drop-zeros zero n = rw sub-zero
 drop-zeros (suc m) zero = rw zero-sub
 drop-zeros (suc m) (suc n) = rw suc-sub-suc (drop-zeros m n)
-
--- a loop that stores 0 from the front: i elements are 0, and the others as they were
-abbrev pub zeroedTo : List ℕ → ℕ → List ℕ
-zeroedTo l i = zeros i ++ drop i l
-
-pub zeroedTo-more : (l b : List ℕ) (i : ℕ) → i < length l → b ≡ zeroedTo l i → set b i 0 ≡ zeroedTo l (i + 1)
-zeroedTo-more l b i h e = rw e (fill-more i 0 l h)
-
-pub zeroedTo-all : (l b : List ℕ) (i : ℕ) → i ≡ length l → b ≡ zeroedTo l i → b ≡ zeros (length l)
-zeroedTo-all l b i e f = f ∙ rw (e, drop-length l) (append-nil (zeros (length l)))
 
 -- ---- bits
 

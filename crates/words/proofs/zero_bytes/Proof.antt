@@ -1,7 +1,7 @@
 -- `words::zero_bytes` meets its contract. The loop's invariant: the first k of the bytes are 0, and all others as they were.
-use Prim.Native.Nat.{ℕ, _-_, _≤_}
+use Prim.Native.Nat.{ℕ, _+_, _-_, _≤_}
 use native.Mathlib.Omega.{arith}
-use mathlib.Core.Path.{_≡_, sym, ap, _∙_}
+use mathlib.Core.Path.{_≡_, refl, sym, ap, _∙_}
 use lib.ListN.{length}
 use Rattle.words.specs.Words.{zeros}
 use Rattle.words.specs.Stored.{stored}
@@ -35,7 +35,7 @@ loop-again : tie.Need-loop-again Inv-loop μ-loop
 loop-again c =
     let a = c .before .before .args in
     let l = c .before .loop in
-    (omega arith, search needs, rw (l .inv .2) (zeros-more (a .b .now) (a .i) (l .k)))
+    (omega arith, search needs, rw (l .inv .2) (zeros-more (a .b .now) (a .i) (a .i + l .k) (l .k) refl))
 
 same-length : tie.Need-same-length Inv-loop μ-loop
 same-length c = search needs

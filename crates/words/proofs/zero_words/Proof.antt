@@ -1,22 +1,23 @@
 -- `words::zero_words` meets its contract. The loop's invariant: the first i words are 0, and the others as they were.
--- Rests on the laws of a loop that stores 0 from the front.
-use Prim.Native.Nat.{_≤_, _-_}
+use Prim.Native.Nat.{ℕ, _-_, _≤_}
 use native.Mathlib.Omega.{arith}
-use mathlib.Core.Path.{_≡_}
+use mathlib.Core.Path.{_≡_, sym, ap, _∙_}
 use borrow.Author.Needs.{needs}
 use lib.ListN.{length}
-use Rattle.words.specs.WordsLaws.{zeroedTo, zeroedTo-more, zeroedTo-all}
+use Rattle.words.specs.Words.{zeros}
+use Rattle.words.specs.Stored.{stored}
+use Rattle.words.specs.StoredLaws.{stored-nil, zeros-more, zeros-whole}
 use Rattle.words.proofs.zero_words.Statement.{statement}
 use Rattle.words.proofs.zero_words.Tie as tie
 
 abbrev Inv-loop : tie.InvT-loop
-Inv-loop words₀ i₀ words i = (i ≤ length words₀) × (length words ≡ length words₀) × (words ≡ zeroedTo words₀ i)
+Inv-loop words₀ i₀ words i = (i ≤ length words₀) × (length words ≡ length words₀) × (words ≡ stored words₀ 0 (zeros i))
 
 abbrev μ-loop : tie.MeasureT-loop
 μ-loop words₀ i₀ words i = length words₀ - i
 
 loop-holds : tie.Need-loop-holds Inv-loop μ-loop
-loop-holds c = search needs
+loop-holds c = (omega arith, search needs, sym (stored-nil (c .args .words .now) 0))
 
 mul-words : tie.Need-mul-words Inv-loop μ-loop
 mul-words c = search needs
@@ -33,7 +34,7 @@ loop-less c = search needs
 loop-again : tie.Need-loop-again Inv-loop μ-loop
 loop-again c =
     let l = c .before .loop in
-    (search needs, search needs, zeroedTo-more (c .before .before .args .words .now) (l .words) (l .i) (omega arith) (l .inv .2))
+    (search needs, search needs, rw (l .inv .2) (zeros-more (c .before .before .args .words .now) 0 (l .i) (l .i) (omega arith)))
 
 same-length : tie.Need-same-length Inv-loop μ-loop
 same-length c = search needs
@@ -41,7 +42,9 @@ same-length c = search needs
 returns : tie.Need-returns Inv-loop μ-loop
 returns c =
     let l = c .before .loop in
-    zeroedTo-all (c .before .before .args .words .now) (l .words) (l .i) (omega arith) (l .inv .2)
+    let whole = c .before .before .args .words .now in
+    let e : l .i ≡ length whole = omega arith in
+    l .inv .2 ∙ ap (λ (n : ℕ). stored whole 0 (zeros n)) e ∙ zeros-whole whole
 
 pub zero-words-spec : {M : Type 1} → statement M
 zero-words-spec =
