@@ -1,7 +1,7 @@
 /* Dewmycel: the pattern-match compiler of a line that programs metering devices.
  *
  * Four calls, in libdewmycel.a. Each is a proved function: what a comment here promises of a call is a
- * theorem about its code (crates/dewmycel), against the format's definitions (crates/rules/specs).
+ * theorem about its code (crates/dewmycel), against the format's definitions (crates/spec_rules/specs).
  *
  * What a caller owes, which C cannot check:
  *   - each pointer is to as many elements as the length behind it says, readable, and writable where it is

@@ -3,7 +3,7 @@
 
     tools/answers.py
 
-for the gate the files of crates/lister, listings, vectors and walker (stdin, args, data/, stdout), for readers the listings and
+for the gate the files of crates/lister, test_listings, test_vectors and walker (stdin, args, data/, stdout), for readers the listings and
 walks of samples/. A listing is that of the tree that the Rust module itself builds (`beside list`); a refusal and a walk are the
 reference's, which was written from the document alone (`beside list`, `beside walk`). No answer comes from the programs
 that are held to them. `tools/beside/build.sh FOLDER`, which takes the Rust's sources, is run first, by hand.
@@ -24,10 +24,10 @@ sys.path.insert(0, str(ROOT / 'tools/sheets'))
 sys.dont_write_bytecode = True
 import sheets  # noqa: E402
 
-# The hand-made sheets that the program listings is run on: document 01's cases, then its limits from both sides.
+# The hand-made sheets that the program test_listings is run on: document 01's cases, then its limits from both sides.
 HAND = ('P6 P7 P8 P9 P10 P11 P12 extra orders clauses-32 clauses-33 nodes-1024 nodes-1025 bindings-4096 bindings-4097 depth-12 '
         'depth-13 patterns-192 long-list minus-zero leading-zero').split()
-# A longer listing is stored by its first line, its length and its checksum, as the program listings writes it.
+# A longer listing is stored by its first line, its length and its checksum, as the program test_listings writes it.
 SHOWN_MOST = 20000
 
 SEED, VECTORS = 7, 300
@@ -56,23 +56,23 @@ def lister(hand):
 
 
 def listings(hand):
-    data = anew(CRATES / 'listings/data')
+    data = anew(CRATES / 'test_listings/data')
     for name in HAND:
         shutil.copy(hand / f'{name}.sheet', data)
     # Nothing, and one byte more than a sheet may have.
     (data / 'empty.sheet').write_bytes(b'')
     (data / 'bytes-8193.sheet').write_bytes(bytes(8193))
     names = [f'{name}.sheet' for name in [*HAND, 'empty', 'bytes-8193']]
-    (CRATES / 'listings/args').write_text(''.join(f'{name}\n' for name in names))
+    (CRATES / 'test_listings/args').write_text(''.join(f'{name}\n' for name in names))
     answers = (f'{name}\n'.encode() + shown(beside('list', data / name)) for name in names)
-    (CRATES / 'listings/stdout').write_bytes(b''.join(answers))
+    (CRATES / 'test_listings/stdout').write_bytes(b''.join(answers))
 
 
 def vectors():
-    data = anew(CRATES / 'vectors/data')
+    data = anew(CRATES / 'test_vectors/data')
     beside('vectors', SEED, VECTORS, data / 'vectors')
-    (CRATES / 'vectors/args').write_text('vectors\n')
-    (CRATES / 'vectors/stdout').write_text(f'{VECTORS} vectors, 0 differ\n')
+    (CRATES / 'test_vectors/args').write_text('vectors\n')
+    (CRATES / 'test_vectors/stdout').write_text(f'{VECTORS} vectors, 0 differ\n')
 
 
 def walker():

@@ -4,7 +4,7 @@
 set -u
 cd "$(dirname "$0")/.." || exit 1
 . tools/kit.sh
-for program in lister walker listings vectors; do have_program "$program" || exit 1; done
+for program in lister walker test_listings test_vectors; do have_program "$program" || exit 1; done
 
 room=$(mktemp -d) || exit 1
 trap 'rm -rf "$room"' EXIT
@@ -46,12 +46,12 @@ for bad in missing folder empty words long; do
 done
 try 'walker, a name of no letters' run_program walker '' "$room/panel"
 
-try 'listings, no argument' run_program listings
-try 'listings, missing' run_program listings "$room/missing"
-try 'listings, a folder' run_program listings "$room/folder"
-try 'vectors, no argument' run_program vectors
+try 'test_listings, no argument' run_program test_listings
+try 'test_listings, missing' run_program test_listings "$room/missing"
+try 'test_listings, a folder' run_program test_listings "$room/folder"
+try 'test_vectors, no argument' run_program test_vectors
 for bad in missing folder empty words long; do
-    try "vectors, $bad" run_program vectors "$room/$bad"
+    try "test_vectors, $bad" run_program test_vectors "$room/$bad"
 done
 
 try 'dewmycel, no command' ./dewmycel

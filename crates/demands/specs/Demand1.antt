@@ -10,29 +10,29 @@ use mathlib.Core.Logic.{_↔_}
 use mathlib.Core.List.{List, []}
 use Prim.Native.Nat.{ℕ, _<_}
 use lib.ListN.{length}
-use Rattle.words.specs.Words.{textAt, zeros}
-use Rattle.rules.specs.Limits.{nodesMost, bindingsMost}
-use Rattle.rules.specs.SearchingLaws.{Lowest}
-use Rattle.rules.specs.SheetFile.{types, patterns, clauses}
-use Rattle.rules.specs.SheetRefusals.{accepted, refused, verdict, lengthFits, layoutFits, hasClause, countsFit, typesFit, transparent, shapeFits, badText, misfit, nameTwice}
-use Rattle.rules.specs.PanelFile.{panelVerdict, panelLengthFits, panelLayoutFits, panelShapeFits, panelTextsFit}
-use Rattle.rules.specs.Building.{Tree}
-use Rattle.rules.specs.Hoisting.{hasLeaf, nodesIn, bindingsIn}
-use Rattle.rules.specs.Calls.{treeVerdict, BuildCall, buildAnswer, buildCall, WalkCall, walkAnswer, walkCall, textPart, partOfSpan}
-use Rattle.meaning.specs.Said.{Passes2, Passes3, Passes4, Passes5, Passes6, Passes7, Passes8, Passes9, Passes10, Passes11, Passes12, Passes13, Passes14, Passes21, Passes22, Passes23, Passes24}
-use Rattle.meaning.specs.CallsLaws.{build-refused-writes, walk-refused-writes}
-use Rattle.meaning.specs.Theorems.{accepted-exactly, tree-accepted-exactly, panel-accepted-exactly, refused-2-exactly, refused-3-exactly, refused-4-exactly, refused-5-exactly, refused-6-exactly, refused-7-exactly, refused-8-exactly, refused-9-exactly, refused-10-exactly, refused-11-exactly, refused-12-exactly, refused-13-exactly, refused-21-exactly, refused-22-exactly, refused-23-exactly, refused-24-exactly}
-use Rattle.meaning.specs.Refusals.{refusal-14}
-use Rattle.panel.specs.declared.Fitted.{Fitted}
-use Rattle.panel.specs.declared.Fitted.the-variants.{Refused as NotFitted}
-use Rattle.panel.specs.declared.Located.{Located}
-use Rattle.panel.specs.declared.Located.the-variants.{At as LocatedAt, Refused as NotLocated}
+use Rattle.base_words.specs.Words.{textAt, zeros}
+use Rattle.spec_rules.specs.Limits.{nodesMost, bindingsMost}
+use Rattle.spec_rules.specs.SearchingLaws.{Lowest}
+use Rattle.spec_rules.specs.SheetFile.{types, patterns, clauses}
+use Rattle.spec_rules.specs.SheetRefusals.{accepted, refused, verdict, lengthFits, layoutFits, hasClause, countsFit, typesFit, transparent, shapeFits, badText, misfit, nameTwice}
+use Rattle.spec_rules.specs.PanelFile.{panelVerdict, panelLengthFits, panelLayoutFits, panelShapeFits, panelTextsFit}
+use Rattle.spec_rules.specs.Building.{Tree}
+use Rattle.spec_rules.specs.Hoisting.{hasLeaf, nodesIn, bindingsIn}
+use Rattle.spec_rules.specs.Calls.{treeVerdict, BuildCall, buildAnswer, buildCall, WalkCall, walkAnswer, walkCall, textPart, partOfSpan}
+use Rattle.spec_theorems.specs.Said.{Passes2, Passes3, Passes4, Passes5, Passes6, Passes7, Passes8, Passes9, Passes10, Passes11, Passes12, Passes13, Passes14, Passes21, Passes22, Passes23, Passes24}
+use Rattle.spec_theorems.specs.CallsLaws.{build-refused-writes, walk-refused-writes}
+use Rattle.spec_theorems.specs.Theorems.{accepted-exactly, tree-accepted-exactly, panel-accepted-exactly, refused-2-exactly, refused-3-exactly, refused-4-exactly, refused-5-exactly, refused-6-exactly, refused-7-exactly, refused-8-exactly, refused-9-exactly, refused-10-exactly, refused-11-exactly, refused-12-exactly, refused-13-exactly, refused-21-exactly, refused-22-exactly, refused-23-exactly, refused-24-exactly}
+use Rattle.spec_theorems.specs.Refusals.{refusal-14}
+use Rattle.format_panel.specs.declared.Fitted.{Fitted}
+use Rattle.format_panel.specs.declared.Fitted.the-variants.{Refused as NotFitted}
+use Rattle.format_panel.specs.declared.Located.{Located}
+use Rattle.format_panel.specs.declared.Located.the-variants.{At as LocatedAt, Refused as NotLocated}
 use Rattle.walk.specs.declared.Walked.{Walked}
 use Rattle.walk.specs.declared.Walked.the-variants.{Refused as NotWalked}
 use Rattle.walk.specs.Answers.{answerOf as walkAnswerOf}
-use Rattle.build.specs.declared.Built.{Built}
-use Rattle.build.specs.declared.Built.the-variants.{Refused as NotBuilt}
-use Rattle.build.specs.Answers.{answerOf as buildAnswerOf}
+use Rattle.build_call.specs.declared.Built.{Built}
+use Rattle.build_call.specs.declared.Built.the-variants.{Refused as NotBuilt}
+use Rattle.build_call.specs.Answers.{answerOf as buildAnswerOf}
 use Rattle.dewmycel.specs.Answers.{verdictOf, spanOf}
 use Rattle.dewmycel.specs.Contracts.{BuildFits, FitFits, WalkFits, TextFits, PartFits}
 use Rattle.demands.specs.OneAnswer.{build-known, fit-known, walk-known, text-known}

@@ -2,23 +2,23 @@
 --
 -- An answer that fits the build's contract and is no refusal says: the sheet builds (none of 2 to 14), the buffer begins with the file of
 -- its tree `sheetTree s`, with zeros after it, the work buffer is zero, and the three numbers are the file's own. The file says the whole tree: a reader accepts it and reads
--- that tree back. `sheetTree` is rules 1 to 7 of 01 (crate rules: Rows, Columns, Splitting, Building, Hoisting), and nothing else.
+-- that tree back. `sheetTree` is rules 1 to 7 of 01 (crate spec_rules: Rows, Columns, Splitting, Building, Hoisting), and nothing else.
 use mathlib.Core.Path.{_≡_, refl, sym, ap, _∙_}
 use mathlib.Core.Bool.{true}
 use mathlib.Core.List.{List, _++_}
 use Prim.Native.Nat.{ℕ, _-_, _<_, _≤_}
 use native.Mathlib.Omega.{arith}
 use lib.ListN.{length}
-use Rattle.words.specs.Words.{zeros}
-use Rattle.rules.specs.Limits.{treeRoom, workRoom}
-use Rattle.rules.specs.TreeReader.{treeFits, treeOf, nodes, bindings}
-use Rattle.rules.specs.Calls.{answers, Built as BuiltTree, BuildCall, builtOf, buildAnswer, buildCall, sheetTree, sheetTreeFile}
-use Rattle.meaning.specs.Said.{Builds}
-use Rattle.meaning.specs.CallsLaws.{build-answers, build-answers-only, build-writes}
-use Rattle.meaning.specs.Theorems.{the-file-fits, the-file-says-the-tree, the-answer-tells-the-file}
-use Rattle.build.specs.declared.Built.{Built}
-use Rattle.build.specs.declared.Built.the-variants.{Tree}
-use Rattle.build.specs.Answers.{answerOf}
+use Rattle.base_words.specs.Words.{zeros}
+use Rattle.spec_rules.specs.Limits.{treeRoom, workRoom}
+use Rattle.spec_rules.specs.TreeReader.{treeFits, treeOf, nodes, bindings}
+use Rattle.spec_rules.specs.Calls.{answers, Built as BuiltTree, BuildCall, builtOf, buildAnswer, buildCall, sheetTree, sheetTreeFile}
+use Rattle.spec_theorems.specs.Said.{Builds}
+use Rattle.spec_theorems.specs.CallsLaws.{build-answers, build-answers-only, build-writes}
+use Rattle.spec_theorems.specs.Theorems.{the-file-fits, the-file-says-the-tree, the-answer-tells-the-file}
+use Rattle.build_call.specs.declared.Built.{Built}
+use Rattle.build_call.specs.declared.Built.the-variants.{Tree}
+use Rattle.build_call.specs.Answers.{answerOf}
 use Rattle.dewmycel.specs.Contracts.{BuildFits}
 
 -- what holds of the answer Tree bytes nodes bindings, with these buffers

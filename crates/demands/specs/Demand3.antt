@@ -4,34 +4,34 @@
 --
 -- The three calls as a controller makes them: the build answered Tree bytes .., the fit check answered Fits, and the walk is given the
 -- first `bytes` bytes of the tree buffer. Matching, and what a pattern gives each of its names, are definitions of the patterns alone
--- (crate rules, Meaning): they know of no tree.
+-- (crate spec_rules, Meaning): they know of no tree.
 use mathlib.Core.Path.{_≡_, sym, ap, _∙_}
 use mathlib.Core.Logic.{_⊎_, inl, inr}
 use mathlib.Core.List.{List, _++_}
 use Prim.Native.Nat.{ℕ, _-_, _*_, _<_, _≤_}
 use native.Mathlib.Omega.{arith}
 use lib.ListN.{length}
-use Rattle.words.specs.Words.{textAt, zeros}
-use Rattle.rules.specs.Limits.{boundRoom}
-use Rattle.rules.specs.Rows.{bit}
-use Rattle.rules.specs.SheetFile.{clauses}
-use Rattle.rules.specs.SheetRefusals.{isIn}
-use Rattle.rules.specs.Patterns.{clausePattern, names}
-use Rattle.rules.specs.Positions.{panelRoot}
-use Rattle.rules.specs.TreeReader.{treeOf}
-use Rattle.rules.specs.Walking.{Bound}
-use Rattle.rules.specs.Meaning.{gives}
-use Rattle.rules.specs.Calls.{answers, Built as BuiltTree, BuildCall, buildAnswer, buildCall, WalkCall, walkAnswer, walkCall, boundWords, walkedWords, sheetTreeFile}
-use Rattle.hoisting.specs.Trees.{hoistsOf, Above}
-use Rattle.matching.specs.Bindings.{SameUpToOrder}
-use Rattle.meaning.specs.Said.{Builds, Fits, FirstMatch, NoMatch, timesBound}
-use Rattle.meaning.specs.CallsLaws.{build-answers-only, fit-accepts-only, build-file}
-use Rattle.meaning.specs.Theorems.{the-walk-ends-at-the-first-match, the-walk-ends-without-leaf, the-call-answers-the-first-match, the-call-answers-without-leaf, the-call-writes-the-first-match, a-clause-matches-or-none, the-file-says-the-tree, each-clause-is-hoisted-once, each-clause-is-hoisted-above-its-leaves}
-use Rattle.panel.specs.declared.Fitted.the-variants.{Fits as PanelFits}
+use Rattle.base_words.specs.Words.{textAt, zeros}
+use Rattle.spec_rules.specs.Limits.{boundRoom}
+use Rattle.spec_rules.specs.Rows.{bit}
+use Rattle.spec_rules.specs.SheetFile.{clauses}
+use Rattle.spec_rules.specs.SheetRefusals.{isIn}
+use Rattle.spec_rules.specs.Patterns.{clausePattern, names}
+use Rattle.spec_rules.specs.Positions.{panelRoot}
+use Rattle.spec_rules.specs.TreeReader.{treeOf}
+use Rattle.spec_rules.specs.Walking.{Bound}
+use Rattle.spec_rules.specs.Meaning.{gives}
+use Rattle.spec_rules.specs.Calls.{answers, Built as BuiltTree, BuildCall, buildAnswer, buildCall, WalkCall, walkAnswer, walkCall, boundWords, walkedWords, sheetTreeFile}
+use Rattle.spec_hoist.specs.Trees.{hoistsOf, Above}
+use Rattle.spec_match.specs.Bindings.{SameUpToOrder}
+use Rattle.spec_theorems.specs.Said.{Builds, Fits, FirstMatch, NoMatch, timesBound}
+use Rattle.spec_theorems.specs.CallsLaws.{build-answers-only, fit-accepts-only, build-file}
+use Rattle.spec_theorems.specs.Theorems.{the-walk-ends-at-the-first-match, the-walk-ends-without-leaf, the-call-answers-the-first-match, the-call-answers-without-leaf, the-call-writes-the-first-match, a-clause-matches-or-none, the-file-says-the-tree, each-clause-is-hoisted-once, each-clause-is-hoisted-above-its-leaves}
+use Rattle.format_panel.specs.declared.Fitted.the-variants.{Fits as PanelFits}
 use Rattle.walk.specs.declared.Walked.{Walked}
 use Rattle.walk.specs.declared.Walked.the-variants.{Leaf, NoLeaf}
 use Rattle.walk.specs.Answers.{answerOf}
-use Rattle.build.specs.declared.Built.the-variants.{Tree}
+use Rattle.build_call.specs.declared.Built.the-variants.{Tree}
 use Rattle.dewmycel.specs.Contracts.{BuildFits, FitFits, WalkFits}
 use Rattle.demands.specs.OneAnswer.{walk-known}
 

@@ -3,17 +3,17 @@ use mathlib.Core.Path.{_≡_, refl, sym, ap, _∙_}
 use mathlib.Core.List.{List}
 use Prim.Native.Nat.{ℕ}
 use native.Mathlib.Omega.{arith}
-use Rattle.rules.specs.Calls.{Built as BuiltTree, BuildCall, leafOf, withoutLeaf, WalkCall, Span}
-use Rattle.panel.specs.declared.Fitted.{Fitted}
-use Rattle.panel.specs.declared.Fitted.the-variants.{Fits, Refused as NotFitted}
-use Rattle.panel.specs.declared.Located.{Located}
-use Rattle.panel.specs.declared.Located.the-variants.{At, Refused as NotLocated}
+use Rattle.spec_rules.specs.Calls.{Built as BuiltTree, BuildCall, leafOf, withoutLeaf, WalkCall, Span}
+use Rattle.format_panel.specs.declared.Fitted.{Fitted}
+use Rattle.format_panel.specs.declared.Fitted.the-variants.{Fits, Refused as NotFitted}
+use Rattle.format_panel.specs.declared.Located.{Located}
+use Rattle.format_panel.specs.declared.Located.the-variants.{At, Refused as NotLocated}
 use Rattle.walk.specs.declared.Walked.{Walked}
 use Rattle.walk.specs.declared.Walked.the-variants.{Leaf, NoLeaf, Refused as NotWalked}
 use Rattle.walk.specs.Answers.{answerOf as walkAnswerOf}
-use Rattle.build.specs.declared.Built.{Built}
-use Rattle.build.specs.declared.Built.the-variants.{Tree, Refused as NotBuilt}
-use Rattle.build.specs.Answers.{answerOf as buildAnswerOf}
+use Rattle.build_call.specs.declared.Built.{Built}
+use Rattle.build_call.specs.declared.Built.the-variants.{Tree, Refused as NotBuilt}
+use Rattle.build_call.specs.Answers.{answerOf as buildAnswerOf}
 use Rattle.dewmycel.specs.Answers.{verdictOf, spanOf}
 use Rattle.dewmycel.specs.Contracts.{BuildFits, FitFits, WalkFits, TextFits, PartFits}
 

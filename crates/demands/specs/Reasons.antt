@@ -5,14 +5,14 @@ use mathlib.Core.Bool.{true, false}
 use mathlib.Core.Logic.{_⊎_}
 use mathlib.Core.List.{List}
 use Prim.Native.Nat.{ℕ, _≤_, _<_}
-use Rattle.rules.specs.Limits.{treeRoom, workRoom, boundRoom}
-use Rattle.rules.specs.SheetFile.{clauses}
-use Rattle.rules.specs.SheetRefusals.{accepted, refused, verdict}
-use Rattle.rules.specs.PanelFile.{panelVerdict}
-use Rattle.rules.specs.TreeReader.{treeFits, treeOf}
-use Rattle.rules.specs.Fitting.{panelFits}
-use Rattle.rules.specs.Walking.{stuck, walk}
-use Rattle.rules.specs.Calls.{sheetTree, treeVerdict, hasText}
+use Rattle.spec_rules.specs.Limits.{treeRoom, workRoom, boundRoom}
+use Rattle.spec_rules.specs.SheetFile.{clauses}
+use Rattle.spec_rules.specs.SheetRefusals.{accepted, refused, verdict}
+use Rattle.spec_rules.specs.PanelFile.{panelVerdict}
+use Rattle.spec_rules.specs.TreeReader.{treeFits, treeOf}
+use Rattle.spec_rules.specs.Fitting.{panelFits}
+use Rattle.spec_rules.specs.Walking.{stuck, walk}
+use Rattle.spec_rules.specs.Calls.{sheetTree, treeVerdict, hasText}
 
 -- ---- the build: 1, then 2 to 11, then 12 to 14
 pub data BuildRefuses (s : List ℕ) (n m number place : ℕ) : Type 0 where

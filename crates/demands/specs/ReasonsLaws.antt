@@ -1,5 +1,5 @@
 -- The reasons are the calls' own: a call's definition refuses with a number and a place exactly if there is such a reason.
--- Rests on the laws of the calls in crate meaning.
+-- Rests on the laws of the calls in crate spec_theorems.
 use mathlib.Core.Path.{_≡_, refl, sym, _∙_}
 use mathlib.Core.Bool.{Bool, true, false}
 use mathlib.Core.Logic.{inl, inr}
@@ -8,16 +8,16 @@ use Prim.Native.Nat.{ℕ, _≤_}
 use native.Mathlib.Omega.{arith}
 use borrow.Author.Tests.{leb-true, leb-false}
 use lib.Dec.{leb}
-use Rattle.words.specs.Words.{both}
-use Rattle.rules.specs.Limits.{treeRoom, workRoom, boundRoom}
-use Rattle.rules.specs.SheetFile.{clauses}
-use Rattle.rules.specs.SheetRefusals.{Verdict, accepted, refused, require, verdict}
-use Rattle.rules.specs.PanelFile.{panelVerdict}
-use Rattle.rules.specs.TreeReader.{treeFits, treeOf}
-use Rattle.rules.specs.Fitting.{panelFits}
-use Rattle.rules.specs.Walking.{Walked, reached, noLeaf, stuck, walk}
-use Rattle.rules.specs.Calls.{Answer, answers, refuses, unless, andThen, sheetTree, sheetTreeFile, treeVerdict, Built, builtOf, buildRoom, buildAnswer, fitCall, walkRoom, treeFileVerdict, WalkEnd, walkEnd, walkAnswer, Span, hasText, textCall}
-use Rattle.meaning.specs.CallsLaws.{build-room, build-sheet, build-tree, fit-sheet, fit-panel, fit-type, walk-room, walk-tree, walk-panel, walk-stuck, text-panel, text-none}
+use Rattle.base_words.specs.Words.{both}
+use Rattle.spec_rules.specs.Limits.{treeRoom, workRoom, boundRoom}
+use Rattle.spec_rules.specs.SheetFile.{clauses}
+use Rattle.spec_rules.specs.SheetRefusals.{Verdict, accepted, refused, require, verdict}
+use Rattle.spec_rules.specs.PanelFile.{panelVerdict}
+use Rattle.spec_rules.specs.TreeReader.{treeFits, treeOf}
+use Rattle.spec_rules.specs.Fitting.{panelFits}
+use Rattle.spec_rules.specs.Walking.{Walked, reached, noLeaf, stuck, walk}
+use Rattle.spec_rules.specs.Calls.{Answer, answers, refuses, unless, andThen, sheetTree, sheetTreeFile, treeVerdict, Built, builtOf, buildRoom, buildAnswer, fitCall, walkRoom, treeFileVerdict, WalkEnd, walkEnd, walkAnswer, Span, hasText, textCall}
+use Rattle.spec_theorems.specs.CallsLaws.{build-room, build-sheet, build-tree, fit-sheet, fit-panel, fit-type, walk-room, walk-tree, walk-panel, walk-stuck, text-panel, text-none}
 use Rattle.demands.specs.Reasons.{BuildRefuses, FitRefuses, WalkRefuses, TextRefuses}
 
 -- ---- a refusal's number and place

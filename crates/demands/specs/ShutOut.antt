@@ -1,20 +1,20 @@
--- What 01 has shut out by name, each as a theorem that no such answer fits: on 01's own sheet and panels (crate rules, Samples).
+-- What 01 has shut out by name, each as a theorem that no such answer fits: on 01's own sheet and panels (crate spec_rules, Samples).
 use mathlib.Core.Path.{_≡_, refl, sym, ap, _∙_}
 use mathlib.Core.List.{List}
 use Prim.Native.Nat.{ℕ}
 use native.Mathlib.Omega.{arith}
 use lib.ListN.{getD}
-use Rattle.words.specs.Words.{textAt}
-use Rattle.rules.specs.Limits.{treeRoom, workRoom, boundRoom}
-use Rattle.rules.specs.Calls.{Answer, answers, refuses, Built as BuiltTree, BuildCall, buildAnswer, buildCall, WalkEnd, leafOf, withoutLeaf, WalkCall, walkAnswer, walkCall, sheetTreeFile}
-use Rattle.rules.specs.Samples.{sheet1, sheet6, sheet11, file1, panel2}
+use Rattle.base_words.specs.Words.{textAt}
+use Rattle.spec_rules.specs.Limits.{treeRoom, workRoom, boundRoom}
+use Rattle.spec_rules.specs.Calls.{Answer, answers, refuses, Built as BuiltTree, BuildCall, buildAnswer, buildCall, WalkEnd, leafOf, withoutLeaf, WalkCall, walkAnswer, walkCall, sheetTreeFile}
+use Rattle.spec_rules.specs.Samples.{sheet1, sheet6, sheet11, file1, panel2}
 use Rattle.walk.specs.declared.Walked.the-variants.{NoLeaf}
-use Rattle.build.specs.declared.Built.{Built}
-use Rattle.build.specs.declared.Built.the-variants.{Tree, Refused}
+use Rattle.build_call.specs.declared.Built.{Built}
+use Rattle.build_call.specs.declared.Built.the-variants.{Tree, Refused}
 use Rattle.dewmycel.specs.Contracts.{BuildFits, WalkFits}
-use Rattle.rules.specs.TreeReader.{nodes, bindings}
-use Rattle.meaning.specs.CallsLaws.{build-file}
-use Rattle.meaning.specs.Theorems.{the-answer-tells-the-file}
+use Rattle.spec_rules.specs.TreeReader.{nodes, bindings}
+use Rattle.spec_theorems.specs.CallsLaws.{build-file}
+use Rattle.spec_theorems.specs.Theorems.{the-answer-tells-the-file}
 
 zero-is-one : _≡_ {A = ℕ} 0 1 → ⊥
 zero-is-one z = absurd (omega arith)

@@ -1,11 +1,11 @@
 -- The answers of the calls as the rules have them, from the code's enums.
--- Rests on the calls of the crate rules; the walk's own answer is in the crate walk.
-use Rattle.rules.specs.SheetRefusals.{Verdict, accepted, refused}
-use Rattle.rules.specs.Calls.{Answer, answers, refuses, Span}
-use Rattle.panel.specs.declared.Fitted.{Fitted}
-use Rattle.panel.specs.declared.Fitted.the-variants.{Fits, Refused as NotFitted}
-use Rattle.panel.specs.declared.Located.{Located}
-use Rattle.panel.specs.declared.Located.the-variants.{At, Refused as NotLocated}
+-- Rests on the calls of the crate spec_rules; the walk's own answer is in the crate walk.
+use Rattle.spec_rules.specs.SheetRefusals.{Verdict, accepted, refused}
+use Rattle.spec_rules.specs.Calls.{Answer, answers, refuses, Span}
+use Rattle.format_panel.specs.declared.Fitted.{Fitted}
+use Rattle.format_panel.specs.declared.Fitted.the-variants.{Fits, Refused as NotFitted}
+use Rattle.format_panel.specs.declared.Located.{Located}
+use Rattle.format_panel.specs.declared.Located.the-variants.{At, Refused as NotLocated}
 
 abbrev pub verdictOf : Fitted → Verdict
 verdictOf Fits = accepted

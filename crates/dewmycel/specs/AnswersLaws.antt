@@ -6,23 +6,23 @@ use mathlib.Core.List.{List}
 use Prim.Native.Nat.{ℕ, _+_, _<_}
 use native.Mathlib.Omega.{arith}
 use borrow.Author.Tests.{ltb-true, leb-true}
-use Rattle.words.specs.WordsLaws.{both-true}
-use Rattle.rules.specs.PanelFile.{recordFirst, recordCount, panelPoolAt}
-use Rattle.rules.specs.SheetRefusals.{Verdict, accepted, refused, require}
-use Rattle.rules.specs.PanelFile.{panelVerdict}
-use Rattle.rules.specs.Calls.{Answer, answers, refuses, unless, BuildCall, WalkCall, Span, fitCall, textCall, hasText}
-use Rattle.facts.specs.PanelFacts.{PanelAccepted, accepted-panel, panel-text-inside}
-use Rattle.panel.specs.declared.Fitted.{Fitted}
-use Rattle.panel.specs.declared.Fitted.the-variants.{Fits, Refused as NotFitted}
-use Rattle.panel.specs.declared.Located.{Located}
-use Rattle.panel.specs.declared.Located.the-variants.{At, Refused as NotLocated}
-use Rattle.panel.specs.Answers.{fitted, fittedBy, located, locatedBy}
+use Rattle.base_words.specs.WordsLaws.{both-true}
+use Rattle.spec_rules.specs.PanelFile.{recordFirst, recordCount, panelPoolAt}
+use Rattle.spec_rules.specs.SheetRefusals.{Verdict, accepted, refused, require}
+use Rattle.spec_rules.specs.PanelFile.{panelVerdict}
+use Rattle.spec_rules.specs.Calls.{Answer, answers, refuses, unless, BuildCall, WalkCall, Span, fitCall, textCall, hasText}
+use Rattle.spec_accepted.specs.PanelFacts.{PanelAccepted, accepted-panel, panel-text-inside}
+use Rattle.format_panel.specs.declared.Fitted.{Fitted}
+use Rattle.format_panel.specs.declared.Fitted.the-variants.{Fits, Refused as NotFitted}
+use Rattle.format_panel.specs.declared.Located.{Located}
+use Rattle.format_panel.specs.declared.Located.the-variants.{At, Refused as NotLocated}
+use Rattle.format_panel.specs.Answers.{fitted, fittedBy, located, locatedBy}
 use Rattle.walk.specs.declared.Walked.{Walked}
 use Rattle.walk.specs.declared.Walked.the-variants.{Leaf, NoLeaf, Refused as NotWalked}
 use Rattle.walk.specs.Answers.{answerOf, callOf}
-use Rattle.build.specs.declared.Built.{Built}
-use Rattle.build.specs.declared.Built.the-variants.{Tree as BuiltTree, Refused as NotBuilt}
-use Rattle.build.specs.Answers.{answerOf as buildAnswerOf, callOf as buildOf}
+use Rattle.build_call.specs.declared.Built.{Built}
+use Rattle.build_call.specs.declared.Built.the-variants.{Tree as BuiltTree, Refused as NotBuilt}
+use Rattle.build_call.specs.Answers.{answerOf as buildAnswerOf, callOf as buildOf}
 use Rattle.dewmycel.specs.Answers.{verdictOf, spanOf}
 use Rattle.dewmycel.specs.Packed.{packed, packedBuild, packedFit, packedWalk, packedText}
 use Rattle.dewmycel.specs.Face.{BuildFace, WalkFace}

@@ -3,13 +3,13 @@
 use mathlib.Core.Path.{_≡_}
 use mathlib.Core.List.{List}
 use Prim.Native.Nat.{ℕ}
-use Rattle.rules.specs.Calls.{buildCall, fitCall, walkCall, textCall, textPart}
-use Rattle.panel.specs.declared.Fitted.{Fitted}
-use Rattle.panel.specs.declared.Located.{Located}
+use Rattle.spec_rules.specs.Calls.{buildCall, fitCall, walkCall, textCall, textPart}
+use Rattle.format_panel.specs.declared.Fitted.{Fitted}
+use Rattle.format_panel.specs.declared.Located.{Located}
 use Rattle.walk.specs.declared.Walked.{Walked}
 use Rattle.walk.specs.Answers.{callOf as walkOf}
-use Rattle.build.specs.declared.Built.{Built}
-use Rattle.build.specs.Answers.{callOf as buildOf}
+use Rattle.build_call.specs.declared.Built.{Built}
+use Rattle.build_call.specs.Answers.{callOf as buildOf}
 use Rattle.dewmycel.specs.Answers.{verdictOf, spanOf}
 
 abbrev pub BuildFits : List ℕ → ℕ → ℕ → Built → List ℕ → List ℕ → Type 0

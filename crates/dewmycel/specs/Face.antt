@@ -2,7 +2,7 @@
 use mathlib.Core.Path.{_≡_}
 use mathlib.Core.List.{List}
 use Prim.Native.Nat.{ℕ}
-use Rattle.rules.specs.Calls.{BuildCall, WalkCall}
+use Rattle.spec_rules.specs.Calls.{BuildCall, WalkCall}
 use Rattle.dewmycel.specs.Packed.{packedBuild, packedWalk}
 
 pub record BuildFace (r : ℕ) (tree work : List ℕ) (call : BuildCall) : Type 0 where

@@ -1,8 +1,8 @@
 -- The answers of the calls in one number of 64 bits, as the C face gives them: four words, the first lowest.
 -- The first is the refusal number, 0 for none; of a refusal the second is its place.
 use Prim.Native.Nat.{ℕ, _+_, _*_}
-use Rattle.rules.specs.SheetRefusals.{Verdict, accepted, refused}
-use Rattle.rules.specs.Calls.{Answer, answers, refuses, Built, WalkEnd, leafOf, withoutLeaf, Span}
+use Rattle.spec_rules.specs.SheetRefusals.{Verdict, accepted, refused}
+use Rattle.spec_rules.specs.Calls.{Answer, answers, refuses, Built, WalkEnd, leafOf, withoutLeaf, Span}
 
 unfoldable pub packed : ℕ → ℕ → ℕ → ℕ → ℕ
 packed a b c d = a + 65536 * b + 4294967296 * c + 281474976710656 * d

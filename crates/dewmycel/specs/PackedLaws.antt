@@ -5,9 +5,9 @@ use Prim.Native.Nat.{ℕ, _/_, _%_, _<_}
 use native.Mathlib.Omega.{arith}
 use borrow.Author.Tests.{ne-eqb}
 use lib.Dec.{eqb}
-use Rattle.words.specs.Words.{pick}
-use Rattle.rules.specs.SheetRefusals.{Verdict, accepted, refused}
-use Rattle.rules.specs.Calls.{Answer, answers, refuses, Built, WalkEnd, leafOf, withoutLeaf, Span}
+use Rattle.base_words.specs.Words.{pick}
+use Rattle.spec_rules.specs.SheetRefusals.{Verdict, accepted, refused}
+use Rattle.spec_rules.specs.Calls.{Answer, answers, refuses, Built, WalkEnd, leafOf, withoutLeaf, Span}
 use Rattle.dewmycel.specs.Packed.{packed, packedFit, packedBuild, packedWalk, packedText}
 
 -- four words

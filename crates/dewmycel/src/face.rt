@@ -1,12 +1,12 @@
 // The calls for C: each answer in one u64. Bits 0 to 15 are the refusal number, 0 for none; of a refusal bits 16 to 31 are its place.
 // A slice is a pointer and a length; what a caller in C owes is in include/dewmycel.h.
-use build::Built;
-use panel::Fitted;
-use panel::Located;
+use build_call::Built;
+use format_panel::Fitted;
+use format_panel::Located;
 use walk::Walked;
 ghost use mathlib.Core.Path.{_≡_};
 ghost use lib.ListN.{length};
-ghost use Rattle.rules.specs.Calls.{buildCall, fitCall, walkCall, textCall};
+ghost use Rattle.spec_rules.specs.Calls.{buildCall, fitCall, walkCall, textCall};
 ghost use Rattle.dewmycel.specs.Packed.{packed, packedFit, packedText};
 ghost use Rattle.dewmycel.specs.Face.{BuildFace, WalkFace};
 

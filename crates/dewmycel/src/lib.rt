@@ -2,9 +2,9 @@
 // and every byte of every writable buffer after it, on refused input too. The module face has the same calls for C, each answer in one word.
 pub mod face;
 
-use build::Built;
-use panel::Fitted;
-use panel::Located;
+use build_call::Built;
+use format_panel::Fitted;
+use format_panel::Located;
 use walk::Walked;
 ghost use lib.ListN.{length};
 ghost use Rattle.dewmycel.specs.Contracts.{BuildFits, FitFits, WalkFits, TextFits, PartFits};
@@ -13,14 +13,14 @@ ghost use Rattle.dewmycel.specs.Contracts.{BuildFits, FitFits, WalkFits,
 pub fn build(s: &[u8], tree: &mut [u8], work: &mut [u8]) -> Built
     ensures { λ r. ⌜ BuildFits (now (s .entry)) (length (now (tree .entry))) (length (now (work .entry))) r (now (tree .exit)) (now (work .exit)) ⌝ }
 {
-    build::build(s, tree, work)
+    build_call::build(s, tree, work)
 }
 
 // The fit check of a sheet and a panel: refusals 2 to 11, 21 to 24, 25.
 pub fn fit(s: &[u8], v: &[u8]) -> Fitted
     ensures { λ r. ⌜ FitFits (now (s .entry)) (now (v .entry)) r ⌝ }
 {
-    panel::fit(s, v)
+    format_panel::fit(s, v)
 }
 
 // The walk of a tree on a panel: refusals 1, 31, 21 to 24, 32; at a leaf its clause, and (name, record, dropped) for each binding.
@@ -34,12 +34,12 @@ pub fn walk(t: &[u8], v: &[u8], bound: &mut [u16]) -> Walked
 pub fn text(v: &[u8], r: u16, dropped: u16) -> Located
     ensures { λ res. ⌜ TextFits (now (v .entry)) r dropped res ⌝ }
 {
-    panel::text(v, r, dropped)
+    format_panel::text(v, r, dropped)
 }
 
 // The twin of text: that part of the caller's panel itself, empty if refused.
 pub fn text_part<'a>(v: &'a [u8], r: u16, dropped: u16) -> &'a [u8]
     ensures { λ res. ⌜ PartFits (now (v .entry)) r dropped (now res) ⌝ }
 {
-    panel::text_part(v, r, dropped)
+    format_panel::text_part(v, r, dropped)
 }

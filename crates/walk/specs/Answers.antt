@@ -4,10 +4,10 @@ use mathlib.Core.Path.{_≡_}
 use mathlib.Core.List.{List}
 use Prim.Native.Nat.{ℕ}
 use lib.ListN.{length}
-use Rattle.rules.specs.PanelFile.{panelVerdict}
-use Rattle.rules.specs.TreeReader.{treeOf}
-use Rattle.rules.specs.Walking.{walk}
-use Rattle.rules.specs.Calls.{Answer, answers, refuses, unless, WalkEnd, leafOf, withoutLeaf, walkEnd, walkedWords, written, WalkCall}
+use Rattle.spec_rules.specs.PanelFile.{panelVerdict}
+use Rattle.spec_rules.specs.TreeReader.{treeOf}
+use Rattle.spec_rules.specs.Walking.{walk}
+use Rattle.spec_rules.specs.Calls.{Answer, answers, refuses, unless, WalkEnd, leafOf, withoutLeaf, walkEnd, walkedWords, written, WalkCall}
 use Rattle.walk.specs.declared.Walked.{Walked}
 
 abbrev pub answerOf : Walked → Answer WalkEnd

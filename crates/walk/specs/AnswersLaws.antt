@@ -8,21 +8,21 @@ use Prim.Native.Nat.{ℕ, _-_, _*_, _≤_, _<_}
 use native.Mathlib.Omega.{arith}
 use borrow.Author.Tests.{le-leb, lt-leb}
 use lib.ListN.{length}
-use Rattle.words.specs.Words.{zeros}
-use Rattle.words.specs.Stored.{stored}
-use Rattle.words.specs.StoredLaws.{stored-zeros}
-use Rattle.rules.specs.SheetRefusals.{accepted, refused}
-use Rattle.rules.specs.PanelFile.{panelVerdict}
-use Rattle.rules.specs.TreeReader.{bindingsFrom, treeFits, treeOf}
-use Rattle.rules.specs.Walking.{Bound, bound, Walked as WalkedTo, reached, noLeaf, stuck, atLeaf, walk}
-use Rattle.rules.specs.Calls.{Answer, answers, refuses, WalkEnd, leafOf, walkRoom, treeFileVerdict, walkEnd, walkAnswer, boundWords, walkedWords, written, walkCall}
-use Rattle.facts.specs.TreeFacts.{length-bindingsFrom}
-use Rattle.facts.specs.PanelFacts.{accepted-panel}
-use Rattle.panel.specs.declared.Map.{Map as PanelMap}
-use Rattle.panel.specs.Answers.{Accepts}
-use Rattle.panel.specs.AnswersLaws.{accepts-opened}
-use Rattle.tree.specs.declared.layout.Map.{Map}
-use Rattle.tree.specs.CheckLaws.{Accept}
+use Rattle.base_words.specs.Words.{zeros}
+use Rattle.base_words.specs.Stored.{stored}
+use Rattle.base_words.specs.StoredLaws.{stored-zeros}
+use Rattle.spec_rules.specs.SheetRefusals.{accepted, refused}
+use Rattle.spec_rules.specs.PanelFile.{panelVerdict}
+use Rattle.spec_rules.specs.TreeReader.{bindingsFrom, treeFits, treeOf}
+use Rattle.spec_rules.specs.Walking.{Bound, bound, Walked as WalkedTo, reached, noLeaf, stuck, atLeaf, walk}
+use Rattle.spec_rules.specs.Calls.{Answer, answers, refuses, WalkEnd, leafOf, walkRoom, treeFileVerdict, walkEnd, walkAnswer, boundWords, walkedWords, written, walkCall}
+use Rattle.spec_accepted.specs.TreeFacts.{length-bindingsFrom}
+use Rattle.spec_accepted.specs.PanelFacts.{accepted-panel}
+use Rattle.format_panel.specs.declared.Map.{Map as PanelMap}
+use Rattle.format_panel.specs.Answers.{Accepts}
+use Rattle.format_panel.specs.AnswersLaws.{accepts-opened}
+use Rattle.format_tree.specs.declared.layout.Map.{Map}
+use Rattle.format_tree.specs.CheckLaws.{Accept}
 use Rattle.walk.specs.declared.Walked.{Walked}
 use Rattle.walk.specs.declared.nodes.Reached.{Reached}
 use Rattle.walk.specs.Positions.{Ready}

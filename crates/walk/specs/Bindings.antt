@@ -6,11 +6,11 @@ use mathlib.Core.List.{List}
 use mathlib.Core.Option.{Option, none, some}
 use Prim.Native.Nat.{ℕ}
 use lib.ListN.{length}
-use Rattle.words.specs.Words.{zeros}
-use Rattle.words.specs.Stored.{stored}
-use Rattle.rules.specs.Rows.{Binding}
-use Rattle.rules.specs.Walking.{Bound, bound}
-use Rattle.rules.specs.Calls.{boundWords}
+use Rattle.base_words.specs.Words.{zeros}
+use Rattle.base_words.specs.Stored.{stored}
+use Rattle.spec_rules.specs.Rows.{Binding}
+use Rattle.spec_rules.specs.Walking.{Bound, bound}
+use Rattle.spec_rules.specs.Calls.{boundWords}
 
 abbrev pub isThere : Option (List Bound) → Bool
 isThere none = false

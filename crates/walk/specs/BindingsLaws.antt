@@ -7,14 +7,14 @@ use mathlib.Core.Option.{Option, none, some}
 use Prim.Native.Nat.{ℕ, suc, _+_, _-_, _*_, _≤_, _<_}
 use native.Mathlib.Omega.{arith}
 use lib.ListN.{length, set}
-use Rattle.words.specs.Words.{zeros}
-use Rattle.words.specs.Stored.{stored}
-use Rattle.words.specs.StoredLaws.{set-stored, stored-append, stored-nil, length-stored}
-use Rattle.rules.specs.Rows.{Binding}
-use Rattle.rules.specs.TreeReader.{bindingName, bindingPath, pathAt, bindingsFrom}
-use Rattle.rules.specs.Walking.{Position as Place, panelRoot, follow, Bound, bound}
-use Rattle.rules.specs.Calls.{boundWords}
-use Rattle.facts.specs.TreeFacts.{bindingsFrom-some}
+use Rattle.base_words.specs.Words.{zeros}
+use Rattle.base_words.specs.Stored.{stored}
+use Rattle.base_words.specs.StoredLaws.{set-stored, stored-append, stored-nil, length-stored}
+use Rattle.spec_rules.specs.Rows.{Binding}
+use Rattle.spec_rules.specs.TreeReader.{bindingName, bindingPath, pathAt, bindingsFrom}
+use Rattle.spec_rules.specs.Walking.{Position as Place, panelRoot, follow, Bound, bound}
+use Rattle.spec_rules.specs.Calls.{boundWords}
+use Rattle.spec_accepted.specs.TreeFacts.{bindingsFrom-some}
 use Rattle.walk.specs.Bindings.{isThere, wordsAfter}
 
 -- three stores next to each other

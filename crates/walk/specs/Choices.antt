@@ -6,11 +6,11 @@ use mathlib.Core.List.{List}
 use mathlib.Core.Option.{Option, none, some}
 use Prim.Native.Nat.{ℕ, _+_, _≤_, _<_}
 use lib.Dec.{eqb}
-use Rattle.words.specs.Words.{pick, sameText}
-use Rattle.rules.specs.Searching.{lowest}
-use Rattle.rules.specs.Splitting.{Test, Int, Bytes, sameTest}
-use Rattle.rules.specs.TreeReader.{caseKind, caseNumber, caseChild, caseText, caseTest}
-use Rattle.tree.specs.declared.reading.Test.{Test as TestRead}
+use Rattle.base_words.specs.Words.{pick, sameText}
+use Rattle.spec_rules.specs.Searching.{lowest}
+use Rattle.spec_rules.specs.Splitting.{Test, Int, Bytes, sameTest}
+use Rattle.spec_rules.specs.TreeReader.{caseKind, caseNumber, caseChild, caseText, caseTest}
+use Rattle.format_tree.specs.declared.reading.Test.{Test as TestRead}
 use Rattle.walk.specs.declared.choose.Chosen.{Chosen}
 use Rattle.walk.specs.declared.choose.Chosen.the-variants.{Child, Nothing}
 

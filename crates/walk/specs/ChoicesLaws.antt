@@ -9,22 +9,22 @@ use native.Mathlib.Omega.{arith}
 use borrow.Author.Tests.{ne-eqb, leb-true, leb-false}
 use lib.Dec.{eqb, leb}
 use lib.ListN.{length}
-use Rattle.words.specs.Words.{textAt, both, pick, sameText}
-use Rattle.words.specs.WordsLaws.{length-textAt, not-sameText}
-use Rattle.rules.specs.Searching.{lowest}
-use Rattle.rules.specs.SearchingLaws.{lowest-agree}
-use Rattle.rules.specs.Splitting.{Test, Constr, Int, Bytes, ListOf, ListWithTail, testFields, sameTest}
-use Rattle.rules.specs.Building.{Tree, Cases, ccons}
-use Rattle.rules.specs.PanelFile.{records, recordKind, recordText, RecordKind, Integer-record, Bytes-record, List-record, Pair-record, Tuple-record, Constructor-record, Unknown-record, recordKindOf}
-use Rattle.rules.specs.TreeReader.{caseKind, caseNumber, caseText, CaseKind, Constr-case, Int-case, Bytes-case, List-case, List-with-tail-case, Unknown-case, caseKindOf, testOfKind, caseTest, casesFor}
-use Rattle.rules.specs.Walking.{Position as Place, shown, shownAt, testKind, tailNumber, largestTail}
-use Rattle.facts.specs.KindsLaws.{record-byte, caseKindNumber, case-byte, byte-case, unknown-case}
-use Rattle.facts.specs.TreeFacts.{casesFor-some}
-use Rattle.facts.specs.PanelFacts.{PanelShaped}
-use Rattle.panel.specs.declared.Map.{Map as PanelMap}
-use Rattle.panel.specs.declared.records.Record.{Record}
-use Rattle.panel.specs.Opened.{recordOf, Opened}
-use Rattle.tree.specs.Reading.{testOfFields, testOf}
+use Rattle.base_words.specs.Words.{textAt, both, pick, sameText}
+use Rattle.base_words.specs.WordsLaws.{length-textAt, not-sameText}
+use Rattle.spec_rules.specs.Searching.{lowest}
+use Rattle.spec_rules.specs.SearchingLaws.{lowest-agree}
+use Rattle.spec_rules.specs.Splitting.{Test, Constr, Int, Bytes, ListOf, ListWithTail, testFields, sameTest}
+use Rattle.spec_rules.specs.Building.{Tree, Cases, ccons}
+use Rattle.spec_rules.specs.PanelFile.{records, recordKind, recordText, RecordKind, Integer-record, Bytes-record, List-record, Pair-record, Tuple-record, Constructor-record, Unknown-record, recordKindOf}
+use Rattle.spec_rules.specs.TreeReader.{caseKind, caseNumber, caseText, CaseKind, Constr-case, Int-case, Bytes-case, List-case, List-with-tail-case, Unknown-case, caseKindOf, testOfKind, caseTest, casesFor}
+use Rattle.spec_rules.specs.Walking.{Position as Place, shown, shownAt, testKind, tailNumber, largestTail}
+use Rattle.spec_accepted.specs.KindsLaws.{record-byte, caseKindNumber, case-byte, byte-case, unknown-case}
+use Rattle.spec_accepted.specs.TreeFacts.{casesFor-some}
+use Rattle.spec_accepted.specs.PanelFacts.{PanelShaped}
+use Rattle.format_panel.specs.declared.Map.{Map as PanelMap}
+use Rattle.format_panel.specs.declared.records.Record.{Record}
+use Rattle.format_panel.specs.Opened.{recordOf, Opened}
+use Rattle.format_tree.specs.Reading.{testOfFields, testOf}
 use Rattle.walk.specs.Choices.{askedBy, AllKind, AllText, firstCase, firstNumbered, firstText, textTest}
 
 -- ---- the kind of record that a switch asks for, by the kind of its first case

@@ -9,23 +9,23 @@ use Prim.Native.Nat.{ℕ, zero, suc, _+_, _-_, _≤_, _<_}
 use native.Mathlib.Omega.{arith}
 use borrow.Author.Tests.{eq-eqb, ne-eqb, lt-ltb, le-ltb, le-leb, lt-leb, eqb-true, ltb-true, leb-true}
 use lib.Dec.{eqb, ltb, leb}
-use Rattle.words.specs.Words.{both}
-use Rattle.words.specs.WordsLaws.{both-true}
-use Rattle.rules.specs.PanelFile.{records, parts, recordKind, recordFirst, recordCount, part}
-use Rattle.rules.specs.Rows.{Step, pair, tuple, constr, list, listtail, Path}
-use Rattle.rules.specs.TreeReader.{pathsAt, stepsAt, paths, stepAt, stepsFrom, stepOfFields, pathFirst, pathCount, pathAt}
-use Rattle.rules.specs.Walking.{Position as Place, panelRoot, partOf, tailOf, takeStep, follow}
-use Rattle.facts.specs.TreeFacts.{TreeRuled}
-use Rattle.facts.specs.PanelFacts.{PanelLaid, PanelShaped}
-use Rattle.panel.specs.declared.Map.{Map as PanelMap}
-use Rattle.panel.specs.declared.records.Record.{Record}
-use Rattle.panel.specs.Opened.{recordOf}
-use Rattle.tree.specs.declared.reading.Step.{Step as StepRead}
-use Rattle.tree.specs.declared.reading.Path.{Path as PathRead}
-use Rattle.tree.specs.declared.reading.Binding.{Binding as BindingRead}
-use Rattle.tree.specs.declared.layout.Map.{Map}
-use Rattle.tree.specs.Reading.{mapOf, Mapped, Ruled, stepOf, pathOf, bindingOf}
-use Rattle.tree.specs.ReadingLaws.{mapped-own, paths-start, steps-start, paths-count, steps-count, bindings-count}
+use Rattle.base_words.specs.Words.{both}
+use Rattle.base_words.specs.WordsLaws.{both-true}
+use Rattle.spec_rules.specs.PanelFile.{records, parts, recordKind, recordFirst, recordCount, part}
+use Rattle.spec_rules.specs.Rows.{Step, pair, tuple, constr, list, listtail, Path}
+use Rattle.spec_rules.specs.TreeReader.{pathsAt, stepsAt, paths, stepAt, stepsFrom, stepOfFields, pathFirst, pathCount, pathAt}
+use Rattle.spec_rules.specs.Walking.{Position as Place, panelRoot, partOf, tailOf, takeStep, follow}
+use Rattle.spec_accepted.specs.TreeFacts.{TreeRuled}
+use Rattle.spec_accepted.specs.PanelFacts.{PanelLaid, PanelShaped}
+use Rattle.format_panel.specs.declared.Map.{Map as PanelMap}
+use Rattle.format_panel.specs.declared.records.Record.{Record}
+use Rattle.format_panel.specs.Opened.{recordOf}
+use Rattle.format_tree.specs.declared.reading.Step.{Step as StepRead}
+use Rattle.format_tree.specs.declared.reading.Path.{Path as PathRead}
+use Rattle.format_tree.specs.declared.reading.Binding.{Binding as BindingRead}
+use Rattle.format_tree.specs.declared.layout.Map.{Map}
+use Rattle.format_tree.specs.Reading.{mapOf, Mapped, Ruled, stepOf, pathOf, bindingOf}
+use Rattle.format_tree.specs.ReadingLaws.{mapped-own, paths-start, steps-start, paths-count, steps-count, bindings-count}
 use Rattle.walk.specs.declared.follow.Position.{Position}
 use Rattle.walk.specs.declared.follow.Found.the-variants.{At, Stuck}
 use Rattle.walk.specs.Positions.{placed, foundOf, leftBy, partIn, tailIn, Within, Ready}

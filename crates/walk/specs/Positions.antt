@@ -4,16 +4,16 @@ use mathlib.Core.List.{List}
 use mathlib.Core.Option.{Option, none, some}
 use Prim.Native.Nat.{ℕ, _+_, _≤_, _<_}
 use lib.Dec.{ltb, leb}
-use Rattle.words.specs.Words.{pick}
-use Rattle.rules.specs.PanelFile.{records, recordCount, part}
-use Rattle.rules.specs.Walking.{Position as Place}
-use Rattle.facts.specs.TreeFacts.{TreeSound}
-use Rattle.facts.specs.PanelFacts.{PanelAccepted}
-use Rattle.panel.specs.Opened.{Opened}
-use Rattle.panel.specs.declared.Map.{Map as PanelMap}
-use Rattle.panel.specs.declared.records.Record.{Record}
-use Rattle.tree.specs.declared.layout.Map.{Map}
-use Rattle.tree.specs.Reading.{Mapped}
+use Rattle.base_words.specs.Words.{pick}
+use Rattle.spec_rules.specs.PanelFile.{records, recordCount, part}
+use Rattle.spec_rules.specs.Walking.{Position as Place}
+use Rattle.spec_accepted.specs.TreeFacts.{TreeSound}
+use Rattle.spec_accepted.specs.PanelFacts.{PanelAccepted}
+use Rattle.format_panel.specs.Opened.{Opened}
+use Rattle.format_panel.specs.declared.Map.{Map as PanelMap}
+use Rattle.format_panel.specs.declared.records.Record.{Record}
+use Rattle.format_tree.specs.declared.layout.Map.{Map}
+use Rattle.format_tree.specs.Reading.{Mapped}
 use Rattle.walk.specs.declared.follow.Position.{Position}
 use Rattle.walk.specs.declared.follow.Found.{Found}
 use Rattle.walk.specs.declared.follow.Found.the-variants.{At, Stuck}

@@ -4,12 +4,12 @@ use mathlib.Core.Path.{_≡_}
 use mathlib.Core.Bool.{true}
 use mathlib.Core.List.{List, _++_}
 use Prim.Native.Nat.{ℕ, _+_, _≤_, _<_}
-use Rattle.rules.specs.Limits.{nodeBindingsMost}
-use Rattle.rules.specs.SheetRefusals.{isIn}
-use Rattle.rules.specs.Splitting.{Test, ListOf, ListWithTail}
-use Rattle.rules.specs.Building.{Tree, switch, listswitch}
-use Rattle.rules.specs.TreeReader.{nodes, bindings, caseChildren, defaultChild, pathAt, bindingsFrom, casesFor, defaultFor, treeBelow, treeOf}
-use Rattle.rules.specs.Walking.{bound, Walked, noLeaf, stuck, atLeaf, atTail, largestTail, walk, walkCases}
+use Rattle.spec_rules.specs.Limits.{nodeBindingsMost}
+use Rattle.spec_rules.specs.SheetRefusals.{isIn}
+use Rattle.spec_rules.specs.Splitting.{Test, ListOf, ListWithTail}
+use Rattle.spec_rules.specs.Building.{Tree, switch, listswitch}
+use Rattle.spec_rules.specs.TreeReader.{nodes, bindings, caseChildren, defaultChild, pathAt, bindingsFrom, casesFor, defaultFor, treeBelow, treeOf}
+use Rattle.spec_rules.specs.Walking.{bound, Walked, noLeaf, stuck, atLeaf, atTail, largestTail, walk, walkCases}
 use Rattle.walk.specs.declared.choose.Chosen.{Chosen}
 use Rattle.walk.specs.declared.nodes.Reached.{Reached}
 use Rattle.walk.specs.declared.nodes.Next.{Next}

@@ -7,23 +7,23 @@ use mathlib.Core.Option.{Option, none, some}
 use Prim.Native.Nat.{ℕ, zero, suc, _+_, _-_, _≤_, _<_}
 use native.Mathlib.Omega.{arith}
 use borrow.Author.Tests.{eq-eqb, ne-eqb}
-use Rattle.words.specs.Words.{pick, textAt}
-use Rattle.rules.specs.Searching.{lowest}
-use Rattle.rules.specs.SearchingLaws.{lowest-some}
-use Rattle.rules.specs.SheetRefusals.{isIn}
-use Rattle.rules.specs.Splitting.{Test, Constr, ListOf, ListWithTail, sameTest}
-use Rattle.rules.specs.Building.{Tree, Cases, ccons}
-use Rattle.rules.specs.PanelFile.{recordKind, recordCount}
-use Rattle.rules.specs.TreeReader.{nodes, cases, nodeKind, Switch, List-switch, Leaf, Hoist-node, caseKind, caseNumber, caseChild, caseTest, startOfTest, caseChildren, defaultChild, nodeChildren, pathAt, casesFor, defaultFor, nodeFor, treeBelow, treeOf}
-use Rattle.rules.specs.Walking.{Position as Place, panelRoot, follow, Walked, stuck, shownAt, lengthAt, testKind, firstKind, ofThisKind, atPart, ofLength, atList, largestTail, atTail, ifSame, walk, walkCases}
-use Rattle.facts.specs.KindsLaws.{byte-node}
-use Rattle.facts.specs.TreeFacts.{TreeSound, case-listed, default-listed, only-listed, isIn-left, isIn-right, casesFor-some, treeBelow-of-kind}
-use Rattle.panel.specs.declared.Map.{Map as PanelMap}
-use Rattle.panel.specs.declared.records.Record.{Record}
-use Rattle.panel.specs.Opened.{recordOf, Opened}
-use Rattle.tree.specs.declared.reading.Test.{Test as TestRead}
-use Rattle.tree.specs.Reading.{testOf}
-use Rattle.tree.specs.NodesLaws.{SwitchNode, ListSwitchNode, LeafNode, HoistNode, switch-node-children, list-switch-node-children, hoist-node-children}
+use Rattle.base_words.specs.Words.{pick, textAt}
+use Rattle.spec_rules.specs.Searching.{lowest}
+use Rattle.spec_rules.specs.SearchingLaws.{lowest-some}
+use Rattle.spec_rules.specs.SheetRefusals.{isIn}
+use Rattle.spec_rules.specs.Splitting.{Test, Constr, ListOf, ListWithTail, sameTest}
+use Rattle.spec_rules.specs.Building.{Tree, Cases, ccons}
+use Rattle.spec_rules.specs.PanelFile.{recordKind, recordCount}
+use Rattle.spec_rules.specs.TreeReader.{nodes, cases, nodeKind, Switch, List-switch, Leaf, Hoist-node, caseKind, caseNumber, caseChild, caseTest, startOfTest, caseChildren, defaultChild, nodeChildren, pathAt, casesFor, defaultFor, nodeFor, treeBelow, treeOf}
+use Rattle.spec_rules.specs.Walking.{Position as Place, panelRoot, follow, Walked, stuck, shownAt, lengthAt, testKind, firstKind, ofThisKind, atPart, ofLength, atList, largestTail, atTail, ifSame, walk, walkCases}
+use Rattle.spec_accepted.specs.KindsLaws.{byte-node}
+use Rattle.spec_accepted.specs.TreeFacts.{TreeSound, case-listed, default-listed, only-listed, isIn-left, isIn-right, casesFor-some, treeBelow-of-kind}
+use Rattle.format_panel.specs.declared.Map.{Map as PanelMap}
+use Rattle.format_panel.specs.declared.records.Record.{Record}
+use Rattle.format_panel.specs.Opened.{recordOf, Opened}
+use Rattle.format_tree.specs.declared.reading.Test.{Test as TestRead}
+use Rattle.format_tree.specs.Reading.{testOf}
+use Rattle.format_tree.specs.NodesLaws.{SwitchNode, ListSwitchNode, LeafNode, HoistNode, switch-node-children, list-switch-node-children, hoist-node-children}
 use Rattle.walk.specs.declared.nodes.Reached.{Reached}
 use Rattle.walk.specs.declared.nodes.Next.{Next}
 use Rattle.walk.specs.declared.choose.Chosen.{Chosen}

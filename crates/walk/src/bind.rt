@@ -2,16 +2,16 @@
 // Rests on following a path and on stores of words.
 use crate::follow::Found;
 use crate::follow::follow;
-use panel::Map as PanelMap;
-use tree::layout::Map;
-use tree::reading::binding_at;
-use words::zero_words;
+use base_words::zero_words;
+use format_panel::Map as PanelMap;
+use format_tree::layout::Map;
+use format_tree::reading::binding_at;
 ghost use mathlib.Core.Path.{_≡_};
 ghost use mathlib.Core.List.{[], _∷_};
 ghost use Prim.Native.Nat.{_+_, _*_, _<_, _≤_};
 ghost use lib.ListN.{length};
-ghost use Rattle.words.specs.Stored.{stored};
-ghost use Rattle.rules.specs.TreeReader.{bindingsFrom};
+ghost use Rattle.base_words.specs.Stored.{stored};
+ghost use Rattle.spec_rules.specs.TreeReader.{bindingsFrom};
 ghost use Rattle.walk.specs.Positions.{Ready};
 ghost use Rattle.walk.specs.Bindings.{Binds};
 

@@ -1,20 +1,20 @@
 // The case of a run that is chosen by what a part shows. The cases of a run are of one kind, so that a search reads no more of a
 // case than what it compares. Rests on the cases of a tree file.
-use tree::layout::Map;
-use tree::reading::Test;
-use tree::reading::case_child;
-use tree::reading::case_length;
-use tree::reading::case_number;
-use words::same_text;
+use base_words::same_text;
+use format_tree::layout::Map;
+use format_tree::reading::Test;
+use format_tree::reading::case_child;
+use format_tree::reading::case_length;
+use format_tree::reading::case_number;
 ghost use mathlib.Core.Path.{_≡_};
 ghost use Prim.Native.Nat.{ℕ, _+_, _<_, _≤_, max};
 ghost use lib.ListN.{length};
-ghost use Rattle.words.specs.Words.{textAt, sameText};
-ghost use Rattle.rules.specs.Building.{Tree};
-ghost use Rattle.rules.specs.Splitting.{ListWithTail};
-ghost use Rattle.rules.specs.TreeReader.{caseKind, caseText, casesFor};
-ghost use Rattle.rules.specs.Walking.{tailNumber, largestTail};
-ghost use Rattle.tree.specs.Reading.{Mapped, Ruled};
+ghost use Rattle.base_words.specs.Words.{textAt, sameText};
+ghost use Rattle.spec_rules.specs.Building.{Tree};
+ghost use Rattle.spec_rules.specs.Splitting.{ListWithTail};
+ghost use Rattle.spec_rules.specs.TreeReader.{caseKind, caseText, casesFor};
+ghost use Rattle.spec_rules.specs.Walking.{tailNumber, largestTail};
+ghost use Rattle.format_tree.specs.Reading.{Mapped, Ruled};
 ghost use Rattle.walk.specs.Choices.{askedBy, AllKind, AllText, firstNumbered, firstText, chosenOf};
 
 pub enum Chosen {

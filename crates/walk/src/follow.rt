@@ -1,21 +1,21 @@
 // Following a path of a tree through a panel: each step asks a record of its kind that has the part, else the walk is stuck.
 // A position is a record and how many elements of its list are dropped.
-use panel::Map as PanelMap;
-use panel::records::Record;
-use panel::records::part_at;
-use panel::records::record_at;
-use tree::reading::Step;
-use tree::reading::path_from;
-use tree::reading::step_from;
+use format_panel::Map as PanelMap;
+use format_panel::records::Record;
+use format_panel::records::part_at;
+use format_panel::records::record_at;
+use format_tree::reading::Step;
+use format_tree::reading::path_from;
+use format_tree::reading::step_from;
 ghost use mathlib.Core.Path.{_≡_};
 ghost use Prim.Native.Nat.{_+_, _<_, _≤_};
-ghost use Rattle.rules.specs.PanelFile.{parts};
-ghost use Rattle.rules.specs.TreeReader.{paths, pathsAt, stepsAt, stepOfFields, pathAt};
-ghost use Rattle.rules.specs.Walking.{panelRoot, takeStep};
-ghost use Rattle.rules.specs.Walking.{follow as Walking·follow};
-ghost use Rattle.facts.specs.PanelFacts.{PanelShaped};
-ghost use Rattle.panel.specs.Opened.{Opened};
-ghost use Rattle.tree.specs.Reading.{mapOf};
+ghost use Rattle.spec_rules.specs.PanelFile.{parts};
+ghost use Rattle.spec_rules.specs.TreeReader.{paths, pathsAt, stepsAt, stepOfFields, pathAt};
+ghost use Rattle.spec_rules.specs.Walking.{panelRoot, takeStep};
+ghost use Rattle.spec_rules.specs.Walking.{follow as Walking·follow};
+ghost use Rattle.spec_accepted.specs.PanelFacts.{PanelShaped};
+ghost use Rattle.format_panel.specs.Opened.{Opened};
+ghost use Rattle.format_tree.specs.Reading.{mapOf};
 ghost use Rattle.walk.specs.Positions.{placed, foundOf, leftBy, partIn, tailIn, Ready, Within};
 
 pub struct Position {

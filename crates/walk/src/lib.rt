@@ -2,18 +2,18 @@
 // Its cost is the reader's one pass over the tree and one over the panel, then the depth of the tree times the cases met on the way,
 // and the steps of the paths. A caller who walks one tree often pays the reader's pass each time: that is some steps for each
 // record of the tree, while the walk itself meets few of them.
+use base_words::zero_words;
 use bind::bind;
+use format_panel::Map as PanelMap;
+use format_tree::layout::Map;
 use nodes::Reached;
 use nodes::reach;
-use panel::Map as PanelMap;
-use tree::layout::Map;
-use words::zero_words;
 ghost use mathlib.Core.Path.{_≡_};
 ghost use Prim.Native.Nat.{_≤_};
 ghost use lib.ListN.{length};
-ghost use Rattle.words.specs.Words.{zeros};
-ghost use Rattle.rules.specs.Calls.{walkCall};
-ghost use Rattle.tree.specs.CheckLaws.{Accept};
+ghost use Rattle.base_words.specs.Words.{zeros};
+ghost use Rattle.spec_rules.specs.Calls.{walkCall};
+ghost use Rattle.format_tree.specs.CheckLaws.{Accept};
 ghost use Rattle.walk.specs.Positions.{Ready};
 ghost use Rattle.walk.specs.Answers.{callOf, Gives, panelEnd, treeEnd};
 
@@ -65,9 +65,9 @@ fn walk_tree(t: &[u8], m: Map, v: &[u8], bound: &mut [u16]) -> Walked
     requires { ⌜ Accept (now t) m × (576 ≤ length (now bound)) × (now bound ≡ zeros (length (now bound))) ⌝ }
     ensures { λ r. ⌜ Gives (now (t .entry)) (now (v .entry)) (treeEnd (now (t .entry)) (now (v .entry))) (now (bound .entry)) (now (bound .exit)) r ⌝ }
 {
-    match panel::check(v) {
-        panel::Checked::Accepted(n) => walk_panel(t, m, v, n, bound),
-        panel::Checked::Refused { number, place } => Walked::Refused { number, place },
+    match format_panel::check(v) {
+        format_panel::Checked::Accepted(n) => walk_panel(t, m, v, n, bound),
+        format_panel::Checked::Refused { number, place } => Walked::Refused { number, place },
     }
 }
 
@@ -82,7 +82,7 @@ pub fn walk(t: &[u8], v: &[u8], bound: &mut [u16]) -> Walked
             place: 0,
         };
     }
-    let tree::Checked::Accepted(m) = tree::check(t) else {
+    let format_tree::Checked::Accepted(m) = format_tree::check(t) else {
         return Walked::Refused {
             number: 31,
             place: 0,

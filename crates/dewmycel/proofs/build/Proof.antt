@@ -1,4 +1,4 @@
--- `dewmycel::build` meets its contract: by the crate build's own answer and buffers.
+-- `dewmycel::build` meets its contract: by the crate build_call's own answer and buffers.
 use borrow.Author.Needs.{needs}
 use Rattle.dewmycel.proofs.build.Statement.{statement}
 use Rattle.dewmycel.proofs.build.Tie as tie

@@ -1,4 +1,4 @@
--- `dewmycel::fit` meets its contract: by the crate panel's own answer.
+-- `dewmycel::fit` meets its contract: by the crate format_panel's own answer.
 use borrow.Author.Needs.{needs}
 use Rattle.dewmycel.specs.AnswersLaws.{fitted-verdict}
 use Rattle.dewmycel.proofs.fit.Statement.{statement}

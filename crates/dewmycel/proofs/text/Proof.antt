@@ -1,4 +1,4 @@
--- `dewmycel::text` meets its contract: by the crate panel's own answer.
+-- `dewmycel::text` meets its contract: by the crate format_panel's own answer.
 use borrow.Author.Needs.{needs}
 use Rattle.dewmycel.specs.AnswersLaws.{located-span}
 use Rattle.dewmycel.proofs.text.Statement.{statement}

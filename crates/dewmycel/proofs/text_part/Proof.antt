@@ -1,4 +1,4 @@
--- `dewmycel::text_part` meets its contract: by the crate panel's own part.
+-- `dewmycel::text_part` meets its contract: by the crate format_panel's own part.
 use borrow.Author.Needs.{needs}
 use Rattle.dewmycel.proofs.text_part.Statement.{statement}
 use Rattle.dewmycel.proofs.text_part.Tie as tie

@@ -1,10 +1,10 @@
 -- `walk::walk` meets its contract: one law of the call for each way out; the buffer is zero from the start on.
 use borrow.Author.Needs.{needs}
 use Rattle.walk.specs.AnswersLaws.{call-no-room, call-no-tree, call-walks}
-use Rattle.tree.specs.CheckLaws.{accepted-is, refused-is}
-use Rattle.words.specs.WordsLaws.{bytes-of-fits}
-use Rattle.words.specs.Words.{zeros}
-use Rattle.tree.specs.declared.Checked.{Checked}
+use Rattle.format_tree.specs.CheckLaws.{accepted-is, refused-is}
+use Rattle.base_words.specs.WordsLaws.{bytes-of-fits}
+use Rattle.base_words.specs.Words.{zeros}
+use Rattle.format_tree.specs.declared.Checked.{Checked}
 use native.Mathlib.Omega.{arith}
 use mathlib.Core.Path.{_≡_, sym, ap, _∙_}
 use Rattle.walk.proofs.walk.Statement.{statement}

@@ -1,6 +1,6 @@
 -- `walk::walk_panel` meets its contract: one law of the answer for each way out.
 use borrow.Author.Needs.{needs}
-use Rattle.tree.specs.ReadingLaws.{bindings-count}
+use Rattle.format_tree.specs.ReadingLaws.{bindings-count}
 use Rattle.walk.specs.AnswersLaws.{gives-no-leaf, gives-stuck, gives-unbound, gives-leaf}
 use Rattle.walk.specs.Turns.{Arrives}
 use Rattle.walk.specs.declared.nodes.Reached.{Reached}

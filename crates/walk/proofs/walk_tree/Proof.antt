@@ -1,8 +1,8 @@
 -- `walk::walk_tree` meets its contract: one law of the answer for each of the panel's verdicts.
 use borrow.Author.Needs.{needs}
 use Rattle.walk.specs.AnswersLaws.{ready, gives-panel, gives-panel-refused}
-use Rattle.panel.specs.AnswersLaws.{accepts, refuses-by}
-use Rattle.panel.specs.declared.Checked.{Checked}
+use Rattle.format_panel.specs.AnswersLaws.{accepts, refuses-by}
+use Rattle.format_panel.specs.declared.Checked.{Checked}
 use mathlib.Core.Path.{_≡_, sym, _∙_}
 use Rattle.walk.proofs.walk_tree.Statement.{statement}
 use Rattle.walk.proofs.walk_tree.Tie as tie

@@ -1,7 +1,7 @@
 -- `dewmycel::face::dewmycel_build` meets its contract: each way out is packed, and the buffers are what the build leaves.
 use borrow.Author.Needs.{needs}
 use mathlib.Core.Path.{_≡_}
-use Rattle.build.specs.declared.Built.the-variants.{Tree, Refused}
+use Rattle.build_call.specs.declared.Built.the-variants.{Tree, Refused}
 use Rattle.dewmycel.specs.AnswersLaws.{tree-packed, unbuilt-packed}
 use Rattle.dewmycel.proofs.face.dewmycel_build.Statement.{statement}
 use Rattle.dewmycel.proofs.face.dewmycel_build.Tie as tie

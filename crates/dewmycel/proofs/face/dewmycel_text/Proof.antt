@@ -2,7 +2,7 @@
 use borrow.Author.Needs.{needs}
 use mathlib.Core.Path.{_≡_}
 use native.Mathlib.Omega.{arith}
-use Rattle.panel.specs.declared.Located.the-variants.{At, Refused}
+use Rattle.format_panel.specs.declared.Located.the-variants.{At, Refused}
 use Rattle.dewmycel.specs.AnswersLaws.{text-at, text-packed, no-text-packed}
 use Rattle.dewmycel.proofs.face.dewmycel_text.Statement.{statement}
 use Rattle.dewmycel.proofs.face.dewmycel_text.Tie as tie

@@ -2,14 +2,14 @@
 -- Records and dropped elements of a panel fit a word.
 use borrow.Author.Needs.{needs}
 use mathlib.Core.List.{List}
-use Rattle.tree.specs.declared.reading.Binding.{Binding}
+use Rattle.format_tree.specs.declared.reading.Binding.{Binding}
 use Rattle.walk.specs.declared.follow.Found.the-variants.{At}
 use Rattle.walk.specs.BindingsLaws.{left, bindings-start, binding-stuck, there-on, words-on, there-end, words-end}
 use Rattle.walk.specs.FollowLaws.{found-some, found-none, found-within, ready-path, binding-path-in, dropped-small}
 use Rattle.walk.specs.Bindings.{isThere, wordsAfter}
 use Rattle.walk.specs.Positions.{placed}
-use Rattle.rules.specs.Walking.{panelRoot, follow, bound as boundAll}
-use Rattle.rules.specs.TreeReader.{bindingsFrom, pathAt}
+use Rattle.spec_rules.specs.Walking.{panelRoot, follow, bound as boundAll}
+use Rattle.spec_rules.specs.TreeReader.{bindingsFrom, pathAt}
 use lib.ListN.{length as lengthOf}
 use Prim.Native.Nat.{ℕ, _+_, _-_, _*_, _≤_}
 use native.Mathlib.Omega.{arith}

@@ -1,6 +1,6 @@
 -- `walk::choose::is_text` meets its contract: the text of a case lies in the pool.
-use Rattle.tree.specs.ReadingLaws.{cases-count, pool-start, pool-count}
-use Rattle.rules.specs.TreeReader.{caseText}
+use Rattle.format_tree.specs.ReadingLaws.{cases-count, pool-start, pool-count}
+use Rattle.spec_rules.specs.TreeReader.{caseText}
 use native.Mathlib.Omega.{arith}
 use mathlib.Core.Path.{_∙_}
 use borrow.Author.Needs.{needs}

@@ -1,10 +1,10 @@
 -- `walk::choose::largest_tail` meets its contract: the loop's invariant is that the larger of the best so far and of the largest among those left is the largest of all.
 use borrow.Author.Needs.{needs}
 use Rattle.walk.specs.ChoicesLaws.{tail-number-of, largest-start, largest-on, largest-end}
-use Rattle.rules.specs.Splitting.{ListWithTail}
-use Rattle.rules.specs.Walking.{tailNumber, largestTail}
-use Rattle.rules.specs.TreeReader.{casesFor}
-use Rattle.rules.specs.Building.{Tree}
+use Rattle.spec_rules.specs.Splitting.{ListWithTail}
+use Rattle.spec_rules.specs.Walking.{tailNumber, largestTail}
+use Rattle.spec_rules.specs.TreeReader.{casesFor}
+use Rattle.spec_rules.specs.Building.{Tree}
 use Prim.Native.Nat.{ℕ, _+_, _-_, _≤_, max}
 use native.Mathlib.Omega.{arith}
 use mathlib.Core.Path.{_≡_, ap, _∙_}

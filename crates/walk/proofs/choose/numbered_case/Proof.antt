@@ -1,9 +1,9 @@
 -- `walk::choose::numbered_case` meets its contract: the loop's invariant is that the first case of the number among those left is the first among all.
 use Rattle.walk.specs.declared.choose.Chosen.the-variants.{Child}
 use Rattle.walk.specs.ChoicesLaws.{run-start}
-use Rattle.rules.specs.SearchingLaws.{lowest-found, lowest-on, lowest-end}
+use Rattle.spec_rules.specs.SearchingLaws.{lowest-found, lowest-on, lowest-end}
 use Rattle.walk.specs.Choices.{firstNumbered, chosenOf}
-use Rattle.rules.specs.TreeReader.{caseNumber}
+use Rattle.spec_rules.specs.TreeReader.{caseNumber}
 use borrow.Author.Tests.{eq-eqb, ne-eqb}
 use lib.Dec.{eqb}
 use mathlib.Core.Bool.{Bool}

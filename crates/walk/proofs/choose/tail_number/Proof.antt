@@ -1,7 +1,7 @@
 -- `walk::choose::tail_number` meets its contract: its test is that of the definition.
 use borrow.Author.Tests.{le-leb, lt-leb}
 use native.Mathlib.Numerals.{add-one}
-use Rattle.rules.specs.Walking.{tailNumber}
+use Rattle.spec_rules.specs.Walking.{tailNumber}
 use borrow.Author.Needs.{needs}
 use Rattle.walk.proofs.choose.tail_number.Statement.{statement}
 use Rattle.walk.proofs.choose.tail_number.Tie as tie

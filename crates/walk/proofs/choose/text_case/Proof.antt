@@ -1,10 +1,10 @@
 -- `walk::choose::text_case` meets its contract: the loop's invariant is that the first case of the text among those left is the first among all.
 use Rattle.walk.specs.declared.choose.Chosen.the-variants.{Child}
 use Rattle.walk.specs.ChoicesLaws.{run-start}
-use Rattle.rules.specs.SearchingLaws.{lowest-found, lowest-on, lowest-end}
+use Rattle.spec_rules.specs.SearchingLaws.{lowest-found, lowest-on, lowest-end}
 use Rattle.walk.specs.Choices.{firstText, chosenOf}
-use Rattle.rules.specs.TreeReader.{caseText}
-use Rattle.words.specs.Words.{textAt, sameText}
+use Rattle.spec_rules.specs.TreeReader.{caseText}
+use Rattle.base_words.specs.Words.{textAt, sameText}
 use native.Mathlib.Omega.{arith}
 use mathlib.Core.Bool.{Bool}
 use Prim.Native.Nat.{ℕ, _+_, _-_, _≤_}

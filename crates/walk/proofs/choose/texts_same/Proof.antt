@@ -1,6 +1,6 @@
 -- `walk::choose::texts_same` meets its contract: texts of two lengths differ, and texts of one length are compared byte by byte.
 use Rattle.walk.specs.ChoicesLaws.{lengths-differ}
-use Rattle.words.specs.Words.{textAt, sameText}
+use Rattle.base_words.specs.Words.{textAt, sameText}
 use Prim.Native.Nat.{ℕ}
 use native.Mathlib.Omega.{arith}
 use mathlib.Core.Path.{ap, _∙_}

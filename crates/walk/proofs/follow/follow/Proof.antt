@@ -2,11 +2,11 @@
 -- position is one of the panel.
 use borrow.Author.Needs.{needs}
 use Rattle.walk.specs.declared.follow.Found.the-variants.{At}
-use Rattle.tree.specs.declared.reading.Path.{Path}
+use Rattle.format_tree.specs.declared.reading.Path.{Path}
 use Rattle.walk.specs.FollowLaws.{found-some, found-none, root-within, step-within, step-taken, path-run, path-start, path-on, path-stuck, path-end}
 use Rattle.walk.specs.Positions.{placed, foundOf, Within}
-use Rattle.rules.specs.Walking.{panelRoot, takeStep, follow}
-use Rattle.rules.specs.TreeReader.{stepAt, stepsFrom, stepOfFields, pathAt}
+use Rattle.spec_rules.specs.Walking.{panelRoot, takeStep, follow}
+use Rattle.spec_rules.specs.TreeReader.{stepAt, stepsFrom, stepOfFields, pathAt}
 use Prim.Native.Nat.{_+_, _-_, _≤_}
 use native.Mathlib.Omega.{arith}
 use mathlib.Core.Path.{_≡_, sym, ap, _∙_}

@@ -2,7 +2,7 @@
 use Rattle.walk.specs.TurnsLaws.{turns-case, turns-past}
 use Rattle.walk.specs.Turns.{defaultWalk}
 use Rattle.walk.specs.declared.choose.Chosen.the-variants.{Child, Nothing}
-use Rattle.rules.specs.TreeReader.{defaultChild}
+use Rattle.spec_rules.specs.TreeReader.{defaultChild}
 use mathlib.Core.Path.{_≡_, sym, _∙_}
 use borrow.Author.Needs.{needs}
 use Rattle.walk.proofs.nodes.chosen_or.Statement.{statement}

@@ -1,11 +1,11 @@
 -- `walk::nodes::from_list_switch` meets its contract: one law of the walk at a list switch for each way out.
 use borrow.Author.Needs.{needs}
-use Rattle.panel.specs.declared.records.Record.{Record}
+use Rattle.format_panel.specs.declared.records.Record.{Record}
 use Rattle.walk.specs.TurnsLaws.{list-no-part, list-wrong-kind, list-turns}
 use Rattle.walk.specs.FollowLaws.{found-some, found-none, found-within, ready-path}
 use Rattle.walk.specs.Positions.{placed}
-use Rattle.rules.specs.TreeReader.{pathAt}
-use Rattle.rules.specs.Walking.{panelRoot, follow}
+use Rattle.spec_rules.specs.TreeReader.{pathAt}
+use Rattle.spec_rules.specs.Walking.{panelRoot, follow}
 use Rattle.walk.specs.declared.follow.Found.the-variants.{At}
 use native.Mathlib.Omega.{arith}
 use mathlib.Core.Path.{_≡_, sym, ap, _∙_}

@@ -1,12 +1,12 @@
 -- `walk::nodes::from_node` meets its contract: one law of the walk at a node for each kind.
 -- Rests on what a node that was read says of its file.
 use borrow.Author.Needs.{needs}
-use Rattle.tree.specs.ReadingLaws.{cases-count, paths-count}
+use Rattle.format_tree.specs.ReadingLaws.{cases-count, paths-count}
 use Rattle.walk.specs.TurnsLaws.{steps-switch, steps-list-switch, steps-leaf, steps-hoist}
 use Rattle.walk.specs.FollowLaws.{ready-ruled}
-use Rattle.tree.specs.NodesLaws.{switch-node, list-switch-node, leaf-node, hoist-node, switch-node-run, switch-node-path, switch-node-kind, switch-node-alike, list-switch-node-run, list-switch-node-cases, list-switch-node-tails, list-switch-node-path}
-use Rattle.tree.specs.OrderLaws.{in-nodes, node-kind-known}
-use Rattle.tree.specs.declared.reading.Node.{Node}
+use Rattle.format_tree.specs.NodesLaws.{switch-node, list-switch-node, leaf-node, hoist-node, switch-node-run, switch-node-path, switch-node-kind, switch-node-alike, list-switch-node-run, list-switch-node-cases, list-switch-node-tails, list-switch-node-path}
+use Rattle.format_tree.specs.OrderLaws.{in-nodes, node-kind-known}
+use Rattle.format_tree.specs.declared.reading.Node.{Node}
 use native.Mathlib.Omega.{arith}
 use mathlib.Core.Path.{_≡_, sym, _∙_}
 use Rattle.walk.proofs.nodes.from_node.Statement.{statement}

@@ -5,8 +5,8 @@ use Rattle.walk.specs.Choices.{askedBy}
 use Rattle.walk.specs.FollowLaws.{found-some, found-none, found-within, ready-path, ready-ruled}
 use Rattle.walk.specs.Positions.{placed}
 use Rattle.walk.specs.declared.follow.Found.the-variants.{At}
-use Rattle.rules.specs.TreeReader.{pathAt}
-use Rattle.rules.specs.Walking.{panelRoot, follow}
+use Rattle.spec_rules.specs.TreeReader.{pathAt}
+use Rattle.spec_rules.specs.Walking.{panelRoot, follow}
 use native.Mathlib.Omega.{arith}
 use mathlib.Core.Path.{_≡_, sym, ap, _∙_}
 use borrow.Author.Needs.{needs}

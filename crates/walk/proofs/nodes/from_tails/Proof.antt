@@ -2,7 +2,7 @@
 use Rattle.walk.specs.TurnsLaws.{turns-no-tail, turns-tail}
 use Rattle.walk.specs.ChoicesLaws.{numbered-tail}
 use Rattle.walk.specs.Choices.{chosenOf}
-use Rattle.rules.specs.Splitting.{ListWithTail}
+use Rattle.spec_rules.specs.Splitting.{ListWithTail}
 use Prim.Native.Nat.{_-_}
 use mathlib.Core.Path.{ap, _∙_}
 use borrow.Author.Needs.{needs}

@@ -1,11 +1,11 @@
 -- `walk::nodes::reach` meets its contract: the loop's invariant is that the walk from the node at hand gives what the walk from node 0 gives.
 -- The measure is how many nodes come after it: a node that is gone on to is above.
 use borrow.Author.Needs.{needs}
-use Rattle.tree.specs.ReadingLaws.{nodes-count}
+use Rattle.format_tree.specs.ReadingLaws.{nodes-count}
 use Rattle.walk.specs.TurnsLaws.{walk-starts, steps-on, steps-end}
 use Rattle.walk.specs.declared.nodes.Next.{Next}
-use Rattle.rules.specs.Walking.{walk}
-use Rattle.rules.specs.TreeReader.{nodes, treeBelow, treeOf}
+use Rattle.spec_rules.specs.Walking.{walk}
+use Rattle.spec_rules.specs.TreeReader.{nodes, treeBelow, treeOf}
 use Prim.Native.Nat.{_-_, _<_}
 use native.Mathlib.Omega.{arith}
 use mathlib.Core.Path.{_≡_, _∙_}

@@ -1,0 +1,77 @@
+// What the walker says of a sheet and a panel, written into a lent buffer: `leaf CLAUSE`, `no leaf` or `refused NUMBER PLACE`, then a line
+// for each binding in the leaf's order. The contract of `tell` gives its answer and every byte of the buffer.
+use app_listing::lines::put_refused;
+use app_listing::texts::put_text;
+use base_words::zero_all;
+use build_call::Built;
+use format_panel::Fitted;
+use lines::put_leaf;
+use walk::Walked;
+ghost use mathlib.Core.Path.{_≡_};
+ghost use mathlib.Core.Bool.{true};
+ghost use Rattle.spec_rules.specs.SheetRefusals.{accepted};
+ghost use Rattle.spec_rules.specs.PanelFile.{panelVerdict};
+ghost use Rattle.spec_rules.specs.TreeReader.{treeFits, treeOf};
+ghost use Rattle.spec_rules.specs.Walking.{walk as walkOf};
+ghost use Rattle.spec_rules.specs.Calls.{fitCall};
+ghost use Rattle.app_listing.specs.Writing.{Writes};
+ghost use Rattle.app_report.specs.Telling.{walkedText, builtText, telling as tellingOf};
+ghost use Rattle.app_report.specs.Answers.{Tells};
+
+mod lines;
+mod places;
+
+// Of a tree file and a panel that their readers accept.
+fn put_walked(out: &mut [u8], t: &[u8], v: &[u8]) -> usize
+    requires { ⌜ (treeFits (now t) ≡ true) × (panelVerdict (now v) ≡ accepted) ⌝ }
+    ensures { λ r. ⌜ Writes (now (out .entry)) (now (out .exit)) 0 r (walkedText (now (v .entry)) (walkOf (treeOf (now (t .entry))) (now (v .entry)))) ⌝ }
+{
+    let mut bound = [0u16; walk::BOUND_ROOM];
+    match dewmycel::walk(t, v, &mut bound) {
+        Walked::Leaf { clause, count } => put_leaf(out, v, clause, &bound, count),
+        Walked::NoLeaf => put_text(out, 0, b"no leaf\n"),
+        Walked::Refused { number, place } => put_refused(out, number, place),
+    }
+}
+
+// Of a sheet and a panel that fit each other.
+fn put_built(out: &mut [u8], s: &[u8], v: &[u8]) -> usize
+    requires { ⌜ fitCall (now s) (now v) ≡ accepted ⌝ }
+    ensures { λ r. ⌜ Writes (now (out .entry)) (now (out .exit)) 0 r (builtText (now (s .entry)) (now (v .entry))) ⌝ }
+{
+    let mut tree = io::large_buffer();
+    let mut work = io::large_buffer();
+    match dewmycel::build(s, &mut tree, &mut work) {
+        Built::Tree {
+            length,
+            nodes,
+            bindings,
+        } => {
+            let n = length as usize;
+            put_walked(out, &tree[..n], v)
+        }
+        Built::Refused { number, place } => put_refused(out, number, place),
+    }
+}
+
+fn put_telling(out: &mut [u8], s: &[u8], v: &[u8]) -> usize
+    ensures { λ r. ⌜ Writes (now (out .entry)) (now (out .exit)) 0 r (tellingOf (now (s .entry)) (now (v .entry))) ⌝ }
+{
+    match dewmycel::fit(s, v) {
+        Fitted::Fits => put_built(out, s, v),
+        Fitted::Refused { number, place } => put_refused(out, number, place),
+    }
+}
+
+// Answers how many bytes were written: none where the text has no room.
+pub fn tell(s: &[u8], v: &[u8], out: &mut [u8]) -> usize
+    ensures { λ r. ⌜ Tells (now (s .entry)) (now (v .entry)) (now (out .entry)) r (now (out .exit)) ⌝ }
+{
+    zero_all(out);
+    let end = put_telling(out, s, v);
+    if out.len() < end {
+        zero_all(out);
+        return 0;
+    }
+    end
+}

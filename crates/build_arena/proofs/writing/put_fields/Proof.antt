@@ -1,0 +1,51 @@
+-- `build_arena::writing::put_fields` meets its contract: the stores of the fields are the store of the record.
+use borrow.Author.Needs.{needs}
+use Rattle.build_arena.specs.Arena.{casesStart}
+use Rattle.spec_rules.specs.Limits.{caseSize}
+use Prim.Native.Nat.{_+_, _*_}
+use Rattle.build_arena.specs.ReadingLaws.{fields-stored}
+use Rattle.build_arena.proofs.writing.put_fields.Statement.{statement}
+use Rattle.build_arena.proofs.writing.put_fields.Tie as tie
+
+mul-at : tie.Need-mul-at
+mul-at c = search needs
+
+add-at : tie.Need-add-at
+add-at c = search needs
+
+put-kind-requires : tie.Need-put-kind-requires
+put-kind-requires c κs = search needs
+
+add-put-two-words : tie.Need-add-put-two-words
+add-put-two-words c = search needs
+
+put-two-words-requires : tie.Need-put-two-words-requires
+put-two-words-requires c κs = search needs
+
+add-put-word : tie.Need-add-put-word
+add-put-word c = search needs
+
+put-word-requires : tie.Need-put-word-requires
+put-word-requires c κs = search needs
+
+same-length : tie.Need-same-length
+same-length c = search needs
+
+returns : tie.Need-returns
+returns c =
+    let a = c .before .before .before .before .before .before .before .before .before .before .before .before .before .args in
+    fields-stored (a .w .now) (casesStart + caseSize * a .i) (a .kind) (a .number) (a .count) (a .child) (c .before .before .before .before .before .before .before .before .before .before .put-kind .ensures) (c .before .before .before .before .before .before .put-two-words .ensures) (c .before .before .put-word .ensures)
+
+pub put-fields-spec : {M : Type 1} → statement M
+put-fields-spec =
+    tie.close
+    (tie.spec
+    mul-at
+    add-at
+    put-kind-requires
+    add-put-two-words
+    put-two-words-requires
+    add-put-word
+    put-word-requires
+    same-length
+    returns)

@@ -1,0 +1,63 @@
+// What hoisting adds to the tree in the arena: a hoist for each clause with a leaf, with the bindings of its first leaf.
+// One look at each clause; refusals 12 and 13 go by these sums.
+use build_arena::NODES_MOST;
+use build_arena::reading::node_word;
+use build_scopes::Scopes;
+ghost use mathlib.Core.Path.{_≡_};
+ghost use Prim.Native.Nat.{_≤_};
+ghost use lib.ListN.{length, getD};
+ghost use Rattle.spec_rules.specs.Limits.{clausesMost};
+ghost use Rattle.spec_rules.specs.Searching.{times};
+ghost use Rattle.spec_rules.specs.Rows.{bit};
+ghost use Rattle.spec_hoist.specs.Trees.{sum};
+ghost use Rattle.build_arena.specs.Arena.{arenaEnd};
+ghost use Rattle.build_call.specs.Counts.{isMarked, leafBindings};
+
+fn one_if(mark: u8) -> usize
+    ensures { λ r. ⌜ r ≡ bit (isMarked mark) ⌝ }
+{
+    if mark == 0 {
+        return 0;
+    }
+    1
+}
+
+// How many clauses have a leaf.
+pub fn hoists(leaves: [u8; 32], clauses: usize) -> usize
+    requires { ⌜ clauses ≤ clausesMost ⌝ }
+    ensures { λ r. ⌜ r ≡ times (λ c. isMarked (getD leaves c 0)) 0 clauses ⌝ }
+{
+    let mut n: usize = 0;
+    let mut c: usize = 0;
+    while c < clauses {
+        n += one_if(leaves[c]);
+        c += 1;
+    }
+    n
+}
+
+// The bindings of a leaf; none where the number is no node's.
+fn bindings_of(w: &[u8], leaf: u16) -> usize
+    requires { ⌜ arenaEnd ≤ length (now w) ⌝ }
+    ensures { λ r. ⌜ r ≡ leafBindings (now (w .entry)) leaf ⌝ }
+{
+    let k = leaf as usize;
+    if NODES_MOST <= k {
+        return 0;
+    }
+    node_word(w, k, 2) as usize
+}
+
+// The bindings of all hoists.
+pub fn hoist_bindings(w: &[u8], x: Scopes, clauses: usize) -> usize
+    requires { ⌜ (arenaEnd ≤ length (now w)) × (clauses ≤ clausesMost) ⌝ }
+    ensures { λ r. ⌜ r ≡ sum (λ c. leafBindings (now (w .entry)) (getD (x .leaf) c 0)) 0 clauses ⌝ }
+{
+    let mut n: usize = 0;
+    let mut c: usize = 0;
+    while c < clauses {
+        n += bindings_of(w, x.leaf[c]);
+        c += 1;
+    }
+    n
+}

@@ -1,0 +1,72 @@
+// The build call: the tree of a sheet, written as its file, or the refusal; refusals 1, 2 to 11, 12 to 14 of document 01.
+// Its contract says its one answer and every byte of both buffers, for every byte string and every pair of buffers.
+use base_words::zero_all;
+use format_sheet::Checked;
+ghost use mathlib.Core.Path.{_≡_};
+ghost use Prim.Native.Nat.{_≤_};
+ghost use lib.ListN.{length};
+ghost use Rattle.base_words.specs.Words.{zeros};
+ghost use Rattle.spec_rules.specs.Limits.{treeRoom, workRoom};
+ghost use Rattle.spec_rules.specs.Calls.{buildCall, buildAnswer};
+ghost use Rattle.build_call.specs.Answers.{callOf, Gives};
+
+mod counts;
+mod trees;
+
+use trees::build_tree;
+
+// The least tree and work buffers, in bytes.
+pub const ROOM: usize = 65536;
+
+pub enum Built {
+    Tree {
+        length: u16,
+        nodes: u16,
+        bindings: u16,
+    },
+    Refused {
+        number: u16,
+        place: u16,
+    },
+}
+
+// On buffers that are large enough, the tree's all zero.
+fn build_sheet(s: &[u8], tree: &mut [u8], work: &mut [u8]) -> Built
+    requires { ⌜ (treeRoom ≤ length (now tree)) × (workRoom ≤ length (now work)) × (now tree ≡ zeros (length (now tree))) ⌝ }
+    ensures { λ r. ⌜ Gives (now (s .entry)) (buildAnswer (now (s .entry)) (length (now (tree .entry))) (length (now (work .entry)))) (now (tree .entry)) (now (tree .exit)) r ⌝ }
+{
+    match format_sheet::check(s) {
+        Checked::Accepted(m) => build_tree(s, m, tree, work),
+        Checked::Refused { number, place } => Built::Refused { number, place },
+    }
+}
+
+// On a tree buffer that is all zero: it is written only where the sheet is accepted.
+fn build_clear(s: &[u8], tree: &mut [u8], work: &mut [u8]) -> Built
+    requires { ⌜ now tree ≡ zeros (length (now tree)) ⌝ }
+    ensures { λ r. ⌜ Gives (now (s .entry)) (buildAnswer (now (s .entry)) (length (now (tree .entry))) (length (now (work .entry)))) (now (tree .entry)) (now (tree .exit)) r ⌝ }
+{
+    if tree.len() < ROOM {
+        return Built::Refused {
+            number: 1,
+            place: 0,
+        };
+    }
+    if work.len() < ROOM {
+        return Built::Refused {
+            number: 1,
+            place: 0,
+        };
+    }
+    build_sheet(s, tree, work)
+}
+
+// The build call, whole.
+pub fn build(s: &[u8], tree: &mut [u8], work: &mut [u8]) -> Built
+    ensures { λ r. ⌜ callOf r (now (tree .exit)) (now (work .exit)) ≡ buildCall (now (s .entry)) (length (now (tree .entry))) (length (now (work .entry))) ⌝ }
+{
+    zero_all(tree);
+    let r = build_clear(s, tree, work);
+    zero_all(work);
+    r
+}

@@ -1,0 +1,146 @@
+// The tree of an accepted sheet on its way into the file: refusals 12, 13 and 14 in that order, none of them after more work than a tree of
+// 1,024 nodes takes; then its scopes, and the file.
+use crate::Built;
+use crate::counts::hoist_bindings;
+use crate::counts::hoists;
+use build_arena::BINDING_SIZE;
+use build_arena::CASE_SIZE;
+use build_arena::NODE_SIZE;
+use build_arena::NODES_MOST;
+use build_file_nodes::write_nodes;
+use build_file_tail::put_tail;
+use build_leaves::BINDINGS_MOST;
+use build_nodes::raw;
+use build_scopes::CLAUSES_MOST;
+use build_scopes::Scopes;
+use build_scopes::get_hoist_paths;
+use build_table::fill;
+use format_sheet::Map;
+ghost use mathlib.Core.Path.{_≡_};
+ghost use Prim.Native.Nat.{_≤_};
+ghost use lib.ListN.{length};
+ghost use Rattle.base_words.specs.Words.{zeros};
+ghost use Rattle.spec_rules.specs.Limits.{treeRoom, workRoom};
+ghost use Rattle.format_panel.specs.Answers.{SheetAccepts};
+ghost use Rattle.build_table.specs.Tabled.{Tabled};
+ghost use Rattle.build_call.specs.Answers.{Gives, treeEnd};
+ghost use Rattle.build_call.specs.Raw.{Raw, Hoistable, Whole};
+
+// A refusal whose place is 0.
+pub fn refused(number: u16) -> Built
+    ensures { λ r. ⌜ r ≡ Built.Refused number 0 ⌝ }
+{
+    Built::Refused { number, place: 0 }
+}
+
+// The file: nodes, cases and bindings, then what follows them.
+fn write_tree(
+    s: &[u8],
+    m: Map,
+    t: &[u8],
+    w: &[u8],
+    nodes: usize,
+    cases: usize,
+    x: Scopes,
+    tree: &mut [u8],
+) -> Built
+    requires { ⌜ SheetAccepts (now s) m × Tabled (now s) (now t) × Whole (now s) (now w) nodes cases x ⌝ }
+    requires { ⌜ (treeRoom ≤ length (now tree)) × (now tree ≡ zeros (length (now tree))) ⌝ }
+    ensures { λ r. ⌜ Gives (now (s .entry)) (treeEnd (now (s .entry))) (now (tree .entry)) (now (tree .exit)) r ⌝ }
+{
+    let mut classes = [0u8; 192];
+    let f = write_nodes(w, nodes, cases, x, m.counts.clauses, tree, &mut classes);
+    let second = NODE_SIZE * f.nodes;
+    let third = second + CASE_SIZE * f.cases;
+    let fourth = third + BINDING_SIZE * f.bindings;
+    let end = put_tail(s, m, t, &classes, f.paths, tree, second, third, fourth);
+    Built::Tree {
+        length: end as u16,
+        nodes: f.nodes as u16,
+        bindings: f.bindings as u16,
+    }
+}
+
+// With its scopes: 13 for all bindings, 14, or the file.
+fn write_hoisted(
+    s: &[u8],
+    m: Map,
+    t: &[u8],
+    w: &[u8],
+    nodes: usize,
+    cases: usize,
+    bindings: usize,
+    x: Scopes,
+    tree: &mut [u8],
+) -> Built
+    requires { ⌜ SheetAccepts (now s) m × Tabled (now s) (now t) × Hoistable (now s) (now w) nodes cases bindings x ⌝ }
+    requires { ⌜ (treeRoom ≤ length (now tree)) × (now tree ≡ zeros (length (now tree))) ⌝ }
+    ensures { λ r. ⌜ Gives (now (s .entry)) (treeEnd (now (s .entry))) (now (tree .entry)) (now (tree .exit)) r ⌝ }
+{
+    let more = hoist_bindings(w, x, m.counts.clauses);
+    if BINDINGS_MOST < bindings + more {
+        return refused(13);
+    }
+    let idle = x.idle;
+    if idle < CLAUSES_MOST {
+        return Built::Refused {
+            number: 14,
+            place: idle as u16,
+        };
+    }
+    write_tree(s, m, t, w, nodes, cases, x, tree)
+}
+
+// The tree in the arena, with the counts of its building: 12, 13, or on to its scopes.
+pub fn finish(
+    s: &[u8],
+    m: Map,
+    t: &[u8],
+    w: &[u8],
+    nodes: usize,
+    cases: usize,
+    bindings: usize,
+    leaves: [u8; 32],
+    tree: &mut [u8],
+) -> Built
+    requires { ⌜ SheetAccepts (now s) m × Tabled (now s) (now t) × Raw (now s) (now w) nodes cases bindings leaves ⌝ }
+    requires { ⌜ (treeRoom ≤ length (now tree)) × (now tree ≡ zeros (length (now tree))) ⌝ }
+    ensures { λ r. ⌜ Gives (now (s .entry)) (treeEnd (now (s .entry))) (now (tree .entry)) (now (tree .exit)) r ⌝ }
+{
+    let clauses = m.counts.clauses;
+    let more = hoists(leaves, clauses);
+    if NODES_MOST < nodes + more {
+        return refused(12);
+    }
+    if BINDINGS_MOST < bindings {
+        return refused(13);
+    }
+    let x = get_hoist_paths(w, nodes, clauses);
+    write_hoisted(s, m, t, w, nodes, cases, bindings, x, tree)
+}
+
+// The tree of an accepted sheet, on buffers that are large enough, the tree's all zero.
+pub fn build_tree(s: &[u8], m: Map, tree: &mut [u8], work: &mut [u8]) -> Built
+    requires { ⌜ SheetAccepts (now s) m × (treeRoom ≤ length (now tree)) × (workRoom ≤ length (now work)) × (now tree ≡ zeros (length (now tree))) ⌝ }
+    ensures { λ r. ⌜ Gives (now (s .entry)) (treeEnd (now (s .entry))) (now (tree .entry)) (now (tree .exit)) r ⌝ }
+{
+    let mut t = [0u8; 9984];
+    fill(s, m, &mut t);
+    let built = raw::build_tree(s, m, &t, work);
+    if !built.fits {
+        return refused(12);
+    }
+    let tops = built.tops;
+    let leaves = tops.leaves;
+    finish(
+        s,
+        m,
+        &t,
+        work,
+        tops.nodes,
+        tops.cases,
+        tops.bindings,
+        leaves,
+        tree,
+    )
+}

@@ -1,0 +1,76 @@
+-- What a row's test meets, as the code reads it: the one case of a test without a tail, the rising cases of one with, and the longest
+-- lengths of a column. RowsLaws has that these are rule 4's.
+use mathlib.Core.Bool.{Bool, true, false}
+use mathlib.Core.List.{List, [], _∷_, map}
+use Prim.Native.Nat.{ℕ, suc, _<_}
+use lib.Dec.{eqb}
+use Rattle.base_words.specs.Words.{pick}
+use Rattle.spec_rules.specs.Splitting.{Test, ListOf, ListWithTail, Met, rising, taillessLength, tailedLength, larger, longest, meet}
+use Rattle.spec_match.specs.Depth.{isTail, isExact}
+use Rattle.format_sheet.specs.declared.records.PatternRecord.{PatternRecord}
+use Rattle.build_arena.specs.declared.reading.Test as arena
+use Rattle.build_table.specs.Standing.{patternOf}
+use Rattle.build_matrix.specs.declared.Held.{Held}
+use Rattle.build_matrix.specs.declared.Held.the-variants.{Test as HeldTest, Wildcard}
+use Rattle.build_cases.specs.declared.tests.Longest.{Longest}
+use Rattle.build_cases.specs.Passes.{meetRow, meetRows, upTo}
+
+-- the test of a pattern without a tail
+abbrev pub exactTest : PatternRecord → arena.Test
+exactTest r =
+    pick (eqb (r .kind) 3) (arena.Test.Text 1 (r .first) (r .count))
+    (pick (eqb (r .kind) 4) (arena.Test.Text 2 (r .first) (r .count))
+    (pick (eqb (r .kind) 5) (arena.Test.List (r .count))
+    (arena.Test.Constr (r .a))))
+
+-- fields that two bytes hold
+pub record Small (r : PatternRecord) : Type 0 where
+  pub a-small : r .a < 65536
+  pub first-small : r .first < 65536
+  pub count-small : r .count < 65536
+
+-- ---- of two sorts, with a tail or without
+abbrev pub sortOf : Bool → Test → Bool
+sortOf true t = isTail t
+sortOf false t = isExact t
+
+-- a case for n elements, as rule 4 has it and as the code does
+abbrev pub listTest : Bool → ℕ → Test
+listTest true n = ListWithTail n
+listTest false n = ListOf n
+
+abbrev pub listCase : Bool → ℕ → arena.Test
+listCase true n = arena.Test.Tailed n
+listCase false n = arena.Test.List n
+
+-- n rising cases from k elements on
+abbrev pub riseTo : ℕ → Bool → ℕ → ℕ → List Met → List Met
+riseTo from tail k n ms = upTo from (meet 0 ms (rising (listTest tail) k n))
+
+-- what the row of pattern p meets, and the rows of the patterns ps
+abbrev pub meetTest : List ℕ → ℕ → Bool → Longest → ℕ → List Met → List Met
+meetTest s from tail l p ms = upTo from (meetRow (sortOf tail) (l .tailless) (l .tails) ms (patternOf s p))
+
+abbrev pub meetTests : List ℕ → ℕ → Bool → Longest → List ℕ → List Met → List Met
+meetTests s from tail l ps ms = upTo from (meetRows (sortOf tail) (l .tailless) (l .tails) ms (map (patternOf s) ps))
+
+-- ---- the longest lengths, each one more than it is, or 0
+abbrev pub longestOf : List ℕ → List ℕ → Longest
+longestOf s ps = record { tailless = longest taillessLength (map (patternOf s) ps); tails = longest tailedLength (map (patternOf s) ps) }
+
+-- one pattern more
+abbrev pub longer : PatternRecord → Longest → Longest
+longer r l = record {
+  tailless = pick (eqb (r .kind) 5) (larger (suc (r .count)) (l .tailless)) (l .tailless);
+  tails = pick (eqb (r .kind) 6) (larger (r .count) (l .tails)) (l .tails);
+}
+
+-- ---- the tests of a column, by number
+abbrev pub heldTest : Held → List ℕ
+heldTest (HeldTest p) = p ∷ []
+heldTest Wildcard = []
+
+-- a number that a byte holds
+abbrev pub TestSmall : Held → Type 0
+TestSmall (HeldTest p) = p < 256
+TestSmall Wildcard = Unit {0}

@@ -1,0 +1,82 @@
+// Rule 4, the cases of a column in order of first meeting, each written as its record into the arena: first those without a tail, then
+// those with one. A test is met by a search among the cases that its pass has met so far; a new one is written behind them.
+//
+// Cost: the column's tests are read once from the table, and their records once for the longest lengths and once in each pass. A row
+// with a tail joins a case for each length from its own up to the longest (at most 192 in a pass), any other row one case; each is
+// looked for among those met so far, texts byte by byte where their lengths are equal (at most 64 bytes). No more is written once
+// 1,024 cases are there: each case has a node of its own, so that the tree then has too many nodes (refusal 12).
+mod column;
+mod meet;
+mod rows;
+mod search;
+mod tests;
+
+use column::column_tests;
+use column::longest_of;
+use format_sheet::Map;
+use meet::CASES_MOST;
+use rows::meet_rows;
+ghost use Prim.Native.Nat.{_<_, _≤_};
+ghost use lib.ListN.{length, take};
+ghost use Rattle.spec_rules.specs.Limits.{patternsMost};
+ghost use Rattle.spec_rules.specs.SheetFile.{clauses};
+ghost use Rattle.spec_rules.specs.SplittingLaws.{All};
+ghost use Rattle.build_table.specs.Tabled.{Checked};
+ghost use Rattle.build_matrix.specs.Live.{liveIn};
+ghost use Rattle.build_matrix.specs.HeldRows.{heldTests};
+ghost use Rattle.build_matrix.specs.Lists.{asRows, WholeRows};
+ghost use Rattle.build_matrix.specs.Ready.{Ready, TestKnown};
+ghost use Rattle.build_arena.specs.Arena.{casesMost, arenaEnd};
+ghost use Rattle.build_cases.specs.Made.{columnOf, MeetsTo};
+
+// The cases without a tail end at `mid`, those with one at `end`; `list` says whether the column is one of lists.
+pub struct CasesMet {
+    pub mid: usize,
+    pub end: usize,
+    pub list: bool,
+}
+
+pub enum Meeting {
+    Met(CasesMet),
+    TooMany,
+}
+
+// The cases of the first n of these tests, from case `first` on: those without a tail, then those with one.
+fn meet_both(s: &[u8], m: Map, tests: &[u8; 32], n: usize, work: &mut [u8], first: usize) -> Meeting
+    requires { ⌜ Checked (now s) m × WholeRows (asRows (now tests) n) × All (TestKnown (now s)) (take n (now tests)) ⌝ }
+    requires { ⌜ (arenaEnd ≤ length (now work)) × (first ≤ casesMost) ⌝ }
+    ensures { λ r. ⌜ MeetsTo (now (s .entry)) (columnOf (now (s .entry)) (take n (now (tests .entry)))) first (now (work .entry)) (now (work .exit)) r ⌝ }
+{
+    let l = longest_of(s, m, tests, n);
+    let mid = meet_rows(s, m, tests, n, l, false, work, first);
+    let end = meet_rows(s, m, tests, n, l, true, work, mid);
+    if end == CASES_MOST {
+        return Meeting::TooMany;
+    }
+    Meeting::Met(CasesMet {
+        mid,
+        end,
+        list: 0 < l.tailless + l.tails,
+    })
+}
+
+// The cases of the first n of these rows in the column of a class, from case `first` on.
+pub fn meet_cases<'a>(
+    s: &[u8],
+    m: Map,
+    t: &[u8],
+    rows: &'a [u8; 32],
+    n: usize,
+    opened: &'a [u8; 192],
+    class: usize,
+    work: &mut [u8],
+    first: usize,
+) -> Meeting
+    requires { ⌜ Ready (now s) m (now t) × WholeRows (asRows (now rows) n) × All (λ c. c < clauses (now s)) (take n (now rows)) × (class < patternsMost) ⌝ }
+    requires { ⌜ (arenaEnd ≤ length (now work)) × (first ≤ casesMost) ⌝ }
+    ensures { λ r. ⌜ MeetsTo (now (s .entry)) (columnOf (now (s .entry)) (heldTests (liveIn (now (s .entry)) (now (opened .entry)) class) (take n (now (rows .entry))))) first (now (work .entry)) (now (work .exit)) r ⌝ }
+{
+    let mut tests = [0u8; 32];
+    let k = column_tests(t, rows, n, opened, class, &mut tests);
+    meet_both(s, m, &tests, k, work, first)
+}

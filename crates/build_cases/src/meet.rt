@@ -1,0 +1,33 @@
+// One test met: a new case is written, and one that is there already is found.
+// Rests on the search and on the arena's records; the record is the case's own, with a child that is not known yet.
+use crate::search::fields_of;
+use crate::search::same_case;
+use build_arena::reading::Case;
+use build_arena::reading::Test;
+use build_arena::writing::put_case;
+use format_sheet::Map;
+ghost use mathlib.Core.Path.{_≡_};
+ghost use Rattle.spec_accepted.specs.SheetFacts.{Laid};
+ghost use Rattle.format_sheet.specs.Sections.{mapOf};
+ghost use Rattle.build_arena.specs.Reading.{kindOf, numberOf, lengthOf};
+ghost use Rattle.build_cases.specs.Fields.{Fit};
+ghost use Rattle.build_cases.specs.SoFar.{Begun, meetOne, Meets};
+
+// There is room for 1,024 cases; each has a node of its own.
+pub const CASES_MOST: usize = 1024;
+
+// The number of cases after this one is met, if it is new and there is room for it.
+pub fn meet(s: &[u8], m: Map, work: &mut [u8], from: usize, to: usize, test: Test) -> usize
+    requires { ⌜ Laid (now s) × (m ≡ mapOf (now s)) × Fit (now s) (kindOf test) (numberOf test) (lengthOf test) ⌝ }
+    requires { ⌜ Begun (now s) (now work) from to ⌝ }
+    ensures { λ r. ⌜ Meets (now (s .entry)) (now (work .entry)) from to (meetOne (now (s .entry)) from test) r (now (work .exit)) ⌝ }
+{
+    if to == CASES_MOST {
+        return to;
+    }
+    if same_case(s, m.at.pool, work, from, to, fields_of(test)) < to {
+        return to;
+    }
+    put_case(work, to, Case { test, child: 0 });
+    to + 1
+}

@@ -1,0 +1,86 @@
+// What a pattern's record says of the cases that its row joins: the test of one without a tail, and its part in the longest lengths.
+// Rests on the sheet's records and the arena's tests.
+use build_arena::reading::Test;
+use format_sheet::records::PatternRecord;
+ghost use mathlib.Core.Path.{_≡_};
+ghost use Prim.Native.Nat.{_<_};
+ghost use Rattle.base_words.specs.Words.{pick};
+ghost use Rattle.build_cases.specs.Rows.{exactTest, Small, listCase, longer};
+
+// The longest lengths of lists in a column, each one more than it is, or 0 where there is none: of those without a tail, and of those
+// with, whose tail is not counted.
+pub struct Longest {
+    pub tailless: usize,
+    pub tails: usize,
+}
+
+// The longest lengths with those of one pattern more.
+pub fn longer_of(r: PatternRecord, l: Longest) -> Longest
+    requires { ⌜ Small r ⌝ }
+    ensures { λ out. ⌜ out ≡ longer r l ⌝ }
+{
+    if r.kind == 5 {
+        if l.tailless <= r.count {
+            return Longest {
+                tailless: r.count + 1,
+                tails: l.tails,
+            };
+        }
+        return l;
+    }
+    if r.kind == 6 {
+        if l.tails < r.count {
+            return Longest {
+                tailless: l.tailless,
+                tails: r.count,
+            };
+        }
+    }
+    l
+}
+
+// The test of a pattern without a tail.
+pub fn test_of(r: PatternRecord) -> Test
+    requires { ⌜ Small r ⌝ }
+    ensures { λ out. ⌜ out ≡ exactTest r ⌝ }
+{
+    let kind = r.kind;
+    let start = r.first as u16;
+    let count = r.count as u16;
+    match kind {
+        3 => Test::Text {
+            kind: 1,
+            start,
+            count,
+        },
+        4 => Test::Text {
+            kind: 2,
+            start,
+            count,
+        },
+        5 => Test::List(count),
+        _ => Test::Constr(r.a as u16),
+    }
+}
+
+// The case of lists with n elements, and a tail or none.
+pub fn list_test(tail: bool, n: usize) -> Test
+    requires { ⌜ n < 65536 ⌝ }
+    ensures { λ out. ⌜ out ≡ listCase tail n ⌝ }
+{
+    if tail {
+        Test::Tailed(n as u16)
+    } else {
+        Test::List(n as u16)
+    }
+}
+
+// The longest length of those with a tail, or of those without.
+pub fn longest_with(l: Longest, tail: bool) -> usize
+    ensures { λ r. ⌜ r ≡ pick tail (l .tails) (l .tailless) ⌝ }
+{
+    if tail {
+        return l.tails;
+    }
+    l.tailless
+}

@@ -1,0 +1,56 @@
+// The bindings of a leaf or a hoist: the records of the arena's leaf with the path's number in the place of its class.
+// One pass over the records, each read and written once.
+use crate::uses::used;
+use base_words::put_word;
+use base_words::wide;
+use build_arena::BINDING_SIZE;
+use build_arena::reading::binding_at;
+ghost use Prim.Native.Nat.{_+_, _*_, _<_, _≤_};
+ghost use lib.ListN.{length};
+ghost use Rattle.spec_rules.specs.Limits.{bindingSize};
+ghost use Rattle.build_file_nodes.specs.Uses.{usesOf, Counted};
+ghost use Rattle.build_file_nodes.specs.Model.{BindingAsked, BindingsAsked, PutBinding, PutBindings};
+
+fn put_binding(
+    w: &[u8],
+    b: usize,
+    tree: &mut [u8],
+    at: usize,
+    number: &mut [u8; 192],
+    list: &mut [u8; 192],
+    paths: usize,
+) -> usize
+    requires { ⌜ BindingAsked (now w) b × (at + 3 < length (now tree)) × Counted (usesOf (now number) (now list) paths) ⌝ }
+    ensures { λ r. ⌜ PutBinding (now (w .entry)) b at (usesOf (now (number .entry)) (now (list .entry)) paths) (now (tree .entry)) (now (tree .exit)) (usesOf (now (number .exit)) (now (list .exit)) r) ⌝ }
+{
+    let binding = binding_at(w, b);
+    let class = binding.path as usize;
+    let count = used(number, list, paths, class);
+    let own = wide(number[class]);
+    put_word(tree, at, binding.name);
+    put_word(tree, at + 2, own - 1);
+    count
+}
+
+// The count bindings from first on, the first of them at `at`; how many paths have a number then.
+pub fn put_bindings(
+    w: &[u8],
+    first: usize,
+    count: usize,
+    tree: &mut [u8],
+    at: usize,
+    number: &mut [u8; 192],
+    list: &mut [u8; 192],
+    paths: usize,
+) -> usize
+    requires { ⌜ BindingsAsked (now w) first count × (at + bindingSize * count ≤ length (now tree)) × Counted (usesOf (now number) (now list) paths) ⌝ }
+    ensures { λ r. ⌜ PutBindings (now (w .entry)) first count at (usesOf (now (number .entry)) (now (list .entry)) paths) (now (tree .entry)) (now (tree .exit)) (usesOf (now (number .exit)) (now (list .exit)) r) ⌝ }
+{
+    let mut v = paths;
+    let mut i = 0;
+    while i < count {
+        v = put_binding(w, first + i, tree, at + BINDING_SIZE * i, number, list, v);
+        i += 1;
+    }
+    v
+}

@@ -1,0 +1,70 @@
+// The cases of a switch, with each child where it comes to stand: a node is moved by the hoists that stand before it.
+// One pass over a switch's cases; each reference costs one look into the table of how far nodes are moved.
+use base_words::put_word;
+use build_arena::CASE_SIZE;
+use build_arena::reading::case_child;
+use build_arena::reading::case_kind;
+use build_arena::reading::case_length;
+use build_arena::reading::case_number;
+ghost use mathlib.Core.Path.{_≡_};
+ghost use Prim.Native.Nat.{_+_, _*_, _<_, _≤_};
+ghost use lib.ListN.{length};
+ghost use Rattle.base_words.specs.Stored.{stored};
+ghost use Rattle.spec_rules.specs.Limits.{nodesMost, caseSize};
+ghost use Rattle.build_arena.specs.Arena.{arenaEnd, casesMost};
+ghost use Rattle.build_file_nodes.specs.Model.{CasesAsked, movedBy, movedCase, movedCases, movedDefault};
+
+// The number of node k moved by so many hoists.
+fn move_by(k: usize, by: u8) -> u16
+    requires { ⌜ k ≤ nodesMost ⌝ }
+    ensures { λ r. ⌜ r ≡ k + by ⌝ }
+{
+    k as u16 + by as u16
+}
+
+// A default, which is one more than its node's number, or 0.
+pub fn moved_default(shift: &[u8; 1025], default: usize) -> u16
+    requires { ⌜ default ≤ nodesMost ⌝ }
+    ensures { λ r. ⌜ r ≡ movedDefault (movedBy (now (shift .entry))) default ⌝ }
+{
+    if default == 0 {
+        return 0;
+    }
+    move_by(default, shift[default - 1])
+}
+
+// Case i of the arena with another child.
+fn put_case(w: &[u8], i: usize, tree: &mut [u8], at: usize, child: u16)
+    requires { ⌜ (arenaEnd ≤ length (now w)) × (i < casesMost) × (at + 7 < length (now tree)) ⌝ }
+    ensures { λ _. ⌜ now (tree .exit) ≡ stored (now (tree .entry)) at (movedCase (now (w .entry)) i child) ⌝ }
+{
+    let kind = case_kind(w, i);
+    let number = case_number(w, i);
+    let count = case_length(w, i);
+    tree[at] = kind;
+    tree[at + 1] = 0;
+    put_word(tree, at + 2, number);
+    put_word(tree, at + 4, count);
+    put_word(tree, at + 6, child);
+}
+
+// The count cases from first on, the first of them at `at`.
+pub fn put_cases(
+    w: &[u8],
+    first: usize,
+    count: usize,
+    shift: &[u8; 1025],
+    tree: &mut [u8],
+    at: usize,
+)
+    requires { ⌜ CasesAsked (now w) first count × (at + caseSize * count ≤ length (now tree)) ⌝ }
+    ensures { λ _. ⌜ now (tree .exit) ≡ stored (now (tree .entry)) at (movedCases (now (w .entry)) (movedBy (now (shift .entry))) first count) ⌝ }
+{
+    let mut i = 0;
+    while i < count {
+        let child = case_child(w, first + i) as usize;
+        let moved = move_by(child, shift[child]);
+        put_case(w, first + i, tree, at + CASE_SIZE * i, moved);
+        i += 1;
+    }
+}

@@ -1,0 +1,70 @@
+// The hoists that stand above a node, in the order of their clauses.
+// A node with none is known by how far it and the next node are moved. For another one pass over the clauses finds those hoisted there.
+use crate::nodes::Tops;
+use crate::nodes::put_bound;
+use crate::shift::as_count;
+ghost use mathlib.Core.Path.{_≡_};
+ghost use Prim.Native.Nat.{_+_, _≤_};
+ghost use Rattle.spec_rules.specs.Limits.{clausesMost};
+ghost use Rattle.build_file_nodes.specs.Model.{nodeIn, placesOf, reachOf, outOf, BoundAsked, boundOut, HoistsAsked, hoistsOut, NextHoist};
+
+// The first clause from c on that is hoisted above node k, or how many clauses there are.
+fn next_hoist(node: &[u16; 32], c: usize, clauses: usize, k: usize) -> usize
+    requires { ⌜ (c ≤ clauses) × (clauses ≤ clausesMost) ⌝ }
+    ensures { λ r. ⌜ NextHoist (nodeIn (now (node .entry))) k c clauses r ⌝ }
+{
+    let mut d = c;
+    while d < clauses {
+        if as_count(node[d]) == k {
+            return d;
+        }
+        d += 1;
+    }
+    clauses
+}
+
+// A hoist with the clause and the bindings of this leaf, over the node that is written after it.
+fn put_hoist(
+    w: &[u8],
+    leaf: usize,
+    tree: &mut [u8],
+    start: usize,
+    number: &mut [u8; 192],
+    list: &mut [u8; 192],
+    f: Tops,
+) -> Tops
+    requires { ⌜ BoundAsked (now w) leaf start (now tree) (reachOf (now number) (now list) f) ⌝ }
+    ensures { λ r. ⌜ outOf (now (tree .exit)) (reachOf (now (number .exit)) (now (list .exit)) r) ≡ boundOut (now (w .entry)) start leaf 3 (f .nodes + 1) (outOf (now (tree .entry)) (reachOf (now (number .entry)) (now (list .entry)) f)) ⌝ }
+{
+    let child = (f.nodes + 1) as u16;
+    put_bound(w, leaf, 3, child, tree, start, number, list, f)
+}
+
+// The hoists above node k, the lowest clause outermost.
+pub fn put_hoists(
+    w: &[u8],
+    k: usize,
+    node: &[u16; 32],
+    leaf: &[u16; 32],
+    clauses: usize,
+    shift: &[u8; 1025],
+    tree: &mut [u8],
+    start: usize,
+    number: &mut [u8; 192],
+    list: &mut [u8; 192],
+    f: Tops,
+) -> Tops
+    requires { ⌜ HoistsAsked (now w) k (placesOf (now node) (now leaf)) clauses (now shift) start (now tree) (reachOf (now number) (now list) f) ⌝ }
+    ensures { λ r. ⌜ outOf (now (tree .exit)) (reachOf (now (number .exit)) (now (list .exit)) r) ≡ hoistsOut (now (w .entry)) start (placesOf (now (node .entry)) (now (leaf .entry))) k 0 clauses (outOf (now (tree .entry)) (reachOf (now (number .entry)) (now (list .entry)) f)) ⌝ }
+{
+    if shift[k] == shift[k + 1] {
+        return f;
+    }
+    let mut g = f;
+    let mut c = next_hoist(node, 0, clauses, k);
+    while c < clauses {
+        g = put_hoist(w, as_count(leaf[c]), tree, start, number, list, g);
+        c = next_hoist(node, c + 1, clauses, k);
+    }
+    g
+}

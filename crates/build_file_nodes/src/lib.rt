@@ -1,0 +1,65 @@
+// The nodes, cases and bindings of the tree file, from the tree in the arena and the scopes of its clauses.
+// One pass over the arena's nodes: above each node the hoists that its scopes put there, then the node, with its references moved to
+// where nodes come to stand, which is found first. The tables by clause, by node and by class are lent from one function to the next;
+// only counts go by value.
+use build_arena::CASE_SIZE;
+use build_arena::NODE_SIZE;
+use build_scopes::Scopes;
+use nodes::Tops;
+use nodes::put_nodes;
+use shift::find_shift;
+ghost use mathlib.Core.Path.{_≡_};
+ghost use Prim.Native.Nat.{_≤_};
+ghost use lib.ListN.{length};
+ghost use Rattle.spec_rules.specs.Limits.{patternsMost, treeRoom};
+ghost use Rattle.spec_rules.specs.Hoisting.{hoistAll};
+ghost use Rattle.build_file_nodes.specs.Written.{WritingAsked, Written};
+
+pub mod bindings;
+pub mod cases;
+pub mod hoists;
+pub mod nodes;
+pub mod shift;
+pub mod uses;
+
+// The three sections from 0 on, of the tree with so many nodes and cases before it is hoisted. The answer is how many nodes, cases
+// and bindings are written and how many paths they use; `classes` has the classes of those paths, in the order of their numbers.
+pub fn write_nodes(
+    w: &[u8],
+    nodes: usize,
+    cases: usize,
+    x: Scopes,
+    clauses: usize,
+    tree: &mut [u8],
+    classes: &mut [u8; 192],
+) -> Tops
+    requires { ⌜ WritingAsked (now w) nodes cases x clauses × (treeRoom ≤ length (now tree)) × (length (now classes) ≡ patternsMost) ⌝ }
+    ensures { λ r. ⌜ ((h : WritingAsked (now (w .entry)) nodes cases x clauses) → Written (h .ready .table) (hoistAll clauses (h .tree)) (now (tree .entry)) (now (tree .exit)) (now (classes .exit)) r) ⌝ }
+{
+    let second = NODE_SIZE * (nodes + x.hoists);
+    let node = x.node;
+    let leaf = x.leaf;
+    let mut shift = [0u8; 1025];
+    find_shift(&node, clauses, nodes, &mut shift);
+    let mut number = [0u8; 192];
+    let f = Tops {
+        nodes: 0,
+        cases: 0,
+        bindings: 0,
+        paths: 0,
+    };
+    put_nodes(
+        w,
+        nodes,
+        &node,
+        &leaf,
+        clauses,
+        &shift,
+        tree,
+        second,
+        second + CASE_SIZE * cases,
+        &mut number,
+        classes,
+        f,
+    )
+}

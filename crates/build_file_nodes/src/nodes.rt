@@ -1,0 +1,216 @@
+// One node of the arena in the tree file: the hoists above it, then its own record with its cases or its bindings.
+// What is written so far is known by the tops of the sections; each function answers them anew. A section's start is given with them.
+// The path numbers are in two tables that are lent with the tops.
+use crate::bindings::put_bindings;
+use crate::cases::moved_default;
+use crate::cases::put_cases;
+use crate::hoists::put_hoists;
+use crate::uses::used;
+use base_words::wide;
+use build_arena::BINDING_SIZE;
+use build_arena::CASE_SIZE;
+use build_arena::reading::node_kind;
+use build_arena::reading::node_word;
+use build_arena::writing::put_node;
+use build_scopes::marks::children_of;
+ghost use mathlib.Core.Path.{_≡_};
+ghost use Prim.Native.Nat.{_+_, _<_};
+ghost use Rattle.spec_rules.specs.TreeFile.{firstOf};
+ghost use Rattle.build_file_nodes.specs.Uses.{usesOf};
+ghost use Rattle.build_file_nodes.specs.Model.{movedBy, placesOf, reachOf, BoundAsked, SwitchNodeAsked, PutSwitchNode, SwitchAsked, OwnAsked, NodeAsked, NodesAsked, outOf, boundOut, switchOut, ownOut, nodeOut, nodesOut};
+
+// How many nodes, cases and bindings are written, and how many paths have a number.
+pub struct Tops {
+    pub nodes: usize,
+    pub cases: usize,
+    pub bindings: usize,
+    pub paths: usize,
+}
+
+// Where a run of so many records begins: an empty one at 0.
+fn first_of(count: usize, first: usize) -> usize
+    ensures { λ r. ⌜ r ≡ firstOf count first ⌝ }
+{
+    if count == 0 {
+        return 0;
+    }
+    first
+}
+
+// A leaf, or a hoist over the child, with the clause and the bindings of the arena's leaf.
+pub fn put_bound(
+    w: &[u8],
+    leaf: usize,
+    kind: u8,
+    child: u16,
+    tree: &mut [u8],
+    start: usize,
+    number: &mut [u8; 192],
+    list: &mut [u8; 192],
+    f: Tops,
+) -> Tops
+    requires { ⌜ BoundAsked (now w) leaf start (now tree) (reachOf (now number) (now list) f) ⌝ }
+    ensures { λ r. ⌜ outOf (now (tree .exit)) (reachOf (now (number .exit)) (now (list .exit)) r) ≡ boundOut (now (w .entry)) start leaf kind child (outOf (now (tree .entry)) (reachOf (now (number .entry)) (now (list .entry)) f)) ⌝ }
+{
+    let clause = node_word(w, leaf, 0);
+    let from = node_word(w, leaf, 1) as usize;
+    let count = node_word(w, leaf, 2);
+    let n = count as usize;
+    let top = f.bindings;
+    let first = first_of(n, top);
+    put_node(tree, f.nodes, kind, clause, first as u16, count, child, 0);
+    let at = start + BINDING_SIZE * top;
+    let paths = put_bindings(w, from, n, tree, at, number, list, f.paths);
+    Tops {
+        nodes: f.nodes + 1,
+        cases: f.cases,
+        bindings: top + n,
+        paths,
+    }
+}
+
+// The record of a switch or a list switch; the answer is how many paths have a number, with its own.
+fn put_switch_node(
+    w: &[u8],
+    k: usize,
+    shift: &[u8; 1025],
+    tree: &mut [u8],
+    number: &mut [u8; 192],
+    list: &mut [u8; 192],
+    f: Tops,
+) -> usize
+    requires { ⌜ SwitchNodeAsked (now w) k (now tree) (reachOf (now number) (now list) f) ⌝ }
+    ensures { λ r. ⌜ PutSwitchNode (now (w .entry)) (movedBy (now (shift .entry))) k (reachOf (now (number .entry)) (now (list .entry)) f) (now (tree .entry)) (now (tree .exit)) (usesOf (now (number .exit)) (now (list .exit)) r) ⌝ }
+{
+    let path = node_word(w, k, 0) as usize;
+    let cases = node_word(w, k, 2);
+    let tails = node_word(w, k, 3);
+    let default = moved_default(shift, node_word(w, k, 4) as usize);
+    let paths = used(number, list, f.paths, path);
+    let own = wide(number[path]) - 1;
+    let kind = node_kind(w, k);
+    let top = f.cases as u16;
+    put_node(tree, f.nodes, kind, own, top, cases, tails, default);
+    paths
+}
+
+fn put_switch(
+    w: &[u8],
+    k: usize,
+    shift: &[u8; 1025],
+    tree: &mut [u8],
+    start: usize,
+    number: &mut [u8; 192],
+    list: &mut [u8; 192],
+    f: Tops,
+) -> Tops
+    requires { ⌜ SwitchAsked (now w) k start (now tree) (reachOf (now number) (now list) f) ⌝ }
+    ensures { λ r. ⌜ outOf (now (tree .exit)) (reachOf (now (number .exit)) (now (list .exit)) r) ≡ switchOut (now (w .entry)) start (movedBy (now (shift .entry))) k (outOf (now (tree .entry)) (reachOf (now (number .entry)) (now (list .entry)) f)) ⌝ }
+{
+    let at = children_of(w, k);
+    let first = at.first;
+    let count = at.count;
+    let paths = put_switch_node(w, k, shift, tree, number, list, f);
+    let top = f.cases;
+    put_cases(w, first, count, shift, tree, start + CASE_SIZE * top);
+    Tops {
+        nodes: f.nodes + 1,
+        cases: top + count,
+        bindings: f.bindings,
+        paths,
+    }
+}
+
+fn put_own(
+    w: &[u8],
+    k: usize,
+    shift: &[u8; 1025],
+    tree: &mut [u8],
+    cases: usize,
+    bindings: usize,
+    number: &mut [u8; 192],
+    list: &mut [u8; 192],
+    f: Tops,
+) -> Tops
+    requires { ⌜ OwnAsked (now w) k cases bindings (now tree) (reachOf (now number) (now list) f) ⌝ }
+    ensures { λ r. ⌜ outOf (now (tree .exit)) (reachOf (now (number .exit)) (now (list .exit)) r) ≡ ownOut (now (w .entry)) cases bindings (movedBy (now (shift .entry))) k (outOf (now (tree .entry)) (reachOf (now (number .entry)) (now (list .entry)) f)) ⌝ }
+{
+    if node_kind(w, k) == 2 {
+        return put_bound(w, k, 2, 0, tree, bindings, number, list, f);
+    }
+    put_switch(w, k, shift, tree, cases, number, list, f)
+}
+
+// Node k with the hoists above it.
+pub fn put_one(
+    w: &[u8],
+    k: usize,
+    node: &[u16; 32],
+    leaf: &[u16; 32],
+    clauses: usize,
+    shift: &[u8; 1025],
+    tree: &mut [u8],
+    cases: usize,
+    bindings: usize,
+    number: &mut [u8; 192],
+    list: &mut [u8; 192],
+    f: Tops,
+) -> Tops
+    requires { ⌜ NodeAsked (now w) k (placesOf (now node) (now leaf)) clauses (now shift) cases bindings (now tree) (reachOf (now number) (now list) f) ⌝ }
+    ensures { λ r. ⌜ outOf (now (tree .exit)) (reachOf (now (number .exit)) (now (list .exit)) r) ≡ nodeOut (now (w .entry)) cases bindings (placesOf (now (node .entry)) (now (leaf .entry))) clauses k (outOf (now (tree .entry)) (reachOf (now (number .entry)) (now (list .entry)) f)) ⌝ }
+{
+    let g = put_hoists(
+        w,
+        k,
+        node,
+        leaf,
+        clauses,
+        shift,
+        tree,
+        bindings,
+        number,
+        list,
+        f,
+    );
+    put_own(w, k, shift, tree, cases, bindings, number, list, g)
+}
+
+// All nodes, in order.
+pub fn put_nodes(
+    w: &[u8],
+    nodes: usize,
+    node: &[u16; 32],
+    leaf: &[u16; 32],
+    clauses: usize,
+    shift: &[u8; 1025],
+    tree: &mut [u8],
+    cases: usize,
+    bindings: usize,
+    number: &mut [u8; 192],
+    list: &mut [u8; 192],
+    f: Tops,
+) -> Tops
+    requires { ⌜ NodesAsked (now w) nodes (placesOf (now node) (now leaf)) clauses (now shift) cases bindings (now tree) (reachOf (now number) (now list) f) ⌝ }
+    ensures { λ r. ⌜ outOf (now (tree .exit)) (reachOf (now (number .exit)) (now (list .exit)) r) ≡ nodesOut (now (w .entry)) cases bindings (placesOf (now (node .entry)) (now (leaf .entry))) clauses 0 nodes (outOf (now (tree .entry)) (reachOf (now (number .entry)) (now (list .entry)) f)) ⌝ }
+{
+    let mut g = f;
+    let mut k = 0;
+    while k < nodes {
+        g = put_one(
+            w,
+            k,
+            node,
+            leaf,
+            clauses,
+            shift,
+            tree,
+            cases,
+            bindings,
+            number,
+            list,
+            g,
+        );
+        k += 1;
+    }
+    g
+}

@@ -1,0 +1,86 @@
+// The tail of a tree file: the paths that its nodes and bindings use, their steps, the sheet's pool and the trailer.
+// A path is known by its class, a pattern's number; its steps are read off the table of patterns.
+mod limits;
+mod records;
+mod steps;
+
+use base_words::put_word;
+use format_sheet::Map;
+use limits::TRAILER;
+use records::put_paths;
+use steps::put_all_steps;
+ghost use mathlib.Core.Path.{_≡_};
+ghost use Prim.Native.Nat.{_+_, _<_, _≤_};
+ghost use lib.ListN.{length};
+ghost use Rattle.base_words.specs.Words.{wordBytes};
+ghost use Rattle.base_words.specs.Stored.{stored};
+ghost use Rattle.spec_rules.specs.Limits.{treeTrailer, treeRoom};
+ghost use Rattle.spec_rules.specs.SheetFile.{poolSize, pool};
+ghost use Rattle.build_table.specs.Tabled.{Checked};
+ghost use Rattle.build_file_tail.specs.Tail.{Puts, TailReady, usedPaths, trailerBytes, tailBytes};
+
+fn copy_pool(s: &[u8], m: Map, tree: &mut [u8], at: usize) -> usize
+    requires { ⌜ Checked (now s) m × (at + poolSize (now s) ≤ length (now tree)) ⌝ }
+    ensures { λ r. ⌜ Puts (now (tree .entry)) (now (tree .exit)) at r (pool (now (s .entry))) ⌝ }
+{
+    let from = m.at.pool;
+    let size = m.counts.pool;
+    let mut i: usize = 0;
+    while i < size {
+        tree[at + i] = s[from + i];
+        i += 1;
+    }
+    at + size
+}
+
+fn put_number(tree: &mut [u8], at: usize, v: usize)
+    requires { ⌜ (at + 1 < length (now tree)) × (v < 65536) ⌝ }
+    ensures { λ _. ⌜ now (tree .exit) ≡ stored (now (tree .entry)) at (wordBytes v) ⌝ }
+{
+    put_word(tree, at, v as u16);
+}
+
+// Where the six sections start, and the length of the file, of which this is the end.
+fn put_trailer(
+    tree: &mut [u8],
+    at: usize,
+    cases: usize,
+    bindings: usize,
+    paths: usize,
+    steps: usize,
+    pool: usize,
+)
+    requires { ⌜ (at + treeTrailer ≤ length (now tree)) × (at + treeTrailer < treeRoom) ⌝ }
+    requires { ⌜ (cases ≤ bindings) × (bindings ≤ paths) × (paths ≤ steps) × (steps ≤ pool) × (pool ≤ at) ⌝ }
+    ensures { λ _. ⌜ now (tree .exit) ≡ stored (now (tree .entry)) at (trailerBytes cases bindings paths steps pool at) ⌝ }
+{
+    put_number(tree, at, 0);
+    put_number(tree, at + 2, cases);
+    put_number(tree, at + 4, bindings);
+    put_number(tree, at + 6, paths);
+    put_number(tree, at + 8, steps);
+    put_number(tree, at + 10, pool);
+    put_number(tree, at + 12, at + TRAILER);
+}
+
+// All that follows the bindings: the paths of the first `count` classes, their steps, the pool and the trailer; where the file ends.
+pub fn put_tail(
+    s: &[u8],
+    m: Map,
+    t: &[u8],
+    classes: &[u8],
+    count: usize,
+    tree: &mut [u8],
+    cases: usize,
+    bindings: usize,
+    paths: usize,
+) -> usize
+    requires { ⌜ TailReady (now s) m (now t) (now classes) count (now tree) cases bindings paths ⌝ }
+    ensures { λ r. ⌜ Puts (now (tree .entry)) (now (tree .exit)) paths r (tailBytes (pool (now (s .entry))) (usedPaths (now (s .entry)) (now (classes .entry)) 0 count) cases bindings paths) ⌝ }
+{
+    let steps = put_paths(t, classes, count, tree, paths);
+    let pool = put_all_steps(s, m, t, classes, count, tree, steps);
+    let end = copy_pool(s, m, tree, pool);
+    put_trailer(tree, end, cases, bindings, paths, steps, pool);
+    end + TRAILER
+}

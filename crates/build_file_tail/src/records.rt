@@ -1,0 +1,51 @@
+// The path records: for each path where its steps start among all steps, and how many there are.
+// The table has how many steps the path of a class has.
+use crate::limits::PATH_SIZE;
+use base_words::put_word;
+use base_words::wide;
+use build_table::DEPTH;
+ghost use mathlib.Core.Path.{_≡_};
+ghost use mathlib.Core.List.{map};
+ghost use Prim.Native.Nat.{_+_, _*_, _<_, _≤_};
+ghost use lib.ListN.{length};
+ghost use Rattle.base_words.specs.Words.{textAt};
+ghost use Rattle.base_words.specs.Stored.{stored};
+ghost use Rattle.spec_rules.specs.Limits.{pathSize, patternsMost, treeRoom};
+ghost use Rattle.spec_rules.specs.TreeFile.{firstOf};
+ghost use Rattle.build_table.specs.Table.{tableSize};
+ghost use Rattle.build_file_tail.specs.Tail.{Puts, Used, countIn, together, pathRecord, pathRecords};
+
+// A path's first step: 0 where it has none.
+fn first_of(count: u16, first: u16) -> u16
+    ensures { λ r. ⌜ r ≡ firstOf count first ⌝ }
+{
+    if count == 0 {
+        return 0;
+    }
+    first
+}
+
+// The record of a path of `count` steps, of which the first is `first`.
+fn put_path(tree: &mut [u8], at: usize, first: u16, count: u16)
+    requires { ⌜ at + pathSize ≤ length (now tree) ⌝ }
+    ensures { λ _. ⌜ now (tree .exit) ≡ stored (now (tree .entry)) at (pathRecord first count) ⌝ }
+{
+    put_word(tree, at, first_of(count, first));
+    put_word(tree, at + 2, count);
+}
+
+pub fn put_paths(t: &[u8], classes: &[u8], count: usize, tree: &mut [u8], at: usize) -> usize
+    requires { ⌜ (length (now t) ≡ tableSize) × Used patternsMost (now classes) count × (at + pathSize * count ≤ length (now tree)) ⌝ }
+    requires { ⌜ together (map (countIn (now t)) (textAt (now classes) 0 count)) < treeRoom ⌝ }
+    ensures { λ r. ⌜ Puts (now (tree .entry)) (now (tree .exit)) at r (pathRecords 0 (map (countIn (now (t .entry))) (textAt (now (classes .entry)) 0 count))) ⌝ }
+{
+    let mut first: u16 = 0;
+    let mut i: usize = 0;
+    while i < count {
+        let steps = wide(t[DEPTH + build_table::at(classes, i)]);
+        put_path(tree, at + PATH_SIZE * i, first, steps);
+        first += steps;
+        i += 1;
+    }
+    at + PATH_SIZE * count
+}

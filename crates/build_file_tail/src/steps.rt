@@ -1,0 +1,113 @@
+// The steps of paths, as the table has them: a pattern's own step, if it has one, follows those of the pattern above.
+// So a path is climbed from its class to the root, and its steps are stored from the last to the first.
+use crate::limits::CONSTR;
+use crate::limits::DATA;
+use crate::limits::DECORATED;
+use crate::limits::STEP_SIZE;
+use base_words::put_word;
+use base_words::wide;
+use build_table::ABOVE;
+use build_table::DEPTH;
+use build_table::INDEX;
+use build_table::SAME;
+use build_table::STEP;
+use build_table::TYPE;
+use format_sheet::Map;
+use format_sheet::records::TypeRecord;
+use format_sheet::records::type_at;
+ghost use mathlib.Core.Path.{_≡_};
+ghost use Prim.Native.Nat.{_+_, _<_, _≤_};
+ghost use lib.ListN.{length};
+ghost use Rattle.base_words.specs.Stored.{stored};
+ghost use Rattle.spec_rules.specs.Limits.{stepSize};
+ghost use Rattle.spec_rules.specs.SheetFile.{patterns};
+ghost use Rattle.spec_rules.specs.TreeFile.{pathSteps, stepsBytes};
+ghost use Rattle.build_table.specs.Standing.{pathOf, stepOf};
+ghost use Rattle.build_table.specs.Tabled.{Checked, Tabled};
+ghost use Rattle.build_file_tail.specs.Tail.{Puts, Used, usedPaths, ownSteps, flagOf, stepRecord};
+
+// A step's flag: 1 for a field of a list-decorated one-constructor type.
+fn flag_of(step: u8, ty: TypeRecord) -> u8
+    ensures { λ r. ⌜ r ≡ flagOf step ty ⌝ }
+{
+    if step != CONSTR {
+        return 0;
+    }
+    if ty.kind != DATA {
+        return 0;
+    }
+    if ty.count != 1 {
+        return 0;
+    }
+    if ty.flag < DECORATED {
+        return 0;
+    }
+    1
+}
+
+fn put_fields(tree: &mut [u8], at: usize, kind: u8, flag: u8, index: u16, tipo: u16)
+    requires { ⌜ at + stepSize ≤ length (now tree) ⌝ }
+    ensures { λ _. ⌜ now (tree .exit) ≡ stored (now (tree .entry)) at (stepRecord kind flag index tipo) ⌝ }
+{
+    tree[at] = kind;
+    tree[at + 1] = flag;
+    put_word(tree, at + 2, index);
+    put_word(tree, at + 4, tipo);
+}
+
+// The step to p itself, if there is one, so that it ends at `end`; where it starts.
+fn put_step(s: &[u8], m: Map, t: &[u8], p: usize, tree: &mut [u8], end: usize) -> usize
+    requires { ⌜ Checked (now s) m × Tabled (now s) (now t) × (p < patterns (now s)) ⌝ }
+    requires { ⌜ (length (pathSteps (ownSteps (stepOf (now s) p))) ≤ end) × (end ≤ length (now tree)) ⌝ }
+    ensures { λ r. ⌜ Puts (now (tree .entry)) (now (tree .exit)) r end (pathSteps (ownSteps (stepOf (now (s .entry)) p))) ⌝ }
+{
+    let step = t[STEP + p];
+    if step == SAME {
+        return end;
+    }
+    let above = build_table::at(t, ABOVE + p);
+    let tipo = wide(t[TYPE + above]);
+    let flag = flag_of(step, type_at(s, m, tipo as usize));
+    let start = end - STEP_SIZE;
+    put_fields(tree, start, step, flag, wide(t[INDEX + p]), tipo);
+    start
+}
+
+// The steps of the class's path.
+fn put_steps(s: &[u8], m: Map, t: &[u8], class: usize, tree: &mut [u8], at: usize) -> usize
+    requires { ⌜ Checked (now s) m × Tabled (now s) (now t) × (class < patterns (now s)) ⌝ }
+    requires { ⌜ at + length (pathSteps (pathOf (now s) class)) ≤ length (now tree) ⌝ }
+    ensures { λ r. ⌜ Puts (now (tree .entry)) (now (tree .exit)) at r (pathSteps (pathOf (now (s .entry)) class)) ⌝ }
+{
+    let end = at + STEP_SIZE * build_table::at(t, DEPTH + class);
+    let mut p = class;
+    let mut to = end;
+    while at < to {
+        to = put_step(s, m, t, p, tree, to);
+        p = build_table::at(t, ABOVE + p);
+    }
+    end
+}
+
+// The steps of the paths of the first `count` classes.
+pub fn put_all_steps(
+    s: &[u8],
+    m: Map,
+    t: &[u8],
+    classes: &[u8],
+    count: usize,
+    tree: &mut [u8],
+    at: usize,
+) -> usize
+    requires { ⌜ Checked (now s) m × Tabled (now s) (now t) × Used (patterns (now s)) (now classes) count ⌝ }
+    requires { ⌜ at + length (stepsBytes (usedPaths (now s) (now classes) 0 count)) ≤ length (now tree) ⌝ }
+    ensures { λ r. ⌜ Puts (now (tree .entry)) (now (tree .exit)) at r (stepsBytes (usedPaths (now (s .entry)) (now (classes .entry)) 0 count)) ⌝ }
+{
+    let mut end = at;
+    let mut i: usize = 0;
+    while i < count {
+        end = put_steps(s, m, t, build_table::at(classes, i), tree, end);
+        i += 1;
+    }
+    end
+}

@@ -1,0 +1,255 @@
+// A leaf's bindings put into the arena: those of its clause's root, then what each column tested opened in the clause's row.
+// A binding is the number of its pattern; it is stored as its name and the class of its path, which the table has.
+use build_arena::writing;
+use build_matrix::wide;
+use build_table::CELL;
+use build_table::CLASS;
+use build_table::OWNER;
+use build_table::at;
+use format_sheet::Map;
+use format_sheet::records::child_in;
+use format_sheet::records::children_of;
+use format_sheet::records::pattern_in;
+use format_sheet::records::root_at;
+ghost use mathlib.Core.Path.{_≡_};
+ghost use Prim.Native.Nat.{_<_};
+ghost use lib.ListN.{getD, take};
+ghost use Rattle.spec_rules.specs.Limits.{patternsMost};
+ghost use Rattle.spec_rules.specs.SheetFile.{patternsAt, childrenAt, patterns, children, clauses, root};
+ghost use Rattle.spec_accepted.specs.SheetFacts.{Accepted};
+ghost use Rattle.build_table.specs.Seen.{bindsOf, bindsOfEach};
+ghost use Rattle.build_table.specs.Tabled.{Tabled};
+ghost use Rattle.build_matrix.specs.Live.{openedTest};
+ghost use Rattle.build_matrix.specs.Bound.{numbersHeld, leafNumbers};
+ghost use Rattle.build_matrix.specs.Ready.{Ready};
+ghost use Rattle.build_leaves.specs.Bindings.{bound, boundOne, boundAll, ownOf, Room, Started, Entries, Parts, Gives, LeafAsked};
+
+// The room for bindings. Where there are more, their number is told as one more than it.
+pub const BINDINGS_MOST: usize = 4096;
+
+// The binding of pattern p, behind the `top` bindings there are.
+fn put_binding(s: &[u8], records: usize, t: &[u8], p: usize, work: &mut [u8], top: usize) -> usize
+    requires { ⌜ Accepted (now s) × Tabled (now s) (now t) × (records ≡ patternsAt (now s)) × (p < patterns (now s)) × Room (now work) top ⌝ }
+    ensures { λ r. ⌜ bound (now (work .exit)) r ≡ boundOne (now (s .entry)) (bound (now (work .entry)) top) p ⌝ }
+{
+    if top >= BINDINGS_MOST {
+        return BINDINGS_MOST + 1;
+    }
+    let r = pattern_in(s, records, p);
+    let class = at(t, CLASS + p);
+    writing::put_binding(work, top, r.a as u16, class as u16);
+    top + 1
+}
+
+// What a pattern gives to its row's bindings: its own name, if it has one, and what its `count` children from entry `first` on give.
+struct Given {
+    named: bool,
+    first: usize,
+    count: usize,
+}
+
+// What a constructor, pair or tuple gives: what its children give, but a test nothing until it is opened. A test is what its children
+// are inside of.
+fn parts_given(s: &[u8], list: usize, t: &[u8], p: usize, first: usize, count: usize) -> Given
+    requires { ⌜ Accepted (now s) × Tabled (now s) (now t) × (list ≡ childrenAt (now s)) × Parts (now s) p first count ⌝ }
+    ensures { λ r. ⌜ Gives (now (s .entry)) p r ⌝ }
+{
+    let nothing = Given {
+        named: false,
+        first: 0,
+        count: 0,
+    };
+    if count == 0 {
+        return nothing;
+    }
+    if at(t, OWNER + child_in(s, list, first)) == p + 1 {
+        return nothing;
+    }
+    Given {
+        named: false,
+        first,
+        count,
+    }
+}
+
+// One decision over kinds 0 to 9.
+fn gives(s: &[u8], records: usize, list: usize, t: &[u8], p: usize) -> Given
+    requires { ⌜ Started (now s) (now t) records list × (p < patterns (now s)) ⌝ }
+    ensures { λ r. ⌜ Gives (now (s .entry)) p r ⌝ }
+{
+    let r = pattern_in(s, records, p);
+    let kind = r.kind;
+    match kind {
+        1 => Given {
+            named: true,
+            first: 0,
+            count: 0,
+        },
+        2 => Given {
+            named: true,
+            first: r.first,
+            count: r.count,
+        },
+        7 | 8 | 9 => parts_given(s, list, t, p, r.first, r.count),
+        _ => Given {
+            named: false,
+            first: 0,
+            count: 0,
+        },
+    }
+}
+
+// Pattern p's own binding, if it is named.
+fn put_own(
+    s: &[u8],
+    records: usize,
+    t: &[u8],
+    p: usize,
+    named: bool,
+    work: &mut [u8],
+    top: usize,
+) -> usize
+    requires { ⌜ Accepted (now s) × Tabled (now s) (now t) × (records ≡ patternsAt (now s)) × (p < patterns (now s)) × Room (now work) top ⌝ }
+    ensures { λ r. ⌜ bound (now (work .exit)) r ≡ boundAll (now (s .entry)) (bound (now (work .entry)) top) (ownOf named p) ⌝ }
+{
+    if named {
+        return put_binding(s, records, t, p, work, top);
+    }
+    top
+}
+
+// The bindings of pattern p: its own, then those of its children.
+fn put_bindings(
+    s: &[u8],
+    records: usize,
+    list: usize,
+    t: &[u8],
+    p: usize,
+    work: &mut [u8],
+    top: usize,
+) -> usize
+    requires { ⌜ Started (now s) (now t) records list × (p < patterns (now s)) × Room (now work) top ⌝ }
+    ensures { λ r. ⌜ bound (now (work .exit)) r ≡ boundAll (now (s .entry)) (bound (now (work .entry)) top) (bindsOf (now (s .entry)) p) ⌝ }
+{
+    let g = gives(s, records, list, t, p);
+    let next = put_own(s, records, t, p, g.named, work, top);
+    if g.count == 0 {
+        return next;
+    }
+    put_all_bindings(s, records, list, t, p, g.first, g.count, work, next)
+}
+
+// The bindings of n children of `parent` from entry j on. A child has a larger number than its parent, so that the two functions end.
+fn put_all_bindings(
+    s: &[u8],
+    records: usize,
+    list: usize,
+    t: &[u8],
+    parent: usize,
+    j: usize,
+    n: usize,
+    work: &mut [u8],
+    top: usize,
+) -> usize
+    requires { ⌜ Started (now s) (now t) records list × Entries (now s) parent j n × Room (now work) top ⌝ }
+    ensures { λ r. ⌜ bound (now (work .exit)) r ≡ boundAll (now (s .entry)) (bound (now (work .entry)) top) (bindsOfEach (now (s .entry)) j n) ⌝ }
+{
+    let mut next = top;
+    let mut k: usize = 0;
+    while k < n {
+        let q = child_in(s, list, j + k);
+        next = put_bindings(s, records, list, t, q, work, next);
+        k += 1;
+    }
+    next
+}
+
+// The bindings of clause c's root. They are put as put_bindings puts them, and not by a call of it: the loop over children alone calls
+// it, so that it is compiled into that loop, and a call is made only for a pattern with something inside.
+fn put_root(s: &[u8], m: Map, t: &[u8], c: usize, work: &mut [u8], top: usize) -> usize
+    requires { ⌜ Ready (now s) m (now t) × (c < clauses (now s)) × Room (now work) top ⌝ }
+    ensures { λ r. ⌜ bound (now (work .exit)) r ≡ boundAll (now (s .entry)) (bound (now (work .entry)) top) (bindsOf (now (s .entry)) (root (now (s .entry)) c)) ⌝ }
+{
+    let records = m.at.patterns;
+    let list = m.at.children;
+    let p = root_at(s, m, c);
+    let g = gives(s, records, list, t, p);
+    let own = put_own(s, records, t, p, g.named, work, top);
+    if g.count == 0 {
+        return own;
+    }
+    put_all_bindings(s, records, list, t, p, g.first, g.count, work, own)
+}
+
+// What clause c's test in the column of the class opened, if it was opened as that column was tested, after `time` others.
+fn put_opened(
+    s: &[u8],
+    m: Map,
+    t: &[u8],
+    opened: &[u8; 192],
+    c: usize,
+    time: usize,
+    class: usize,
+    work: &mut [u8],
+    top: usize,
+) -> usize
+    requires { ⌜ Ready (now s) m (now t) × (c < clauses (now s)) × (class < patternsMost) × (time < patternsMost) × Room (now work) top ⌝ }
+    ensures { λ r. ⌜ bound (now (work .exit)) r ≡ boundAll (now (s .entry)) (bound (now (work .entry)) top) (numbersHeld (now (s .entry)) (openedTest (now (s .entry)) (now (opened .entry)) c time class)) ⌝ }
+{
+    let cell = at(t, CELL + 192 * c + class);
+    if cell == 0 {
+        return top;
+    }
+    let p = cell - 1;
+    if wide(opened[p]) != time + 1 {
+        return top;
+    }
+    let run = children_of(s, m, p);
+    if run.count == 0 {
+        return top;
+    }
+    put_all_bindings(
+        s,
+        m.at.patterns,
+        m.at.children,
+        t,
+        p,
+        run.first,
+        run.count,
+        work,
+        top,
+    )
+}
+
+// The class at a place of a list.
+fn class_at(list: &[u8; 192], i: usize) -> usize
+    requires { ⌜ i < patternsMost ⌝ }
+    ensures { λ r. ⌜ r ≡ getD (now (list .entry)) i 0 ⌝ }
+{
+    wide(list[i])
+}
+
+// What the leaf of clause c binds, where the first n classes of `tested` were tested, behind the `top` bindings there are; the number of all.
+pub fn leaf_bindings<'a>(
+    s: &[u8],
+    m: Map,
+    t: &[u8],
+    c: usize,
+    tested: &'a [u8; 192],
+    n: usize,
+    opened: &'a [u8; 192],
+    work: &mut [u8],
+    top: usize,
+) -> usize
+    requires { ⌜ Ready (now s) m (now t) × LeafAsked (now s) c (now tested) n × Room (now work) top ⌝ }
+    ensures { λ r. ⌜ bound (now (work .exit)) r ≡ boundAll (now (s .entry)) (bound (now (work .entry)) top) (leafNumbers (now (s .entry)) (now (opened .entry)) (take n (now (tested .entry))) c) ⌝ }
+{
+    let mut next = put_root(s, m, t, c, work, top);
+    let mut time: usize = 0;
+    while time < n {
+        let class = class_at(tested, time);
+        next = put_opened(s, m, t, opened, c, time, class, work, next);
+        time += 1;
+    }
+    next
+}

@@ -1,0 +1,83 @@
+// Rule 4: whether the test of a pattern belongs to a case, whose test is as the arena has it: a text by where it is in the pool.
+// A list with tail belongs to the case of each length from the number of its elements on.
+use base_words::same_text;
+use build_arena::reading::Test;
+use format_sheet::Map;
+use format_sheet::records::PatternRecord;
+use format_sheet::records::pattern_at;
+ghost use mathlib.Core.Path.{_≡_};
+ghost use Prim.Native.Nat.{_+_, _≤_};
+ghost use Rattle.base_words.specs.Words.{sameText};
+ghost use Rattle.spec_rules.specs.SheetFile.{poolSize, poolText};
+ghost use Rattle.build_table.specs.Tabled.{Checked};
+ghost use Rattle.build_matrix.specs.Ready.{TestKnown};
+ghost use Rattle.build_matrix.specs.Meant.{joinsTest, InPool, coversConstructor, textPattern, coversText, coversTailed, coversList};
+
+// Two texts of the pool are the same.
+fn same_texts(s: &[u8], m: Map, a: usize, n: usize, b: usize, k: usize) -> bool
+    requires { ⌜ Checked (now s) m × (a + n ≤ poolSize (now s)) × (b + k ≤ poolSize (now s)) ⌝ }
+    ensures { λ r. ⌜ r ≡ sameText (poolText (now (s .entry)) a n) (poolText (now (s .entry)) b k) ⌝ }
+{
+    if n != k {
+        return false;
+    }
+    same_text(s, m.at.pool + a, s, m.at.pool + b, n)
+}
+
+fn covers_constructor(r: PatternRecord, number: u16) -> bool
+    ensures { λ x. ⌜ x ≡ coversConstructor r number ⌝ }
+{
+    if r.kind != 7 {
+        return false;
+    }
+    number as usize == r.a
+}
+
+// The kind of a pattern with such a text: an integer, or a byte string.
+fn text_pattern(kind: u8) -> u8
+    ensures { λ r. ⌜ r ≡ textPattern kind ⌝ }
+{
+    if kind == 1 { 3 } else { 4 }
+}
+
+fn covers_text(s: &[u8], m: Map, r: PatternRecord, kind: u8, start: u16, count: u16) -> bool
+    requires { ⌜ Checked (now s) m × (start + count ≤ poolSize (now s)) × ((3 ≤ r .kind) → (r .kind ≤ 4) → r .first + r .count ≤ poolSize (now s)) ⌝ }
+    ensures { λ x. ⌜ x ≡ coversText (now (s .entry)) r kind start count ⌝ }
+{
+    if r.kind != text_pattern(kind) {
+        return false;
+    }
+    same_texts(s, m, start as usize, count as usize, r.first, r.count)
+}
+
+fn covers_tailed(r: PatternRecord, n: u16) -> bool
+    ensures { λ x. ⌜ x ≡ coversTailed r n ⌝ }
+{
+    if r.kind != 6 {
+        return false;
+    }
+    r.count <= n as usize + 1
+}
+
+fn covers_list(r: PatternRecord, n: u16) -> bool
+    ensures { λ x. ⌜ x ≡ coversList r n ⌝ }
+{
+    if r.kind == 5 {
+        return n as usize == r.count;
+    }
+    covers_tailed(r, n)
+}
+
+// The test of pattern p belongs to the case.
+pub fn covers(s: &[u8], m: Map, p: usize, test: Test) -> bool
+    requires { ⌜ Checked (now s) m × TestKnown (now s) p × InPool (now s) test ⌝ }
+    ensures { λ r. ⌜ r ≡ joinsTest (now (s .entry)) test p ⌝ }
+{
+    let r = pattern_at(s, m, p);
+    match test {
+        Test::Constr(number) => covers_constructor(r, number),
+        Test::Text { kind, start, count } => covers_text(s, m, r, kind, start, count),
+        Test::List(n) => covers_list(r, n),
+        Test::Tailed(n) => covers_tailed(r, n),
+    }
+}

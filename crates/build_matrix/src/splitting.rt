@@ -1,0 +1,243 @@
+// Rules 2 and 4: the matrix of the clauses, of a default and of a case of a column.
+// The matrix of a default or of a case reads its parent's rows and columns where they are and is made in arrays that are lent: its rows
+// are found going down, its columns put from the last row up, and the column is tested behind those tested so far, where these are.
+use crate::Classes;
+use crate::Held;
+use crate::Matrix;
+use crate::PerRow;
+use crate::Sizes;
+use crate::columns::empty;
+use crate::columns::map_pattern_to_row;
+use crate::columns::open;
+use crate::columns::push;
+use crate::columns::put_rest;
+use crate::covering::covers;
+use crate::rows::put_row;
+use crate::rows::test_at;
+use crate::rows::wild_rows;
+use crate::wide;
+use build_arena::reading::Test;
+use format_sheet::Map;
+use format_sheet::records::root_at;
+ghost use mathlib.Core.Path.{_≡_};
+ghost use mathlib.Core.Bool.{true};
+ghost use mathlib.Core.List.{[], _++_};
+ghost use Prim.Native.Nat.{_+_, _<_, _≤_};
+ghost use lib.ListN.{length, take};
+ghost use Rattle.spec_rules.specs.Limits.{clausesMost, patternsMost};
+ghost use Rattle.spec_rules.specs.SheetRefusals.{isIn};
+ghost use Rattle.spec_rules.specs.SplittingLaws.{All};
+ghost use Rattle.spec_rules.specs.SheetFile.{clauses};
+ghost use Rattle.build_table.specs.Tabled.{Checked};
+ghost use Rattle.build_table.specs.Seen.{openedTests};
+ghost use Rattle.build_matrix.specs.Live.{liveIn};
+ghost use Rattle.build_matrix.specs.RowStates.{upFrom};
+ghost use Rattle.build_matrix.specs.HeldRows.{joinOf, opensOf};
+ghost use Rattle.build_matrix.specs.Matrices.{gather, rootTests, marked};
+ghost use Rattle.build_matrix.specs.Numbered.{SoundOf, firstNumbered, caseNumbered};
+ghost use Rattle.build_matrix.specs.Lists.{asClasses, asRows, Holds, HoldsRows, WholeRows};
+ghost use Rattle.build_matrix.specs.Ready.{Ready, putTests, TestKnown};
+ghost use Rattle.build_matrix.specs.Meant.{meant, joinsTest, InPool, HeldKnown, joinRow, openRow, JoinsTo};
+ghost use Rattle.build_matrix.specs.InNumbers.{inNumbers, matrixOf, WholeMatrix, StandsFor, Splits, defaultRead};
+
+// A row for each of n clauses.
+fn all_rows(n: usize) -> PerRow
+    requires { ⌜ n ≤ clausesMost ⌝ }
+    ensures { λ r. ⌜ HoldsRows r (upFrom 0 n) ⌝ }
+{
+    let mut list: [u8; 32] = [0; 32];
+    let mut c: usize = 0;
+    while c < n {
+        list[c] = c as u8;
+        c += 1;
+    }
+    PerRow { list, count: n }
+}
+
+// The columns of all clauses.
+fn first_columns(s: &[u8], m: Map, t: &[u8]) -> Classes
+    requires { ⌜ Ready (now s) m (now t) ⌝ }
+    ensures { λ r. ⌜ Holds r (putTests (now (s .entry)) (gather (rootTests (now (s .entry))) (upFrom 0 (clauses (now (s .entry))))) []) ⌝ }
+{
+    let mut list = [0u8; 192];
+    let mut count: usize = 0;
+    let mut c = m.counts.clauses;
+    while 0 < c {
+        c -= 1;
+        count = map_pattern_to_row(s, m, t, &mut list, count, root_at(s, m, c));
+    }
+    Classes { list, count }
+}
+
+// The matrix of the clauses.
+pub fn first_matrix(s: &[u8], m: Map, t: &[u8]) -> Matrix
+    requires { ⌜ Ready (now s) m (now t) ⌝ }
+    ensures { λ r. ⌜ StandsFor r (firstNumbered (now (s .entry))) ⌝ }
+{
+    let rows = all_rows(m.counts.clauses);
+    let columns = first_columns(s, m, t);
+    Matrix {
+        rows,
+        columns,
+        tested: empty(),
+        opened: [0; 192],
+    }
+}
+
+// The default of the column of a class: the rows with a wildcard there, the other columns, and this one tested; what is opened stays.
+pub fn default_matrix<'a, 'b>(
+    t: &[u8],
+    rows: &'a [u8; 32],
+    columns: &'a [u8; 192],
+    tested: &'b mut [u8; 192],
+    opened: &'a [u8; 192],
+    n: Sizes,
+    class: usize,
+    new_rows: &'b mut [u8; 32],
+    new_columns: &'b mut [u8; 192],
+) -> Sizes
+    requires { ⌜ Splits (now t) (matrixOf (now rows) (now columns) (now tested) (now opened) n) class ⌝ }
+    requires { ⌜ (length (now «new_rows») ≡ clausesMost) × (length (now «new_columns») ≡ patternsMost) ⌝ }
+    ensures { λ r. ⌜ StandsFor (matrixOf (now («new_rows» .exit)) (now («new_columns» .exit)) (now (tested .exit)) (now (opened .entry)) r) (defaultRead (now (t .entry)) class (inNumbers (matrixOf (now (rows .entry)) (now (columns .entry)) (now (tested .entry)) (now (opened .entry)) n))) ⌝ }
+{
+    let count = wild_rows(t, rows, n.rows, opened, class, new_rows);
+    let rest = put_rest(new_columns, 0, columns, n.columns, class);
+    push(tested, n.tested, class);
+    Sizes {
+        rows: count,
+        columns: rest,
+        tested: n.tested + 1,
+    }
+}
+
+// How many of each there are so far.
+struct Counts {
+    rows: usize,
+    opens: usize,
+}
+
+// The row of clause c, which has this in the column: a wildcard joins, and a test that belongs to the case.
+fn join_row(
+    s: &[u8],
+    m: Map,
+    rows: &mut [u8; 32],
+    opens: &mut [u8; 32],
+    o: Counts,
+    c: u8,
+    held: Held,
+    test: Test,
+) -> Counts
+    requires { ⌜ Checked (now s) m × HeldKnown (now s) held × InPool (now s) test ⌝ }
+    requires { ⌜ WholeRows (asRows (now rows) (o .rows)) × WholeRows (asRows (now opens) (o .opens)) × (o .rows < clausesMost) × (o .opens < clausesMost) ⌝ }
+    ensures { λ r. ⌜ JoinsTo (asRows (now (rows .exit)) (r .rows)) (asRows (now (opens .exit)) (r .opens)) (take (o .rows) (now (rows .entry)) ++ joinRow (joinsTest (now (s .entry)) test) held c) (take (o .opens) (now (opens .entry)) ++ openRow (joinsTest (now (s .entry)) test) held) ⌝ }
+{
+    match held {
+        Held::Test(p) => {
+            if !covers(s, m, p, test) {
+                return o;
+            }
+            Counts {
+                rows: put_row(rows, o.rows, c),
+                opens: put_row(opens, o.opens, p as u8),
+            }
+        }
+        Held::Wildcard => {
+            let count = put_row(rows, o.rows, c);
+            Counts {
+                rows: count,
+                opens: o.opens,
+            }
+        }
+    }
+}
+
+// Of the first n of these rows those of a case of the column of a class, and the tests that they open; how many of each.
+fn join_rows<'a, 'b>(
+    s: &[u8],
+    m: Map,
+    t: &[u8],
+    from: &'a [u8; 32],
+    n: usize,
+    opened: &'a [u8; 192],
+    class: usize,
+    test: Test,
+    rows: &'b mut [u8; 32],
+    opens: &'b mut [u8; 32],
+) -> Counts
+    requires { ⌜ Ready (now s) m (now t) × WholeRows (asRows (now from) n) × All (λ c. c < clauses (now s)) (take n (now from)) × (class < patternsMost) × InPool (now s) test ⌝ }
+    requires { ⌜ (length (now rows) ≡ clausesMost) × (length (now opens) ≡ clausesMost) ⌝ }
+    ensures { λ r. ⌜ JoinsTo (asRows (now (rows .exit)) (r .rows)) (asRows (now (opens .exit)) (r .opens)) (joinOf (joinsTest (now (s .entry)) test) (liveIn (now (s .entry)) (now (opened .entry)) class) (take n (now (from .entry)))) (opensOf (joinsTest (now (s .entry)) test) (liveIn (now (s .entry)) (now (opened .entry)) class) (take n (now (from .entry)))) ⌝ }
+{
+    let mut o = Counts { rows: 0, opens: 0 };
+    let mut i: usize = 0;
+    while i < n {
+        let c = from[i];
+        let held = test_at(t, opened, wide(c), class);
+        o = join_row(s, m, rows, opens, o, c, held, test);
+        i += 1;
+    }
+    o
+}
+
+// Each of the first n of these tests opened at this time.
+fn mark(opened: &mut [u8; 192], opens: &[u8; 32], n: usize, time: usize)
+    requires { ⌜ (length (now opened) ≡ patternsMost) × WholeRows (asRows (now opens) n) × All (λ p. p < patternsMost) (take n (now opens)) × (time ≤ patternsMost) ⌝ }
+    ensures { λ _. ⌜ now (opened .exit) ≡ marked time (now (opened .entry)) (take n (now (opens .entry))) ⌝ }
+{
+    let mut i: usize = 0;
+    while i < n {
+        let p = wide(opens[i]);
+        opened[p] = time as u8;
+        i += 1;
+    }
+}
+
+// The columns that the first n of these tests open to, the last test's first.
+fn open_all(s: &[u8], m: Map, t: &[u8], opens: &[u8; 32], n: usize, list: &mut [u8; 192]) -> usize
+    requires { ⌜ Ready (now s) m (now t) × WholeRows (asRows (now opens) n) × All (TestKnown (now s)) (take n (now opens)) × (length (putTests (now s) (gather (openedTests (now s)) (take n (now opens))) []) ≤ patternsMost) ⌝ }
+    requires { ⌜ length (now list) ≡ patternsMost ⌝ }
+    ensures { λ r. ⌜ Holds (asClasses (now (list .exit)) r) (putTests (now (s .entry)) (gather (openedTests (now (s .entry))) (take n (now (opens .entry)))) []) ⌝ }
+{
+    let mut count: usize = 0;
+    let mut i = n;
+    while 0 < i {
+        i -= 1;
+        count = open(s, m, t, list, count, wide(opens[i]));
+    }
+    count
+}
+
+// A case of the column of a class: the rows with a wildcard there and those whose tests belong to it, what these open to before the
+// other columns, and this one tested. The rows are asked before their tests are marked as opened.
+pub fn case_matrix<'a, 'b>(
+    s: &[u8],
+    m: Map,
+    t: &[u8],
+    rows: &'a [u8; 32],
+    columns: &'a [u8; 192],
+    tested: &'b mut [u8; 192],
+    opened: &'b mut [u8; 192],
+    n: Sizes,
+    class: usize,
+    test: Test,
+    new_rows: &'b mut [u8; 32],
+    new_columns: &'b mut [u8; 192],
+) -> Sizes
+    requires { ⌜ Ready (now s) m (now t) × WholeMatrix (matrixOf (now rows) (now columns) (now tested) (now opened) n) × SoundOf (now s) (inNumbers (matrixOf (now rows) (now columns) (now tested) (now opened) n)) × (isIn class (take (n .columns) (now columns)) ≡ true) × InPool (now s) test ⌝ }
+    requires { ⌜ (length (now «new_rows») ≡ clausesMost) × (length (now «new_columns») ≡ patternsMost) ⌝ }
+    ensures { λ r. ⌜ StandsFor (matrixOf (now («new_rows» .exit)) (now («new_columns» .exit)) (now (tested .exit)) (now (opened .exit)) r) (caseNumbered (now (s .entry)) class (meant (now (s .entry)) test) (inNumbers (matrixOf (now (rows .entry)) (now (columns .entry)) (now (tested .entry)) (now (opened .entry)) n))) ⌝ }
+{
+    let mut opens = [0u8; 32];
+    let k = n.rows;
+    let o = join_rows(s, m, t, rows, k, opened, class, test, new_rows, &mut opens);
+    let front = open_all(s, m, t, &opens, o.opens, new_columns);
+    let all = put_rest(new_columns, front, columns, n.columns, class);
+    push(tested, n.tested, class);
+    let time = n.tested + 1;
+    mark(opened, &opens, o.opens, time);
+    Sizes {
+        rows: o.rows,
+        columns: all,
+        tested: time,
+    }
+}

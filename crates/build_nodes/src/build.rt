@@ -1,0 +1,259 @@
+// The tree of a matrix: a leaf where no column is chosen, else a switch with the trees of its cases and of its default.
+// One more column is tested at each call, and there are no more columns than patterns: 192 less the columns tested falls.
+// A matrix is lent by its parts, so that none is copied: its rows, its columns, the classes tested and what is opened, with how many there
+// are of each. The classes tested are in one array for the whole building: a call writes behind those of its caller, and leaves them.
+use crate::tops::Built;
+use crate::tops::Tops;
+use build_arena::NODES_MOST;
+use build_arena::reading::Test;
+use build_arena::reading::case_at;
+use build_arena::writing::put_child;
+use build_arena::writing::put_node;
+use build_cases::CasesMet;
+use build_cases::Meeting;
+use build_cases::meet_cases;
+use build_leaves::leaf_bindings;
+use build_matrix::Choice;
+use build_matrix::Sizes;
+use build_matrix::rows::highest_occurrence;
+use build_matrix::splitting::case_matrix;
+use build_matrix::splitting::default_matrix;
+use build_matrix::wide;
+use format_sheet::Map;
+ghost use mathlib.Core.Path.{_≡_};
+ghost use Prim.Native.Nat.{_<_, _≤_, _+_, _*_, _-_};
+ghost use lib.ListN.{length, take};
+ghost use Rattle.base_words.specs.Words.{pick};
+ghost use Rattle.base_words.specs.Stored.{stored};
+ghost use Rattle.spec_rules.specs.Limits.{patternsMost, nodesMost, nodeSize};
+ghost use Rattle.spec_rules.specs.TreeFile.{firstOf, nodeBytes};
+ghost use Rattle.build_table.specs.Standing.{sheetPaths};
+ghost use Rattle.build_matrix.specs.Ready.{Ready};
+ghost use Rattle.build_matrix.specs.Meant.{meant};
+ghost use Rattle.build_matrix.specs.Bound.{clauseLeaf};
+ghost use Rattle.build_matrix.specs.Numbered.{treeAt};
+ghost use Rattle.build_matrix.specs.InNumbers.{inNumbers, matrixOf};
+ghost use Rattle.build_arena.specs.Arena.{arenaEnd, casesMost};
+ghost use Rattle.build_leaves.specs.Bindings.{LeafAsked};
+ghost use Rattle.build_nodes.specs.Built.{Put, Roomy, Builds, BuildsCases};
+ghost use Rattle.build_nodes.specs.Steps.{caseList, caseTree, StillTested, Asked, AskedColumn, AskedCase, AskedCases};
+
+// 01: "first 0 at count 0".
+fn first_of(count: usize, first: usize) -> usize
+    ensures { λ r. ⌜ r ≡ firstOf count first ⌝ }
+{
+    if count == 0 {
+        return 0;
+    }
+    first
+}
+
+// The leaf of a clause, where the first `time` of these classes were tested.
+fn put_leaf<'a>(
+    s: &[u8],
+    m: Map,
+    t: &[u8],
+    clause: usize,
+    tested: &'a [u8; 192],
+    time: usize,
+    opened: &'a [u8; 192],
+    work: &mut [u8],
+    tops: Tops,
+) -> Tops
+    requires { ⌜ Ready (now s) m (now t) × LeafAsked (now s) clause (now tested) time × Roomy (now work) tops × (tops .nodes < nodesMost) ⌝ }
+    ensures { λ r. ⌜ Put (sheetPaths (now (s .entry))) (now (work .entry)) (now (work .exit)) (clauseLeaf (now (s .entry)) (now (opened .entry)) (take time (now (tested .entry))) clause) tops r ⌝ }
+{
+    let top = leaf_bindings(s, m, t, clause, tested, time, opened, work, tops.bindings);
+    let count = top - tops.bindings;
+    let first = first_of(count, tops.bindings);
+    put_node(
+        work,
+        tops.nodes,
+        2,
+        clause as u16,
+        first as u16,
+        count as u16,
+        0,
+        0,
+    );
+    let mut leaves = tops.leaves;
+    leaves[clause] = 1;
+    Tops {
+        nodes: tops.nodes + 1,
+        cases: tops.cases,
+        bindings: top,
+        leaves,
+    }
+}
+
+fn switch_kind(list: bool) -> u8
+    ensures { λ r. ⌜ r ≡ pick list 1 0 ⌝ }
+{
+    if list { 1 } else { 0 }
+}
+
+// The node of a switch, or of a list switch, at number k.
+fn put_switch(work: &mut [u8], k: usize, class: usize, first: usize, met: CasesMet, default: usize)
+    requires { ⌜ (arenaEnd ≤ length (now work)) × (k < nodesMost) × (class < patternsMost) × (default ≤ nodesMost + 1) ⌝ }
+    requires { ⌜ (first ≤ met .mid) × (met .mid ≤ met .end) × (met .end < casesMost) ⌝ }
+    ensures { λ _. ⌜ now (work .exit) ≡ stored (now (work .entry)) (nodeSize * k) (nodeBytes (pick (met .list) 1 0) class first (met .mid - first) (met .end - met .mid) default) ⌝ }
+{
+    let kind = switch_kind(met.list);
+    let cases = met.mid - first;
+    let tails = met.end - met.mid;
+    put_node(
+        work,
+        k,
+        kind,
+        class as u16,
+        first as u16,
+        cases as u16,
+        tails as u16,
+        default as u16,
+    );
+}
+
+// The tree of the case of this test, of the column of class k.
+fn build_case<'a>(
+    s: &[u8],
+    m: Map,
+    t: &[u8],
+    rows: &'a [u8; 32],
+    columns: &'a [u8; 192],
+    tested: &mut [u8; 192],
+    opened: &'a [u8; 192],
+    n: Sizes,
+    k: usize,
+    test: Test,
+    w: &mut [u8],
+    tops: Tops,
+) -> Built
+    requires { ⌜ AskedCase (now s) m (now t) (matrixOf (now rows) (now columns) (now tested) (now opened) n) k test (now w) tops ⌝ }
+    ensures { λ r. ⌜ Builds (sheetPaths (now (s .entry))) (now (w .entry)) (now (w .exit)) (caseTree (now (s .entry)) k (inNumbers (matrixOf (now (rows .entry)) (now (columns .entry)) (now (tested .entry)) (now (opened .entry)) n)) (meant (now (s .entry)) test)) tops r × StillTested (n .tested) (now (tested .entry)) (now (tested .exit)) ⌝ }
+{
+    let mut some = [0u8; 32];
+    let mut rest = [0u8; 192];
+    let mut more = *opened;
+    let y = case_matrix(
+        s,
+        m,
+        t,
+        rows,
+        columns,
+        tested,
+        &mut more,
+        n,
+        k,
+        test,
+        &mut some,
+        &mut rest,
+    );
+    do_build_tree(s, m, t, &some, &rest, tested, &more, y, w, tops)
+}
+
+// The cases whose records stand from number `first` on, up to the number of cases there are: each gets its child's number and its tree.
+fn build_cases<'a>(
+    s: &[u8],
+    m: Map,
+    t: &[u8],
+    rows: &'a [u8; 32],
+    columns: &'a [u8; 192],
+    tested: &mut [u8; 192],
+    opened: &'a [u8; 192],
+    n: Sizes,
+    k: usize,
+    w: &mut [u8],
+    first: usize,
+    from: Tops,
+) -> Built
+    requires { ⌜ AskedColumn (now s) m (now t) (matrixOf (now rows) (now columns) (now tested) (now opened) n) k ⌝ }
+    requires { ⌜ AskedCases (now s) k (inNumbers (matrixOf (now rows) (now columns) (now tested) (now opened) n)) first (now w) from ⌝ }
+    ensures { λ r. ⌜ BuildsCases (sheetPaths (now (s .entry))) (caseTree (now (s .entry)) k (inNumbers (matrixOf (now (rows .entry)) (now (columns .entry)) (now (tested .entry)) (now (opened .entry)) n))) (caseList (now (s .entry)) k (inNumbers (matrixOf (now (rows .entry)) (now (columns .entry)) (now (tested .entry)) (now (opened .entry)) n))) first (now (w .entry)) (now (w .exit)) from r × StillTested (n .tested) (now (tested .entry)) (now (tested .exit)) ⌝ }
+{
+    let count = from.cases - first;
+    let mut tops = from;
+    let mut i: usize = 0;
+    while i < count {
+        let case = case_at(w, first + i);
+        let test = case.test;
+        put_child(w, first + i, tops.nodes as u16);
+        let built = build_case(s, m, t, rows, columns, tested, opened, n, k, test, w, tops);
+        if !built.fits {
+            return built;
+        }
+        tops = built.tops;
+        i += 1;
+    }
+    Built { fits: true, tops }
+}
+
+// A switch on the column of class k.
+fn build_switch<'a>(
+    s: &[u8],
+    m: Map,
+    t: &[u8],
+    rows: &'a [u8; 32],
+    columns: &'a [u8; 192],
+    tested: &mut [u8; 192],
+    opened: &'a [u8; 192],
+    n: Sizes,
+    k: usize,
+    w: &mut [u8],
+    tops: Tops,
+) -> Built
+    requires { ⌜ AskedColumn (now s) m (now t) (matrixOf (now rows) (now columns) (now tested) (now opened) n) k × Roomy (now w) tops × (tops .nodes < nodesMost) ⌝ }
+    ensures { λ r. ⌜ Builds (sheetPaths (now (s .entry))) (now (w .entry)) (now (w .exit)) (treeAt (now (s .entry)) (inNumbers (matrixOf (now (rows .entry)) (now (columns .entry)) (now (tested .entry)) (now (opened .entry)) n))) tops r × StillTested (n .tested) (now (tested .entry)) (now (tested .exit)) ⌝ }
+{
+    let first = tops.cases;
+    let meeting = meet_cases(s, m, t, rows, n.rows, opened, k, w, first);
+    let Meeting::Met(met) = meeting else {
+        return Built { fits: false, tops };
+    };
+    let mut from = tops;
+    from.nodes += 1;
+    from.cases = met.end;
+    let built = build_cases(s, m, t, rows, columns, tested, opened, n, k, w, first, from);
+    if !built.fits {
+        return built;
+    }
+    let next = built.tops;
+    let mut wild = [0u8; 32];
+    let mut rest = [0u8; 192];
+    let d = default_matrix(t, rows, columns, tested, opened, n, k, &mut wild, &mut rest);
+    if d.rows == 0 {
+        put_switch(w, tops.nodes, k, first, met, 0);
+        return built;
+    }
+    put_switch(w, tops.nodes, k, first, met, next.nodes + 1);
+    do_build_tree(s, m, t, &wild, &rest, tested, opened, d, w, next)
+}
+
+// The tree of the matrix of these parts, which has a row, from the tops on.
+pub fn do_build_tree<'a>(
+    s: &[u8],
+    m: Map,
+    t: &[u8],
+    rows: &'a [u8; 32],
+    columns: &'a [u8; 192],
+    tested: &mut [u8; 192],
+    opened: &'a [u8; 192],
+    n: Sizes,
+    w: &mut [u8],
+    tops: Tops,
+) -> Built
+    requires { ⌜ Asked (now s) m (now t) (matrixOf (now rows) (now columns) (now tested) (now opened) n) (now w) tops ⌝ }
+    ensures { λ r. ⌜ Builds (sheetPaths (now (s .entry))) (now (w .entry)) (now (w .exit)) (treeAt (now (s .entry)) (inNumbers (matrixOf (now (rows .entry)) (now (columns .entry)) (now (tested .entry)) (now (opened .entry)) n))) tops r × StillTested (n .tested) (now (tested .entry)) (now (tested .exit)) ⌝ }
+{
+    if tops.nodes == NODES_MOST {
+        return Built { fits: false, tops };
+    }
+    let choice = highest_occurrence(t, rows, n.rows, columns, n.columns, opened);
+    let Choice::Column(k) = choice else {
+        let next = put_leaf(s, m, t, wide(rows[0]), tested, n.tested, opened, w, tops);
+        return Built {
+            fits: true,
+            tops: next,
+        };
+    };
+    build_switch(s, m, t, rows, columns, tested, opened, n, k, w, tops)
+}

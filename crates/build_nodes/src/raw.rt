@@ -1,0 +1,45 @@
+// The tree of a sheet, before it is hoisted: the matrix of its clauses built into an empty arena.
+// What is told of it is in the words of the rules: their tree of the sheet's patterns, or that it has too many nodes.
+use crate::build::do_build_tree;
+use crate::tops::Built;
+use crate::tops::Tops;
+use build_matrix::Sizes;
+use build_matrix::splitting::first_matrix;
+use format_sheet::Map;
+ghost use Prim.Native.Nat.{_≤_};
+ghost use lib.ListN.{length};
+ghost use Rattle.build_matrix.specs.Ready.{Ready};
+ghost use Rattle.build_arena.specs.Arena.{arenaEnd};
+ghost use Rattle.build_nodes.specs.Raw.{BuildsRaw};
+
+// By the sheet's table.
+pub fn build_tree(s: &[u8], m: Map, t: &[u8], work: &mut [u8]) -> Built
+    requires { ⌜ Ready (now s) m (now t) × (arenaEnd ≤ length (now work)) ⌝ }
+    ensures { λ r. ⌜ BuildsRaw (now (s .entry)) (now (work .exit)) r ⌝ }
+{
+    let x = first_matrix(s, m, t);
+    let none = Tops {
+        nodes: 0,
+        cases: 0,
+        bindings: 0,
+        leaves: [0; 32],
+    };
+    let n = Sizes {
+        rows: x.rows.count,
+        columns: x.columns.count,
+        tested: x.tested.count,
+    };
+    let mut tested = x.tested.list;
+    do_build_tree(
+        s,
+        m,
+        t,
+        &x.rows.list,
+        &x.columns.list,
+        &mut tested,
+        &x.opened,
+        n,
+        work,
+        none,
+    )
+}

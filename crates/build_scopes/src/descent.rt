@@ -1,0 +1,47 @@
+// For one clause with a leaf, the node above which it is hoisted and its first leaf in building order, each by one way down from the
+// root. A way down reads each node on it and that node's cases once.
+use crate::marks::first_child;
+use crate::marks::marked_children;
+use build_arena::reading::node_kind;
+ghost use mathlib.Core.Path.{_≡_};
+ghost use Rattle.build_scopes.specs.Numbers.{scopeNumber, firstNumber};
+ghost use Rattle.build_scopes.specs.Marks.{ClauseMarks, ScopeMarks, ScopeInside, column, scopeHere};
+
+// Whether node k is the scope of clause c, which has a leaf there: c's leaf is visited last, or two children have a leaf of c.
+fn is_scope(w: &[u8], k: usize, c: usize, last: &[u8], sets: &[u32]) -> bool
+    requires { ⌜ ScopeInside (now w) (now last) (now sets) c k ⌝ }
+    ensures { λ r. ⌜ r ≡ scopeHere (now (w .entry)) (now (last .entry)) (column c (now (sets .entry))) c k ⌝ }
+{
+    if c == last[k] as usize {
+        return true;
+    }
+    2 <= marked_children(w, k, c, sets)
+}
+
+// The node above which clause c is hoisted.
+pub fn get_hoist_path(w: &[u8], c: usize, last: &[u8], sets: &[u32]) -> usize
+    requires { ⌜ ScopeMarks (now w) c (now last) (now sets) ⌝ }
+    ensures { λ r. ⌜ ((h : ScopeMarks (now (w .entry)) c (now (last .entry)) (now (sets .entry))) → r ≡ scopeNumber c 0 (h .marks .tree)) ⌝ }
+{
+    let mut k = 0;
+    loop {
+        if is_scope(w, k, c, last, sets) {
+            return k;
+        }
+        k = first_child(w, k, c, sets);
+    }
+}
+
+// The leaf of clause c that was built first: default, cases, tail cases.
+pub fn first_leaf(w: &[u8], c: usize, sets: &[u32]) -> usize
+    requires { ⌜ ClauseMarks (now w) c (now sets) ⌝ }
+    ensures { λ r. ⌜ ((h : ClauseMarks (now (w .entry)) c (now (sets .entry))) → r ≡ firstNumber c 0 (h .tree)) ⌝ }
+{
+    let mut k = 0;
+    loop {
+        if node_kind(w, k) == 2 {
+            return k;
+        }
+        k = first_child(w, k, c, sets);
+    }
+}

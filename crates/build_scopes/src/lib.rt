@@ -1,0 +1,88 @@
+// Where each clause is hoisted, and its first leaf in building order: rules 5 to 7 of the scope document over the tree in the arena.
+// Scopes are found from the root down, with no places written out. Two passes over the nodes find at each its last leaf and the set of the
+// clauses with a leaf there; then each clause costs two ways down the tree. The memory is five bytes a node.
+use build_arena::NODES_MOST;
+use descent::first_leaf;
+use descent::get_hoist_path;
+use last::mark_last;
+use marks::mark;
+use marks::mark_of;
+ghost use mathlib.Core.Path.{_≡_};
+ghost use Prim.Native.Nat.{_<_, _≤_};
+ghost use lib.ListN.{length};
+ghost use Rattle.spec_rules.specs.Limits.{clausesMost};
+ghost use Rattle.build_scopes.specs.Marks.{ReadyWith};
+ghost use Rattle.build_scopes.specs.Scoped.{Surveyed, withClause, Scoped};
+
+pub mod descent;
+pub mod last;
+pub mod marks;
+
+pub const CLAUSES_MOST: usize = 32;
+
+// The nodes of a small tree.
+const NODES_FEW: usize = 64;
+
+// By clause, the node above which it is hoisted and the node of its first leaf, 1,024 where it has no leaf; how many clauses have one,
+// and the lowest that has none, or 32.
+pub struct Scopes {
+    pub node: [u16; 32],
+    pub leaf: [u16; 32],
+    pub hoists: usize,
+    pub idle: usize,
+}
+
+// The scopes with those of clause c, the clauses after c being done.
+fn with_clause(w: &[u8], c: usize, last: &[u8], sets: &[u32], x: Scopes) -> Scopes
+    requires { ⌜ Surveyed (now w) (now last) (now sets) × (c < clausesMost) × (x .hoists < clausesMost) ⌝ }
+    ensures { λ r. ⌜ ((h : Surveyed (now (w .entry)) (now (last .entry)) (now (sets .entry))) → r ≡ withClause (h .tree) c x) ⌝ }
+{
+    let mut y = x;
+    if mark_of(sets[0], c) == 0 {
+        y.idle = c;
+        return y;
+    }
+    let node = get_hoist_path(w, c, last, sets);
+    let leaf = first_leaf(w, c, sets);
+    y.node[c] = node as u16;
+    y.leaf[c] = leaf as u16;
+    y.hoists = x.hoists + 1;
+    y
+}
+
+// Over tables with room for the nodes, whatever stands in them.
+fn hoist_paths(w: &[u8], nodes: usize, clauses: usize, last: &mut [u8], sets: &mut [u32]) -> Scopes
+    requires { ⌜ ReadyWith (now w) nodes × (clauses ≤ clausesMost) × (nodes ≤ length (now last)) × (nodes ≤ length (now sets)) ⌝ }
+    ensures { λ r. ⌜ ((h : ReadyWith (now (w .entry)) nodes) → Scoped (h .tree) clauses r) ⌝ }
+{
+    mark_last(w, nodes, last);
+    mark(w, nodes, sets);
+    let none = NODES_MOST as u16;
+    let mut x = Scopes {
+        node: [none; 32],
+        leaf: [none; 32],
+        hoists: 0,
+        idle: CLAUSES_MOST,
+    };
+    let mut c = clauses;
+    while 0 < c {
+        c -= 1;
+        x = with_clause(w, c, last, sets, x);
+    }
+    x
+}
+
+// A table is cleared whole as it is made; most trees are small, so theirs are.
+pub fn get_hoist_paths(w: &[u8], nodes: usize, clauses: usize) -> Scopes
+    requires { ⌜ ReadyWith (now w) nodes × (clauses ≤ clausesMost) ⌝ }
+    ensures { λ r. ⌜ ((h : ReadyWith (now (w .entry)) nodes) → Scoped (h .tree) clauses r) ⌝ }
+{
+    if nodes <= NODES_FEW {
+        let mut last = [0u8; 64];
+        let mut sets = [0u32; 64];
+        return hoist_paths(w, nodes, clauses, &mut last, &mut sets);
+    }
+    let mut last = [0u8; 1024];
+    let mut sets = [0u32; 1024];
+    hoist_paths(w, nodes, clauses, &mut last, &mut sets)
+}

@@ -1,0 +1,152 @@
+// For each node the clauses that have a leaf at or below it, as a set with a bit by clause, and what its bits say of one clause.
+// A child has a larger number than its parent, so one pass over the nodes from the last to the first finds the sets of them all; it reads
+// each node and each case once.
+use build_arena::NODES_MOST;
+use build_arena::reading::case_child;
+use build_arena::reading::node_kind;
+use build_arena::reading::node_word;
+ghost use mathlib.Core.Path.{_≡_};
+ghost use Prim.Native.Nat.{_<_, _≤_};
+ghost use lib.ListN.{length};
+ghost use Rattle.spec_rules.specs.Limits.{clausesMost, nodesMost};
+ghost use Rattle.build_arena.specs.Arena.{arenaEnd};
+ghost use Rattle.build_scopes.specs.Marks.{ReadyWith, SetsMarked, CasesInside, SwitchInside, NodeInside, bitAt, column, childrenOf, unionCases, defaultSet, nodeSet, markedCases, firstMarked, markedDefault, markedChildren, firstChild};
+
+// Where a switch's cases begin, how many it has with the tail cases, and its default, one more than the node or 0.
+pub struct Children {
+    pub first: usize,
+    pub count: usize,
+    pub default: usize,
+}
+
+pub fn children_of(w: &[u8], k: usize) -> Children
+    requires { ⌜ (arenaEnd ≤ length (now w)) × (k < nodesMost) ⌝ }
+    ensures { λ r. ⌜ r ≡ childrenOf (now (w .entry)) k ⌝ }
+{
+    let first = node_word(w, k, 1) as usize;
+    let cases = node_word(w, k, 2) as usize;
+    let tails = node_word(w, k, 3) as usize;
+    let default = node_word(w, k, 4) as usize;
+    Children {
+        first,
+        count: cases + tails,
+        default,
+    }
+}
+
+// The clauses of `all` and those with a leaf below the n cases from i on.
+fn union_cases(w: &[u8], i: usize, n: usize, all: u32, sets: &[u32]) -> u32
+    requires { ⌜ CasesInside (now w) i n (length (now sets)) ⌝ }
+    ensures { λ r. ⌜ r ≡ unionCases (now (w .entry)) (now (sets .entry)) i n all ⌝ }
+{
+    let mut set = all;
+    let mut j = 0;
+    while j < n {
+        let child = case_child(w, i + j) as usize;
+        set = set | sets[child];
+        j += 1;
+    }
+    set
+}
+
+fn default_set(sets: &[u32], default: usize) -> u32
+    requires { ⌜ default ≤ length (now sets) ⌝ }
+    ensures { λ r. ⌜ r ≡ defaultSet (now (sets .entry)) default ⌝ }
+{
+    if default == 0 {
+        return 0;
+    }
+    sets[default - 1]
+}
+
+// The clauses with a leaf at or below node k; the sets of the nodes after k are known.
+fn node_set(w: &[u8], k: usize, sets: &[u32]) -> u32
+    requires { ⌜ NodeInside (now w) k (length (now sets)) ⌝ }
+    ensures { λ r. ⌜ r ≡ nodeSet (now (w .entry)) (now (sets .entry)) k ⌝ }
+{
+    if node_kind(w, k) == 2 {
+        return 1 << node_word(w, k, 0);
+    }
+    let at = children_of(w, k);
+    union_cases(w, at.first, at.count, default_set(sets, at.default), sets)
+}
+
+pub fn mark(w: &[u8], nodes: usize, sets: &mut [u32])
+    requires { ⌜ ReadyWith (now w) nodes × (nodes ≤ length (now sets)) ⌝ }
+    ensures { λ _. ⌜ ((h : ReadyWith (now (w .entry)) nodes) → SetsMarked (h .tree) 0 (now (sets .exit))) ⌝ }
+{
+    let mut k = nodes;
+    while 0 < k {
+        k -= 1;
+        let one = node_set(w, k, sets);
+        sets[k] = one;
+    }
+}
+
+// The mark of clause c in a set: 1 where it is in it, or 0.
+pub fn mark_of(set: u32, c: usize) -> usize
+    requires { ⌜ c < clausesMost ⌝ }
+    ensures { λ r. ⌜ r ≡ bitAt c set ⌝ }
+{
+    ((set >> c) & 1) as usize
+}
+
+// How many of the n cases from i on have a child that is marked for clause c.
+fn marked_cases(w: &[u8], i: usize, n: usize, c: usize, sets: &[u32]) -> usize
+    requires { ⌜ CasesInside (now w) i n (length (now sets)) × (c < clausesMost) ⌝ }
+    ensures { λ r. ⌜ r ≡ markedCases (now (w .entry)) (column c (now (sets .entry))) i n ⌝ }
+{
+    let mut count: usize = 0;
+    let mut j = 0;
+    while j < n {
+        let child = case_child(w, i + j) as usize;
+        count += mark_of(sets[child], c);
+        j += 1;
+    }
+    count
+}
+
+// The child of the first of them that is marked, or 1,024.
+fn first_marked(w: &[u8], i: usize, n: usize, c: usize, sets: &[u32]) -> usize
+    requires { ⌜ CasesInside (now w) i n (length (now sets)) × (c < clausesMost) ⌝ }
+    ensures { λ r. ⌜ r ≡ firstMarked (now (w .entry)) (column c (now (sets .entry))) i n ⌝ }
+{
+    let mut j = 0;
+    while j < n {
+        let child = case_child(w, i + j) as usize;
+        if mark_of(sets[child], c) == 1 {
+            return child;
+        }
+        j += 1;
+    }
+    NODES_MOST
+}
+
+fn marked_default(sets: &[u32], c: usize, default: usize) -> usize
+    requires { ⌜ (default ≤ length (now sets)) × (c < clausesMost) ⌝ }
+    ensures { λ r. ⌜ r ≡ markedDefault (column c (now (sets .entry))) default ⌝ }
+{
+    mark_of(default_set(sets, default), c)
+}
+
+// How many children of switch k are marked for clause c.
+pub fn marked_children(w: &[u8], k: usize, c: usize, sets: &[u32]) -> usize
+    requires { ⌜ SwitchInside (now w) k (length (now sets)) × (c < clausesMost) ⌝ }
+    ensures { λ r. ⌜ r ≡ markedChildren (now (w .entry)) (column c (now (sets .entry))) k ⌝ }
+{
+    let at = children_of(w, k);
+    let cases = marked_cases(w, at.first, at.count, c, sets);
+    cases + marked_default(sets, c, at.default)
+}
+
+// The child of switch k marked for clause c that was built first: the default, then the cases in order.
+pub fn first_child(w: &[u8], k: usize, c: usize, sets: &[u32]) -> usize
+    requires { ⌜ SwitchInside (now w) k (length (now sets)) × (c < clausesMost) ⌝ }
+    ensures { λ r. ⌜ r ≡ firstChild (now (w .entry)) (column c (now (sets .entry))) k ⌝ }
+{
+    let at = children_of(w, k);
+    if 0 < marked_default(sets, c, at.default) {
+        return at.default - 1;
+    }
+    first_marked(w, at.first, at.count, c, sets)
+}

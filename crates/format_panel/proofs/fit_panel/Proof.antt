@@ -1,0 +1,37 @@
+-- `format_panel::fit_panel` meets its contract: on an accepted panel by fitting, else by the refusal of its check.
+use mathlib.Core.Path.{_≡_, sym, _∙_}
+use borrow.Author.Needs.{needs}
+use Rattle.format_panel.specs.AnswersLaws.{accepts, refuses-by, fit-panel-refused}
+use Rattle.format_panel.specs.declared.Checked.the-variants.{Accepted, Refused}
+use Rattle.format_panel.proofs.fit_panel.Statement.{statement}
+use Rattle.format_panel.proofs.fit_panel.Tie as tie
+
+check-requires : tie.Need-check-requires
+check-requires c κs = search needs
+
+enum-known-vm : tie.Need-enum-known-vm
+enum-known-vm c = search needs
+
+fit-both-requires : tie.Need-fit-both-requires
+fit-both-requires c κs =
+    let e : c .before .before .before .check .result ≡ Accepted (c .before .vm .given .0 .0) = search needs in
+    (c .before .before .before .before .before .before .pre, accepts (c .before .before .before .before .before .before .args .v .now) (c .before .vm .given .0 .0) (sym (c .before .before .before .check .ensures) ∙ e))
+
+enum-known-number : tie.Need-enum-known-number
+enum-known-number c = search needs
+
+returns : tie.Need-returns
+returns c = search needs
+
+returns-2 : tie.Need-returns-2
+returns-2 c =
+    let a = c .before .before .before .before .before .before .args in
+    let number = c .before .number .given .0 .0 in
+    let place = c .before .number .given .0 .1 .0 in
+    let e : c .before .before .before .check .result ≡ Refused number place = search needs in
+    fit-panel-refused (a .s .now) (a .v .now) (a .sm) (c .before .before .before .before .before .before .pre) number place (refuses-by (a .v .now) number place (sym (c .before .before .before .check .ensures) ∙ e))
+
+pub fit-panel-spec : {M : Type 1} → statement M
+fit-panel-spec =
+    tie.close
+    (tie.spec check-requires enum-known-vm fit-both-requires enum-known-number returns returns-2)

@@ -1,0 +1,17 @@
+-- `format_panel::fitting::fits` meets its contract: it fits the root to the subject's type.
+use native.Mathlib.Omega.{arith}
+use Rattle.format_panel.specs.FitLaws.{subject-read, root-fits}
+use Rattle.format_panel.proofs.fitting.fits.Statement.{statement}
+use Rattle.format_panel.proofs.fitting.fits.Tie as tie
+
+record-fits-requires : tie.Need-record-fits-requires
+record-fits-requires c κs =
+    let a = c .before .before .args in
+    let ready = c .before .before .pre in
+    (ready, omega (arith, ready .is-open .laid .some-record), omega (arith, subject-read (a .s .now) (a .sm) (a .v .now) (a .vm) ready, ready .is-typed .subject-type))
+
+returns : tie.Need-returns
+returns c = let a = c .before .before .before .args in root-fits (a .s .now) (a .sm) (a .v .now) (a .vm) (c .before .before .before .pre) (c .record-fits .result) (c .record-fits .ensures)
+
+pub fits-spec : {M : Type 1} → statement M
+fits-spec = tie.close (tie.spec record-fits-requires returns)

@@ -1,0 +1,44 @@
+-- The layout and the map of a panel, and one record of it, from what was read.
+-- Rests on the definitions of the crate spec_rules alone.
+use mathlib.Core.Path.{_≡_}
+use mathlib.Core.Bool.{Bool}
+use mathlib.Core.List.{List}
+use Prim.Native.Nat.{ℕ, _+_, _-_, _*_, _/_}
+use native.Mathlib.Nat.{sub-zero, zero-add}
+use lib.Dec.{eqb, leb}
+use lib.ListN.{length, getD}
+use Rattle.base_words.specs.Words.{wordAt, both}
+use Rattle.spec_rules.specs.Limits.{recordSize, partSize, panelTrailer, recordsMost}
+use Rattle.spec_rules.specs.SheetRefusals.{wholeRecords}
+use Rattle.spec_rules.specs.PanelFile.{panelStart, recordsAt, partsAt, panelPoolAt, panelPoolEnd, records, parts, recordKind, recordZero, recordA, recordFirst, recordCount, panelLayoutFits}
+use Rattle.spec_accepted.specs.PanelFacts.{PanelLaid}
+use Rattle.format_panel.specs.declared.Map.{Map}
+use Rattle.format_panel.specs.declared.records.Record.{Record}
+use Rattle.format_panel.specs.Opened.{mapOf, recordOf}
+
+-- the layout of sections that start at a, b and c, before a trailer at e
+abbrev pub startsFit : ℕ → ℕ → ℕ → ℕ → Bool
+startsFit a b c e =
+    both (eqb a 0)
+    (both (wholeRecords recordSize a b)
+    (both (wholeRecords partSize b c)
+    (both (wholeRecords 1 c e)
+    (both (leb 1 ((b - a) / recordSize)) (leb ((b - a) / recordSize) recordsMost)))))
+
+module _ (v : List ℕ) where
+  pub layout-read : (a b c : ℕ) → a ≡ panelStart v 0 → b ≡ panelStart v 1 → c ≡ panelStart v 2
+      → panelLayoutFits v ≡ startsFit a b c (length v - panelTrailer)
+  unfolding panelLayoutFits records recordsAt partsAt panelPoolAt panelPoolEnd
+  layout-read a b c ea eb ec = rw (ea, eb, ec)
+
+  pub map-read : (b c : ℕ) → PanelLaid v → b ≡ panelStart v 1 → c ≡ panelStart v 2
+      → _≡_ {A = Map} (record { «parts_at» = b; «pool_at» = c; «pool_end» = length v - panelTrailer; records = b / recordSize; parts = (c - b) / partSize }) (mapOf v)
+  unfolding records parts partsAt panelPoolAt panelPoolEnd
+  map-read b c laid eb ec =
+      rw (eb, ec, laid .records-start, sub-zero)
+
+  pub record-read : (r a f n : ℕ) → PanelLaid v
+      → a ≡ wordAt v (recordSize * r + 2) → f ≡ wordAt v (recordSize * r + 4) → n ≡ wordAt v (recordSize * r + 6)
+      → _≡_ {A = Record} (record { kind = getD v (recordSize * r) 0; zero = getD v (recordSize * r + 1) 0; a = a; first = f; count = n }) (recordOf v r)
+  unfolding recordKind recordZero recordA recordFirst recordCount
+  record-read r a f n laid ea ef en = rw (ea, ef, en, laid .records-start, zero-add)

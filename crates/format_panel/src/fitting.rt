@@ -1,0 +1,154 @@
+// Refusal 25: a panel fits the subject type of a sheet. Fitting a record calls fitting its parts, which calls fitting a record; a type
+// may contain itself, and it ends because a part's record has a larger number than its owner.
+use crate::Map;
+use crate::records::Record;
+use crate::records::part_at;
+use crate::records::record_at;
+use format_sheet::records::TypeRecord;
+use format_sheet::records::constructor_at;
+use format_sheet::records::entry_at;
+use format_sheet::records::type_at;
+ghost use mathlib.Core.Path.{_≡_};
+ghost use Prim.Native.Nat.{_<_};
+ghost use Rattle.spec_rules.specs.Limits.{recordsMost};
+ghost use Rattle.spec_rules.specs.SheetFile.{types, subject};
+ghost use Rattle.spec_rules.specs.PanelFile.{records};
+ghost use Rattle.spec_rules.specs.Fitting.{partsFit, hasTypeTo, panelFits};
+ghost use Rattle.format_panel.specs.Fit.{listBelow, partsBelow, fieldsBelow, below, Ready, Run, Typing};
+
+// What is left to fit of a record and a type: nothing, or the record's parts, each to the type at its own entry.
+pub enum Below {
+    Alone(bool),
+    Parts {
+        first: usize,
+        count: usize,
+        entry: usize,
+        step: usize,
+    },
+}
+
+// The elements of a list are all of the type at the list type's one entry.
+fn list_below(x: Record, y: TypeRecord) -> Below
+    ensures { λ r. ⌜ r ≡ listBelow x y ⌝ }
+{
+    if y.kind != 2 {
+        return Below::Alone(false);
+    }
+    Below::Parts {
+        first: x.first,
+        count: x.count,
+        entry: y.first,
+        step: 0,
+    }
+}
+
+// A pair and a tuple have as many parts as their type has entries.
+fn parts_below(x: Record, y: TypeRecord, kind: u8) -> Below
+    ensures { λ r. ⌜ r ≡ partsBelow x y kind ⌝ }
+{
+    if y.kind != kind {
+        return Below::Alone(false);
+    }
+    if y.count != x.count {
+        return Below::Alone(false);
+    }
+    Below::Parts {
+        first: x.first,
+        count: x.count,
+        entry: y.first,
+        step: 1,
+    }
+}
+
+// A constructor is one of its type's, and has as many parts as that has fields.
+fn fields_below(s: &[u8], sm: format_sheet::Map, x: Record, y: TypeRecord) -> Below
+    requires { ⌜ Typing (now s) sm y ⌝ }
+    ensures { λ r. ⌜ r ≡ fieldsBelow (now (s .entry)) x y ⌝ }
+{
+    if y.kind != 5 {
+        return Below::Alone(false);
+    }
+    if y.count <= x.a {
+        return Below::Alone(false);
+    }
+    let c = constructor_at(s, sm, y.first + x.a);
+    if c.count != x.count {
+        return Below::Alone(false);
+    }
+    Below::Parts {
+        first: x.first,
+        count: x.count,
+        entry: c.first,
+        step: 1,
+    }
+}
+
+// Record r and type t agree in kind and count, and what is left.
+fn below_record(s: &[u8], sm: format_sheet::Map, v: &[u8], vm: Map, r: usize, t: usize) -> Below
+    requires { ⌜ Ready (now s) sm (now v) vm × (r < records (now v)) × (t < types (now s)) ⌝ }
+    ensures { λ res. ⌜ res ≡ below (now (s .entry)) (now (v .entry)) r t ⌝ }
+{
+    let x = record_at(v, r);
+    let y = type_at(s, sm, t);
+    let kind = x.kind;
+    match kind {
+        0 => Below::Alone(y.kind == 0),
+        1 => Below::Alone(y.kind == 1),
+        2 => list_below(x, y),
+        3 => parts_below(x, y, 3),
+        4 => parts_below(x, y, 4),
+        5 => fields_below(s, sm, x, y),
+        _ => Below::Alone(false),
+    }
+}
+
+// Record r is of type t.
+fn record_fits(s: &[u8], sm: format_sheet::Map, v: &[u8], vm: Map, r: usize, t: usize) -> bool
+    requires { ⌜ Ready (now s) sm (now v) vm × (r < records (now v)) × (t < types (now s)) ⌝ }
+    ensures { λ res. ⌜ res ≡ hasTypeTo recordsMost (now (s .entry)) (now (v .entry)) r t ⌝ }
+{
+    match below_record(s, sm, v, vm, r, t) {
+        Below::Alone(fits) => fits,
+        Below::Parts {
+            first,
+            count,
+            entry,
+            step,
+        } => parts_fit(s, sm, v, vm, r, first, count, entry, step),
+    }
+}
+
+// The n parts from entry j of the owner's list on are each of the type at its own type entry: the first at e, each next one `step`
+// further on.
+fn parts_fit(
+    s: &[u8],
+    sm: format_sheet::Map,
+    v: &[u8],
+    vm: Map,
+    owner: usize,
+    j: usize,
+    n: usize,
+    e: usize,
+    step: usize,
+) -> bool
+    requires { ⌜ Ready (now s) sm (now v) vm × Run (now s) (now v) owner j n e step ⌝ }
+    ensures { λ res. ⌜ res ≡ partsFit (hasTypeTo recordsMost (now (s .entry)) (now (v .entry))) (now (s .entry)) (now (v .entry)) j n e step ⌝ }
+{
+    if n == 0 {
+        return true;
+    }
+    let r = part_at(v, vm, j);
+    let t = entry_at(s, sm, e);
+    if !record_fits(s, sm, v, vm, r, t) {
+        return false;
+    }
+    parts_fit(s, sm, v, vm, owner, j + 1, n - 1, e + step, step)
+}
+
+// 25: the root is of the subject's type.
+pub(crate) fn fits(s: &[u8], sm: format_sheet::Map, v: &[u8], vm: Map) -> bool
+    requires { ⌜ Ready (now s) sm (now v) vm ⌝ }
+    ensures { λ res. ⌜ res ≡ panelFits (now (s .entry)) (now (v .entry)) ⌝ }
+{
+    record_fits(s, sm, v, vm, 0, sm.subject)
+}

@@ -1,0 +1,93 @@
+// Refusals 21 and 22 of a panel: its length, the layout of its sections, and how many records it has.
+// Only the trailer is read here.
+use crate::Map;
+use crate::limits::PANEL_MOST;
+use crate::limits::PANEL_TRAILER;
+use crate::limits::PART_SIZE;
+use crate::limits::RECORD_SIZE;
+use crate::limits::RECORDS_MOST;
+use base_words::word_at;
+ghost use mathlib.Core.Path.{_≡_};
+ghost use Prim.Native.Nat.{_<_, _≤_};
+ghost use lib.ListN.{length};
+ghost use Rattle.spec_rules.specs.Limits.{panelTrailer};
+ghost use Rattle.spec_rules.specs.SheetRefusals.{wholeRecords};
+ghost use Rattle.spec_rules.specs.PanelFile.{panelStart, panelLengthFits, panelLayoutFits};
+ghost use Rattle.spec_accepted.specs.PanelFacts.{PanelLaid};
+ghost use Rattle.format_panel.specs.Opened.{mapOf};
+
+// 21: from 8 to 16,384 bytes, and the trailer's length is the panel's.
+pub(crate) fn length_fits(v: &[u8]) -> bool
+    ensures { λ r. ⌜ r ≡ panelLengthFits (now (v .entry)) ⌝ }
+{
+    if v.len() < PANEL_TRAILER {
+        return false;
+    }
+    if PANEL_MOST < v.len() {
+        return false;
+    }
+    let told = word_at(v, v.len() - 2) as usize;
+    told == v.len()
+}
+
+// Start k of the trailer.
+fn start(v: &[u8], k: usize) -> usize
+    requires { ⌜ (panelTrailer ≤ length (now v)) × (k < 3) ⌝ }
+    ensures { λ r. ⌜ r ≡ panelStart (now (v .entry)) k ⌝ }
+{
+    word_at(v, v.len() - PANEL_TRAILER + 2 * k) as usize
+}
+
+// From `from` to `to` there are whole records of `size` bytes.
+fn whole_records(size: usize, from: usize, to: usize) -> bool
+    requires { ⌜ 0 < size ⌝ }
+    ensures { λ r. ⌜ r ≡ wholeRecords size from to ⌝ }
+{
+    if to < from {
+        return false;
+    }
+    (to - from) % size == 0
+}
+
+// 22: the starts rise from 0, pass not the trailer and cut no record; there are 1 to 512 records.
+pub(crate) fn layout_fits(v: &[u8]) -> bool
+    requires { ⌜ panelTrailer ≤ length (now v) ⌝ }
+    ensures { λ r. ⌜ r ≡ panelLayoutFits (now (v .entry)) ⌝ }
+{
+    let records_at = start(v, 0);
+    let parts_at = start(v, 1);
+    let pool_at = start(v, 2);
+    if records_at != 0 {
+        return false;
+    }
+    if !whole_records(RECORD_SIZE, records_at, parts_at) {
+        return false;
+    }
+    if !whole_records(PART_SIZE, parts_at, pool_at) {
+        return false;
+    }
+    if !whole_records(1, pool_at, v.len() - PANEL_TRAILER) {
+        return false;
+    }
+    let records = parts_at / RECORD_SIZE;
+    if records < 1 {
+        return false;
+    }
+    records <= RECORDS_MOST
+}
+
+// Where the sections stand, and how many records and parts there are.
+pub(crate) fn map_of(v: &[u8]) -> Map
+    requires { ⌜ PanelLaid (now v) ⌝ }
+    ensures { λ r. ⌜ r ≡ mapOf (now (v .entry)) ⌝ }
+{
+    let parts_at = start(v, 1);
+    let pool_at = start(v, 2);
+    Map {
+        parts_at,
+        pool_at,
+        pool_end: v.len() - PANEL_TRAILER,
+        records: parts_at / RECORD_SIZE,
+        parts: (pool_at - parts_at) / PART_SIZE,
+    }
+}

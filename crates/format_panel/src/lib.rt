@@ -1,0 +1,173 @@
+// The panel of document 01: its check (refusals 21 to 24), the text of a position (33) with the twin that returns the part of the
+// panel itself, and whether it fits a sheet (25). Each contract is one equation with a definition of the crate spec_rules.
+//
+// Cost. The check reads the trailer, each record twice (for its shape and for its text), each part once, and each byte of an integer
+// once: at most 512 records, 511 parts and 32,768 bytes of text, whatever the lists of a damaged panel say, since the pass over the
+// records ends at the first part that it meets a second time. Besides the panel it needs a table of 512 depths, which is lent on:
+// nothing is copied for a record or a part. The text call adds one record to the check. Fitting reads each record and each part
+// once, with its type and its type entry; its calls are at most 544 deep, one for each of 511 parts and 32 levels.
+ghost use mathlib.Core.Path.{_≡_};
+ghost use Rattle.spec_rules.specs.Calls.{textPart};
+ghost use Rattle.format_panel.specs.Answers.{checked, located, fitted, Accepts, SheetAccepts};
+
+mod fitting;
+mod layout;
+mod limits;
+pub mod records;
+mod shape;
+mod texts;
+
+use fitting::fits;
+use layout::layout_fits;
+use layout::length_fits;
+use layout::map_of;
+use records::record_at;
+use shape::shape_fits;
+use texts::texts_fit;
+
+// Where the sections of a panel stand, and how many records and parts it has. The records start at 0.
+pub struct Map {
+    pub parts_at: usize,
+    pub pool_at: usize,
+    pub pool_end: usize,
+    pub records: usize,
+    pub parts: usize,
+}
+
+pub enum Checked {
+    Accepted(Map),
+    Refused { number: u16, place: u16 },
+}
+
+// Where the text of a position stands in the panel.
+pub enum Located {
+    At { start: usize, count: usize },
+    Refused { number: u16, place: u16 },
+}
+
+// Whether a panel fits a sheet.
+pub enum Fitted {
+    Fits,
+    Refused { number: u16, place: u16 },
+}
+
+// The check of a panel: 21 length, 22 layout and count of records, 23 shape, 24 text.
+pub fn check(v: &[u8]) -> Checked
+    ensures { λ r. ⌜ r ≡ checked (now (v .entry)) ⌝ }
+{
+    if !length_fits(v) {
+        return Checked::Refused {
+            number: 21,
+            place: 0,
+        };
+    }
+    if !layout_fits(v) {
+        return Checked::Refused {
+            number: 22,
+            place: 0,
+        };
+    }
+    let m = map_of(v);
+    if !shape_fits(v, m) {
+        return Checked::Refused {
+            number: 23,
+            place: 0,
+        };
+    }
+    if !texts_fit(v, m) {
+        return Checked::Refused {
+            number: 24,
+            place: 0,
+        };
+    }
+    Checked::Accepted(m)
+}
+
+// 33: the position is not an integer or byte string of the panel with 0 dropped.
+fn not_text() -> Located
+    ensures { λ r. ⌜ r ≡ Located.Refused 33 0 ⌝ }
+{
+    Located::Refused {
+        number: 33,
+        place: 0,
+    }
+}
+
+// The text of record r with so many elements dropped, in an accepted panel.
+fn text_in(v: &[u8], m: Map, r: u16, dropped: u16) -> Located
+    requires { ⌜ Accepts (now v) m ⌝ }
+    ensures { λ res. ⌜ res ≡ located (now (v .entry)) r dropped ⌝ }
+{
+    let at = r as usize;
+    if m.records <= at {
+        return not_text();
+    }
+    let x = record_at(v, at);
+    if 1 < x.kind {
+        return not_text();
+    }
+    if dropped != 0 {
+        return not_text();
+    }
+    Located::At {
+        start: m.pool_at + x.first,
+        count: x.count,
+    }
+}
+
+// The text call: where the bytes of an integer or a byte string stand in the panel.
+pub fn text(v: &[u8], r: u16, dropped: u16) -> Located
+    ensures { λ res. ⌜ res ≡ located (now (v .entry)) r dropped ⌝ }
+{
+    match check(v) {
+        Checked::Accepted(m) => text_in(v, m, r, dropped),
+        Checked::Refused { number, place } => Located::Refused { number, place },
+    }
+}
+
+// The twin of the text call: that part of the caller's panel itself, empty if refused.
+pub fn text_part<'a>(v: &'a [u8], r: u16, dropped: u16) -> &'a [u8]
+    ensures { λ res. ⌜ now res ≡ textPart (now (v .entry)) r dropped ⌝ }
+{
+    let Located::At { start, count } = text(v, r, dropped) else {
+        return &v[..0];
+    };
+    let end = start + count;
+    &v[start..end]
+}
+
+// 25, of an accepted sheet and an accepted panel.
+fn fit_both(s: &[u8], sm: format_sheet::Map, v: &[u8], vm: Map) -> Fitted
+    requires { ⌜ SheetAccepts (now s) sm × Accepts (now v) vm ⌝ }
+    ensures { λ res. ⌜ res ≡ fitted (now (s .entry)) (now (v .entry)) ⌝ }
+{
+    if fits(s, sm, v, vm) {
+        Fitted::Fits
+    } else {
+        Fitted::Refused {
+            number: 25,
+            place: 0,
+        }
+    }
+}
+
+// The fit check of an accepted sheet.
+fn fit_panel(s: &[u8], sm: format_sheet::Map, v: &[u8]) -> Fitted
+    requires { ⌜ SheetAccepts (now s) sm ⌝ }
+    ensures { λ res. ⌜ res ≡ fitted (now (s .entry)) (now (v .entry)) ⌝ }
+{
+    match check(v) {
+        Checked::Accepted(vm) => fit_both(s, sm, v, vm),
+        Checked::Refused { number, place } => Fitted::Refused { number, place },
+    }
+}
+
+// The fit check: refusals 2 to 11 of the sheet, 21 to 24 of the panel, then 25.
+pub fn fit(s: &[u8], v: &[u8]) -> Fitted
+    ensures { λ res. ⌜ res ≡ fitted (now (s .entry)) (now (v .entry)) ⌝ }
+{
+    match format_sheet::check(s) {
+        format_sheet::Checked::Accepted(sm) => fit_panel(s, sm, v),
+        format_sheet::Checked::Refused { number, place } => Fitted::Refused { number, place },
+    }
+}

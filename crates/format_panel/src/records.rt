@@ -1,0 +1,43 @@
+// The records and the parts of a panel whose sections are laid out: each is read once, as a struct or a number by value.
+// Each reader asks that the record or the part is there.
+use crate::Map;
+use crate::limits::PART_SIZE;
+use crate::limits::RECORD_SIZE;
+use base_words::word_at;
+ghost use mathlib.Core.Path.{_≡_};
+ghost use Prim.Native.Nat.{_<_};
+ghost use Rattle.spec_rules.specs.PanelFile.{records, parts, part};
+ghost use Rattle.spec_accepted.specs.PanelFacts.{PanelLaid};
+ghost use Rattle.format_panel.specs.Opened.{Opened, recordOf};
+
+// One record of a panel, with its fields as they stand in the file.
+pub struct Record {
+    pub kind: u8,
+    pub zero: u8,
+    pub a: usize,
+    pub first: usize,
+    pub count: usize,
+}
+
+// Record r of a panel.
+pub fn record_at(v: &[u8], r: usize) -> Record
+    requires { ⌜ PanelLaid (now v) × (r < records (now v)) ⌝ }
+    ensures { λ res. ⌜ res ≡ recordOf (now (v .entry)) r ⌝ }
+{
+    let at = RECORD_SIZE * r;
+    Record {
+        kind: v[at],
+        zero: v[at + 1],
+        a: word_at(v, at + 2) as usize,
+        first: word_at(v, at + 4) as usize,
+        count: word_at(v, at + 6) as usize,
+    }
+}
+
+// Part j of a panel: the number of a record.
+pub fn part_at(v: &[u8], m: Map, j: usize) -> usize
+    requires { ⌜ Opened (now v) m × (j < parts (now v)) ⌝ }
+    ensures { λ res. ⌜ res ≡ part (now (v .entry)) j ⌝ }
+{
+    word_at(v, m.parts_at + PART_SIZE * j) as usize
+}

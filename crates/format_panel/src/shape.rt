@@ -1,0 +1,139 @@
+// Refusal 23 of a panel: its shape, in one pass over the records in order and the parts of each in order. A part's number is
+// larger than its owner's, so that when a record is at hand its depth is known, or it is nobody's part. The depths are in one
+// buffer that is lent on, 0 for a record that was not met yet; each step answers whether no rule is broken.
+use crate::Map;
+use crate::limits::PANEL_DEPTH_MOST;
+use crate::limits::RECORDS_MOST;
+use crate::records::Record;
+use crate::records::part_at;
+use crate::records::record_at;
+use format_sheet::records::run_in;
+ghost use mathlib.Core.Path.{_≡_};
+ghost use mathlib.Core.List.{List};
+ghost use Prim.Native.Nat.{ℕ, _+_, _<_, _≤_};
+ghost use lib.ListN.{length};
+ghost use Rattle.spec_rules.specs.Limits.{recordsMost};
+ghost use Rattle.spec_rules.specs.PanelFile.{records, parts, panelPoolSize, panelShapeFits};
+ghost use Rattle.format_panel.specs.Opened.{Opened, recordOf};
+ghost use Rattle.format_panel.specs.Shape.{fieldsFit, seen, met, enterPart, enterParts, enterRecord, enterRecords};
+
+// The zero byte and the fields of a record by its kind, in a panel of so many parts and so many bytes of text.
+fn fields_fit(x: Record, held: usize, pool: usize) -> bool
+    ensures { λ b. ⌜ ((v : List ℕ) (r : ℕ) → x ≡ recordOf v r → held ≡ parts v → pool ≡ panelPoolSize v → b ≡ fieldsFit v r) ⌝ }
+{
+    if x.zero != 0 {
+        return false;
+    }
+    let kind = x.kind;
+    let a = x.a;
+    let first = x.first;
+    let count = x.count;
+    match kind {
+        0 | 1 => {
+            if a != 0 {
+                return false;
+            }
+            run_in(first, count, pool)
+        }
+        2 | 4 => {
+            if a != 0 {
+                return false;
+            }
+            run_in(first, count, held)
+        }
+        3 => {
+            if a != 0 {
+                return false;
+            }
+            if count != 2 {
+                return false;
+            }
+            run_in(first, count, held)
+        }
+        5 => run_in(first, count, held),
+        _ => false,
+    }
+}
+
+// Entry j, in the list of record r: its record is higher than r, met for the first time, and not too deep.
+fn enter_part(v: &[u8], m: Map, depths: &mut [u8], r: usize, j: usize) -> bool
+    requires { ⌜ Opened (now v) m × (length (now depths) ≡ recordsMost) × (r < records (now v)) × (j < parts (now v)) ⌝ }
+    ensures { λ res. ⌜ seen (now (depths .exit)) res ≡ enterPart (now (v .entry)) (met (now (depths .entry))) r j ⌝ }
+{
+    let p = part_at(v, m, j);
+    if p <= r {
+        return false;
+    }
+    if m.records <= p {
+        return false;
+    }
+    if depths[p] != 0 {
+        return false;
+    }
+    let depth = depths[r];
+    if PANEL_DEPTH_MOST <= depth {
+        return false;
+    }
+    depths[p] = depth + 1;
+    true
+}
+
+// The n entries from j on, in the list of record r.
+fn enter_parts(v: &[u8], m: Map, depths: &mut [u8], r: usize, j: usize, n: usize) -> bool
+    requires { ⌜ Opened (now v) m × (length (now depths) ≡ recordsMost) × (r < records (now v)) × (j + n ≤ parts (now v)) ⌝ }
+    ensures { λ res. ⌜ seen (now (depths .exit)) res ≡ enterParts (now (v .entry)) (met (now (depths .entry))) r j n ⌝ }
+{
+    let mut k: usize = 0;
+    while k < n {
+        if !enter_part(v, m, depths, r, j + k) {
+            return false;
+        }
+        k += 1;
+    }
+    true
+}
+
+// Record r: it was met, as the root or as somebody's part; its fields fit; and then its parts.
+fn enter_record(v: &[u8], m: Map, depths: &mut [u8], r: usize) -> bool
+    requires { ⌜ Opened (now v) m × (length (now depths) ≡ recordsMost) × (r < records (now v)) ⌝ }
+    ensures { λ res. ⌜ seen (now (depths .exit)) res ≡ enterRecord (now (v .entry)) (met (now (depths .entry))) r ⌝ }
+{
+    if depths[r] == 0 {
+        return false;
+    }
+    let x = record_at(v, r);
+    if !fields_fit(x, m.parts, m.pool_end - m.pool_at) {
+        return false;
+    }
+    if x.kind < 2 {
+        return true;
+    }
+    enter_parts(v, m, depths, r, x.first, x.count)
+}
+
+fn enter_records(v: &[u8], m: Map, depths: &mut [u8]) -> bool
+    requires { ⌜ Opened (now v) m × (length (now depths) ≡ recordsMost) ⌝ }
+    ensures { λ res. ⌜ seen (now (depths .exit)) res ≡ enterRecords (now (v .entry)) (met (now (depths .entry))) 0 (records (now (v .entry))) ⌝ }
+{
+    let mut r: usize = 0;
+    while r < m.records {
+        if !enter_record(v, m, depths, r) {
+            return false;
+        }
+        r += 1;
+    }
+    true
+}
+
+// 23: every record but the root is one part of a lower record, each part is in one list, and no record is deeper than 32.
+pub(crate) fn shape_fits(v: &[u8], m: Map) -> bool
+    requires { ⌜ Opened (now v) m ⌝ }
+    ensures { λ r. ⌜ r ≡ panelShapeFits (now (v .entry)) ⌝ }
+{
+    if m.parts + 1 != m.records {
+        return false;
+    }
+    let mut depths = [0u8; RECORDS_MOST];
+    depths[0] = 1;
+    enter_records(v, m, &mut depths)
+}

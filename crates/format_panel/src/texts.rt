@@ -1,0 +1,44 @@
+// Refusal 24 of a panel: an integer is canonical, and a text has at most 64 bytes.
+use crate::Map;
+use crate::records::record_at;
+use format_sheet::limits::TEXT_MOST;
+use format_sheet::texts::canonical;
+ghost use mathlib.Core.Path.{_≡_};
+ghost use Prim.Native.Nat.{_<_};
+ghost use Rattle.spec_rules.specs.PanelFile.{records, recordTextFits, panelTextsFit};
+ghost use Rattle.spec_accepted.specs.PanelFacts.{PanelShaped};
+ghost use Rattle.format_panel.specs.Opened.{Opened};
+
+// The text of record r, if it has one.
+fn text_fits(v: &[u8], m: Map, r: usize) -> bool
+    requires { ⌜ Opened (now v) m × PanelShaped (now v) × (r < records (now v)) ⌝ }
+    ensures { λ res. ⌜ res ≡ recordTextFits (now (v .entry)) r ⌝ }
+{
+    let x = record_at(v, r);
+    let kind = x.kind;
+    if 1 < kind {
+        return true;
+    }
+    if TEXT_MOST < x.count {
+        return false;
+    }
+    if kind == 1 {
+        return true;
+    }
+    canonical(v, m.pool_at + x.first, x.count)
+}
+
+// 24, of every record.
+pub(crate) fn texts_fit(v: &[u8], m: Map) -> bool
+    requires { ⌜ Opened (now v) m × PanelShaped (now v) ⌝ }
+    ensures { λ r. ⌜ r ≡ panelTextsFit (now (v .entry)) ⌝ }
+{
+    let mut r: usize = 0;
+    while r < m.records {
+        if !text_fits(v, m, r) {
+            return false;
+        }
+        r += 1;
+    }
+    true
+}

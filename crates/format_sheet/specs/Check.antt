@@ -1,0 +1,28 @@
+-- The answer of the check of a sheet: 01's number and place, or where the sections are. `verdict` of spec_rules decides.
+use Prim.Native.Nat.{ℕ}
+use mathlib.Core.List.{List}
+use Rattle.spec_rules.specs.SheetRefusals.{Verdict, accepted, refused, require, requireNone, typesFit, lowestTransparent, shapeFits, lowestBadText, lowestMisfit, lowestNameTwice, verdict}
+use Rattle.format_sheet.specs.declared.Checked.{Checked}
+use Rattle.format_sheet.specs.declared.Checked.the-variants.{Accepted, Refused}
+use Rattle.format_sheet.specs.Sections.{mapOf}
+
+-- a verdict on the sheet s as the code answers it
+abbrev pub answer : List ℕ → Verdict → Checked
+answer s accepted = Accepted (mapOf s)
+answer s (refused number place) = Refused number place
+
+unfoldable pub checked : List ℕ → Checked
+unfolding verdict
+checked s = answer s (verdict s)
+
+-- ---- the verdict from its later stages on
+unfoldable pub fromClauses : List ℕ → Verdict
+fromClauses s = requireNone (lowestMisfit s) 10 (requireNone (lowestNameTwice s) 11 accepted)
+
+unfoldable pub fromPatterns : List ℕ → Verdict
+unfolding fromClauses
+fromPatterns s = require (shapeFits s) 8 (requireNone (lowestBadText s) 9 (fromClauses s))
+
+unfoldable pub fromTypes : List ℕ → Verdict
+unfolding fromPatterns
+fromTypes s = require (typesFit s) 6 (requireNone (lowestTransparent s) 7 (fromPatterns s))

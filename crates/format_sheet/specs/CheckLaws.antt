@@ -1,0 +1,87 @@
+-- The stages of the check put together: each law is one way out of a stage.
+use mathlib.Core.Path.{_≡_, refl, ap, sym, _∙_}
+use mathlib.Core.Bool.{Bool, true, false, not}
+use mathlib.Core.List.{List}
+use mathlib.Core.Option.{Option, none, some}
+use Prim.Native.Nat.{ℕ, _≤_}
+use native.Mathlib.Omega.{arith}
+use borrow.Author.Tests.{leb-true, lt-ltb, le-ltb}
+use lib.Dec.{leb}
+use lib.ListN.{length}
+use Rattle.base_words.specs.WordsLaws.{both-true}
+use Rattle.spec_rules.specs.Limits.{sheetTrailer}
+use Rattle.spec_rules.specs.SheetFile.{clauses}
+use Rattle.spec_rules.specs.SheetRefusals.{Verdict, require, requireNone, lengthFits, layoutFits, hasClause, countsFit}
+use Rattle.format_sheet.specs.declared.Starts.{Starts}
+use Rattle.format_sheet.specs.declared.Counts.{Counts}
+use Rattle.format_sheet.specs.declared.Map.{Map}
+use Rattle.format_sheet.specs.declared.Checked.{Checked}
+use Rattle.format_sheet.specs.declared.Checked.the-variants.{Refused}
+use Rattle.format_sheet.specs.declared.Found.{Found}
+use Rattle.format_sheet.specs.declared.Found.the-variants.{At, Nothing}
+use Rattle.format_sheet.specs.Sections.{startsOf, countsOf, mapOf, startsFit, countsBetween, fewEnough}
+use Rattle.format_sheet.specs.SectionsLaws.{startsFit-is, countsBetween-is, fewEnough-is}
+use Rattle.format_sheet.specs.Found.{foundOf}
+use Rattle.format_sheet.specs.TestsLaws.{passed, stopped}
+use Rattle.format_sheet.specs.Check.{answer, checked, fromTypes}
+
+-- ---- a test, and a search
+module _ (s : List ℕ) (number : ℕ) (rest : Verdict) where
+  module _ {r : Bool} (test : Bool) (e : r ≡ test) where
+    pub test-stops : not r ≡ true → _≡_ {A = Checked} (Refused number 0) (answer s (require test number rest))
+    test-stops n = let f : test ≡ false = stopped e n in rw f
+
+    pub test-passes : {x : Checked} → not r ≡ false → x ≡ answer s rest → x ≡ answer s (require test number rest)
+    test-passes y g = let f : test ≡ true = passed e y in rw f g
+
+  found-at : (o : Option ℕ) (place : ℕ) → _≡_ {A = Found} (At place) (foundOf o) → o ≡ some place
+  found-at none place e = cc
+  found-at (some k) place e = cc
+
+  found-nothing : (o : Option ℕ) → _≡_ {A = Found} Nothing (foundOf o) → o ≡ none
+  found-nothing none e = refl
+  found-nothing (some k) e = cc
+
+  module _ {r : Found} (o : Option ℕ) (e : r ≡ foundOf o) where
+    pub search-stops : (place : ℕ) → r ≡ At place → _≡_ {A = Checked} (Refused number place) (answer s (requireNone o number rest))
+    search-stops place n = let f : o ≡ some place = found-at o place (sym n ∙ e) in rw f
+
+    pub search-passes : {x : Checked} → r ≡ Nothing → x ≡ answer s rest → x ≡ answer s (requireNone o number rest)
+    search-passes y g = let f : o ≡ none = found-nothing o (sym y ∙ e) in rw f g
+
+-- ---- the first stages
+pub checked-is : (s : List ℕ) → checked s ≡ answer s (require (lengthFits s) 2 (require (layoutFits s) 3 (require (hasClause s) 4 (require (countsFit s) 5 (fromTypes s)))))
+unfolding checked fromTypes
+checked-is s = refl
+
+pub long-enough : (s : List ℕ) → lengthFits s ≡ true → sheetTrailer ≤ length s
+unfolding lengthFits
+long-enough s h = leb-true sheetTrailer (length s) (both-true (leb sheetTrailer (length s)) _ h .0)
+
+module _ (s : List ℕ) (at : Starts) (e : at ≡ startsOf s) where
+  pub layout-is : {r : Bool} → r ≡ startsFit at → r ≡ layoutFits s
+  layout-is f = f ∙ ap startsFit e ∙ startsFit-is s
+
+  module _ (n : Counts) (f : n ≡ countsBetween at) where
+    counts-are : n ≡ countsOf s
+    counts-are = f ∙ ap countsBetween e ∙ countsBetween-is s
+
+    pub counts-is : {r : Bool} → r ≡ fewEnough n → r ≡ countsFit s
+    counts-is g = g ∙ ap fewEnough counts-are ∙ fewEnough-is s
+
+    pub no-clause : n .clauses ≡ 0 → hasClause s ≡ false
+    unfolding hasClause
+    no-clause z = let k : n .clauses ≡ clauses s = ap (λ (x : Counts). x .clauses) counts-are in le-ltb 0 (clauses s) (omega arith)
+
+    pub some-clause : (n .clauses ≡ 0 → ⊥) → hasClause s ≡ true
+    unfolding hasClause
+    some-clause z = let k : n .clauses ≡ clauses s = ap (λ (x : Counts). x .clauses) counts-are in lt-ltb 0 (clauses s) (omega arith)
+
+    pub map-is : (subject : ℕ) → subject ≡ mapOf s .subject → _≡_ {A = Map} (record { at = at; counts = n; subject = subject }) (mapOf s)
+    map-is subject g = rw (e, counts-are, g)
+
+pub clause-refused : (s : List ℕ) (rest : Verdict) → hasClause s ≡ false → _≡_ {A = Checked} (Refused 4 0) (answer s (require (hasClause s) 4 rest))
+clause-refused s rest e = rw e
+
+pub clause-there : (s : List ℕ) (rest : Verdict) {x : Checked} → hasClause s ≡ true → x ≡ answer s rest → x ≡ answer s (require (hasClause s) 4 rest)
+clause-there s rest e g = rw e g

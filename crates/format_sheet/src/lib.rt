@@ -1,0 +1,177 @@
+// The check of a sheet: refusals 2 to 11 of document 01, over a plain slice. It answers the refusal with its number and place, or
+// where each section starts and how many records it has; every crate that reads a checked sheet asks for that map.
+//
+// Cost: every record and entry is read a fixed number of times, and the whole is linear in the sheet but for what 01 implies: texts
+// may overlap in the pool, so that a byte is read once for each integer that has it (at most 192, of at most 64 bytes each), and
+// each name of a clause is looked for among those after it. What 01 asks of each pattern and each entry (refusal 8) is counted in a
+// buffer, not searched for; that buffer and the one for the names of a clause are lent on, so that nothing is copied for a pattern,
+// an entry or a name. Calls go at most 12 levels deep for the depth, and at most one level for each pattern and each entry in
+// fitting, where 192 less the pattern number falls.
+mod fitting;
+mod layout;
+pub mod limits;
+mod names;
+pub mod records;
+mod shape;
+mod standing;
+pub mod texts;
+mod types;
+
+use fitting::lowest_misfit;
+use layout::counts_fit;
+use layout::counts_of;
+use layout::layout_fits;
+use layout::length_fits;
+use layout::starts_of;
+use layout::subject_of;
+use names::lowest_name_twice;
+use shape::shape_fits;
+use texts::lowest_bad_text;
+use types::lowest_transparent;
+use types::types_fit;
+ghost use mathlib.Core.Path.{_≡_};
+ghost use Rattle.spec_accepted.specs.SheetFacts.{Laid, Counted, Typed};
+ghost use Rattle.format_sheet.specs.Sections.{mapOf};
+ghost use Rattle.format_sheet.specs.Fitting.{Ready};
+ghost use Rattle.format_sheet.specs.Check.{answer, checked, fromTypes, fromPatterns, fromClauses};
+
+// Where the sections start; the pool ends where the trailer begins.
+pub struct Starts {
+    pub types: usize,
+    pub constructors: usize,
+    pub entries: usize,
+    pub patterns: usize,
+    pub children: usize,
+    pub clauses: usize,
+    pub pool: usize,
+    pub end: usize,
+}
+
+// How many records each section has; of the pool, how many bytes.
+pub struct Counts {
+    pub types: usize,
+    pub constructors: usize,
+    pub entries: usize,
+    pub patterns: usize,
+    pub children: usize,
+    pub clauses: usize,
+    pub pool: usize,
+}
+
+pub struct Map {
+    pub at: Starts,
+    pub counts: Counts,
+    pub subject: usize,
+}
+
+pub enum Checked {
+    Accepted(Map),
+    Refused { number: u16, place: u16 },
+}
+
+// The lowest number of which a refusal holds, if there is one.
+pub enum Found {
+    At(u16),
+    Nothing,
+}
+
+// 10 and 11.
+fn check_clauses(s: &[u8], m: Map) -> Checked
+    requires { ⌜ Ready (now s) m ⌝ }
+    ensures { λ r. ⌜ r ≡ answer (now (s .entry)) (fromClauses (now (s .entry))) ⌝ }
+{
+    if let Found::At(c) = lowest_misfit(s, m) {
+        return Checked::Refused {
+            number: 10,
+            place: c,
+        };
+    }
+    if let Found::At(c) = lowest_name_twice(s, m) {
+        return Checked::Refused {
+            number: 11,
+            place: c,
+        };
+    }
+    Checked::Accepted(m)
+}
+
+// 8 to 11.
+fn check_patterns(s: &[u8], m: Map) -> Checked
+    requires { ⌜ Laid (now s) × (m ≡ mapOf (now s)) × Counted (now s) × Typed (now s) ⌝ }
+    ensures { λ r. ⌜ r ≡ answer (now (s .entry)) (fromPatterns (now (s .entry))) ⌝ }
+{
+    if !shape_fits(s, m) {
+        return Checked::Refused {
+            number: 8,
+            place: 0,
+        };
+    }
+    if let Found::At(p) = lowest_bad_text(s, m) {
+        return Checked::Refused {
+            number: 9,
+            place: p,
+        };
+    }
+    check_clauses(s, m)
+}
+
+// 6 to 11.
+fn check_types(s: &[u8], m: Map) -> Checked
+    requires { ⌜ Laid (now s) × (m ≡ mapOf (now s)) × Counted (now s) ⌝ }
+    ensures { λ r. ⌜ r ≡ answer (now (s .entry)) (fromTypes (now (s .entry))) ⌝ }
+{
+    if !types_fit(s, m) {
+        return Checked::Refused {
+            number: 6,
+            place: 0,
+        };
+    }
+    if let Found::At(t) = lowest_transparent(s, m) {
+        return Checked::Refused {
+            number: 7,
+            place: t,
+        };
+    }
+    check_patterns(s, m)
+}
+
+// 01's refusals 2 to 11, in their order. It asks nothing of its caller.
+pub fn check(s: &[u8]) -> Checked
+    ensures { λ r. ⌜ r ≡ checked (now (s .entry)) ⌝ }
+{
+    if !length_fits(s) {
+        return Checked::Refused {
+            number: 2,
+            place: 0,
+        };
+    }
+    let at = starts_of(s);
+    if !layout_fits(at) {
+        return Checked::Refused {
+            number: 3,
+            place: 0,
+        };
+    }
+    let counts = counts_of(at);
+    if counts.clauses == 0 {
+        return Checked::Refused {
+            number: 4,
+            place: 0,
+        };
+    }
+    if !counts_fit(counts) {
+        return Checked::Refused {
+            number: 5,
+            place: 0,
+        };
+    }
+    let subject = subject_of(s);
+    check_types(
+        s,
+        Map {
+            at,
+            counts,
+            subject,
+        },
+    )
+}

@@ -1,0 +1,129 @@
+// Refusal 11: a clause binds no name twice. The names of a clause are collected from left to right, in one buffer that is lent on
+// with the number of names in it, and each is looked for among those after it.
+use crate::Found;
+use crate::Map;
+use crate::limits::PATTERNS_MOST;
+use crate::records::child_in;
+use crate::records::children_in;
+use crate::records::pattern_in;
+use crate::records::root_at;
+ghost use mathlib.Core.Path.{_≡_};
+ghost use mathlib.Core.List.{[], _∷_};
+ghost use Prim.Native.Nat.{_+_, _-_, _<_, _≤_};
+ghost use lib.ListN.{length, getD};
+ghost use Rattle.base_words.specs.Words.{textAt};
+ghost use Rattle.spec_rules.specs.SheetFile.{patterns, clauses, patternsAt, childrenAt};
+ghost use Rattle.spec_rules.specs.SheetRefusals.{isIn, repeats as Repeats, nameTwice, lowestNameTwice};
+ghost use Rattle.spec_accepted.specs.SheetFacts.{Laid};
+ghost use Rattle.format_sheet.specs.Sections.{mapOf};
+ghost use Rattle.format_sheet.specs.Found.{foundOf};
+ghost use Rattle.format_sheet.specs.Fitting.{Ready};
+ghost use Rattle.format_sheet.specs.Names.{ownName, namesIn, inBuffer, held, Adds};
+
+// One name more.
+fn add(found: &mut [u16], count: usize, x: u16) -> usize
+    requires { ⌜ (length (now found) ≡ 192) × (count < 192) ⌝ }
+    ensures { λ r. ⌜ Adds (inBuffer (now (found .entry)) count) (x ∷ []) (inBuffer (now (found .exit)) r) ⌝ }
+{
+    found[count] = x;
+    count + 1
+}
+
+// The name of pattern p itself, if it has one.
+fn add_own(s: &[u8], records: usize, p: usize, found: &mut [u16], count: usize) -> usize
+    requires { ⌜ Laid (now s) × (records ≡ patternsAt (now s)) × (p < patterns (now s)) ⌝ }
+    requires { ⌜ (length (now found) ≡ 192) × (count + length (ownName (now s) p) ≤ 192) ⌝ }
+    ensures { λ r. ⌜ Adds (inBuffer (now (found .entry)) count) (ownName (now (s .entry)) p) (inBuffer (now (found .exit)) r) ⌝ }
+{
+    let r = pattern_in(s, records, p);
+    let kind = r.kind;
+    match kind {
+        1 => add(found, count, r.a as u16),
+        2 => add(found, count, r.a as u16),
+        _ => count,
+    }
+}
+
+// The names of pattern p and of what is inside it. Of the map it takes the starts of the patterns and of the child list.
+fn collect(
+    s: &[u8],
+    records: usize,
+    list: usize,
+    p: usize,
+    found: &mut [u16],
+    count: usize,
+) -> usize
+    requires { ⌜ Ready (now s) (mapOf (now s)) × (records ≡ patternsAt (now s)) × (list ≡ childrenAt (now s)) × (p < patterns (now s)) ⌝ }
+    requires { ⌜ (length (now found) ≡ 192) × (count + length (namesIn (now s) p) ≤ 192) ⌝ }
+    ensures { λ r. ⌜ Adds (inBuffer (now (found .entry)) count) (namesIn (now (s .entry)) p) (inBuffer (now (found .exit)) r) ⌝ }
+{
+    let mut next = add_own(s, records, p, found, count);
+    let run = children_in(s, records, p);
+    let mut k: usize = 0;
+    while k < run.count {
+        next = collect(
+            s,
+            records,
+            list,
+            child_in(s, list, run.first + k),
+            found,
+            next,
+        );
+        k += 1;
+    }
+    next
+}
+
+// The name at i is among those after it.
+fn again(found: &[u16], count: usize, i: usize) -> bool
+    requires { ⌜ (length (now found) ≡ 192) × (count ≤ 192) × (i < count) ⌝ }
+    ensures { λ r. ⌜ r ≡ isIn (getD (now (found .entry)) i 0) (textAt (now (found .entry)) (i + 1) (count - (i + 1))) ⌝ }
+{
+    let mut k = i + 1;
+    while k < count {
+        if found[i] == found[k] {
+            return true;
+        }
+        k += 1;
+    }
+    false
+}
+
+fn repeats(found: &[u16], count: usize) -> bool
+    requires { ⌜ (length (now found) ≡ 192) × (count ≤ 192) ⌝ }
+    ensures { λ r. ⌜ r ≡ Repeats (held (inBuffer (now (found .entry)) count)) ⌝ }
+{
+    let mut i: usize = 0;
+    while i < count {
+        if again(found, count, i) {
+            return true;
+        }
+        i += 1;
+    }
+    false
+}
+
+// What the buffer holds before does not matter.
+fn name_twice(s: &[u8], m: Map, c: usize, found: &mut [u16]) -> bool
+    requires { ⌜ Ready (now s) m × (c < clauses (now s)) × (length (now found) ≡ 192) ⌝ }
+    ensures { λ r. ⌜ r ≡ nameTwice (now (s .entry)) c ⌝ }
+{
+    let count = collect(s, m.at.patterns, m.at.children, root_at(s, m, c), found, 0);
+    repeats(found, count)
+}
+
+// 11.
+pub(crate) fn lowest_name_twice(s: &[u8], m: Map) -> Found
+    requires { ⌜ Ready (now s) m ⌝ }
+    ensures { λ r. ⌜ r ≡ foundOf (lowestNameTwice (now (s .entry))) ⌝ }
+{
+    let mut found = [0u16; PATTERNS_MOST];
+    let mut c: usize = 0;
+    while c < m.counts.clauses {
+        if name_twice(s, m, c, &mut found) {
+            return Found::At(c as u16);
+        }
+        c += 1;
+    }
+    Found::Nothing
+}

@@ -1,0 +1,185 @@
+// Refusals 6 and 7: types, constructors, type entries and the subject keep 01's rules, and no type is transparent.
+use crate::Found;
+use crate::Map;
+use crate::records::TypeRecord;
+use crate::records::constructor_at;
+use crate::records::entry_at;
+use crate::records::no_run;
+use crate::records::run_in;
+use crate::records::type_at;
+ghost use mathlib.Core.Path.{_≡_};
+ghost use Prim.Native.Nat.{_<_};
+ghost use Rattle.spec_rules.specs.Searching.{every};
+ghost use Rattle.spec_rules.specs.SheetFile.{types, constructors, entries};
+ghost use Rattle.spec_rules.specs.SheetRefusals.{typeKeepsRules, constructorKeepsRules, entryKeepsRules, typesFit, transparent as Transparent, lowestTransparent};
+ghost use Rattle.spec_accepted.specs.SheetFacts.{Laid, Counted, Typed};
+ghost use Rattle.format_sheet.specs.Sections.{mapOf};
+ghost use Rattle.format_sheet.specs.Types.{partsFit, flagsFit};
+ghost use Rattle.format_sheet.specs.Found.{foundOf};
+
+// First and count of a type, by its kind.
+fn parts_fit(r: TypeRecord, entries: usize, constructors: usize) -> bool
+    ensures { λ b. ⌜ b ≡ partsFit r entries constructors ⌝ }
+{
+    let kind = r.kind;
+    match kind {
+        0 | 1 => no_run(r.first, r.count),
+        2 => {
+            if r.count != 1 {
+                return false;
+            }
+            run_in(r.first, r.count, entries)
+        }
+        3 => {
+            if r.count != 2 {
+                return false;
+            }
+            run_in(r.first, r.count, entries)
+        }
+        4 => {
+            if r.count < 2 {
+                return false;
+            }
+            run_in(r.first, r.count, entries)
+        }
+        5 => {
+            if r.count < 1 {
+                return false;
+            }
+            run_in(r.first, r.count, constructors)
+        }
+        _ => false,
+    }
+}
+
+// Flags stand on Data alone.
+fn flags_fit(kind: u8, flag: u8) -> bool
+    ensures { λ r. ⌜ r ≡ flagsFit kind flag ⌝ }
+{
+    if flag == 0 {
+        return true;
+    }
+    if kind != 5 {
+        return false;
+    }
+    flag <= 3
+}
+
+fn type_keeps_rules(s: &[u8], m: Map, t: usize) -> bool
+    requires { ⌜ Laid (now s) × (m ≡ mapOf (now s)) × (t < types (now s)) ⌝ }
+    ensures { λ r. ⌜ r ≡ typeKeepsRules (now (s .entry)) t ⌝ }
+{
+    let r = type_at(s, m, t);
+    if !parts_fit(r, m.counts.entries, m.counts.constructors) {
+        return false;
+    }
+    flags_fit(r.kind, r.flag)
+}
+
+fn constructor_keeps_rules(s: &[u8], m: Map, c: usize) -> bool
+    requires { ⌜ Laid (now s) × (m ≡ mapOf (now s)) × (c < constructors (now s)) ⌝ }
+    ensures { λ r. ⌜ r ≡ constructorKeepsRules (now (s .entry)) c ⌝ }
+{
+    let r = constructor_at(s, m, c);
+    run_in(r.first, r.count, m.counts.entries)
+}
+
+fn entry_keeps_rules(s: &[u8], m: Map, e: usize) -> bool
+    requires { ⌜ Laid (now s) × (m ≡ mapOf (now s)) × (e < entries (now s)) ⌝ }
+    ensures { λ r. ⌜ r ≡ entryKeepsRules (now (s .entry)) e ⌝ }
+{
+    entry_at(s, m, e) < m.counts.types
+}
+
+fn types_keep_rules(s: &[u8], m: Map) -> bool
+    requires { ⌜ Laid (now s) × (m ≡ mapOf (now s)) ⌝ }
+    ensures { λ r. ⌜ r ≡ every (typeKeepsRules (now (s .entry))) 0 (types (now (s .entry))) ⌝ }
+{
+    let mut t: usize = 0;
+    while t < m.counts.types {
+        if !type_keeps_rules(s, m, t) {
+            return false;
+        }
+        t += 1;
+    }
+    true
+}
+
+fn constructors_keep_rules(s: &[u8], m: Map) -> bool
+    requires { ⌜ Laid (now s) × (m ≡ mapOf (now s)) ⌝ }
+    ensures { λ r. ⌜ r ≡ every (constructorKeepsRules (now (s .entry))) 0 (constructors (now (s .entry))) ⌝ }
+{
+    let mut c: usize = 0;
+    while c < m.counts.constructors {
+        if !constructor_keeps_rules(s, m, c) {
+            return false;
+        }
+        c += 1;
+    }
+    true
+}
+
+fn entries_keep_rules(s: &[u8], m: Map) -> bool
+    requires { ⌜ Laid (now s) × (m ≡ mapOf (now s)) ⌝ }
+    ensures { λ r. ⌜ r ≡ every (entryKeepsRules (now (s .entry))) 0 (entries (now (s .entry))) ⌝ }
+{
+    let mut e: usize = 0;
+    while e < m.counts.entries {
+        if !entry_keeps_rules(s, m, e) {
+            return false;
+        }
+        e += 1;
+    }
+    true
+}
+
+// 6.
+pub(crate) fn types_fit(s: &[u8], m: Map) -> bool
+    requires { ⌜ Laid (now s) × (m ≡ mapOf (now s)) ⌝ }
+    ensures { λ r. ⌜ r ≡ typesFit (now (s .entry)) ⌝ }
+{
+    if !types_keep_rules(s, m) {
+        return false;
+    }
+    if !constructors_keep_rules(s, m) {
+        return false;
+    }
+    if !entries_keep_rules(s, m) {
+        return false;
+    }
+    m.subject < m.counts.types
+}
+
+// Data, opaque flag 1 only, one constructor with one field.
+fn transparent(s: &[u8], m: Map, t: usize) -> bool
+    requires { ⌜ Laid (now s) × Typed (now s) × (m ≡ mapOf (now s)) × (t < types (now s)) ⌝ }
+    ensures { λ r. ⌜ r ≡ Transparent (now (s .entry)) t ⌝ }
+{
+    let r = type_at(s, m, t);
+    if r.kind != 5 {
+        return false;
+    }
+    if r.flag != 1 {
+        return false;
+    }
+    if r.count != 1 {
+        return false;
+    }
+    let only = constructor_at(s, m, r.first);
+    only.count == 1
+}
+
+// 7.
+pub(crate) fn lowest_transparent(s: &[u8], m: Map) -> Found
+    requires { ⌜ Laid (now s) × Counted (now s) × Typed (now s) × (m ≡ mapOf (now s)) ⌝ }
+    ensures { λ r. ⌜ r ≡ foundOf (lowestTransparent (now (s .entry))) ⌝ }
+{
+    let mut t: usize = 0;
+    while t < m.counts.types {
+        if transparent(s, m, t) {
+            return Found::At(t as u16);
+        }
+        t += 1;
+    }
+    Found::Nothing
+}

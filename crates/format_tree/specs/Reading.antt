@@ -1,0 +1,104 @@
+-- What the reader answers: the map of a file's sections, and its records as the code has them.
+-- Each is the field of the same name in the rules' definitions of the tree file.
+use Prim.Native.Nat.{ℕ, _+_, _-_, _*_, _/_, _≤_}
+use mathlib.Core.Path.{_≡_}
+use mathlib.Core.Bool.{Bool, true, false}
+use mathlib.Core.List.{List}
+use lib.ListN.{length}
+use Rattle.base_words.specs.Words.{both}
+use Rattle.spec_rules.specs.Searching.{every}
+use Rattle.spec_rules.specs.TreeReader.{nodesAt, casesAt, bindingsAt, pathsAt, stepsAt, treePoolAt, nodes, cases, bindings, paths, steps, treePoolSize, nodeKind, nodePath, nodeFirstCase, nodeCases, nodeTailCases, nodeDefault, nodeClause, nodeFirstBinding, nodeBindings, nodeChild, NodeKind, Switch, List-switch, Leaf, Hoist-node, Unknown-node, nodeKindOf, caseKind, caseNumber, caseLength, caseChild, CaseKind, Constr-case, Int-case, Bytes-case, List-case, List-with-tail-case, Unknown-case, caseKindOf, bindingName, bindingPath, pathFirst, pathCount, stepKind, stepFlag, stepIndexAt, stepType, nodeKeepsRules, caseKeepsRules, bindingKeepsRules, pathKeepsRules, stepKeepsRules, treeFits}
+use Rattle.spec_accepted.specs.TreeFacts.{TreeRuled}
+use Rattle.format_tree.specs.declared.layout.Section.{Section}
+use Rattle.format_tree.specs.declared.layout.Map.{Map}
+use Rattle.format_tree.specs.declared.Checked.{Checked}
+use Rattle.format_tree.specs.declared.Checked.the-variants.{Accepted, Refused}
+use Rattle.format_tree.specs.declared.reading.Node.{Node}
+use Rattle.format_tree.specs.declared.reading.Test.{Test}
+use Rattle.format_tree.specs.declared.reading.Case.{Case}
+use Rattle.format_tree.specs.declared.reading.Binding.{Binding}
+use Rattle.format_tree.specs.declared.reading.Path.{Path}
+use Rattle.format_tree.specs.declared.reading.Step.{Step}
+
+abbrev pub sectionOf : ℕ → ℕ → ℕ → Section
+sectionOf start end size = record { start = start; count = (end - start) / size }
+
+abbrev pub mapOf : List ℕ → Map
+mapOf t = record {
+  nodes = record { start = nodesAt t; count = nodes t };
+  cases = record { start = casesAt t; count = cases t };
+  bindings = record { start = bindingsAt t; count = bindings t };
+  paths = record { start = pathsAt t; count = paths t };
+  steps = record { start = stepsAt t; count = steps t };
+  pool = record { start = treePoolAt t; count = treePoolSize t };
+}
+
+-- m is the map of a file whose starts rise by whole records: the sections lie back to back, the first from 0 on
+pub record Mapped (t : List ℕ) (m : Map) : Type 0 where
+  pub is : m ≡ mapOf t
+  pub from-zero : m .nodes .start ≡ 0
+  pub nodes-end : 12 * m .nodes .count ≡ m .cases .start
+  pub cases-end : m .cases .start + 8 * m .cases .count ≡ m .bindings .start
+  pub bindings-end : m .bindings .start + 4 * m .bindings .count ≡ m .paths .start
+  pub paths-end : m .paths .start + 4 * m .paths .count ≡ m .steps .start
+  pub steps-end : m .steps .start + 6 * m .steps .count ≡ m .pool .start
+  pub pool-end : m .pool .start + m .pool .count + 14 ≡ length t
+  pub short : length t ≤ 65535
+
+-- a mapped file whose records keep the rules
+pub record Ruled (t : List ℕ) (m : Map) : Type 0 where
+  pub mapped : Mapped t m
+  pub rules : TreeRuled t
+
+unfoldable pub testOfFields : List ℕ → ℕ → CaseKind → Test
+testOfFields t i Constr-case = Test.Constr (caseNumber t i)
+testOfFields t i Int-case = Test.Text true (caseNumber t i) (caseLength t i)
+testOfFields t i Bytes-case = Test.Text false (caseNumber t i) (caseLength t i)
+testOfFields t i List-case = Test.List (caseNumber t i)
+testOfFields t i List-with-tail-case = Test.Tailed (caseNumber t i)
+testOfFields t i Unknown-case = Test.Tailed (caseNumber t i)
+
+unfoldable pub testOf : List ℕ → ℕ → Test
+unfolding testOfFields
+testOf t i = testOfFields t i (caseKindOf (caseKind t i))
+
+unfoldable pub caseOf : List ℕ → ℕ → Case
+unfolding testOf
+caseOf t i = record { test = testOf t i; child = caseChild t i }
+
+unfoldable pub nodeOfFields : List ℕ → ℕ → NodeKind → Node
+nodeOfFields t k Switch = Node.Switch (nodePath t k) (nodeFirstCase t k) (nodeCases t k) (nodeDefault t k) (testOf t (nodeFirstCase t k))
+nodeOfFields t k List-switch = Node.ListSwitch (nodePath t k) (nodeFirstCase t k) (nodeCases t k) (nodeTailCases t k) (nodeDefault t k)
+nodeOfFields t k Leaf = Node.Leaf (nodeClause t k) (nodeFirstBinding t k) (nodeBindings t k)
+nodeOfFields t k Hoist-node = Node.Hoist (nodeClause t k) (nodeFirstBinding t k) (nodeBindings t k) (nodeChild t k)
+nodeOfFields t k Unknown-node = Node.Hoist (nodeClause t k) (nodeFirstBinding t k) (nodeBindings t k) (nodeChild t k)
+
+unfoldable pub nodeOf : List ℕ → ℕ → Node
+unfolding nodeOfFields
+nodeOf t k = nodeOfFields t k (nodeKindOf (nodeKind t k))
+
+abbrev pub bindingOf : List ℕ → ℕ → Binding
+bindingOf t b = record { name = bindingName t b; path = bindingPath t b }
+
+abbrev pub pathOf : List ℕ → ℕ → Path
+pathOf t p = record { first = pathFirst t p; count = pathCount t p }
+
+abbrev pub stepOf : List ℕ → ℕ → Step
+stepOf t i = record { kind = stepKind t i; flag = stepFlag t i; index = stepIndexAt t i; of = stepType t i }
+
+-- 31 unless the file keeps every rule
+abbrev pub checkedBy : Bool → List ℕ → Checked
+checkedBy true t = Accepted (mapOf t)
+checkedBy false t = Refused
+
+unfoldable pub checked : List ℕ → Checked
+checked t = checkedBy (treeFits t) t
+
+-- the rules of records, all of them
+unfoldable pub recordsKeepRules : List ℕ → Bool
+recordsKeepRules t =
+    both (every (nodeKeepsRules t) 0 (nodes t))
+    (both (every (caseKeepsRules t) 0 (cases t))
+    (both (every (bindingKeepsRules t) 0 (bindings t))
+    (both (every (pathKeepsRules t) 0 (paths t))
+    (every (stepKeepsRules t) 0 (steps t)))))

@@ -1,0 +1,64 @@
+// The reader of a tree file: every condition of "A reader asks, else 31", and the reading of its records.
+// A check reads each record once, and nodes and cases once more for their order; it takes no memory but a few words. Each condition
+// is the rules' definition of its name; what is read of an accepted file rests on the facts of the crate spec_accepted.
+use layout::Map;
+use layout::length_true;
+use layout::sections;
+use layout::starts_rise;
+use order::nodes_in_pre_order;
+use records::bindings_keep_rules;
+use records::cases_keep_rules;
+use records::nodes_keep_rules;
+use records::paths_keep_rules;
+use records::steps_keep_rules;
+ghost use mathlib.Core.Path.{_≡_};
+ghost use Rattle.format_tree.specs.Reading.{Mapped, recordsKeepRules, checked};
+
+pub mod layout;
+mod order;
+pub mod reading;
+mod records;
+
+pub enum Checked {
+    Accepted(Map),
+    Refused,
+}
+
+fn records_keep_rules(t: &[u8], m: Map) -> bool
+    requires { ⌜ Mapped (now t) m ⌝ }
+    ensures { λ r. ⌜ r ≡ recordsKeepRules (now (t .entry)) ⌝ }
+{
+    if !nodes_keep_rules(t, m) {
+        return false;
+    }
+    if !cases_keep_rules(t, m) {
+        return false;
+    }
+    if !bindings_keep_rules(t, m) {
+        return false;
+    }
+    if !paths_keep_rules(t, m) {
+        return false;
+    }
+    steps_keep_rules(t, m)
+}
+
+// The map of a file that keeps every rule.
+pub fn check(t: &[u8]) -> Checked
+    ensures { λ r. ⌜ r ≡ checked (now (t .entry)) ⌝ }
+{
+    if !length_true(t) {
+        return Checked::Refused;
+    }
+    if !starts_rise(t) {
+        return Checked::Refused;
+    }
+    let m = sections(t);
+    if !records_keep_rules(t, m) {
+        return Checked::Refused;
+    }
+    if !nodes_in_pre_order(t, m) {
+        return Checked::Refused;
+    }
+    Checked::Accepted(m)
+}

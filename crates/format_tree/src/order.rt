@@ -1,0 +1,170 @@
+// "node 0 there, each other node a child exactly once, in pre-order", without a stack: a node's first child is the next node, each
+// later child is where the subtree of the child before it ends, and the subtree of node 0 ends where the nodes do.
+// A subtree's end is found by going from a node to its last child as far as there is one. This is done for children that are not
+// the last alone, so that each node is met once on the way to an end: the cost is that of one pass over nodes and cases.
+use crate::layout::Map;
+use crate::reading::case_child;
+use crate::reading::node_kind;
+use crate::reading::node_word;
+ghost use mathlib.Core.Path.{_≡_};
+ghost use mathlib.Core.List.{_++_};
+ghost use Prim.Native.Nat.{ℕ, _+_, _<_, _≤_};
+ghost use Rattle.spec_rules.specs.Searching.{every};
+ghost use Rattle.spec_rules.specs.TreeReader.{caseChildren, defaultChild, nodesInPreOrder};
+ghost use Rattle.format_tree.specs.Reading.{Mapped, Ruled};
+ghost use Rattle.format_tree.specs.PreOrder.{lastFrom, lastChild, endOf, chained, childrenFollow, ChildrenAre};
+
+// Where the children of a node stand: in a run of cases with a default behind it, or in the node itself.
+enum Children {
+    Cases {
+        first: usize,
+        count: usize,
+        default: usize,
+    },
+    One(usize),
+    Nothing,
+}
+
+fn children_of(t: &[u8], m: Map, k: usize) -> Children
+    requires { ⌜ Ruled (now t) m × (k < m .nodes .count) ⌝ }
+    ensures { λ r. ⌜ ChildrenAre (now (t .entry)) m k r ⌝ }
+{
+    let kind = node_kind(t, m, k);
+    if kind == 2 {
+        return Children::Nothing;
+    }
+    let tails = node_word(t, m, k, 3) as usize;
+    if kind == 3 {
+        return Children::One(tails);
+    }
+    let first = node_word(t, m, k, 1) as usize;
+    let cases = node_word(t, m, k, 2) as usize;
+    let default = node_word(t, m, k, 4) as usize;
+    Children::Cases {
+        first,
+        count: cases + tails,
+        default,
+    }
+}
+
+// The last child of a switch with n cases from i on and this default.
+fn last_of_switch(t: &[u8], m: Map, i: usize, n: usize, default: usize) -> usize
+    requires { ⌜ Mapped (now t) m × (1 ≤ n) × (i + n ≤ m .cases .count) ⌝ }
+    ensures { λ r. ⌜ ((k : ℕ) → r ≡ lastFrom k (caseChildren (now (t .entry)) i n ++ defaultChild default)) ⌝ }
+{
+    if 0 < default {
+        return default - 1;
+    }
+    case_child(t, m, i + n - 1) as usize
+}
+
+// The last child of node k; k itself where it has none.
+fn last_child(t: &[u8], m: Map, k: usize) -> usize
+    requires { ⌜ Ruled (now t) m × (k < m .nodes .count) ⌝ }
+    ensures { λ r. ⌜ r ≡ lastChild (now (t .entry)) k ⌝ }
+{
+    let children = children_of(t, m, k);
+    match children {
+        Children::Cases {
+            first,
+            count,
+            default,
+        } => last_of_switch(t, m, first, count, default),
+        Children::One(child) => child,
+        Children::Nothing => k,
+    }
+}
+
+// The number after the last node of the subtree of k.
+fn end_of(t: &[u8], m: Map, k: usize) -> usize
+    requires { ⌜ Ruled (now t) m × (k < m .nodes .count) ⌝ }
+    ensures { λ r. ⌜ r ≡ endOf (now (t .entry)) k ⌝ }
+{
+    let mut at = k;
+    let mut last = last_child(t, m, k);
+    while at < last {
+        at = last;
+        last = last_child(t, m, at);
+    }
+    at + 1
+}
+
+// The children of the n cases from i on: the first is node k + 1, each later one is where the one before it ends.
+fn cases_follow(t: &[u8], m: Map, k: usize, i: usize, n: usize) -> bool
+    requires { ⌜ Ruled (now t) m × (k < m .nodes .count) × (1 ≤ n) × (i + n ≤ m .cases .count) ⌝ }
+    ensures { λ r. ⌜ r ≡ chained (now (t .entry)) (k + 1) (caseChildren (now (t .entry)) i n) ⌝ }
+{
+    let mut before = case_child(t, m, i) as usize;
+    if before != k + 1 {
+        return false;
+    }
+    let mut j = 1;
+    while j < n {
+        let child = case_child(t, m, i + j) as usize;
+        if child != end_of(t, m, before) {
+            return false;
+        }
+        before = child;
+        j += 1;
+    }
+    true
+}
+
+// The same with the default after the cases.
+fn switch_follows(t: &[u8], m: Map, k: usize, i: usize, n: usize, default: usize) -> bool
+    requires { ⌜ Ruled (now t) m × (k < m .nodes .count) × (1 ≤ n) × (i + n ≤ m .cases .count) ⌝ }
+    ensures { λ r. ⌜ r ≡ chained (now (t .entry)) (k + 1) (caseChildren (now (t .entry)) i n ++ defaultChild default) ⌝ }
+{
+    if !cases_follow(t, m, k, i, n) {
+        return false;
+    }
+    if default == 0 {
+        return true;
+    }
+    let before = case_child(t, m, i + n - 1) as usize;
+    default - 1 == end_of(t, m, before)
+}
+
+fn children_follow(t: &[u8], m: Map, k: usize) -> bool
+    requires { ⌜ Ruled (now t) m × (k < m .nodes .count) ⌝ }
+    ensures { λ r. ⌜ r ≡ childrenFollow (now (t .entry)) k ⌝ }
+{
+    let children = children_of(t, m, k);
+    match children {
+        Children::Cases {
+            first,
+            count,
+            default,
+        } => switch_follows(t, m, k, first, count, default),
+        Children::One(child) => child == k + 1,
+        Children::Nothing => true,
+    }
+}
+
+fn all_follow(t: &[u8], m: Map) -> bool
+    requires { ⌜ Ruled (now t) m ⌝ }
+    ensures { λ r. ⌜ r ≡ every (childrenFollow (now (t .entry))) 0 (m .nodes .count) ⌝ }
+{
+    let mut k = 0;
+    while k < m.nodes.count {
+        if !children_follow(t, m, k) {
+            return false;
+        }
+        k += 1;
+    }
+    true
+}
+
+pub fn nodes_in_pre_order(t: &[u8], m: Map) -> bool
+    requires { ⌜ Ruled (now t) m ⌝ }
+    ensures { λ r. ⌜ r ≡ nodesInPreOrder (now (t .entry)) ⌝ }
+{
+    let count = m.nodes.count;
+    if count == 0 {
+        return false;
+    }
+    if !all_follow(t, m) {
+        return false;
+    }
+    end_of(t, m, 0) == count
+}

@@ -1,0 +1,327 @@
+// The rules of single records: "known kinds, zero bytes and unused fields 0, .. parts inside their sections; at most 192 bindings a
+// node". Each function is the rules' condition of its name; a record that nothing uses is asked all the same.
+use crate::layout::Map;
+use crate::reading::binding_at;
+use crate::reading::case_child;
+use crate::reading::case_kind;
+use crate::reading::case_length;
+use crate::reading::case_number;
+use crate::reading::case_zero;
+use crate::reading::node_kind;
+use crate::reading::node_word;
+use crate::reading::node_zero;
+use crate::reading::path_at;
+use crate::reading::step_flag;
+use crate::reading::step_kind;
+ghost use mathlib.Core.Path.{_≡_};
+ghost use mathlib.Core.Bool.{true};
+ghost use Prim.Native.Nat.{_+_, _<_, _≤_};
+ghost use Rattle.spec_rules.specs.Searching.{every};
+ghost use Rattle.spec_rules.specs.SheetFile.{runIn};
+ghost use Rattle.spec_rules.specs.TreeReader.{Switch, List-switch, Leaf, Hoist-node, nodeOfKind, caseKind, caseKindOf, caseOfKind, isKind, switchParts, switchCases, listSwitchCases, bindingParts, nodeKeepsRules, caseKeepsRules, bindingKeepsRules, pathKeepsRules, stepKeepsRules};
+ghost use Rattle.format_tree.specs.Reading.{Mapped};
+
+pub const NODE_BINDINGS_MOST: usize = 192;
+
+// The run from first on lies in a section of n records, and first is 0 where count is 0.
+fn run_in(first: usize, count: usize, n: usize) -> bool
+    ensures { λ r. ⌜ r ≡ runIn first count n ⌝ }
+{
+    if n < count {
+        return false;
+    }
+    if n - count < first {
+        return false;
+    }
+    if 0 < count {
+        return true;
+    }
+    first == 0
+}
+
+// ---- nodes
+
+fn switch_parts(t: &[u8], m: Map, k: usize) -> bool
+    requires { ⌜ Mapped (now t) m × (k < m .nodes .count) ⌝ }
+    ensures { λ r. ⌜ r ≡ switchParts (now (t .entry)) k ⌝ }
+{
+    let path = node_word(t, m, k, 0) as usize;
+    let first = node_word(t, m, k, 1) as usize;
+    let cases = node_word(t, m, k, 2) as usize;
+    let tails = node_word(t, m, k, 3) as usize;
+    let default = node_word(t, m, k, 4) as usize;
+    if m.paths.count <= path {
+        return false;
+    }
+    if !run_in(first, cases + tails, m.cases.count) {
+        return false;
+    }
+    default <= m.nodes.count
+}
+
+// Each of the n cases from i on is of this kind.
+fn cases_of_kind(t: &[u8], m: Map, kind: u8, i: usize, n: usize) -> bool
+    requires { ⌜ Mapped (now t) m × (i + n ≤ m .cases .count) ⌝ }
+    ensures { λ r. ⌜ r ≡ every (isKind (now (t .entry)) kind) i n ⌝ }
+{
+    let mut j = 0;
+    while j < n {
+        if case_kind(t, m, i + j) != kind {
+            return false;
+        }
+        j += 1;
+    }
+    true
+}
+
+fn switch_cases(t: &[u8], m: Map, k: usize) -> bool
+    requires { ⌜ Mapped (now t) m × (k < m .nodes .count) × (switchParts (now t) k ≡ true) ⌝ }
+    ensures { λ r. ⌜ r ≡ switchCases (now (t .entry)) k ⌝ }
+{
+    let first = node_word(t, m, k, 1) as usize;
+    let cases = node_word(t, m, k, 2) as usize;
+    let tails = node_word(t, m, k, 3) as usize;
+    if cases < 1 {
+        return false;
+    }
+    if tails != 0 {
+        return false;
+    }
+    let kind = case_kind(t, m, first);
+    if 2 < kind {
+        return false;
+    }
+    cases_of_kind(t, m, kind, first, cases)
+}
+
+fn list_switch_cases(t: &[u8], m: Map, k: usize) -> bool
+    requires { ⌜ Mapped (now t) m × (k < m .nodes .count) × (switchParts (now t) k ≡ true) ⌝ }
+    ensures { λ r. ⌜ r ≡ listSwitchCases (now (t .entry)) k ⌝ }
+{
+    let first = node_word(t, m, k, 1) as usize;
+    let cases = node_word(t, m, k, 2) as usize;
+    let tails = node_word(t, m, k, 3) as usize;
+    if cases + tails < 1 {
+        return false;
+    }
+    if !cases_of_kind(t, m, 3, first, cases) {
+        return false;
+    }
+    cases_of_kind(t, m, 4, first + cases, tails)
+}
+
+fn binding_parts(t: &[u8], m: Map, k: usize) -> bool
+    requires { ⌜ Mapped (now t) m × (k < m .nodes .count) ⌝ }
+    ensures { λ r. ⌜ r ≡ bindingParts (now (t .entry)) k ⌝ }
+{
+    let first = node_word(t, m, k, 1) as usize;
+    let count = node_word(t, m, k, 2) as usize;
+    if NODE_BINDINGS_MOST < count {
+        return false;
+    }
+    run_in(first, count, m.bindings.count)
+}
+
+fn switch_keeps_rules(t: &[u8], m: Map, k: usize) -> bool
+    requires { ⌜ Mapped (now t) m × (k < m .nodes .count) ⌝ }
+    ensures { λ r. ⌜ r ≡ nodeOfKind (now (t .entry)) k Switch ⌝ }
+{
+    if !switch_parts(t, m, k) {
+        return false;
+    }
+    switch_cases(t, m, k)
+}
+
+fn list_switch_keeps_rules(t: &[u8], m: Map, k: usize) -> bool
+    requires { ⌜ Mapped (now t) m × (k < m .nodes .count) ⌝ }
+    ensures { λ r. ⌜ r ≡ nodeOfKind (now (t .entry)) k List-switch ⌝ }
+{
+    if !switch_parts(t, m, k) {
+        return false;
+    }
+    list_switch_cases(t, m, k)
+}
+
+fn leaf_keeps_rules(t: &[u8], m: Map, k: usize) -> bool
+    requires { ⌜ Mapped (now t) m × (k < m .nodes .count) ⌝ }
+    ensures { λ r. ⌜ r ≡ nodeOfKind (now (t .entry)) k Leaf ⌝ }
+{
+    if !binding_parts(t, m, k) {
+        return false;
+    }
+    if node_word(t, m, k, 3) != 0 {
+        return false;
+    }
+    node_word(t, m, k, 4) == 0
+}
+
+fn hoist_keeps_rules(t: &[u8], m: Map, k: usize) -> bool
+    requires { ⌜ Mapped (now t) m × (k < m .nodes .count) ⌝ }
+    ensures { λ r. ⌜ r ≡ nodeOfKind (now (t .entry)) k Hoist-node ⌝ }
+{
+    if !binding_parts(t, m, k) {
+        return false;
+    }
+    let child = node_word(t, m, k, 3) as usize;
+    if m.nodes.count <= child {
+        return false;
+    }
+    node_word(t, m, k, 4) == 0
+}
+
+fn node_keeps_rules(t: &[u8], m: Map, k: usize) -> bool
+    requires { ⌜ Mapped (now t) m × (k < m .nodes .count) ⌝ }
+    ensures { λ r. ⌜ r ≡ nodeKeepsRules (now (t .entry)) k ⌝ }
+{
+    if node_zero(t, m, k) != 0 {
+        return false;
+    }
+    match node_kind(t, m, k) {
+        0 => switch_keeps_rules(t, m, k),
+        1 => list_switch_keeps_rules(t, m, k),
+        2 => leaf_keeps_rules(t, m, k),
+        3 => hoist_keeps_rules(t, m, k),
+        _ => false,
+    }
+}
+
+pub fn nodes_keep_rules(t: &[u8], m: Map) -> bool
+    requires { ⌜ Mapped (now t) m ⌝ }
+    ensures { λ r. ⌜ r ≡ every (nodeKeepsRules (now (t .entry))) 0 (m .nodes .count) ⌝ }
+{
+    let mut k = 0;
+    while k < m.nodes.count {
+        if !node_keeps_rules(t, m, k) {
+            return false;
+        }
+        k += 1;
+    }
+    true
+}
+
+// ---- cases
+
+fn case_of_kind(t: &[u8], m: Map, i: usize) -> bool
+    requires { ⌜ Mapped (now t) m × (i < m .cases .count) ⌝ }
+    ensures { λ r. ⌜ r ≡ caseOfKind (now (t .entry)) i (caseKindOf (caseKind (now (t .entry)) i)) ⌝ }
+{
+    let number = case_number(t, m, i) as usize;
+    let length = case_length(t, m, i) as usize;
+    match case_kind(t, m, i) {
+        0 => length == 0,
+        1 => run_in(number, length, m.pool.count),
+        2 => run_in(number, length, m.pool.count),
+        3 => length == 0,
+        4 => length == 0,
+        _ => false,
+    }
+}
+
+fn case_keeps_rules(t: &[u8], m: Map, i: usize) -> bool
+    requires { ⌜ Mapped (now t) m × (i < m .cases .count) ⌝ }
+    ensures { λ r. ⌜ r ≡ caseKeepsRules (now (t .entry)) i ⌝ }
+{
+    if case_zero(t, m, i) != 0 {
+        return false;
+    }
+    if !case_of_kind(t, m, i) {
+        return false;
+    }
+    let child = case_child(t, m, i) as usize;
+    child < m.nodes.count
+}
+
+pub fn cases_keep_rules(t: &[u8], m: Map) -> bool
+    requires { ⌜ Mapped (now t) m ⌝ }
+    ensures { λ r. ⌜ r ≡ every (caseKeepsRules (now (t .entry))) 0 (m .cases .count) ⌝ }
+{
+    let mut i = 0;
+    while i < m.cases.count {
+        if !case_keeps_rules(t, m, i) {
+            return false;
+        }
+        i += 1;
+    }
+    true
+}
+
+// ---- bindings, paths and steps
+
+fn binding_keeps_rules(t: &[u8], m: Map, b: usize) -> bool
+    requires { ⌜ Mapped (now t) m × (b < m .bindings .count) ⌝ }
+    ensures { λ r. ⌜ r ≡ bindingKeepsRules (now (t .entry)) b ⌝ }
+{
+    let binding = binding_at(t, m, b);
+    let path = binding.path as usize;
+    path < m.paths.count
+}
+
+pub fn bindings_keep_rules(t: &[u8], m: Map) -> bool
+    requires { ⌜ Mapped (now t) m ⌝ }
+    ensures { λ r. ⌜ r ≡ every (bindingKeepsRules (now (t .entry))) 0 (m .bindings .count) ⌝ }
+{
+    let mut b = 0;
+    while b < m.bindings.count {
+        if !binding_keeps_rules(t, m, b) {
+            return false;
+        }
+        b += 1;
+    }
+    true
+}
+
+fn path_keeps_rules(t: &[u8], m: Map, p: usize) -> bool
+    requires { ⌜ Mapped (now t) m × (p < m .paths .count) ⌝ }
+    ensures { λ r. ⌜ r ≡ pathKeepsRules (now (t .entry)) p ⌝ }
+{
+    let path = path_at(t, m, p);
+    let first = path.first as usize;
+    let count = path.count as usize;
+    run_in(first, count, m.steps.count)
+}
+
+pub fn paths_keep_rules(t: &[u8], m: Map) -> bool
+    requires { ⌜ Mapped (now t) m ⌝ }
+    ensures { λ r. ⌜ r ≡ every (pathKeepsRules (now (t .entry))) 0 (m .paths .count) ⌝ }
+{
+    let mut p = 0;
+    while p < m.paths.count {
+        if !path_keeps_rules(t, m, p) {
+            return false;
+        }
+        p += 1;
+    }
+    true
+}
+
+fn step_keeps_rules(t: &[u8], m: Map, i: usize) -> bool
+    requires { ⌜ Mapped (now t) m × (i < m .steps .count) ⌝ }
+    ensures { λ r. ⌜ r ≡ stepKeepsRules (now (t .entry)) i ⌝ }
+{
+    let kind = step_kind(t, m, i);
+    let flag = step_flag(t, m, i);
+    if 4 < kind {
+        return false;
+    }
+    if flag == 0 {
+        return true;
+    }
+    if flag != 1 {
+        return false;
+    }
+    kind == 2
+}
+
+pub fn steps_keep_rules(t: &[u8], m: Map) -> bool
+    requires { ⌜ Mapped (now t) m ⌝ }
+    ensures { λ r. ⌜ r ≡ every (stepKeepsRules (now (t .entry))) 0 (m .steps .count) ⌝ }
+{
+    let mut i = 0;
+    while i < m.steps.count {
+        if !step_keeps_rules(t, m, i) {
+            return false;
+        }
+        i += 1;
+    }
+    true
+}

@@ -1,1 +1,0 @@
-// Theorems about the definitions of rules: this crate is its specs/.

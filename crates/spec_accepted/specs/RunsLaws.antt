@@ -1,0 +1,67 @@
+-- What the tests shared by the three files say: a run inside a section, whole records between two starts, and a verdict that accepts.
+-- Rests on the definitions of spec_rules and on arithmetic.
+use mathlib.Core.Path.{_≡_, refl}
+use mathlib.Core.Logic.{⊎-elim}
+use mathlib.Core.Bool.{Bool, true, false}
+use mathlib.Core.Option.{Option, none, some}
+use Prim.Native.Nat.{ℕ, _+_, _-_, _*_, _/_, _%_, _≤_, _<_}
+use native.Mathlib.Omega.{arith}
+use native.Mathlib.Nat.{div-add-mod}
+use borrow.Author.Tests.{leb-true, ltb-true, eqb-true}
+use lib.Dec.{eqb, leb, ltb}
+use Rattle.base_words.specs.Words.{either}
+use Rattle.base_words.specs.WordsLaws.{both-true, either-true}
+use Rattle.spec_rules.specs.Searching.{every, lowest}
+use Rattle.spec_rules.specs.SearchingLaws.{every-true, lowest-none}
+use Rattle.spec_rules.specs.SheetFile.{runIn}
+use Rattle.spec_rules.specs.SheetRefusals.{wholeRecords, Verdict, accepted, require, requireNone}
+
+-- "first, count": the run from first on lies in a section of n records, and first is 0 where count is 0
+pub record Run (first count n : ℕ) : Type 0 where
+  pub inside : first + count ≤ n
+  pub empty : count ≡ 0 → first ≡ 0
+
+pub run-in : (first count n : ℕ) → runIn first count n ≡ true → Run first count n
+unfolding runIn
+run-in first count n h =
+    let p = both-true (leb (first + count) n) (either (ltb 0 count) (eqb first 0)) h in
+    record {
+      inside = leb-true (first + count) n (p .0);
+      empty = λ z. ⊎-elim (λ f. let some-there = ltb-true 0 count f in absurd (omega arith)) (λ f. eqb-true first 0 f) (either-true (ltb 0 count) (eqb first 0) (p .1));
+    }
+
+-- whole records between two starts: the section does not end before it begins, and its count times its size fills it
+pub whole-rises : (size from to : ℕ) → wholeRecords size from to ≡ true → from ≤ to
+unfolding wholeRecords
+whole-rises size from to h = leb-true from to (both-true (leb from to) (eqb ((to - from) % size) 0) h .0)
+
+pub whole-fills : (size from to : ℕ) → wholeRecords size from to ≡ true → from + size * ((to - from) / size) ≡ to
+unfolding wholeRecords
+whole-fills size from to h =
+    let rises = whole-rises size from to h in
+    let even = eqb-true ((to - from) % size) 0 (both-true (leb from to) (eqb ((to - from) % size) 0) h .1) in
+    omega (arith, div-add-mod (to - from) size)
+
+-- a pool reaches from its start to the trailer, and the trailer to the end
+pub pool-fills : (from to : ℕ) → from ≤ to → from + (to - from) ≡ to
+pool-fills from to h = omega arith
+
+pub trailer-fills : (trailer long : ℕ) → trailer ≤ long → long - trailer + trailer ≡ long
+trailer-fills trailer long h = omega arith
+
+-- a verdict that accepts passed its first test, and the rest accepts
+pub require-accepted : (test : Bool) (number : ℕ) (rest : Verdict) → require test number rest ≡ accepted → (test ≡ true) × (rest ≡ accepted)
+require-accepted true number rest h = (refl, h)
+require-accepted false number rest h = (cc, cc)
+
+pub requireNone-accepted : (found : Option ℕ) (number : ℕ) (rest : Verdict) → requireNone found number rest ≡ accepted → (found ≡ none) × (rest ≡ accepted)
+requireNone-accepted none number rest h = (refl, h)
+requireNone-accepted (some place) number rest h = (cc, cc)
+
+-- what was asked of every record of a section, and what was found in none
+module _ (f : ℕ → Bool) (n : ℕ) where
+  pub every-below : every f 0 n ≡ true → (k : ℕ) → k < n → f k ≡ true
+  every-below h k l = every-true f 0 n h k (omega arith) (omega arith)
+
+  pub none-below : lowest f 0 n ≡ none → (k : ℕ) → k < n → f k ≡ false
+  none-below h k l = lowest-none f 0 n h k (omega arith) (omega arith)

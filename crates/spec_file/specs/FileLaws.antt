@@ -1,0 +1,105 @@
+-- The tree file counted: how long it is, where its sections start, and how many records each has, all by the tree's own counts.
+-- Rests on the laws of sections and of their lengths; nothing is asked of the tree.
+use mathlib.Core.Path.{_≡_}
+use mathlib.Core.List.{List}
+use Prim.Native.Nat.{ℕ, _+_, _*_}
+use native.Mathlib.Omega.{arith}
+use lib.ListN.{length}
+use Rattle.spec_rules.specs.Limits.{nodeSize, caseSize, bindingSize, pathSize, stepSize, treeTrailer}
+use Rattle.spec_rules.specs.Rows.{Path}
+use Rattle.spec_rules.specs.Building.{Tree}
+use Rattle.spec_rules.specs.Hoisting.{nodesIn, bindingsIn}
+use Rattle.spec_rules.specs.TreeFile.{casesIn, nodesFrom, casesFrom, bindingsBytes, pathsBytes, stepsBytes, pathTable, treeSections, treeFile}
+use Rattle.spec_rules.specs.TreeReader.{treeLength, nodesAt, casesAt, bindingsAt, pathsAt, stepsAt, treePoolAt, treePoolEnd, nodes, cases, bindings, paths, steps, treePoolSize}
+use Rattle.spec_file.specs.StandingLaws.{Stands}
+use Rattle.spec_file.specs.Writable.{stepsIn}
+use Rattle.spec_file.specs.LengthLaws.{length-nodesFrom, length-casesFrom, length-bindingsBytes, length-pathsBytes, length-stepsBytes}
+use Rattle.spec_file.specs.SectionsLaws.{Sectioned, file-sectioned}
+
+-- t has the sections of the tree a, whose paths are numbered by the table
+pub record Filed (t pool : List ℕ) (table : List Path) (a : Tree) : Type 0 where
+  pub length-is :
+      length t ≡ nodeSize * nodesIn a + caseSize * casesIn a + bindingSize * length (bindingsIn a) + pathSize * length table + stepSize * stepsIn table
+      + length pool
+      + treeTrailer
+  pub treeLength-is : treeLength t ≡ length t
+  pub nodesAt-is : nodesAt t ≡ 0
+  pub casesAt-is : casesAt t ≡ nodeSize * nodesIn a
+  pub bindingsAt-is : bindingsAt t ≡ nodeSize * nodesIn a + caseSize * casesIn a
+  pub pathsAt-is : pathsAt t ≡ nodeSize * nodesIn a + caseSize * casesIn a + bindingSize * length (bindingsIn a)
+  pub stepsAt-is : stepsAt t ≡ nodeSize * nodesIn a + caseSize * casesIn a + bindingSize * length (bindingsIn a) + pathSize * length table
+  pub treePoolAt-is :
+      treePoolAt t ≡ nodeSize * nodesIn a + caseSize * casesIn a + bindingSize * length (bindingsIn a) + pathSize * length table + stepSize * stepsIn table
+  pub nodes-are : nodes t ≡ nodesIn a
+  pub cases-are : cases t ≡ casesIn a
+  pub bindings-are : bindings t ≡ length (bindingsIn a)
+  pub paths-are : paths t ≡ length table
+  pub steps-are : steps t ≡ stepsIn table
+  pub treePoolSize-is : treePoolSize t ≡ length pool
+  pub nodes-stand : Stands t (nodesAt t) (nodesFrom table 0 0 0 a)
+  pub cases-stand : Stands t (casesAt t) (casesFrom 0 a)
+  pub bindings-stand : Stands t (bindingsAt t) (bindingsBytes table (bindingsIn a))
+  pub paths-stand : Stands t (pathsAt t) (pathsBytes 0 table)
+  pub steps-stand : Stands t (stepsAt t) (stepsBytes table)
+  pub pool-stands : Stands t (treePoolAt t) pool
+
+filed-sections : (t pool : List ℕ) (table : List Path) (a : Tree)
+    → Sectioned t (nodesFrom table 0 0 0 a) (casesFrom 0 a) (bindingsBytes table (bindingsIn a)) (pathsBytes 0 table) (stepsBytes table) pool
+    → Filed t pool table a
+unfolding treePoolEnd nodes cases bindings paths steps treePoolSize
+filed-sections t pool table a s =
+    let n = length-nodesFrom table 0 0 0 a in
+    let c = length-casesFrom 0 a in
+    let b = length-bindingsBytes table (bindingsIn a) in
+    let p = length-pathsBytes 0 table in
+    let e = length-stepsBytes table in
+    let at-nodes = s .nodesAt-is in
+    let at-cases : casesAt t ≡ nodeSize * nodesIn a = omega (arith, s .casesAt-is) in
+    let at-bindings : bindingsAt t ≡ nodeSize * nodesIn a + caseSize * casesIn a = omega (arith, s .bindingsAt-is) in
+    let at-paths : pathsAt t ≡ nodeSize * nodesIn a + caseSize * casesIn a + bindingSize * length (bindingsIn a) = omega (arith, s .pathsAt-is) in
+    let at-steps : stepsAt t ≡ nodeSize * nodesIn a + caseSize * casesIn a + bindingSize * length (bindingsIn a) + pathSize * length table =
+    omega (arith, s .stepsAt-is) in
+    let at-pool :
+    treePoolAt t ≡ nodeSize * nodesIn a + caseSize * casesIn a + bindingSize * length (bindingsIn a) + pathSize * length table + stepSize * stepsIn table =
+    omega (arith, s .treePoolAt-is) in
+    record {
+      length-is = omega (arith, s .length-is);
+      treeLength-is = s .treeLength-is;
+      nodesAt-is = at-nodes;
+      casesAt-is = at-cases;
+      bindingsAt-is = at-bindings;
+      pathsAt-is = at-paths;
+      stepsAt-is = at-steps;
+      treePoolAt-is = at-pool;
+      nodes-are = rw (at-cases, at-nodes) (omega arith);
+      cases-are = rw (at-bindings, at-cases) (omega arith);
+      bindings-are = rw (at-paths, at-bindings) (omega arith);
+      paths-are = rw (at-steps, at-paths) (omega arith);
+      steps-are = rw (at-pool, at-steps) (omega arith);
+      treePoolSize-is = omega (arith, s .length-is);
+      nodes-stand = s .nodes-stand;
+      cases-stand = s .cases-stand;
+      bindings-stand = s .bindings-stand;
+      paths-stand = s .paths-stand;
+      steps-stand = s .steps-stand;
+      pool-stands = s .pool-stands;
+    }
+
+pub tree-filed : (pool : List ℕ) (a : Tree) → Filed (treeFile pool a) pool (pathTable a) a
+unfolding treeFile treeSections
+tree-filed pool a =
+    filed-sections (treeFile pool a) pool (pathTable a) a
+    (file-sectioned (nodesFrom (pathTable a) 0 0 0 a) (casesFrom 0 a) (bindingsBytes (pathTable a) (bindingsIn a)) (pathsBytes 0 (pathTable a))
+    (stepsBytes (pathTable a)) pool)
+
+-- ---- the counts of the answer are those of the records written
+pub file-length : (pool : List ℕ) (a : Tree)
+    → length (treeFile pool a)
+    ≡ 12 * nodesIn a + 8 * casesIn a + 4 * length (bindingsIn a) + 4 * length (pathTable a) + 6 * stepsIn (pathTable a) + length pool + 14
+file-length pool a = tree-filed pool a .length-is
+
+pub file-nodes : (pool : List ℕ) (a : Tree) → nodes (treeFile pool a) ≡ nodesIn a
+file-nodes pool a = tree-filed pool a .nodes-are
+
+pub file-bindings : (pool : List ℕ) (a : Tree) → bindings (treeFile pool a) ≡ length (bindingsIn a)
+file-bindings pool a = tree-filed pool a .bindings-are

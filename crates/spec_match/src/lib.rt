@@ -1,0 +1,1 @@
+// Theorems about the definitions of spec_rules: this crate is its specs/.

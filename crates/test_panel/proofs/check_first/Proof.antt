@@ -1,0 +1,21 @@
+-- `test_panel::check_first` is safe: the part is as long as its end says.
+use native.Mathlib.Omega.{arith}
+use borrow.Author.Needs.{needs}
+use lib.ListN.{length-take}
+use Rattle.test_panel.proofs.check_first.Statement.{statement}
+use Rattle.test_panel.proofs.check_first.Tie as tie
+
+slice-aggregate-check : tie.Need-slice-aggregate-check
+slice-aggregate-check c = simp length-take (omega arith)
+
+check-requires : tie.Need-check-requires
+check-requires c κs = search needs
+
+returns : tie.Need-returns
+returns c = search needs
+
+returns-2 : tie.Need-returns-2
+returns-2 c = search needs
+
+pub check-first-spec : {M : Type 1} → statement M
+check-first-spec = tie.close (tie.spec slice-aggregate-check check-requires returns returns-2)
