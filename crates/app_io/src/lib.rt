@@ -1,6 +1,8 @@
 // What the programs share: a file or standard input read whole, and the listing of a sheet.
 // No function asks anything of its caller, and what each counts are bytes of the buffer that it was lent.
 use app_listing::Listed;
+use base_numbers::panel::PANEL_MOST;
+use base_numbers::sheet::SHEET_MOST;
 use build_call::Built;
 ghost use mathlib.Core.Path.{_≡_};
 ghost use lib.ListN.{length};
@@ -8,9 +10,9 @@ ghost use Rattle.io.specs.Counts.{Counts};
 ghost use Rattle.app_io.specs.Shown.{ShowsTree, ShowsRefusal, ShowsSheet};
 
 // Room for a sheet, and for a panel, with one byte more than either may have: a longer input fills it, and its length refuses it.
-pub const SHEET_ROOM: usize = 8193;
+pub const SHEET_ROOM: usize = SHEET_MOST + 1;
 
-pub const PANEL_ROOM: usize = 16385;
+pub const PANEL_ROOM: usize = PANEL_MOST + 1;
 
 // More than any listing takes: 1,024 lines, 1,023 tests of at most 64 bytes, and at most 5,120 paths of at most 11 steps.
 pub const HUGE_ROOM: usize = 2097152;

@@ -5,6 +5,7 @@ use crate::texts::put_decimal;
 use crate::texts::put_hex;
 use crate::texts::put_numbered;
 use crate::texts::put_text;
+use base_numbers::step_kinds;
 use format_tree::layout::Map;
 use format_tree::reading::Test;
 use format_tree::reading::binding_at;
@@ -39,10 +40,10 @@ fn put_step(out: &mut [u8], at: usize, t: &[u8], m: Map, i: usize) -> usize
     let step = step_at(t, m, i);
     let kind = step.kind;
     match kind {
-        0 => put_numbered(out, at, b"pair_", step.index),
-        1 => put_numbered(out, at, b"tuple_", step.index),
-        2 => put_constr_step(out, at, step.index, step.flag),
-        3 => put_numbered(out, at, b"list_", step.index),
+        step_kinds::PAIR => put_numbered(out, at, b"pair_", step.index),
+        step_kinds::TUPLE => put_numbered(out, at, b"tuple_", step.index),
+        step_kinds::CONSTR => put_constr_step(out, at, step.index, step.flag),
+        step_kinds::LIST => put_numbered(out, at, b"list_", step.index),
         _ => put_numbered(out, at, b"listtail_", step.index),
     }
 }

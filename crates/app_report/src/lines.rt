@@ -2,6 +2,7 @@
 use crate::places::put_place;
 use app_listing::texts::put;
 use app_listing::texts::put_numbered;
+use base_numbers::tree::BOUND_WORDS;
 ghost use mathlib.Core.List.{_++_};
 ghost use Prim.Native.Nat.{_*_, _≤_};
 ghost use lib.ListN.{length};
@@ -27,7 +28,7 @@ fn put_bindings(out: &mut [u8], at: usize, v: &[u8], bound: &[u16], n: usize) ->
     let mut end = at;
     let mut k = 0;
     while k < n {
-        let i = 3 * k;
+        let i = BOUND_WORDS * k;
         end = put_binding(out, end, v, bound[i], bound[i + 1], bound[i + 2]);
         k += 1;
     }

@@ -3,6 +3,7 @@
 use app_listing::texts::put_hex;
 use app_listing::texts::put_numbered;
 use app_listing::texts::put_text;
+use base_numbers::record_kinds;
 use format_panel::Checked;
 use format_panel::records::Record;
 use format_panel::records::record_at;
@@ -45,12 +46,12 @@ fn put_record(out: &mut [u8], at: usize, v: &[u8], x: Record, r: u16, dropped: u
 {
     let kind = x.kind;
     match kind {
-        0 => put_int(out, at, v, r, dropped),
-        1 => put_bytes(out, at, v, r, dropped),
-        2 => put_list(out, at, x.count as u16, dropped),
-        3 => put_text(out, at, b" pair"),
-        4 => put_numbered(out, at, b" tuple ", x.count as u16),
-        5 => put_numbered(out, at, b" constr ", x.a as u16),
+        record_kinds::INTEGER => put_int(out, at, v, r, dropped),
+        record_kinds::BYTES => put_bytes(out, at, v, r, dropped),
+        record_kinds::LIST => put_list(out, at, x.count as u16, dropped),
+        record_kinds::PAIR => put_text(out, at, b" pair"),
+        record_kinds::TUPLE => put_numbered(out, at, b" tuple ", x.count as u16),
+        record_kinds::CONSTRUCTOR => put_numbered(out, at, b" constr ", x.a as u16),
         _ => at,
     }
 }

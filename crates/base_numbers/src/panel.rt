@@ -15,4 +15,9 @@ pub const PANEL_MOST: usize = 16384;
 
 pub const RECORDS_MOST: usize = 512;
 
-pub const PANEL_DEPTH_MOST: usize = 32;
+pub const PANEL_DEPTH_MOST: u8 = 32;
+
+// The length stands so far from the end.
+pub const PANEL_LENGTH_BACK: usize = WORD_SIZE;
+
+pub const PAIR_PARTS: usize = 2;

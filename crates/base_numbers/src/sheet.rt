@@ -37,3 +37,24 @@ pub const DEPTH_MOST: usize = 12;
 
 // Of panels too.
 pub const TEXT_MOST: usize = 64;
+
+// The subject's type number and the length stand so far from the end.
+pub const SUBJECT_BACK: usize = 2 * WORD_SIZE;
+
+pub const LENGTH_BACK: usize = WORD_SIZE;
+
+// How many entries or constructors a type has, and how many children a pattern: exactly, or at least.
+pub const LIST_ENTRIES: usize = 1;
+
+pub const PAIR_ENTRIES: usize = 2;
+
+pub const TUPLE_ENTRIES_LEAST: usize = 2;
+
+pub const DATA_CONSTRUCTORS_LEAST: usize = 1;
+
+pub const ASSIGN_CHILDREN: usize = 1;
+
+pub const PAIR_CHILDREN: usize = 2;
+
+// The tail, and an element before it.
+pub const TAILED_CHILDREN_LEAST: usize = 2;

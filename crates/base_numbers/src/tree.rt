@@ -30,5 +30,8 @@ pub const TREE_ROOM: usize = 65536;
 
 pub const WORK_ROOM: usize = 65536;
 
-// In u16: name, record and dropped of each binding.
-pub const BOUND_ROOM: usize = 3 * NODE_BINDINGS_MOST;
+// Name, record and dropped: the words of one binding in a binding buffer.
+pub const BOUND_WORDS: usize = 3;
+
+// In u16.
+pub const BOUND_ROOM: usize = BOUND_WORDS * NODE_BINDINGS_MOST;

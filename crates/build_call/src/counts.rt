@@ -1,6 +1,8 @@
 // What hoisting adds to the tree in the arena: a hoist for each clause with a leaf, with the bindings of its first leaf.
 // One look at each clause; refusals 12 and 13 go by these sums.
-use build_arena::NODES_MOST;
+use base_numbers::node_words;
+use base_numbers::sheet::CLAUSES_MOST;
+use base_numbers::tree::NODES_MOST;
 use build_arena::reading::node_word;
 use build_scopes::Scopes;
 ghost use mathlib.Core.Path.{_≡_};
@@ -23,7 +25,7 @@ fn one_if(mark: u8) -> usize
 }
 
 // How many clauses have a leaf.
-pub fn hoists(leaves: [u8; 32], clauses: usize) -> usize
+pub fn hoists(leaves: [u8; CLAUSES_MOST], clauses: usize) -> usize
     requires { ⌜ clauses ≤ clausesMost ⌝ }
     ensures { λ r. ⌜ r ≡ times (λ c. isMarked (getD leaves c 0)) 0 clauses ⌝ }
 {
@@ -45,7 +47,7 @@ fn bindings_of(w: &[u8], leaf: u16) -> usize
     if NODES_MOST <= k {
         return 0;
     }
-    node_word(w, k, 2) as usize
+    node_word(w, k, node_words::BINDINGS) as usize
 }
 
 // The bindings of all hoists.

@@ -1,7 +1,11 @@
 // The build call: the tree of a sheet, written as its file, or the refusal; refusals 1, 2 to 11, 12 to 14 of document 01.
 // Its contract says its one answer and every byte of both buffers, for every byte string and every pair of buffers.
+use base_numbers::refusals;
+use base_numbers::tree::TREE_ROOM;
+use base_numbers::tree::WORK_ROOM;
 use base_words::zero_all;
 use format_sheet::Checked;
+use trees::build_tree;
 ghost use mathlib.Core.Path.{_≡_};
 ghost use Prim.Native.Nat.{_≤_};
 ghost use lib.ListN.{length};
@@ -12,11 +16,6 @@ ghost use Rattle.build_call.specs.Answers.{callOf, Gives};
 
 mod counts;
 mod trees;
-
-use trees::build_tree;
-
-// The least tree and work buffers, in bytes.
-pub const ROOM: usize = 65536;
 
 pub enum Built {
     Tree {
@@ -46,15 +45,15 @@ fn build_clear(s: &[u8], tree: &mut [u8], work: &mut [u8]) -> Built
     requires { ⌜ now tree ≡ zeros (length (now tree)) ⌝ }
     ensures { λ r. ⌜ Gives (now (s .entry)) (buildAnswer (now (s .entry)) (length (now (tree .entry))) (length (now (work .entry)))) (now (tree .entry)) (now (tree .exit)) r ⌝ }
 {
-    if tree.len() < ROOM {
+    if tree.len() < TREE_ROOM {
         return Built::Refused {
-            number: 1,
+            number: refusals::ROOM,
             place: 0,
         };
     }
-    if work.len() < ROOM {
+    if work.len() < WORK_ROOM {
         return Built::Refused {
-            number: 1,
+            number: refusals::ROOM,
             place: 0,
         };
     }

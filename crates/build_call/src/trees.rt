@@ -3,17 +3,20 @@
 use crate::Built;
 use crate::counts::hoist_bindings;
 use crate::counts::hoists;
-use build_arena::BINDING_SIZE;
-use build_arena::CASE_SIZE;
-use build_arena::NODE_SIZE;
-use build_arena::NODES_MOST;
+use base_numbers::refusals;
+use base_numbers::sheet::CLAUSES_MOST;
+use base_numbers::sheet::PATTERNS_MOST;
+use base_numbers::tree::BINDING_SIZE;
+use base_numbers::tree::BINDINGS_MOST;
+use base_numbers::tree::CASE_SIZE;
+use base_numbers::tree::NODE_SIZE;
+use base_numbers::tree::NODES_MOST;
 use build_file_nodes::write_nodes;
 use build_file_tail::put_tail;
-use build_leaves::BINDINGS_MOST;
 use build_nodes::raw;
-use build_scopes::CLAUSES_MOST;
 use build_scopes::Scopes;
 use build_scopes::get_hoist_paths;
+use build_table::TABLE;
 use build_table::fill;
 use format_sheet::Map;
 ghost use mathlib.Core.Path.{_≡_};
@@ -48,7 +51,7 @@ fn write_tree(
     requires { ⌜ (treeRoom ≤ length (now tree)) × (now tree ≡ zeros (length (now tree))) ⌝ }
     ensures { λ r. ⌜ Gives (now (s .entry)) (treeEnd (now (s .entry))) (now (tree .entry)) (now (tree .exit)) r ⌝ }
 {
-    let mut classes = [0u8; 192];
+    let mut classes = [0u8; PATTERNS_MOST];
     let f = write_nodes(w, nodes, cases, x, m.counts.clauses, tree, &mut classes);
     let second = NODE_SIZE * f.nodes;
     let third = second + CASE_SIZE * f.cases;
@@ -79,12 +82,12 @@ fn write_hoisted(
 {
     let more = hoist_bindings(w, x, m.counts.clauses);
     if BINDINGS_MOST < bindings + more {
-        return refused(13);
+        return refused(refusals::BINDINGS);
     }
     let idle = x.idle;
     if idle < CLAUSES_MOST {
         return Built::Refused {
-            number: 14,
+            number: refusals::IDLE,
             place: idle as u16,
         };
     }
@@ -100,7 +103,7 @@ pub fn finish(
     nodes: usize,
     cases: usize,
     bindings: usize,
-    leaves: [u8; 32],
+    leaves: [u8; CLAUSES_MOST],
     tree: &mut [u8],
 ) -> Built
     requires { ⌜ SheetAccepts (now s) m × Tabled (now s) (now t) × Raw (now s) (now w) nodes cases bindings leaves ⌝ }
@@ -110,10 +113,10 @@ pub fn finish(
     let clauses = m.counts.clauses;
     let more = hoists(leaves, clauses);
     if NODES_MOST < nodes + more {
-        return refused(12);
+        return refused(refusals::NODES);
     }
     if BINDINGS_MOST < bindings {
-        return refused(13);
+        return refused(refusals::BINDINGS);
     }
     let x = get_hoist_paths(w, nodes, clauses);
     write_hoisted(s, m, t, w, nodes, cases, bindings, x, tree)
@@ -124,11 +127,11 @@ pub fn build_tree(s: &[u8], m: Map, tree: &mut [u8], work: &mut [u8]) -> Built
     requires { ⌜ SheetAccepts (now s) m × (treeRoom ≤ length (now tree)) × (workRoom ≤ length (now work)) × (now tree ≡ zeros (length (now tree))) ⌝ }
     ensures { λ r. ⌜ Gives (now (s .entry)) (treeEnd (now (s .entry))) (now (tree .entry)) (now (tree .exit)) r ⌝ }
 {
-    let mut t = [0u8; 9984];
+    let mut t = [0u8; TABLE];
     fill(s, m, &mut t);
     let built = raw::build_tree(s, m, &t, work);
     if !built.fits {
-        return refused(12);
+        return refused(refusals::NODES);
     }
     let tops = built.tops;
     let leaves = tops.leaves;

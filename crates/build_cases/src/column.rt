@@ -2,6 +2,8 @@
 // Rests on what a row has in a column and on the sheet's records.
 use crate::tests::Longest;
 use crate::tests::longer_of;
+use base_numbers::sheet::CLAUSES_MOST;
+use base_numbers::sheet::PATTERNS_MOST;
 use build_matrix::Held;
 use build_matrix::rows::put_row;
 use build_matrix::rows::test_at;
@@ -22,8 +24,8 @@ ghost use Rattle.build_matrix.specs.Ready.{TestKnown};
 ghost use Rattle.build_cases.specs.Rows.{heldTest, TestSmall, longestOf};
 
 // One test more, if the row has one.
-fn keep_test(list: &mut [u8; 32], count: usize, held: Held) -> usize
-    requires { ⌜ WholeRows (asRows (now list) count) × (count < 32) × TestSmall held ⌝ }
+fn keep_test(list: &mut [u8; CLAUSES_MOST], count: usize, held: Held) -> usize
+    requires { ⌜ WholeRows (asRows (now list) count) × (count < clausesMost) × TestSmall held ⌝ }
     ensures { λ r. ⌜ HoldsRows (asRows (now (list .exit)) r) (take count (now (list .entry)) ++ heldTest held) ⌝ }
 {
     match held {
@@ -35,11 +37,11 @@ fn keep_test(list: &mut [u8; 32], count: usize, held: Held) -> usize
 // The tests of the first n of these rows in the column of a class, top down, in the list; how many there are.
 pub fn column_tests<'a>(
     t: &[u8],
-    rows: &'a [u8; 32],
+    rows: &'a [u8; CLAUSES_MOST],
     n: usize,
-    opened: &'a [u8; 192],
+    opened: &'a [u8; PATTERNS_MOST],
     class: usize,
-    list: &mut [u8; 32],
+    list: &mut [u8; CLAUSES_MOST],
 ) -> usize
     requires { ⌜ WholeRows (asRows (now rows) n) × All (InTable (now t) class) (take n (now rows)) × (length (now list) ≡ clausesMost) ⌝ }
     ensures { λ r. ⌜ HoldsRows (asRows (now (list .exit)) r) (heldTests (heldIn (now (t .entry)) (now (opened .entry)) class) (take n (now (rows .entry)))) ⌝ }
@@ -54,7 +56,7 @@ pub fn column_tests<'a>(
 }
 
 // The longest lengths of the lists among the first n of these tests.
-pub fn longest_of(s: &[u8], m: Map, tests: &[u8; 32], n: usize) -> Longest
+pub fn longest_of(s: &[u8], m: Map, tests: &[u8; CLAUSES_MOST], n: usize) -> Longest
     requires { ⌜ Checked (now s) m × WholeRows (asRows (now tests) n) × All (TestKnown (now s)) (take n (now tests)) ⌝ }
     ensures { λ r. ⌜ r ≡ longestOf (now (s .entry)) (take n (now (tests .entry))) ⌝ }
 {

@@ -11,10 +11,12 @@ mod rows;
 mod search;
 mod tests;
 
+use base_numbers::sheet::CLAUSES_MOST;
+use base_numbers::sheet::PATTERNS_MOST;
+use base_numbers::tree::CASES_MOST;
 use column::column_tests;
 use column::longest_of;
 use format_sheet::Map;
-use meet::CASES_MOST;
 use rows::meet_rows;
 ghost use Prim.Native.Nat.{_<_, _≤_};
 ghost use lib.ListN.{length, take};
@@ -42,7 +44,14 @@ pub enum Meeting {
 }
 
 // The cases of the first n of these tests, from case `first` on: those without a tail, then those with one.
-fn meet_both(s: &[u8], m: Map, tests: &[u8; 32], n: usize, work: &mut [u8], first: usize) -> Meeting
+fn meet_both(
+    s: &[u8],
+    m: Map,
+    tests: &[u8; CLAUSES_MOST],
+    n: usize,
+    work: &mut [u8],
+    first: usize,
+) -> Meeting
     requires { ⌜ Checked (now s) m × WholeRows (asRows (now tests) n) × All (TestKnown (now s)) (take n (now tests)) ⌝ }
     requires { ⌜ (arenaEnd ≤ length (now work)) × (first ≤ casesMost) ⌝ }
     ensures { λ r. ⌜ MeetsTo (now (s .entry)) (columnOf (now (s .entry)) (take n (now (tests .entry)))) first (now (work .entry)) (now (work .exit)) r ⌝ }
@@ -65,9 +74,9 @@ pub fn meet_cases<'a>(
     s: &[u8],
     m: Map,
     t: &[u8],
-    rows: &'a [u8; 32],
+    rows: &'a [u8; CLAUSES_MOST],
     n: usize,
-    opened: &'a [u8; 192],
+    opened: &'a [u8; PATTERNS_MOST],
     class: usize,
     work: &mut [u8],
     first: usize,
@@ -76,7 +85,7 @@ pub fn meet_cases<'a>(
     requires { ⌜ (arenaEnd ≤ length (now work)) × (first ≤ casesMost) ⌝ }
     ensures { λ r. ⌜ MeetsTo (now (s .entry)) (columnOf (now (s .entry)) (heldTests (liveIn (now (s .entry)) (now (opened .entry)) class) (take n (now (rows .entry))))) first (now (work .entry)) (now (work .exit)) r ⌝ }
 {
-    let mut tests = [0u8; 32];
+    let mut tests = [0u8; CLAUSES_MOST];
     let k = column_tests(t, rows, n, opened, class, &mut tests);
     meet_both(s, m, &tests, k, work, first)
 }

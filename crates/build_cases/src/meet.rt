@@ -2,6 +2,7 @@
 // Rests on the search and on the arena's records; the record is the case's own, with a child that is not known yet.
 use crate::search::fields_of;
 use crate::search::same_case;
+use base_numbers::tree::CASES_MOST;
 use build_arena::reading::Case;
 use build_arena::reading::Test;
 use build_arena::writing::put_case;
@@ -12,9 +13,6 @@ ghost use Rattle.format_sheet.specs.Sections.{mapOf};
 ghost use Rattle.build_arena.specs.Reading.{kindOf, numberOf, lengthOf};
 ghost use Rattle.build_cases.specs.Fields.{Fit};
 ghost use Rattle.build_cases.specs.SoFar.{Begun, meetOne, Meets};
-
-// There is room for 1,024 cases; each has a node of its own.
-pub const CASES_MOST: usize = 1024;
 
 // The number of cases after this one is met, if it is new and there is room for it.
 pub fn meet(s: &[u8], m: Map, work: &mut [u8], from: usize, to: usize, test: Test) -> usize

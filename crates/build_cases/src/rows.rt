@@ -5,6 +5,8 @@ use crate::tests::Longest;
 use crate::tests::list_test;
 use crate::tests::longest_with;
 use crate::tests::test_of;
+use base_numbers::pattern_kinds;
+use base_numbers::sheet::CLAUSES_MOST;
 use build_matrix::wide;
 use format_sheet::Map;
 use format_sheet::records::pattern_at;
@@ -60,7 +62,7 @@ fn meet_test(
     ensures { λ r. ⌜ Meets (now (s .entry)) (now (work .entry)) from to (meetTest (now (s .entry)) from tail l p) r (now (work .exit)) ⌝ }
 {
     let r = pattern_at(s, m, p);
-    if r.kind == 6 {
+    if r.kind == pattern_kinds::LIST_WITH_TAIL {
         let k = r.count - 1;
         let end = longest_with(l, tail);
         return meet_rising(s, m, work, from, to, tail, k, end);
@@ -75,7 +77,7 @@ fn meet_test(
 pub fn meet_rows(
     s: &[u8],
     m: Map,
-    tests: &[u8; 32],
+    tests: &[u8; CLAUSES_MOST],
     n: usize,
     l: Longest,
     tail: bool,

@@ -1,5 +1,6 @@
 // The search for an equal case among those met so far. Texts are equal by their bytes in the sheet's pool.
 // Rests on the arena's records of cases; the answer is the place of the first equal one.
+use base_numbers::case_kinds;
 use build_arena::reading::Test;
 use build_arena::reading::case_kind;
 use build_arena::reading::case_length;
@@ -31,7 +32,7 @@ pub fn fields_of(test: Test) -> Fields
 {
     match test {
         Test::Constr(number) => Fields {
-            kind: 0,
+            kind: case_kinds::CONSTR,
             number,
             len: 0,
         },
@@ -41,12 +42,12 @@ pub fn fields_of(test: Test) -> Fields
             len: count,
         },
         Test::List(number) => Fields {
-            kind: 3,
+            kind: case_kinds::LIST,
             number,
             len: 0,
         },
         Test::Tailed(number) => Fields {
-            kind: 4,
+            kind: case_kinds::LIST_WITH_TAIL,
             number,
             len: 0,
         },
@@ -64,10 +65,10 @@ fn is_alike(work: &[u8], i: usize, f: Fields) -> bool
     if case_length(work, i) != f.len {
         return false;
     }
-    if f.kind == 1 {
+    if f.kind == case_kinds::INT {
         return true;
     }
-    if f.kind == 2 {
+    if f.kind == case_kinds::BYTES {
         return true;
     }
     case_number(work, i) == f.number

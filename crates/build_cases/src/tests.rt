@@ -1,5 +1,7 @@
 // What a pattern's record says of the cases that its row joins: the test of one without a tail, and its part in the longest lengths.
 // Rests on the sheet's records and the arena's tests.
+use base_numbers::case_kinds;
+use base_numbers::pattern_kinds;
 use build_arena::reading::Test;
 use format_sheet::records::PatternRecord;
 ghost use mathlib.Core.Path.{_≡_};
@@ -19,7 +21,7 @@ pub fn longer_of(r: PatternRecord, l: Longest) -> Longest
     requires { ⌜ Small r ⌝ }
     ensures { λ out. ⌜ out ≡ longer r l ⌝ }
 {
-    if r.kind == 5 {
+    if r.kind == pattern_kinds::LIST {
         if l.tailless <= r.count {
             return Longest {
                 tailless: r.count + 1,
@@ -28,7 +30,7 @@ pub fn longer_of(r: PatternRecord, l: Longest) -> Longest
         }
         return l;
     }
-    if r.kind == 6 {
+    if r.kind == pattern_kinds::LIST_WITH_TAIL {
         if l.tails < r.count {
             return Longest {
                 tailless: l.tailless,
@@ -48,17 +50,17 @@ pub fn test_of(r: PatternRecord) -> Test
     let start = r.first as u16;
     let count = r.count as u16;
     match kind {
-        3 => Test::Text {
-            kind: 1,
+        pattern_kinds::INTEGER => Test::Text {
+            kind: case_kinds::INT,
             start,
             count,
         },
-        4 => Test::Text {
-            kind: 2,
+        pattern_kinds::BYTE_STRING => Test::Text {
+            kind: case_kinds::BYTES,
             start,
             count,
         },
-        5 => Test::List(count),
+        pattern_kinds::LIST => Test::List(count),
         _ => Test::Constr(r.a as u16),
     }
 }

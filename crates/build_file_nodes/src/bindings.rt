@@ -1,9 +1,10 @@
 // The bindings of a leaf or a hoist: the records of the arena's leaf with the path's number in the place of its class.
 // One pass over the records, each read and written once.
 use crate::uses::used;
+use base_numbers::sheet::PATTERNS_MOST;
+use base_numbers::tree::BINDING_SIZE;
 use base_words::put_word;
 use base_words::wide;
-use build_arena::BINDING_SIZE;
 use build_arena::reading::binding_at;
 ghost use Prim.Native.Nat.{_+_, _*_, _<_, _≤_};
 ghost use lib.ListN.{length};
@@ -16,8 +17,8 @@ fn put_binding(
     b: usize,
     tree: &mut [u8],
     at: usize,
-    number: &mut [u8; 192],
-    list: &mut [u8; 192],
+    number: &mut [u8; PATTERNS_MOST],
+    list: &mut [u8; PATTERNS_MOST],
     paths: usize,
 ) -> usize
     requires { ⌜ BindingAsked (now w) b × (at + 3 < length (now tree)) × Counted (usesOf (now number) (now list) paths) ⌝ }
@@ -39,8 +40,8 @@ pub fn put_bindings(
     count: usize,
     tree: &mut [u8],
     at: usize,
-    number: &mut [u8; 192],
-    list: &mut [u8; 192],
+    number: &mut [u8; PATTERNS_MOST],
+    list: &mut [u8; PATTERNS_MOST],
     paths: usize,
 ) -> usize
     requires { ⌜ BindingsAsked (now w) first count × (at + bindingSize * count ≤ length (now tree)) × Counted (usesOf (now number) (now list) paths) ⌝ }

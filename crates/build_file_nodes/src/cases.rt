@@ -1,7 +1,8 @@
 // The cases of a switch, with each child where it comes to stand: a node is moved by the hoists that stand before it.
 // One pass over a switch's cases; each reference costs one look into the table of how far nodes are moved.
+use crate::shift::SHIFTS;
+use base_numbers::tree::CASE_SIZE;
 use base_words::put_word;
-use build_arena::CASE_SIZE;
 use build_arena::reading::case_child;
 use build_arena::reading::case_kind;
 use build_arena::reading::case_length;
@@ -23,7 +24,7 @@ fn move_by(k: usize, by: u8) -> u16
 }
 
 // A default, which is one more than its node's number, or 0.
-pub fn moved_default(shift: &[u8; 1025], default: usize) -> u16
+pub fn moved_default(shift: &[u8; SHIFTS], default: usize) -> u16
     requires { ⌜ default ≤ nodesMost ⌝ }
     ensures { λ r. ⌜ r ≡ movedDefault (movedBy (now (shift .entry))) default ⌝ }
 {
@@ -53,7 +54,7 @@ pub fn put_cases(
     w: &[u8],
     first: usize,
     count: usize,
-    shift: &[u8; 1025],
+    shift: &[u8; SHIFTS],
     tree: &mut [u8],
     at: usize,
 )

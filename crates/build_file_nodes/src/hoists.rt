@@ -2,14 +2,18 @@
 // A node with none is known by how far it and the next node are moved. For another one pass over the clauses finds those hoisted there.
 use crate::nodes::Tops;
 use crate::nodes::put_bound;
+use crate::shift::SHIFTS;
 use crate::shift::as_count;
+use base_numbers::node_kinds;
+use base_numbers::sheet::CLAUSES_MOST;
+use base_numbers::sheet::PATTERNS_MOST;
 ghost use mathlib.Core.Path.{_≡_};
 ghost use Prim.Native.Nat.{_+_, _≤_};
 ghost use Rattle.spec_rules.specs.Limits.{clausesMost};
 ghost use Rattle.build_file_nodes.specs.Model.{nodeIn, placesOf, reachOf, outOf, BoundAsked, boundOut, HoistsAsked, hoistsOut, NextHoist};
 
 // The first clause from c on that is hoisted above node k, or how many clauses there are.
-fn next_hoist(node: &[u16; 32], c: usize, clauses: usize, k: usize) -> usize
+fn next_hoist(node: &[u16; CLAUSES_MOST], c: usize, clauses: usize, k: usize) -> usize
     requires { ⌜ (c ≤ clauses) × (clauses ≤ clausesMost) ⌝ }
     ensures { λ r. ⌜ NextHoist (nodeIn (now (node .entry))) k c clauses r ⌝ }
 {
@@ -29,29 +33,39 @@ fn put_hoist(
     leaf: usize,
     tree: &mut [u8],
     start: usize,
-    number: &mut [u8; 192],
-    list: &mut [u8; 192],
+    number: &mut [u8; PATTERNS_MOST],
+    list: &mut [u8; PATTERNS_MOST],
     f: Tops,
 ) -> Tops
     requires { ⌜ BoundAsked (now w) leaf start (now tree) (reachOf (now number) (now list) f) ⌝ }
     ensures { λ r. ⌜ outOf (now (tree .exit)) (reachOf (now (number .exit)) (now (list .exit)) r) ≡ boundOut (now (w .entry)) start leaf 3 (f .nodes + 1) (outOf (now (tree .entry)) (reachOf (now (number .entry)) (now (list .entry)) f)) ⌝ }
 {
     let child = (f.nodes + 1) as u16;
-    put_bound(w, leaf, 3, child, tree, start, number, list, f)
+    put_bound(
+        w,
+        leaf,
+        node_kinds::HOIST,
+        child,
+        tree,
+        start,
+        number,
+        list,
+        f,
+    )
 }
 
 // The hoists above node k, the lowest clause outermost.
 pub fn put_hoists(
     w: &[u8],
     k: usize,
-    node: &[u16; 32],
-    leaf: &[u16; 32],
+    node: &[u16; CLAUSES_MOST],
+    leaf: &[u16; CLAUSES_MOST],
     clauses: usize,
-    shift: &[u8; 1025],
+    shift: &[u8; SHIFTS],
     tree: &mut [u8],
     start: usize,
-    number: &mut [u8; 192],
-    list: &mut [u8; 192],
+    number: &mut [u8; PATTERNS_MOST],
+    list: &mut [u8; PATTERNS_MOST],
     f: Tops,
 ) -> Tops
     requires { ⌜ HoistsAsked (now w) k (placesOf (now node) (now leaf)) clauses (now shift) start (now tree) (reachOf (now number) (now list) f) ⌝ }

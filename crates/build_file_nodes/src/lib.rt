@@ -2,11 +2,13 @@
 // One pass over the arena's nodes: above each node the hoists that its scopes put there, then the node, with its references moved to
 // where nodes come to stand, which is found first. The tables by clause, by node and by class are lent from one function to the next;
 // only counts go by value.
-use build_arena::CASE_SIZE;
-use build_arena::NODE_SIZE;
+use base_numbers::sheet::PATTERNS_MOST;
+use base_numbers::tree::CASE_SIZE;
+use base_numbers::tree::NODE_SIZE;
 use build_scopes::Scopes;
 use nodes::Tops;
 use nodes::put_nodes;
+use shift::SHIFTS;
 use shift::find_shift;
 ghost use mathlib.Core.Path.{_≡_};
 ghost use Prim.Native.Nat.{_≤_};
@@ -31,7 +33,7 @@ pub fn write_nodes(
     x: Scopes,
     clauses: usize,
     tree: &mut [u8],
-    classes: &mut [u8; 192],
+    classes: &mut [u8; PATTERNS_MOST],
 ) -> Tops
     requires { ⌜ WritingAsked (now w) nodes cases x clauses × (treeRoom ≤ length (now tree)) × (length (now classes) ≡ patternsMost) ⌝ }
     ensures { λ r. ⌜ ((h : WritingAsked (now (w .entry)) nodes cases x clauses) → Written (h .ready .table) (hoistAll clauses (h .tree)) (now (tree .entry)) (now (tree .exit)) (now (classes .exit)) r) ⌝ }
@@ -39,9 +41,9 @@ pub fn write_nodes(
     let second = NODE_SIZE * (nodes + x.hoists);
     let node = x.node;
     let leaf = x.leaf;
-    let mut shift = [0u8; 1025];
+    let mut shift = [0u8; SHIFTS];
     find_shift(&node, clauses, nodes, &mut shift);
-    let mut number = [0u8; 192];
+    let mut number = [0u8; PATTERNS_MOST];
     let f = Tops {
         nodes: 0,
         cases: 0,

@@ -5,10 +5,15 @@ use crate::bindings::put_bindings;
 use crate::cases::moved_default;
 use crate::cases::put_cases;
 use crate::hoists::put_hoists;
+use crate::shift::SHIFTS;
 use crate::uses::used;
+use base_numbers::node_kinds;
+use base_numbers::node_words;
+use base_numbers::sheet::CLAUSES_MOST;
+use base_numbers::sheet::PATTERNS_MOST;
+use base_numbers::tree::BINDING_SIZE;
+use base_numbers::tree::CASE_SIZE;
 use base_words::wide;
-use build_arena::BINDING_SIZE;
-use build_arena::CASE_SIZE;
 use build_arena::reading::node_kind;
 use build_arena::reading::node_word;
 use build_arena::writing::put_node;
@@ -45,16 +50,16 @@ pub fn put_bound(
     child: u16,
     tree: &mut [u8],
     start: usize,
-    number: &mut [u8; 192],
-    list: &mut [u8; 192],
+    number: &mut [u8; PATTERNS_MOST],
+    list: &mut [u8; PATTERNS_MOST],
     f: Tops,
 ) -> Tops
     requires { ⌜ BoundAsked (now w) leaf start (now tree) (reachOf (now number) (now list) f) ⌝ }
     ensures { λ r. ⌜ outOf (now (tree .exit)) (reachOf (now (number .exit)) (now (list .exit)) r) ≡ boundOut (now (w .entry)) start leaf kind child (outOf (now (tree .entry)) (reachOf (now (number .entry)) (now (list .entry)) f)) ⌝ }
 {
-    let clause = node_word(w, leaf, 0);
-    let from = node_word(w, leaf, 1) as usize;
-    let count = node_word(w, leaf, 2);
+    let clause = node_word(w, leaf, node_words::CLAUSE);
+    let from = node_word(w, leaf, node_words::FIRST_BINDING) as usize;
+    let count = node_word(w, leaf, node_words::BINDINGS);
     let n = count as usize;
     let top = f.bindings;
     let first = first_of(n, top);
@@ -73,19 +78,19 @@ pub fn put_bound(
 fn put_switch_node(
     w: &[u8],
     k: usize,
-    shift: &[u8; 1025],
+    shift: &[u8; SHIFTS],
     tree: &mut [u8],
-    number: &mut [u8; 192],
-    list: &mut [u8; 192],
+    number: &mut [u8; PATTERNS_MOST],
+    list: &mut [u8; PATTERNS_MOST],
     f: Tops,
 ) -> usize
     requires { ⌜ SwitchNodeAsked (now w) k (now tree) (reachOf (now number) (now list) f) ⌝ }
     ensures { λ r. ⌜ PutSwitchNode (now (w .entry)) (movedBy (now (shift .entry))) k (reachOf (now (number .entry)) (now (list .entry)) f) (now (tree .entry)) (now (tree .exit)) (usesOf (now (number .exit)) (now (list .exit)) r) ⌝ }
 {
-    let path = node_word(w, k, 0) as usize;
-    let cases = node_word(w, k, 2);
-    let tails = node_word(w, k, 3);
-    let default = moved_default(shift, node_word(w, k, 4) as usize);
+    let path = node_word(w, k, node_words::PATH) as usize;
+    let cases = node_word(w, k, node_words::CASES);
+    let tails = node_word(w, k, node_words::TAIL_CASES);
+    let default = moved_default(shift, node_word(w, k, node_words::DEFAULT) as usize);
     let paths = used(number, list, f.paths, path);
     let own = wide(number[path]) - 1;
     let kind = node_kind(w, k);
@@ -97,11 +102,11 @@ fn put_switch_node(
 fn put_switch(
     w: &[u8],
     k: usize,
-    shift: &[u8; 1025],
+    shift: &[u8; SHIFTS],
     tree: &mut [u8],
     start: usize,
-    number: &mut [u8; 192],
-    list: &mut [u8; 192],
+    number: &mut [u8; PATTERNS_MOST],
+    list: &mut [u8; PATTERNS_MOST],
     f: Tops,
 ) -> Tops
     requires { ⌜ SwitchAsked (now w) k start (now tree) (reachOf (now number) (now list) f) ⌝ }
@@ -124,19 +129,19 @@ fn put_switch(
 fn put_own(
     w: &[u8],
     k: usize,
-    shift: &[u8; 1025],
+    shift: &[u8; SHIFTS],
     tree: &mut [u8],
     cases: usize,
     bindings: usize,
-    number: &mut [u8; 192],
-    list: &mut [u8; 192],
+    number: &mut [u8; PATTERNS_MOST],
+    list: &mut [u8; PATTERNS_MOST],
     f: Tops,
 ) -> Tops
     requires { ⌜ OwnAsked (now w) k cases bindings (now tree) (reachOf (now number) (now list) f) ⌝ }
     ensures { λ r. ⌜ outOf (now (tree .exit)) (reachOf (now (number .exit)) (now (list .exit)) r) ≡ ownOut (now (w .entry)) cases bindings (movedBy (now (shift .entry))) k (outOf (now (tree .entry)) (reachOf (now (number .entry)) (now (list .entry)) f)) ⌝ }
 {
-    if node_kind(w, k) == 2 {
-        return put_bound(w, k, 2, 0, tree, bindings, number, list, f);
+    if node_kind(w, k) == node_kinds::LEAF {
+        return put_bound(w, k, node_kinds::LEAF, 0, tree, bindings, number, list, f);
     }
     put_switch(w, k, shift, tree, cases, number, list, f)
 }
@@ -145,15 +150,15 @@ fn put_own(
 pub fn put_one(
     w: &[u8],
     k: usize,
-    node: &[u16; 32],
-    leaf: &[u16; 32],
+    node: &[u16; CLAUSES_MOST],
+    leaf: &[u16; CLAUSES_MOST],
     clauses: usize,
-    shift: &[u8; 1025],
+    shift: &[u8; SHIFTS],
     tree: &mut [u8],
     cases: usize,
     bindings: usize,
-    number: &mut [u8; 192],
-    list: &mut [u8; 192],
+    number: &mut [u8; PATTERNS_MOST],
+    list: &mut [u8; PATTERNS_MOST],
     f: Tops,
 ) -> Tops
     requires { ⌜ NodeAsked (now w) k (placesOf (now node) (now leaf)) clauses (now shift) cases bindings (now tree) (reachOf (now number) (now list) f) ⌝ }
@@ -179,15 +184,15 @@ pub fn put_one(
 pub fn put_nodes(
     w: &[u8],
     nodes: usize,
-    node: &[u16; 32],
-    leaf: &[u16; 32],
+    node: &[u16; CLAUSES_MOST],
+    leaf: &[u16; CLAUSES_MOST],
     clauses: usize,
-    shift: &[u8; 1025],
+    shift: &[u8; SHIFTS],
     tree: &mut [u8],
     cases: usize,
     bindings: usize,
-    number: &mut [u8; 192],
-    list: &mut [u8; 192],
+    number: &mut [u8; PATTERNS_MOST],
+    list: &mut [u8; PATTERNS_MOST],
     f: Tops,
 ) -> Tops
     requires { ⌜ NodesAsked (now w) nodes (placesOf (now node) (now leaf)) clauses (now shift) cases bindings (now tree) (reachOf (now number) (now list) f) ⌝ }

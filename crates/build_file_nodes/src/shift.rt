@@ -1,9 +1,14 @@
 // How far each node is moved in the file: by the hoists that stand before it, of which there are at most 32.
 // One pass over the clauses counts the hoists above each node, and one over the nodes adds them up; a byte by node.
+use base_numbers::sheet::CLAUSES_MOST;
+use base_numbers::tree::NODES_MOST;
 ghost use mathlib.Core.Path.{_≡_};
 ghost use Prim.Native.Nat.{_≤_};
 ghost use Rattle.spec_rules.specs.Limits.{nodesMost};
 ghost use Rattle.build_file_nodes.specs.Model.{nodeIn, ShiftAsked, HoistsCounted, SumsAsked, SummedUp, Shifted};
+
+// A table of how far each node is moved has one place more, behind the last node.
+pub const SHIFTS: usize = NODES_MOST + 1;
 
 // A number of a table by clause, as wide as a count.
 pub fn as_count(x: u16) -> usize
@@ -13,7 +18,7 @@ pub fn as_count(x: u16) -> usize
 }
 
 // How many of the clauses are hoisted above each node, in a table of zeros.
-fn count_hoists(node: &[u16; 32], clauses: usize, shift: &mut [u8; 1025])
+fn count_hoists(node: &[u16; CLAUSES_MOST], clauses: usize, shift: &mut [u8; SHIFTS])
     requires { ⌜ ShiftAsked (nodeIn (now node)) clauses (now shift) ⌝ }
     ensures { λ _. ⌜ HoistsCounted (nodeIn (now (node .entry))) clauses (now (shift .exit)) ⌝ }
 {
@@ -26,7 +31,7 @@ fn count_hoists(node: &[u16; 32], clauses: usize, shift: &mut [u8; 1025])
 }
 
 // The sums of what the table has before each node.
-fn sum_up(nodes: usize, shift: &mut [u8; 1025])
+fn sum_up(nodes: usize, shift: &mut [u8; SHIFTS])
     requires { ⌜ SumsAsked nodes (now shift) ⌝ }
     ensures { λ _. ⌜ SummedUp nodes (now (shift .entry)) (now (shift .exit)) ⌝ }
 {
@@ -41,7 +46,12 @@ fn sum_up(nodes: usize, shift: &mut [u8; 1025])
 }
 
 // By node how many hoists stand before it; behind the last node, how many there are.
-pub fn find_shift(node: &[u16; 32], clauses: usize, nodes: usize, shift: &mut [u8; 1025])
+pub fn find_shift(
+    node: &[u16; CLAUSES_MOST],
+    clauses: usize,
+    nodes: usize,
+    shift: &mut [u8; SHIFTS],
+)
     requires { ⌜ ShiftAsked (nodeIn (now node)) clauses (now shift) × (nodes ≤ nodesMost) ⌝ }
     ensures { λ _. ⌜ Shifted (nodeIn (now (node .entry))) clauses nodes (now (shift .exit)) ⌝ }
 {

@@ -1,12 +1,14 @@
 // The tail of a tree file: the paths that its nodes and bindings use, their steps, the sheet's pool and the trailer.
 // A path is known by its class, a pattern's number; its steps are read off the table of patterns.
-mod limits;
 mod records;
 mod steps;
 
+use base_numbers::WORD_SIZE;
+use base_numbers::tree::TREE_STARTS;
+use base_numbers::tree::TREE_TRAILER;
+use base_numbers::tree_starts;
 use base_words::put_word;
 use format_sheet::Map;
-use limits::TRAILER;
 use records::put_paths;
 use steps::put_all_steps;
 ghost use mathlib.Core.Path.{_≡_};
@@ -55,12 +57,12 @@ fn put_trailer(
     ensures { λ _. ⌜ now (tree .exit) ≡ stored (now (tree .entry)) at (trailerBytes cases bindings paths steps pool at) ⌝ }
 {
     put_number(tree, at, 0);
-    put_number(tree, at + 2, cases);
-    put_number(tree, at + 4, bindings);
-    put_number(tree, at + 6, paths);
-    put_number(tree, at + 8, steps);
-    put_number(tree, at + 10, pool);
-    put_number(tree, at + 12, at + TRAILER);
+    put_number(tree, at + WORD_SIZE * tree_starts::CASES, cases);
+    put_number(tree, at + WORD_SIZE * tree_starts::BINDINGS, bindings);
+    put_number(tree, at + WORD_SIZE * tree_starts::PATHS, paths);
+    put_number(tree, at + WORD_SIZE * tree_starts::STEPS, steps);
+    put_number(tree, at + WORD_SIZE * tree_starts::POOL, pool);
+    put_number(tree, at + WORD_SIZE * TREE_STARTS, at + TREE_TRAILER);
 }
 
 // All that follows the bindings: the paths of the first `count` classes, their steps, the pool and the trailer; where the file ends.
@@ -82,5 +84,5 @@ pub fn put_tail(
     let pool = put_all_steps(s, m, t, classes, count, tree, steps);
     let end = copy_pool(s, m, tree, pool);
     put_trailer(tree, end, cases, bindings, paths, steps, pool);
-    end + TRAILER
+    end + TREE_TRAILER
 }

@@ -1,6 +1,6 @@
 // The path records: for each path where its steps start among all steps, and how many there are.
 // The table has how many steps the path of a class has.
-use crate::limits::PATH_SIZE;
+use base_numbers::tree::PATH_SIZE;
 use base_words::put_word;
 use base_words::wide;
 use build_table::DEPTH;

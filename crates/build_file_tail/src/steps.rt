@@ -1,9 +1,9 @@
 // The steps of paths, as the table has them: a pattern's own step, if it has one, follows those of the pattern above.
 // So a path is climbed from its class to the root, and its steps are stored from the last to the first.
-use crate::limits::CONSTR;
-use crate::limits::DATA;
-use crate::limits::DECORATED;
-use crate::limits::STEP_SIZE;
+use base_numbers::step_kinds;
+use base_numbers::tree::STEP_SIZE;
+use base_numbers::type_flags;
+use base_numbers::type_kinds;
 use base_words::put_word;
 use base_words::wide;
 use build_table::ABOVE;
@@ -30,16 +30,16 @@ ghost use Rattle.build_file_tail.specs.Tail.{Puts, Used, usedPaths, ownS
 fn flag_of(step: u8, ty: TypeRecord) -> u8
     ensures { λ r. ⌜ r ≡ flagOf step ty ⌝ }
 {
-    if step != CONSTR {
+    if step != step_kinds::CONSTR {
         return 0;
     }
-    if ty.kind != DATA {
+    if ty.kind != type_kinds::DATA {
         return 0;
     }
     if ty.count != 1 {
         return 0;
     }
-    if ty.flag < DECORATED {
+    if ty.flag < type_flags::DECORATED {
         return 0;
     }
     1

@@ -1,5 +1,8 @@
 // A leaf's bindings put into the arena: those of its clause's root, then what each column tested opened in the clause's row.
 // A binding is the number of its pattern; it is stored as its name and the class of its path, which the table has.
+use base_numbers::pattern_kinds;
+use base_numbers::sheet::PATTERNS_MOST;
+use base_numbers::tree::BINDINGS_MOST;
 use build_arena::writing;
 use build_matrix::wide;
 use build_table::CELL;
@@ -23,9 +26,6 @@ ghost use Rattle.build_matrix.specs.Live.{openedTest};
 ghost use Rattle.build_matrix.specs.Bound.{numbersHeld, leafNumbers};
 ghost use Rattle.build_matrix.specs.Ready.{Ready};
 ghost use Rattle.build_leaves.specs.Bindings.{bound, boundOne, boundAll, ownOf, Room, Started, Entries, Parts, Gives, LeafAsked};
-
-// The room for bindings. Where there are more, their number is told as one more than it.
-pub const BINDINGS_MOST: usize = 4096;
 
 // The binding of pattern p, behind the `top` bindings there are.
 fn put_binding(s: &[u8], records: usize, t: &[u8], p: usize, work: &mut [u8], top: usize) -> usize
@@ -80,17 +80,24 @@ fn gives(s: &[u8], records: usize, list: usize, t: &[u8], p: usize) -> Given
     let r = pattern_in(s, records, p);
     let kind = r.kind;
     match kind {
-        1 => Given {
+        pattern_kinds::VARIABLE => Given {
             named: true,
             first: 0,
             count: 0,
         },
-        2 => Given {
+        pattern_kinds::ASSIGN => Given {
             named: true,
             first: r.first,
             count: r.count,
         },
-        7 | 8 | 9 => parts_given(s, list, t, p, r.first, r.count),
+        pattern_kinds::CONSTRUCTOR | pattern_kinds::PAIR | pattern_kinds::TUPLE => parts_given(
+            s,
+            list,
+            t,
+            p,
+            r.first,
+            r.count,
+        ),
         _ => Given {
             named: false,
             first: 0,
@@ -186,7 +193,7 @@ fn put_opened(
     s: &[u8],
     m: Map,
     t: &[u8],
-    opened: &[u8; 192],
+    opened: &[u8; PATTERNS_MOST],
     c: usize,
     time: usize,
     class: usize,
@@ -196,7 +203,7 @@ fn put_opened(
     requires { ⌜ Ready (now s) m (now t) × (c < clauses (now s)) × (class < patternsMost) × (time < patternsMost) × Room (now work) top ⌝ }
     ensures { λ r. ⌜ bound (now (work .exit)) r ≡ boundAll (now (s .entry)) (bound (now (work .entry)) top) (numbersHeld (now (s .entry)) (openedTest (now (s .entry)) (now (opened .entry)) c time class)) ⌝ }
 {
-    let cell = at(t, CELL + 192 * c + class);
+    let cell = at(t, CELL + PATTERNS_MOST * c + class);
     if cell == 0 {
         return top;
     }
@@ -222,7 +229,7 @@ fn put_opened(
 }
 
 // The class at a place of a list.
-fn class_at(list: &[u8; 192], i: usize) -> usize
+fn class_at(list: &[u8; PATTERNS_MOST], i: usize) -> usize
     requires { ⌜ i < patternsMost ⌝ }
     ensures { λ r. ⌜ r ≡ getD (now (list .entry)) i 0 ⌝ }
 {
@@ -235,9 +242,9 @@ pub fn leaf_bindings<'a>(
     m: Map,
     t: &[u8],
     c: usize,
-    tested: &'a [u8; 192],
+    tested: &'a [u8; PATTERNS_MOST],
     n: usize,
-    opened: &'a [u8; 192],
+    opened: &'a [u8; PATTERNS_MOST],
     work: &mut [u8],
     top: usize,
 ) -> usize

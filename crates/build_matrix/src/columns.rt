@@ -3,6 +3,8 @@
 // the pattern number falls. Columns are put last child first, since the union of rule 2 is taken from the right.
 use crate::Classes;
 use crate::wide;
+use base_numbers::pattern_kinds;
+use base_numbers::sheet::PATTERNS_MOST;
 use build_table::CLASS;
 use build_table::at;
 use build_table::before;
@@ -16,6 +18,7 @@ ghost use mathlib.Core.Bool.{true};
 ghost use Prim.Native.Nat.{_+_, _-_, _<_, _≤_};
 ghost use lib.ListN.{length, take};
 ghost use lib.Seq.{slice};
+ghost use Rattle.spec_rules.specs.Limits.{patternsMost};
 ghost use Rattle.spec_rules.specs.SheetFile.{patterns};
 ghost use Rattle.spec_rules.specs.SheetRefusals.{isIn};
 ghost use Rattle.build_table.specs.Seen.{testsOf, testsOfEach, openedTests};
@@ -29,22 +32,22 @@ pub fn empty() -> Classes
     ensures { λ r. ⌜ Holds r [] ⌝ }
 {
     Classes {
-        list: [0; 192],
+        list: [0; PATTERNS_MOST],
         count: 0,
     }
 }
 
 // The class behind the others, so that there is one more.
-pub fn push(list: &mut [u8; 192], count: usize, class: usize)
-    requires { ⌜ Whole (asClasses (now list) count) × (count < 192) × (class < 192) ⌝ }
+pub fn push(list: &mut [u8; PATTERNS_MOST], count: usize, class: usize)
+    requires { ⌜ Whole (asClasses (now list) count) × (count < patternsMost) × (class < patternsMost) ⌝ }
     ensures { λ _. ⌜ Holds (asClasses (now (list .exit)) (count + 1)) (take count (now (list .entry)) ++ class ∷ []) ⌝ }
 {
     list[count] = class as u8;
 }
 
 // The class at this place, the others before and behind it.
-fn insert(list: &mut [u8; 192], count: usize, place: usize, class: usize) -> usize
-    requires { ⌜ Whole (asClasses (now list) count) × (place ≤ count) × (count < 192) × (class < 192) ⌝ }
+fn insert(list: &mut [u8; PATTERNS_MOST], count: usize, place: usize, class: usize) -> usize
+    requires { ⌜ Whole (asClasses (now list) count) × (place ≤ count) × (count < patternsMost) × (class < patternsMost) ⌝ }
     ensures { λ r. ⌜ Holds (asClasses (now (list .exit)) r) (take place (now (list .entry)) ++ class ∷ slice place count (now (list .entry))) ⌝ }
 {
     let mut i = count;
@@ -57,9 +60,15 @@ fn insert(list: &mut [u8; 192], count: usize, place: usize, class: usize) -> usi
 }
 
 // The classes of cs from one place up to another, behind those in the list.
-fn put_part(list: &mut [u8; 192], count: usize, cs: &[u8; 192], from: usize, to: usize) -> usize
-    requires { ⌜ Whole (asClasses (now list) count) × (length (now cs) ≡ 192) ⌝ }
-    requires { ⌜ (from ≤ to) × (to ≤ 192) × (count + (to - from) ≤ 192) ⌝ }
+fn put_part(
+    list: &mut [u8; PATTERNS_MOST],
+    count: usize,
+    cs: &[u8; PATTERNS_MOST],
+    from: usize,
+    to: usize,
+) -> usize
+    requires { ⌜ Whole (asClasses (now list) count) × (length (now cs) ≡ patternsMost) ⌝ }
+    requires { ⌜ (from ≤ to) × (to ≤ patternsMost) × (count + (to - from) ≤ patternsMost) ⌝ }
     ensures { λ r. ⌜ Holds (asClasses (now (list .exit)) r) (take count (now (list .entry)) ++ slice from to (now (cs .entry))) ⌝ }
 {
     let mut n = count;
@@ -73,7 +82,7 @@ fn put_part(list: &mut [u8; 192], count: usize, cs: &[u8; 192], from: usize, to:
 }
 
 // The first place of the class among the first n of cs, or n.
-fn place_of(cs: &[u8; 192], n: usize, class: usize) -> usize
+fn place_of(cs: &[u8; PATTERNS_MOST], n: usize, class: usize) -> usize
     requires { ⌜ Whole (asClasses (now cs) n) ⌝ }
     ensures { λ r. ⌜ r ≡ firstPlace class (take n (now (cs .entry))) ⌝ }
 {
@@ -88,7 +97,13 @@ fn place_of(cs: &[u8; 192], n: usize, class: usize) -> usize
 }
 
 // The first n of cs without the one tested, behind those in the list.
-pub fn put_rest(list: &mut [u8; 192], count: usize, cs: &[u8; 192], n: usize, class: usize) -> usize
+pub fn put_rest(
+    list: &mut [u8; PATTERNS_MOST],
+    count: usize,
+    cs: &[u8; PATTERNS_MOST],
+    n: usize,
+    class: usize,
+) -> usize
     requires { ⌜ Whole (asClasses (now list) count) × Whole (asClasses (now cs) n) × (isIn class (take n (now cs)) ≡ true) × (count + n ≤ 193) ⌝ }
     ensures { λ r. ⌜ Holds (asClasses (now (list .exit)) r) (take count (now (list .entry)) ++ withoutClass class (take n (now (cs .entry)))) ⌝ }
 {
@@ -98,7 +113,7 @@ pub fn put_rest(list: &mut [u8; 192], count: usize, cs: &[u8; 192], n: usize, cl
 }
 
 // The class put into its place among sorted ones, once.
-fn put(t: &[u8], list: &mut [u8; 192], count: usize, class: usize) -> usize
+fn put(t: &[u8], list: &mut [u8; PATTERNS_MOST], count: usize, class: usize) -> usize
     requires { ⌜ Puts (now t) (asClasses (now list) count) class ⌝ }
     ensures { λ r. ⌜ Holds (asClasses (now (list .exit)) r) (putClass (firstIn (now (t .entry))) class (take count (now (list .entry)))) ⌝ }
 {
@@ -142,13 +157,21 @@ fn gives(s: &[u8], m: Map, t: &[u8], p: usize) -> Given
     let class = at(t, CLASS + p);
     let kind = r.kind;
     match kind {
-        0 | 1 => Given::Nothing,
-        2 | 8 | 9 => Given::Inside {
+        pattern_kinds::DISCARD | pattern_kinds::VARIABLE => Given::Nothing,
+        pattern_kinds::ASSIGN | pattern_kinds::PAIR | pattern_kinds::TUPLE => Given::Inside {
             first: r.first,
             count: r.count,
         },
-        3 | 4 | 5 | 6 => Given::Itself(class),
-        7 => itself_or_inside(is_test(s, m, t, p), class, r.first, r.count),
+        pattern_kinds::INTEGER
+        | pattern_kinds::BYTE_STRING
+        | pattern_kinds::LIST
+        | pattern_kinds::LIST_WITH_TAIL => Given::Itself(class),
+        pattern_kinds::CONSTRUCTOR => itself_or_inside(
+            is_test(s, m, t, p),
+            class,
+            r.first,
+            r.count,
+        ),
         _ => Given::Nothing,
     }
 }
@@ -158,7 +181,7 @@ pub fn map_pattern_to_row(
     s: &[u8],
     m: Map,
     t: &[u8],
-    list: &mut [u8; 192],
+    list: &mut [u8; PATTERNS_MOST],
     count: usize,
     p: usize,
 ) -> usize
@@ -180,7 +203,7 @@ fn map_patterns_to_row(
     s: &[u8],
     m: Map,
     t: &[u8],
-    list: &mut [u8; 192],
+    list: &mut [u8; PATTERNS_MOST],
     count: usize,
     parent: usize,
     j: usize,
@@ -197,12 +220,19 @@ fn map_patterns_to_row(
 }
 
 // The columns that test p opens to put among those in the list: those of its children, which a text has not.
-pub fn open(s: &[u8], m: Map, t: &[u8], list: &mut [u8; 192], count: usize, p: usize) -> usize
+pub fn open(
+    s: &[u8],
+    m: Map,
+    t: &[u8],
+    list: &mut [u8; PATTERNS_MOST],
+    count: usize,
+    p: usize,
+) -> usize
     requires { ⌜ Ready (now s) m (now t) × Listed (now s) (asClasses (now list) count) × TestKnown (now s) p × Roomy (now s) (openedTests (now s) p) (asClasses (now list) count) ⌝ }
     ensures { λ r. ⌜ Holds (asClasses (now (list .exit)) r) (putTests (now (s .entry)) (openedTests (now (s .entry)) p) (take count (now (list .entry)))) ⌝ }
 {
     let r = pattern_at(s, m, p);
-    if r.kind < 5 {
+    if r.kind < pattern_kinds::LIST {
         return count;
     }
     map_patterns_to_row(s, m, t, list, count, p, r.first, r.count)

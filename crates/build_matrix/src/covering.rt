@@ -1,5 +1,7 @@
 // Rule 4: whether the test of a pattern belongs to a case, whose test is as the arena has it: a text by where it is in the pool.
 // A list with tail belongs to the case of each length from the number of its elements on.
+use base_numbers::case_kinds;
+use base_numbers::pattern_kinds;
 use base_words::same_text;
 use build_arena::reading::Test;
 use format_sheet::Map;
@@ -27,7 +29,7 @@ fn same_texts(s: &[u8], m: Map, a: usize, n: usize, b: usize, k: usize) -> bool
 fn covers_constructor(r: PatternRecord, number: u16) -> bool
     ensures { λ x. ⌜ x ≡ coversConstructor r number ⌝ }
 {
-    if r.kind != 7 {
+    if r.kind != pattern_kinds::CONSTRUCTOR {
         return false;
     }
     number as usize == r.a
@@ -37,7 +39,11 @@ fn covers_constructor(r: PatternRecord, number: u16) -> bool
 fn text_pattern(kind: u8) -> u8
     ensures { λ r. ⌜ r ≡ textPattern kind ⌝ }
 {
-    if kind == 1 { 3 } else { 4 }
+    if kind == case_kinds::INT {
+        pattern_kinds::INTEGER
+    } else {
+        pattern_kinds::BYTE_STRING
+    }
 }
 
 fn covers_text(s: &[u8], m: Map, r: PatternRecord, kind: u8, start: u16, count: u16) -> bool
@@ -53,7 +59,7 @@ fn covers_text(s: &[u8], m: Map, r: PatternRecord, kind: u8, start: u16, count: 
 fn covers_tailed(r: PatternRecord, n: u16) -> bool
     ensures { λ x. ⌜ x ≡ coversTailed r n ⌝ }
 {
-    if r.kind != 6 {
+    if r.kind != pattern_kinds::LIST_WITH_TAIL {
         return false;
     }
     r.count <= n as usize + 1
@@ -62,7 +68,7 @@ fn covers_tailed(r: PatternRecord, n: u16) -> bool
 fn covers_list(r: PatternRecord, n: u16) -> bool
     ensures { λ x. ⌜ x ≡ coversList r n ⌝ }
 {
-    if r.kind == 5 {
+    if r.kind == pattern_kinds::LIST {
         return n as usize == r.count;
     }
     covers_tailed(r, n)

@@ -8,6 +8,9 @@
 // down to the first wildcard; a default or a case asks each row in its own column once, and a text is compared with a case's text once,
 // byte by byte. A column put among others is compared with those before its place, each pair of paths by at most 11 indices. Mapping a
 // pattern goes at most one call deep for each pattern and each child, where 192 less the pattern number falls.
+use base_numbers::sheet::CLAUSES_MOST;
+use base_numbers::sheet::PATTERNS_MOST;
+
 pub mod columns;
 pub mod covering;
 pub mod rows;
@@ -29,13 +32,13 @@ pub enum Choice {
 
 // Numbers, at most one for each row.
 pub struct PerRow {
-    pub list: [u8; 32],
+    pub list: [u8; CLAUSES_MOST],
     pub count: usize,
 }
 
 // Classes, at most one for each pattern.
 pub struct Classes {
-    pub list: [u8; 192],
+    pub list: [u8; PATTERNS_MOST],
     pub count: usize,
 }
 
@@ -44,7 +47,7 @@ pub struct Matrix {
     pub rows: PerRow,
     pub columns: Classes,
     pub tested: Classes,
-    pub opened: [u8; 192],
+    pub opened: [u8; PATTERNS_MOST],
 }
 
 // How many rows and columns a matrix has, and how many columns were tested.

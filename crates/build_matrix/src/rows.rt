@@ -3,6 +3,8 @@
 use crate::Choice;
 use crate::Held;
 use crate::wide;
+use base_numbers::sheet::CLAUSES_MOST;
+use base_numbers::sheet::PATTERNS_MOST;
 use build_table::CELL;
 use build_table::OWNER;
 use build_table::at;
@@ -18,11 +20,11 @@ ghost use Rattle.build_matrix.specs.Lists.{asClasses, asRows, Whole, Who
 ghost use Rattle.build_matrix.specs.Reading.{heldIn, InTable, hasTest, bettered, kept};
 
 // What clause c's row has in the column of this class: its test there, if it is not opened and the test that it is inside of is.
-pub fn test_at(t: &[u8], opened: &[u8; 192], c: usize, class: usize) -> Held
+pub fn test_at(t: &[u8], opened: &[u8; PATTERNS_MOST], c: usize, class: usize) -> Held
     requires { ⌜ InTable (now t) class c ⌝ }
     ensures { λ r. ⌜ r ≡ heldIn (now (t .entry)) (now (opened .entry)) class c ⌝ }
 {
-    let cell = at(t, CELL + 192 * c + class);
+    let cell = at(t, CELL + PATTERNS_MOST * c + class);
     if cell == 0 {
         return Held::Wildcard;
     }
@@ -50,7 +52,13 @@ fn has_test(held: Held) -> bool
 }
 
 // The first n of these rows before the column's first wildcard.
-fn occurrence(t: &[u8], rows: &[u8; 32], n: usize, opened: &[u8; 192], class: usize) -> usize
+fn occurrence(
+    t: &[u8],
+    rows: &[u8; CLAUSES_MOST],
+    n: usize,
+    opened: &[u8; PATTERNS_MOST],
+    class: usize,
+) -> usize
     requires { ⌜ WholeRows (asRows (now rows) n) × All (InTable (now t) class) (take n (now rows)) ⌝ }
     ensures { λ r. ⌜ r ≡ countOf (heldIn (now (t .entry)) (now (opened .entry)) class) (take n (now (rows .entry))) ⌝ }
 {
@@ -86,11 +94,11 @@ fn better_of(best: Best, class: usize, amount: usize) -> Best
 // The column to test: of the first k columns the one with the most of the first n rows before its first wildcard.
 pub fn highest_occurrence<'a>(
     t: &[u8],
-    rows: &'a [u8; 32],
+    rows: &'a [u8; CLAUSES_MOST],
     n: usize,
-    columns: &'a [u8; 192],
+    columns: &'a [u8; PATTERNS_MOST],
     k: usize,
-    opened: &'a [u8; 192],
+    opened: &'a [u8; PATTERNS_MOST],
 ) -> Choice
     requires { ⌜ WholeRows (asRows (now rows) n) × Whole (asClasses (now columns) k) × All (λ c. All (InTable (now t) c) (take n (now rows))) (take k (now columns)) ⌝ }
     ensures { λ r. ⌜ r ≡ bestOf (λ c. countOf (heldIn (now (t .entry)) (now (opened .entry)) c) (take n (now (rows .entry)))) Leaf 0 (take k (now (columns .entry))) ⌝ }
@@ -109,16 +117,16 @@ pub fn highest_occurrence<'a>(
 }
 
 // One more number.
-pub fn put_row(list: &mut [u8; 32], count: usize, x: u8) -> usize
-    requires { ⌜ WholeRows (asRows (now list) count) × (count < 32) ⌝ }
+pub fn put_row(list: &mut [u8; CLAUSES_MOST], count: usize, x: u8) -> usize
+    requires { ⌜ WholeRows (asRows (now list) count) × (count < clausesMost) ⌝ }
     ensures { λ r. ⌜ HoldsRows (asRows (now (list .exit)) r) (take count (now (list .entry)) ++ x ∷ []) ⌝ }
 {
     list[count] = x;
     count + 1
 }
 
-fn keep_wild(list: &mut [u8; 32], count: usize, c: u8, held: Held) -> usize
-    requires { ⌜ WholeRows (asRows (now list) count) × (count < 32) ⌝ }
+fn keep_wild(list: &mut [u8; CLAUSES_MOST], count: usize, c: u8, held: Held) -> usize
+    requires { ⌜ WholeRows (asRows (now list) count) × (count < clausesMost) ⌝ }
     ensures { λ r. ⌜ HoldsRows (asRows (now (list .exit)) r) (take count (now (list .entry)) ++ kept held c) ⌝ }
 {
     match held {
@@ -130,11 +138,11 @@ fn keep_wild(list: &mut [u8; 32], count: usize, c: u8, held: Held) -> usize
 // The first n of these rows, those with a wildcard in the column, in the list; how many there are.
 pub fn wild_rows<'a>(
     t: &[u8],
-    rows: &'a [u8; 32],
+    rows: &'a [u8; CLAUSES_MOST],
     n: usize,
-    opened: &'a [u8; 192],
+    opened: &'a [u8; PATTERNS_MOST],
     class: usize,
-    list: &mut [u8; 32],
+    list: &mut [u8; CLAUSES_MOST],
 ) -> usize
     requires { ⌜ WholeRows (asRows (now rows) n) × All (InTable (now t) class) (take n (now rows)) × (length (now list) ≡ clausesMost) ⌝ }
     ensures { λ r. ⌜ HoldsRows (asRows (now (list .exit)) r) (wildOf (heldIn (now (t .entry)) (now (opened .entry)) class) (take n (now (rows .entry)))) ⌝ }

@@ -16,6 +16,8 @@ use crate::rows::put_row;
 use crate::rows::test_at;
 use crate::rows::wild_rows;
 use crate::wide;
+use base_numbers::sheet::CLAUSES_MOST;
+use base_numbers::sheet::PATTERNS_MOST;
 use build_arena::reading::Test;
 use format_sheet::Map;
 use format_sheet::records::root_at;
@@ -45,7 +47,7 @@ fn all_rows(n: usize) -> PerRow
     requires { ⌜ n ≤ clausesMost ⌝ }
     ensures { λ r. ⌜ HoldsRows r (upFrom 0 n) ⌝ }
 {
-    let mut list: [u8; 32] = [0; 32];
+    let mut list: [u8; CLAUSES_MOST] = [0; CLAUSES_MOST];
     let mut c: usize = 0;
     while c < n {
         list[c] = c as u8;
@@ -59,7 +61,7 @@ fn first_columns(s: &[u8], m: Map, t: &[u8]) -> Classes
     requires { ⌜ Ready (now s) m (now t) ⌝ }
     ensures { λ r. ⌜ Holds r (putTests (now (s .entry)) (gather (rootTests (now (s .entry))) (upFrom 0 (clauses (now (s .entry))))) []) ⌝ }
 {
-    let mut list = [0u8; 192];
+    let mut list = [0u8; PATTERNS_MOST];
     let mut count: usize = 0;
     let mut c = m.counts.clauses;
     while 0 < c {
@@ -80,21 +82,21 @@ pub fn first_matrix(s: &[u8], m: Map, t: &[u8]) -> Matrix
         rows,
         columns,
         tested: empty(),
-        opened: [0; 192],
+        opened: [0; PATTERNS_MOST],
     }
 }
 
 // The default of the column of a class: the rows with a wildcard there, the other columns, and this one tested; what is opened stays.
 pub fn default_matrix<'a, 'b>(
     t: &[u8],
-    rows: &'a [u8; 32],
-    columns: &'a [u8; 192],
-    tested: &'b mut [u8; 192],
-    opened: &'a [u8; 192],
+    rows: &'a [u8; CLAUSES_MOST],
+    columns: &'a [u8; PATTERNS_MOST],
+    tested: &'b mut [u8; PATTERNS_MOST],
+    opened: &'a [u8; PATTERNS_MOST],
     n: Sizes,
     class: usize,
-    new_rows: &'b mut [u8; 32],
-    new_columns: &'b mut [u8; 192],
+    new_rows: &'b mut [u8; CLAUSES_MOST],
+    new_columns: &'b mut [u8; PATTERNS_MOST],
 ) -> Sizes
     requires { ⌜ Splits (now t) (matrixOf (now rows) (now columns) (now tested) (now opened) n) class ⌝ }
     requires { ⌜ (length (now «new_rows») ≡ clausesMost) × (length (now «new_columns») ≡ patternsMost) ⌝ }
@@ -120,8 +122,8 @@ struct Counts {
 fn join_row(
     s: &[u8],
     m: Map,
-    rows: &mut [u8; 32],
-    opens: &mut [u8; 32],
+    rows: &mut [u8; CLAUSES_MOST],
+    opens: &mut [u8; CLAUSES_MOST],
     o: Counts,
     c: u8,
     held: Held,
@@ -156,13 +158,13 @@ fn join_rows<'a, 'b>(
     s: &[u8],
     m: Map,
     t: &[u8],
-    from: &'a [u8; 32],
+    from: &'a [u8; CLAUSES_MOST],
     n: usize,
-    opened: &'a [u8; 192],
+    opened: &'a [u8; PATTERNS_MOST],
     class: usize,
     test: Test,
-    rows: &'b mut [u8; 32],
-    opens: &'b mut [u8; 32],
+    rows: &'b mut [u8; CLAUSES_MOST],
+    opens: &'b mut [u8; CLAUSES_MOST],
 ) -> Counts
     requires { ⌜ Ready (now s) m (now t) × WholeRows (asRows (now from) n) × All (λ c. c < clauses (now s)) (take n (now from)) × (class < patternsMost) × InPool (now s) test ⌝ }
     requires { ⌜ (length (now rows) ≡ clausesMost) × (length (now opens) ≡ clausesMost) ⌝ }
@@ -180,7 +182,7 @@ fn join_rows<'a, 'b>(
 }
 
 // Each of the first n of these tests opened at this time.
-fn mark(opened: &mut [u8; 192], opens: &[u8; 32], n: usize, time: usize)
+fn mark(opened: &mut [u8; PATTERNS_MOST], opens: &[u8; CLAUSES_MOST], n: usize, time: usize)
     requires { ⌜ (length (now opened) ≡ patternsMost) × WholeRows (asRows (now opens) n) × All (λ p. p < patternsMost) (take n (now opens)) × (time ≤ patternsMost) ⌝ }
     ensures { λ _. ⌜ now (opened .exit) ≡ marked time (now (opened .entry)) (take n (now (opens .entry))) ⌝ }
 {
@@ -193,7 +195,14 @@ fn mark(opened: &mut [u8; 192], opens: &[u8; 32], n: usize, time: usize)
 }
 
 // The columns that the first n of these tests open to, the last test's first.
-fn open_all(s: &[u8], m: Map, t: &[u8], opens: &[u8; 32], n: usize, list: &mut [u8; 192]) -> usize
+fn open_all(
+    s: &[u8],
+    m: Map,
+    t: &[u8],
+    opens: &[u8; CLAUSES_MOST],
+    n: usize,
+    list: &mut [u8; PATTERNS_MOST],
+) -> usize
     requires { ⌜ Ready (now s) m (now t) × WholeRows (asRows (now opens) n) × All (TestKnown (now s)) (take n (now opens)) × (length (putTests (now s) (gather (openedTests (now s)) (take n (now opens))) []) ≤ patternsMost) ⌝ }
     requires { ⌜ length (now list) ≡ patternsMost ⌝ }
     ensures { λ r. ⌜ Holds (asClasses (now (list .exit)) r) (putTests (now (s .entry)) (gather (openedTests (now (s .entry))) (take n (now (opens .entry)))) []) ⌝ }
@@ -213,21 +222,21 @@ pub fn case_matrix<'a, 'b>(
     s: &[u8],
     m: Map,
     t: &[u8],
-    rows: &'a [u8; 32],
-    columns: &'a [u8; 192],
-    tested: &'b mut [u8; 192],
-    opened: &'b mut [u8; 192],
+    rows: &'a [u8; CLAUSES_MOST],
+    columns: &'a [u8; PATTERNS_MOST],
+    tested: &'b mut [u8; PATTERNS_MOST],
+    opened: &'b mut [u8; PATTERNS_MOST],
     n: Sizes,
     class: usize,
     test: Test,
-    new_rows: &'b mut [u8; 32],
-    new_columns: &'b mut [u8; 192],
+    new_rows: &'b mut [u8; CLAUSES_MOST],
+    new_columns: &'b mut [u8; PATTERNS_MOST],
 ) -> Sizes
     requires { ⌜ Ready (now s) m (now t) × WholeMatrix (matrixOf (now rows) (now columns) (now tested) (now opened) n) × SoundOf (now s) (inNumbers (matrixOf (now rows) (now columns) (now tested) (now opened) n)) × (isIn class (take (n .columns) (now columns)) ≡ true) × InPool (now s) test ⌝ }
     requires { ⌜ (length (now «new_rows») ≡ clausesMost) × (length (now «new_columns») ≡ patternsMost) ⌝ }
     ensures { λ r. ⌜ StandsFor (matrixOf (now («new_rows» .exit)) (now («new_columns» .exit)) (now (tested .exit)) (now (opened .exit)) r) (caseNumbered (now (s .entry)) class (meant (now (s .entry)) test) (inNumbers (matrixOf (now (rows .entry)) (now (columns .entry)) (now (tested .entry)) (now (opened .entry)) n))) ⌝ }
 {
-    let mut opens = [0u8; 32];
+    let mut opens = [0u8; CLAUSES_MOST];
     let k = n.rows;
     let o = join_rows(s, m, t, rows, k, opened, class, test, new_rows, &mut opens);
     let front = open_all(s, m, t, &opens, o.opens, new_columns);

@@ -4,7 +4,10 @@
 // are of each. The classes tested are in one array for the whole building: a call writes behind those of its caller, and leaves them.
 use crate::tops::Built;
 use crate::tops::Tops;
-use build_arena::NODES_MOST;
+use base_numbers::node_kinds;
+use base_numbers::sheet::CLAUSES_MOST;
+use base_numbers::sheet::PATTERNS_MOST;
+use base_numbers::tree::NODES_MOST;
 use build_arena::reading::Test;
 use build_arena::reading::case_at;
 use build_arena::writing::put_child;
@@ -54,9 +57,9 @@ fn put_leaf<'a>(
     m: Map,
     t: &[u8],
     clause: usize,
-    tested: &'a [u8; 192],
+    tested: &'a [u8; PATTERNS_MOST],
     time: usize,
-    opened: &'a [u8; 192],
+    opened: &'a [u8; PATTERNS_MOST],
     work: &mut [u8],
     tops: Tops,
 ) -> Tops
@@ -69,7 +72,7 @@ fn put_leaf<'a>(
     put_node(
         work,
         tops.nodes,
-        2,
+        node_kinds::LEAF,
         clause as u16,
         first as u16,
         count as u16,
@@ -89,7 +92,11 @@ fn put_leaf<'a>(
 fn switch_kind(list: bool) -> u8
     ensures { λ r. ⌜ r ≡ pick list 1 0 ⌝ }
 {
-    if list { 1 } else { 0 }
+    if list {
+        node_kinds::LIST_SWITCH
+    } else {
+        node_kinds::SWITCH
+    }
 }
 
 // The node of a switch, or of a list switch, at number k.
@@ -118,10 +125,10 @@ fn build_case<'a>(
     s: &[u8],
     m: Map,
     t: &[u8],
-    rows: &'a [u8; 32],
-    columns: &'a [u8; 192],
-    tested: &mut [u8; 192],
-    opened: &'a [u8; 192],
+    rows: &'a [u8; CLAUSES_MOST],
+    columns: &'a [u8; PATTERNS_MOST],
+    tested: &mut [u8; PATTERNS_MOST],
+    opened: &'a [u8; PATTERNS_MOST],
     n: Sizes,
     k: usize,
     test: Test,
@@ -131,8 +138,8 @@ fn build_case<'a>(
     requires { ⌜ AskedCase (now s) m (now t) (matrixOf (now rows) (now columns) (now tested) (now opened) n) k test (now w) tops ⌝ }
     ensures { λ r. ⌜ Builds (sheetPaths (now (s .entry))) (now (w .entry)) (now (w .exit)) (caseTree (now (s .entry)) k (inNumbers (matrixOf (now (rows .entry)) (now (columns .entry)) (now (tested .entry)) (now (opened .entry)) n)) (meant (now (s .entry)) test)) tops r × StillTested (n .tested) (now (tested .entry)) (now (tested .exit)) ⌝ }
 {
-    let mut some = [0u8; 32];
-    let mut rest = [0u8; 192];
+    let mut some = [0u8; CLAUSES_MOST];
+    let mut rest = [0u8; PATTERNS_MOST];
     let mut more = *opened;
     let y = case_matrix(
         s,
@@ -156,10 +163,10 @@ fn build_cases<'a>(
     s: &[u8],
     m: Map,
     t: &[u8],
-    rows: &'a [u8; 32],
-    columns: &'a [u8; 192],
-    tested: &mut [u8; 192],
-    opened: &'a [u8; 192],
+    rows: &'a [u8; CLAUSES_MOST],
+    columns: &'a [u8; PATTERNS_MOST],
+    tested: &mut [u8; PATTERNS_MOST],
+    opened: &'a [u8; PATTERNS_MOST],
     n: Sizes,
     k: usize,
     w: &mut [u8],
@@ -192,10 +199,10 @@ fn build_switch<'a>(
     s: &[u8],
     m: Map,
     t: &[u8],
-    rows: &'a [u8; 32],
-    columns: &'a [u8; 192],
-    tested: &mut [u8; 192],
-    opened: &'a [u8; 192],
+    rows: &'a [u8; CLAUSES_MOST],
+    columns: &'a [u8; PATTERNS_MOST],
+    tested: &mut [u8; PATTERNS_MOST],
+    opened: &'a [u8; PATTERNS_MOST],
     n: Sizes,
     k: usize,
     w: &mut [u8],
@@ -217,8 +224,8 @@ fn build_switch<'a>(
         return built;
     }
     let next = built.tops;
-    let mut wild = [0u8; 32];
-    let mut rest = [0u8; 192];
+    let mut wild = [0u8; CLAUSES_MOST];
+    let mut rest = [0u8; PATTERNS_MOST];
     let d = default_matrix(t, rows, columns, tested, opened, n, k, &mut wild, &mut rest);
     if d.rows == 0 {
         put_switch(w, tops.nodes, k, first, met, 0);
@@ -233,10 +240,10 @@ pub fn do_build_tree<'a>(
     s: &[u8],
     m: Map,
     t: &[u8],
-    rows: &'a [u8; 32],
-    columns: &'a [u8; 192],
-    tested: &mut [u8; 192],
-    opened: &'a [u8; 192],
+    rows: &'a [u8; CLAUSES_MOST],
+    columns: &'a [u8; PATTERNS_MOST],
+    tested: &mut [u8; PATTERNS_MOST],
+    opened: &'a [u8; PATTERNS_MOST],
     n: Sizes,
     w: &mut [u8],
     tops: Tops,

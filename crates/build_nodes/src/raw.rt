@@ -3,6 +3,7 @@
 use crate::build::do_build_tree;
 use crate::tops::Built;
 use crate::tops::Tops;
+use base_numbers::sheet::CLAUSES_MOST;
 use build_matrix::Sizes;
 use build_matrix::splitting::first_matrix;
 use format_sheet::Map;
@@ -22,7 +23,7 @@ pub fn build_tree(s: &[u8], m: Map, t: &[u8], work: &mut [u8]) -> Built
         nodes: 0,
         cases: 0,
         bindings: 0,
-        leaves: [0; 32],
+        leaves: [0; CLAUSES_MOST],
     };
     let n = Sizes {
         rows: x.rows.count,

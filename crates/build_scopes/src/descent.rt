@@ -2,6 +2,7 @@
 // root. A way down reads each node on it and that node's cases once.
 use crate::marks::first_child;
 use crate::marks::marked_children;
+use base_numbers::node_kinds;
 use build_arena::reading::node_kind;
 ghost use mathlib.Core.Path.{_≡_};
 ghost use Rattle.build_scopes.specs.Numbers.{scopeNumber, firstNumber};
@@ -39,7 +40,7 @@ pub fn first_leaf(w: &[u8], c: usize, sets: &[u32]) -> usize
 {
     let mut k = 0;
     loop {
-        if node_kind(w, k) == 2 {
+        if node_kind(w, k) == node_kinds::LEAF {
             return k;
         }
         k = first_child(w, k, c, sets);

@@ -1,6 +1,8 @@
 // For each node the clause of the leaf that is visited last at or below it, on which the step-back notes turn: a byte by node.
 // One pass over the nodes from the last to the first: a switch has the byte of its last child, which has a larger number.
 use crate::marks::children_of;
+use base_numbers::node_kinds;
+use base_numbers::node_words;
 use build_arena::reading::case_child;
 use build_arena::reading::node_kind;
 use build_arena::reading::node_word;
@@ -26,8 +28,8 @@ fn last_of(w: &[u8], k: usize, last: &[u8]) -> u8
     requires { ⌜ NodeInside (now w) k (length (now last)) ⌝ }
     ensures { λ r. ⌜ r ≡ lastOf (now (w .entry)) (now (last .entry)) k ⌝ }
 {
-    if node_kind(w, k) == 2 {
-        return node_word(w, k, 0) as u8;
+    if node_kind(w, k) == node_kinds::LEAF {
+        return node_word(w, k, node_words::CLAUSE) as u8;
     }
     let child = last_child(w, k, last.len());
     last[child]

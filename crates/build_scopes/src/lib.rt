@@ -1,7 +1,8 @@
 // Where each clause is hoisted, and its first leaf in building order: rules 5 to 7 of the scope document over the tree in the arena.
 // Scopes are found from the root down, with no places written out. Two passes over the nodes find at each its last leaf and the set of the
 // clauses with a leaf there; then each clause costs two ways down the tree. The memory is five bytes a node.
-use build_arena::NODES_MOST;
+use base_numbers::sheet::CLAUSES_MOST;
+use base_numbers::tree::NODES_MOST;
 use descent::first_leaf;
 use descent::get_hoist_path;
 use last::mark_last;
@@ -18,16 +19,14 @@ pub mod descent;
 pub mod last;
 pub mod marks;
 
-pub const CLAUSES_MOST: usize = 32;
-
 // The nodes of a small tree.
 const NODES_FEW: usize = 64;
 
 // By clause, the node above which it is hoisted and the node of its first leaf, 1,024 where it has no leaf; how many clauses have one,
 // and the lowest that has none, or 32.
 pub struct Scopes {
-    pub node: [u16; 32],
-    pub leaf: [u16; 32],
+    pub node: [u16; CLAUSES_MOST],
+    pub leaf: [u16; CLAUSES_MOST],
     pub hoists: usize,
     pub idle: usize,
 }
@@ -59,8 +58,8 @@ fn hoist_paths(w: &[u8], nodes: usize, clauses: usize, last: &mut [u8], sets: &m
     mark(w, nodes, sets);
     let none = NODES_MOST as u16;
     let mut x = Scopes {
-        node: [none; 32],
-        leaf: [none; 32],
+        node: [none; CLAUSES_MOST],
+        leaf: [none; CLAUSES_MOST],
         hoists: 0,
         idle: CLAUSES_MOST,
     };
@@ -78,11 +77,11 @@ pub fn get_hoist_paths(w: &[u8], nodes: usize, clauses: usize) -> Scopes
     ensures { λ r. ⌜ ((h : ReadyWith (now (w .entry)) nodes) → Scoped (h .tree) clauses r) ⌝ }
 {
     if nodes <= NODES_FEW {
-        let mut last = [0u8; 64];
-        let mut sets = [0u32; 64];
+        let mut last = [0u8; NODES_FEW];
+        let mut sets = [0u32; NODES_FEW];
         return hoist_paths(w, nodes, clauses, &mut last, &mut sets);
     }
-    let mut last = [0u8; 1024];
-    let mut sets = [0u32; 1024];
+    let mut last = [0u8; NODES_MOST];
+    let mut sets = [0u32; NODES_MOST];
     hoist_paths(w, nodes, clauses, &mut last, &mut sets)
 }

@@ -1,7 +1,9 @@
 // For each node the clauses that have a leaf at or below it, as a set with a bit by clause, and what its bits say of one clause.
 // A child has a larger number than its parent, so one pass over the nodes from the last to the first finds the sets of them all; it reads
 // each node and each case once.
-use build_arena::NODES_MOST;
+use base_numbers::node_kinds;
+use base_numbers::node_words;
+use base_numbers::tree::NODES_MOST;
 use build_arena::reading::case_child;
 use build_arena::reading::node_kind;
 use build_arena::reading::node_word;
@@ -23,10 +25,10 @@ pub fn children_of(w: &[u8], k: usize) -> Children
     requires { ⌜ (arenaEnd ≤ length (now w)) × (k < nodesMost) ⌝ }
     ensures { λ r. ⌜ r ≡ childrenOf (now (w .entry)) k ⌝ }
 {
-    let first = node_word(w, k, 1) as usize;
-    let cases = node_word(w, k, 2) as usize;
-    let tails = node_word(w, k, 3) as usize;
-    let default = node_word(w, k, 4) as usize;
+    let first = node_word(w, k, node_words::FIRST_CASE) as usize;
+    let cases = node_word(w, k, node_words::CASES) as usize;
+    let tails = node_word(w, k, node_words::TAIL_CASES) as usize;
+    let default = node_word(w, k, node_words::DEFAULT) as usize;
     Children {
         first,
         count: cases + tails,
@@ -64,8 +66,8 @@ fn node_set(w: &[u8], k: usize, sets: &[u32]) -> u32
     requires { ⌜ NodeInside (now w) k (length (now sets)) ⌝ }
     ensures { λ r. ⌜ r ≡ nodeSet (now (w .entry)) (now (sets .entry)) k ⌝ }
 {
-    if node_kind(w, k) == 2 {
-        return 1 << node_word(w, k, 0);
+    if node_kind(w, k) == node_kinds::LEAF {
+        return 1 << node_word(w, k, node_words::CLAUSE);
     }
     let at = children_of(w, k);
     union_cases(w, at.first, at.count, default_set(sets, at.default), sets)

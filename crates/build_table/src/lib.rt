@@ -1,5 +1,11 @@
 // Rule 1: what each pattern of a checked sheet is to its clause's row, in one table that later rules read by pattern number.
 // Filling it goes up the pattern numbers: a pattern's own fields are set by its parent, which has a lower number.
+use base_numbers::pattern_kinds;
+use base_numbers::sheet::CLAUSES_MOST;
+use base_numbers::sheet::DEPTH_MOST;
+use base_numbers::sheet::PATTERNS_MOST;
+use base_numbers::step_kinds;
+use base_numbers::type_kinds;
 use format_sheet::Map;
 use format_sheet::records::PatternRecord;
 use format_sheet::records::TypeRecord;
@@ -26,29 +32,29 @@ ghost use Rattle.build_table.specs.Tabled.{Checked, Placed, Classed, Tab
 // its path goes on from, its type, the step (SAME: none), the step's index, how many steps its path has, its clause, their indices.
 pub const CLASS: usize = 0;
 
-pub const OWNER: usize = 192;
+pub const OWNER: usize = PATTERNS_MOST;
 
-pub const ABOVE: usize = 384;
+pub const ABOVE: usize = 2 * PATTERNS_MOST;
 
-pub const TYPE: usize = 576;
+pub const TYPE: usize = 3 * PATTERNS_MOST;
 
-pub const STEP: usize = 768;
+pub const STEP: usize = 4 * PATTERNS_MOST;
 
-pub const INDEX: usize = 960;
+pub const INDEX: usize = 5 * PATTERNS_MOST;
 
-pub const DEPTH: usize = 1152;
+pub const DEPTH: usize = 6 * PATTERNS_MOST;
 
-pub const CLAUSE: usize = 1344;
+pub const CLAUSE: usize = 7 * PATTERNS_MOST;
 
-pub const INDICES: usize = 1536;
+pub const INDICES: usize = 8 * PATTERNS_MOST;
 
 // By clause and class: one more than the test there, or 0.
-pub const CELL: usize = 3840;
+pub const CELL: usize = INDICES + DEPTH_MOST * PATTERNS_MOST;
 
-pub const TABLE: usize = 9984;
+pub const TABLE: usize = CELL + PATTERNS_MOST * CLAUSES_MOST;
 
-// The number of no step, behind those of the tree file: 0 pair, 1 tuple, 2 constr, 3 list, 4 listtail.
-pub const SAME: u8 = 5;
+// The number of no step, behind the kinds of steps.
+pub const SAME: u8 = step_kinds::LISTTAIL + 1;
 
 // A byte as an index.
 pub fn at(t: &[u8], i: usize) -> usize
@@ -107,7 +113,7 @@ fn put_children(
 fn one_constructor(ty: TypeRecord) -> bool
     ensures { λ r. ⌜ r ≡ both (eqb (ty .kind) 5) (eqb (ty .count) 1) ⌝ }
 {
-    if ty.kind != 5 {
+    if ty.kind != type_kinds::DATA {
         return false;
     }
     ty.count == 1
@@ -128,10 +134,20 @@ fn place_fields(
 {
     let c = constructor_at(s, m, ty.first + r.a);
     if one_constructor(ty) {
-        put_children(s, m, t, p, r.count, 2, c.first, 1, owner);
+        put_children(s, m, t, p, r.count, step_kinds::CONSTR, c.first, 1, owner);
         return;
     }
-    put_children(s, m, t, p, r.count, 2, c.first, 1, (p + 1) as u8);
+    put_children(
+        s,
+        m,
+        t,
+        p,
+        r.count,
+        step_kinds::CONSTR,
+        c.first,
+        1,
+        (p + 1) as u8,
+    );
 }
 
 // The elements and the tail of list p, all inside p.
@@ -149,8 +165,8 @@ fn place_tailed(
 {
     let n = r.count - 1;
     let tail = child_at(s, m, r.first + n);
-    put_children(s, m, t, p, n, 3, ty.first, 0, (p + 1) as u8);
-    put_child(t, p, tail, 4, n, tipo, (p + 1) as u8);
+    put_children(s, m, t, p, n, step_kinds::LIST, ty.first, 0, (p + 1) as u8);
+    put_child(t, p, tail, step_kinds::LISTTAIL, n, tipo, (p + 1) as u8);
 }
 
 // What pattern p gives to its children: one decision over kinds 0 to 9.
@@ -164,12 +180,42 @@ fn place_children(s: &[u8], m: Map, t: &mut [u8], p: usize)
     let ty = type_at(s, m, tipo);
     let kind = r.kind;
     match kind {
-        2 => put_child(t, p, child_at(s, m, r.first), SAME, 0, tipo, owner),
-        5 => put_children(s, m, t, p, r.count, 3, ty.first, 0, (p + 1) as u8),
-        6 => place_tailed(s, m, t, p, r, ty, tipo),
-        7 => place_fields(s, m, t, p, r, ty, owner),
-        8 => put_children(s, m, t, p, r.count, 0, ty.first, 1, owner),
-        9 => put_children(s, m, t, p, r.count, 1, ty.first, 1, owner),
+        pattern_kinds::ASSIGN => put_child(t, p, child_at(s, m, r.first), SAME, 0, tipo, owner),
+        pattern_kinds::LIST => put_children(
+            s,
+            m,
+            t,
+            p,
+            r.count,
+            step_kinds::LIST,
+            ty.first,
+            0,
+            (p + 1) as u8,
+        ),
+        pattern_kinds::LIST_WITH_TAIL => place_tailed(s, m, t, p, r, ty, tipo),
+        pattern_kinds::CONSTRUCTOR => place_fields(s, m, t, p, r, ty, owner),
+        pattern_kinds::PAIR => put_children(
+            s,
+            m,
+            t,
+            p,
+            r.count,
+            step_kinds::PAIR,
+            ty.first,
+            1,
+            owner,
+        ),
+        pattern_kinds::TUPLE => put_children(
+            s,
+            m,
+            t,
+            p,
+            r.count,
+            step_kinds::TUPLE,
+            ty.first,
+            1,
+            owner,
+        ),
         _ => {}
     }
 }
@@ -237,10 +283,10 @@ fn put_indices(t: &mut [u8], p: usize)
     let own = t[INDEX + p];
     let mut i: usize = 0;
     while i < depth {
-        t[INDICES + 12 * p + i] = t[INDICES + 12 * above + i];
+        t[INDICES + DEPTH_MOST * p + i] = t[INDICES + DEPTH_MOST * above + i];
         i += 1;
     }
-    t[INDICES + 12 * p + depth] = own;
+    t[INDICES + DEPTH_MOST * p + depth] = own;
 }
 
 // Whether pattern p stands in a column: an integer, byte string, list, or constructor of a several-constructor type.
@@ -252,8 +298,11 @@ pub fn is_test(s: &[u8], m: Map, t: &[u8], p: usize) -> bool
     let ty = type_at(s, m, at(t, TYPE + p));
     let kind = r.kind;
     match kind {
-        3 | 4 | 5 | 6 => true,
-        7 => !one_constructor(ty),
+        pattern_kinds::INTEGER
+        | pattern_kinds::BYTE_STRING
+        | pattern_kinds::LIST
+        | pattern_kinds::LIST_WITH_TAIL => true,
+        pattern_kinds::CONSTRUCTOR => !one_constructor(ty),
         _ => false,
     }
 }
@@ -266,7 +315,7 @@ fn put_test(s: &[u8], m: Map, t: &mut [u8], p: usize)
     if is_test(s, m, t, p) {
         let clause = at(t, CLAUSE + p);
         let class = at(t, CLASS + p);
-        t[CELL + 192 * clause + class] = (p + 1) as u8;
+        t[CELL + PATTERNS_MOST * clause + class] = (p + 1) as u8;
     }
 }
 
@@ -329,8 +378,8 @@ pub fn before(t: &[u8], a: usize, b: usize) -> bool
         if i == y {
             return false;
         }
-        let p = t[INDICES + 12 * a + i];
-        let q = t[INDICES + 12 * b + i];
+        let p = t[INDICES + DEPTH_MOST * a + i];
+        let q = t[INDICES + DEPTH_MOST * b + i];
         if p < q {
             return true;
         }

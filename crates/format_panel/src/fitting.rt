@@ -4,6 +4,8 @@ use crate::Map;
 use crate::records::Record;
 use crate::records::part_at;
 use crate::records::record_at;
+use base_numbers::record_kinds;
+use base_numbers::type_kinds;
 use format_sheet::records::TypeRecord;
 use format_sheet::records::constructor_at;
 use format_sheet::records::entry_at;
@@ -31,7 +33,7 @@ pub enum Below {
 fn list_below(x: Record, y: TypeRecord) -> Below
     ensures { λ r. ⌜ r ≡ listBelow x y ⌝ }
 {
-    if y.kind != 2 {
+    if y.kind != type_kinds::LIST {
         return Below::Alone(false);
     }
     Below::Parts {
@@ -65,7 +67,7 @@ fn fields_below(s: &[u8], sm: format_sheet::Map, x: Record, y: TypeRecord) -> Be
     requires { ⌜ Typing (now s) sm y ⌝ }
     ensures { λ r. ⌜ r ≡ fieldsBelow (now (s .entry)) x y ⌝ }
 {
-    if y.kind != 5 {
+    if y.kind != type_kinds::DATA {
         return Below::Alone(false);
     }
     if y.count <= x.a {
@@ -92,12 +94,12 @@ fn below_record(s: &[u8], sm: format_sheet::Map, v: &[u8], vm: Map, r: usize, t:
     let y = type_at(s, sm, t);
     let kind = x.kind;
     match kind {
-        0 => Below::Alone(y.kind == 0),
-        1 => Below::Alone(y.kind == 1),
-        2 => list_below(x, y),
-        3 => parts_below(x, y, 3),
-        4 => parts_below(x, y, 4),
-        5 => fields_below(s, sm, x, y),
+        record_kinds::INTEGER => Below::Alone(y.kind == type_kinds::INT),
+        record_kinds::BYTES => Below::Alone(y.kind == type_kinds::BYTES),
+        record_kinds::LIST => list_below(x, y),
+        record_kinds::PAIR => parts_below(x, y, type_kinds::PAIR),
+        record_kinds::TUPLE => parts_below(x, y, type_kinds::TUPLE),
+        record_kinds::CONSTRUCTOR => fields_below(s, sm, x, y),
         _ => Below::Alone(false),
     }
 }

@@ -1,11 +1,15 @@
 // Refusals 21 and 22 of a panel: its length, the layout of its sections, and how many records it has.
 // Only the trailer is read here.
 use crate::Map;
-use crate::limits::PANEL_MOST;
-use crate::limits::PANEL_TRAILER;
-use crate::limits::PART_SIZE;
-use crate::limits::RECORD_SIZE;
-use crate::limits::RECORDS_MOST;
+use base_numbers::BYTE_SIZE;
+use base_numbers::WORD_SIZE;
+use base_numbers::panel::PANEL_LENGTH_BACK;
+use base_numbers::panel::PANEL_MOST;
+use base_numbers::panel::PANEL_TRAILER;
+use base_numbers::panel::PART_SIZE;
+use base_numbers::panel::RECORD_SIZE;
+use base_numbers::panel::RECORDS_MOST;
+use base_numbers::panel_starts;
 use base_words::word_at;
 ghost use mathlib.Core.Path.{_≡_};
 ghost use Prim.Native.Nat.{_<_, _≤_};
@@ -26,7 +30,7 @@ pub(crate) fn length_fits(v: &[u8]) -> bool
     if PANEL_MOST < v.len() {
         return false;
     }
-    let told = word_at(v, v.len() - 2) as usize;
+    let told = word_at(v, v.len() - PANEL_LENGTH_BACK) as usize;
     told == v.len()
 }
 
@@ -35,7 +39,7 @@ fn start(v: &[u8], k: usize) -> usize
     requires { ⌜ (panelTrailer ≤ length (now v)) × (k < 3) ⌝ }
     ensures { λ r. ⌜ r ≡ panelStart (now (v .entry)) k ⌝ }
 {
-    word_at(v, v.len() - PANEL_TRAILER + 2 * k) as usize
+    word_at(v, v.len() - PANEL_TRAILER + WORD_SIZE * k) as usize
 }
 
 // From `from` to `to` there are whole records of `size` bytes.
@@ -54,9 +58,9 @@ pub(crate) fn layout_fits(v: &[u8]) -> bool
     requires { ⌜ panelTrailer ≤ length (now v) ⌝ }
     ensures { λ r. ⌜ r ≡ panelLayoutFits (now (v .entry)) ⌝ }
 {
-    let records_at = start(v, 0);
-    let parts_at = start(v, 1);
-    let pool_at = start(v, 2);
+    let records_at = start(v, panel_starts::RECORDS);
+    let parts_at = start(v, panel_starts::PARTS);
+    let pool_at = start(v, panel_starts::POOL);
     if records_at != 0 {
         return false;
     }
@@ -66,7 +70,7 @@ pub(crate) fn layout_fits(v: &[u8]) -> bool
     if !whole_records(PART_SIZE, parts_at, pool_at) {
         return false;
     }
-    if !whole_records(1, pool_at, v.len() - PANEL_TRAILER) {
+    if !whole_records(BYTE_SIZE, pool_at, v.len() - PANEL_TRAILER) {
         return false;
     }
     let records = parts_at / RECORD_SIZE;
@@ -81,8 +85,8 @@ pub(crate) fn map_of(v: &[u8]) -> Map
     requires { ⌜ PanelLaid (now v) ⌝ }
     ensures { λ r. ⌜ r ≡ mapOf (now (v .entry)) ⌝ }
 {
-    let parts_at = start(v, 1);
-    let pool_at = start(v, 2);
+    let parts_at = start(v, panel_starts::PARTS);
+    let pool_at = start(v, panel_starts::POOL);
     Map {
         parts_at,
         pool_at,

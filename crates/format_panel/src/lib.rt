@@ -12,11 +12,12 @@ ghost use Rattle.format_panel.specs.Answers.{checked, located, fitted, A
 
 mod fitting;
 mod layout;
-mod limits;
 pub mod records;
 mod shape;
 mod texts;
 
+use base_numbers::record_kinds;
+use base_numbers::refusals;
 use fitting::fits;
 use layout::layout_fits;
 use layout::length_fits;
@@ -57,26 +58,26 @@ pub fn check(v: &[u8]) -> Checked
 {
     if !length_fits(v) {
         return Checked::Refused {
-            number: 21,
+            number: refusals::PANEL_LENGTH,
             place: 0,
         };
     }
     if !layout_fits(v) {
         return Checked::Refused {
-            number: 22,
+            number: refusals::PANEL_LAYOUT,
             place: 0,
         };
     }
     let m = map_of(v);
     if !shape_fits(v, m) {
         return Checked::Refused {
-            number: 23,
+            number: refusals::PANEL_SHAPE,
             place: 0,
         };
     }
     if !texts_fit(v, m) {
         return Checked::Refused {
-            number: 24,
+            number: refusals::PANEL_TEXT,
             place: 0,
         };
     }
@@ -88,7 +89,7 @@ fn not_text() -> Located
     ensures { λ r. ⌜ r ≡ Located.Refused 33 0 ⌝ }
 {
     Located::Refused {
-        number: 33,
+        number: refusals::NO_TEXT,
         place: 0,
     }
 }
@@ -103,7 +104,7 @@ fn text_in(v: &[u8], m: Map, r: u16, dropped: u16) -> Located
         return not_text();
     }
     let x = record_at(v, at);
-    if 1 < x.kind {
+    if record_kinds::BYTES < x.kind {
         return not_text();
     }
     if dropped != 0 {
@@ -145,7 +146,7 @@ fn fit_both(s: &[u8], sm: format_sheet::Map, v: &[u8], vm: Map) -> Fitted
         Fitted::Fits
     } else {
         Fitted::Refused {
-            number: 25,
+            number: refusals::PANEL_MISFIT,
             place: 0,
         }
     }

@@ -1,8 +1,9 @@
 // The records and the parts of a panel whose sections are laid out: each is read once, as a struct or a number by value.
 // Each reader asks that the record or the part is there.
 use crate::Map;
-use crate::limits::PART_SIZE;
-use crate::limits::RECORD_SIZE;
+use base_numbers::panel::PART_SIZE;
+use base_numbers::panel::RECORD_SIZE;
+use base_numbers::record_fields;
 use base_words::word_at;
 ghost use mathlib.Core.Path.{_≡_};
 ghost use Prim.Native.Nat.{_<_};
@@ -27,10 +28,10 @@ pub fn record_at(v: &[u8], r: usize) -> Record
     let at = RECORD_SIZE * r;
     Record {
         kind: v[at],
-        zero: v[at + 1],
-        a: word_at(v, at + 2) as usize,
-        first: word_at(v, at + 4) as usize,
-        count: word_at(v, at + 6) as usize,
+        zero: v[at + record_fields::ZERO],
+        a: word_at(v, at + record_fields::A) as usize,
+        first: word_at(v, at + record_fields::FIRST) as usize,
+        count: word_at(v, at + record_fields::COUNT) as usize,
     }
 }
 

@@ -2,11 +2,13 @@
 // larger than its owner's, so that when a record is at hand its depth is known, or it is nobody's part. The depths are in one
 // buffer that is lent on, 0 for a record that was not met yet; each step answers whether no rule is broken.
 use crate::Map;
-use crate::limits::PANEL_DEPTH_MOST;
-use crate::limits::RECORDS_MOST;
 use crate::records::Record;
 use crate::records::part_at;
 use crate::records::record_at;
+use base_numbers::panel::PAIR_PARTS;
+use base_numbers::panel::PANEL_DEPTH_MOST;
+use base_numbers::panel::RECORDS_MOST;
+use base_numbers::record_kinds;
 use format_sheet::records::run_in;
 ghost use mathlib.Core.Path.{_≡_};
 ghost use mathlib.Core.List.{List};
@@ -29,28 +31,28 @@ fn fields_fit(x: Record, held: usize, pool: usize) -> bool
     let first = x.first;
     let count = x.count;
     match kind {
-        0 | 1 => {
+        record_kinds::INTEGER | record_kinds::BYTES => {
             if a != 0 {
                 return false;
             }
             run_in(first, count, pool)
         }
-        2 | 4 => {
+        record_kinds::LIST | record_kinds::TUPLE => {
             if a != 0 {
                 return false;
             }
             run_in(first, count, held)
         }
-        3 => {
+        record_kinds::PAIR => {
             if a != 0 {
                 return false;
             }
-            if count != 2 {
+            if count != PAIR_PARTS {
                 return false;
             }
             run_in(first, count, held)
         }
-        5 => run_in(first, count, held),
+        record_kinds::CONSTRUCTOR => run_in(first, count, held),
         _ => false,
     }
 }
@@ -105,7 +107,7 @@ fn enter_record(v: &[u8], m: Map, depths: &mut [u8], r: usize) -> bool
     if !fields_fit(x, m.parts, m.pool_end - m.pool_at) {
         return false;
     }
-    if x.kind < 2 {
+    if x.kind < record_kinds::LIST {
         return true;
     }
     enter_parts(v, m, depths, r, x.first, x.count)

@@ -1,7 +1,8 @@
 // Refusal 24 of a panel: an integer is canonical, and a text has at most 64 bytes.
 use crate::Map;
 use crate::records::record_at;
-use format_sheet::limits::TEXT_MOST;
+use base_numbers::record_kinds;
+use base_numbers::sheet::TEXT_MOST;
 use format_sheet::texts::canonical;
 ghost use mathlib.Core.Path.{_≡_};
 ghost use Prim.Native.Nat.{_<_};
@@ -16,13 +17,13 @@ fn text_fits(v: &[u8], m: Map, r: usize) -> bool
 {
     let x = record_at(v, r);
     let kind = x.kind;
-    if 1 < kind {
+    if record_kinds::BYTES < kind {
         return true;
     }
     if TEXT_MOST < x.count {
         return false;
     }
-    if kind == 1 {
+    if kind == record_kinds::BYTES {
         return true;
     }
     canonical(v, m.pool_at + x.first, x.count)

@@ -10,6 +10,8 @@ use crate::records::entry_at;
 use crate::records::pattern_at;
 use crate::records::root_at;
 use crate::records::type_at;
+use base_numbers::pattern_kinds;
+use base_numbers::type_kinds;
 ghost use mathlib.Core.Path.{_≡_};
 ghost use Prim.Native.Nat.{_+_, _<_, _≤_};
 ghost use lib.Dec.{eqb};
@@ -66,7 +68,7 @@ fn asks_fields(s: &[u8], m: Map, r: PatternRecord, ty: TypeRecord) -> Question
     requires { ⌜ Laid (now s) × (m ≡ mapOf (now s)) × (ty .kind ≡ 5 → ty .first + ty .count ≤ constructors (now s)) ⌝ }
     ensures { λ x. ⌜ x ≡ argumentsFit (now (s .entry)) r ty ⌝ }
 {
-    if ty.kind != 5 {
+    if ty.kind != type_kinds::DATA {
         return Question::Settled(false);
     }
     if ty.count <= r.a {
@@ -85,16 +87,28 @@ fn asks(s: &[u8], m: Map, p: usize, t: usize) -> Question
     let ty = type_at(s, m, t);
     let kind = r.kind;
     match kind {
-        0 => Question::Settled(true),
-        1 => Question::Settled(true),
-        2 => Question::Inside(child_at(s, m, r.first)),
-        3 => Question::Settled(ty.kind == 0),
-        4 => Question::Settled(ty.kind == 1),
-        5 => asks_each(ty.kind == 2, r.first, r.count, ty.first, 0),
-        6 => asks_each(ty.kind == 2, r.first, r.count - 1, ty.first, 0),
-        7 => asks_fields(s, m, r, ty),
-        8 => asks_parts(r, ty, 3),
-        9 => asks_parts(r, ty, 4),
+        pattern_kinds::DISCARD => Question::Settled(true),
+        pattern_kinds::VARIABLE => Question::Settled(true),
+        pattern_kinds::ASSIGN => Question::Inside(child_at(s, m, r.first)),
+        pattern_kinds::INTEGER => Question::Settled(ty.kind == type_kinds::INT),
+        pattern_kinds::BYTE_STRING => Question::Settled(ty.kind == type_kinds::BYTES),
+        pattern_kinds::LIST => asks_each(
+            ty.kind == type_kinds::LIST,
+            r.first,
+            r.count,
+            ty.first,
+            0,
+        ),
+        pattern_kinds::LIST_WITH_TAIL => asks_each(
+            ty.kind == type_kinds::LIST,
+            r.first,
+            r.count - 1,
+            ty.first,
+            0,
+        ),
+        pattern_kinds::CONSTRUCTOR => asks_fields(s, m, r, ty),
+        pattern_kinds::PAIR => asks_parts(r, ty, type_kinds::PAIR),
+        pattern_kinds::TUPLE => asks_parts(r, ty, type_kinds::TUPLE),
         _ => Question::Settled(true),
     }
 }

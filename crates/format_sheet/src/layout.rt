@@ -2,20 +2,25 @@
 // Only the trailer is read here; what follows from it is computed on plain numbers.
 use crate::Counts;
 use crate::Starts;
-use crate::limits::CHILD_SIZE;
-use crate::limits::CHILDREN_MOST;
-use crate::limits::CLAUSE_SIZE;
-use crate::limits::CLAUSES_MOST;
-use crate::limits::CONSTRUCTOR_SIZE;
-use crate::limits::CONSTRUCTORS_MOST;
-use crate::limits::ENTRIES_MOST;
-use crate::limits::ENTRY_SIZE;
-use crate::limits::PATTERN_SIZE;
-use crate::limits::PATTERNS_MOST;
-use crate::limits::SHEET_MOST;
-use crate::limits::SHEET_TRAILER;
-use crate::limits::TYPE_SIZE;
-use crate::limits::TYPES_MOST;
+use base_numbers::BYTE_SIZE;
+use base_numbers::WORD_SIZE;
+use base_numbers::sheet::CHILD_SIZE;
+use base_numbers::sheet::CHILDREN_MOST;
+use base_numbers::sheet::CLAUSE_SIZE;
+use base_numbers::sheet::CLAUSES_MOST;
+use base_numbers::sheet::CONSTRUCTOR_SIZE;
+use base_numbers::sheet::CONSTRUCTORS_MOST;
+use base_numbers::sheet::ENTRIES_MOST;
+use base_numbers::sheet::ENTRY_SIZE;
+use base_numbers::sheet::LENGTH_BACK;
+use base_numbers::sheet::PATTERN_SIZE;
+use base_numbers::sheet::PATTERNS_MOST;
+use base_numbers::sheet::SHEET_MOST;
+use base_numbers::sheet::SHEET_TRAILER;
+use base_numbers::sheet::SUBJECT_BACK;
+use base_numbers::sheet::TYPE_SIZE;
+use base_numbers::sheet::TYPES_MOST;
+use base_numbers::sheet_starts;
 use base_words::word_at;
 ghost use mathlib.Core.Path.{_≡_};
 ghost use mathlib.Core.Bool.{true};
@@ -37,7 +42,7 @@ pub(crate) fn length_fits(s: &[u8]) -> bool
     if SHEET_MOST < n {
         return false;
     }
-    let told = word_at(s, n - 2) as usize;
+    let told = word_at(s, n - LENGTH_BACK) as usize;
     told == n
 }
 
@@ -46,7 +51,7 @@ fn start(s: &[u8], k: usize) -> usize
     requires { ⌜ (sheetTrailer ≤ length (now s)) × (k < 7) ⌝ }
     ensures { λ r. ⌜ r ≡ sheetStart (now (s .entry)) k ⌝ }
 {
-    word_at(s, s.len() - SHEET_TRAILER + 2 * k) as usize
+    word_at(s, s.len() - SHEET_TRAILER + WORD_SIZE * k) as usize
 }
 
 // The trailer's seven starts, and where the trailer itself begins.
@@ -55,13 +60,13 @@ pub(crate) fn starts_of(s: &[u8]) -> Starts
     ensures { λ r. ⌜ r ≡ startsOf (now (s .entry)) ⌝ }
 {
     Starts {
-        types: start(s, 0),
-        constructors: start(s, 1),
-        entries: start(s, 2),
-        patterns: start(s, 3),
-        children: start(s, 4),
-        clauses: start(s, 5),
-        pool: start(s, 6),
+        types: start(s, sheet_starts::TYPES),
+        constructors: start(s, sheet_starts::CONSTRUCTORS),
+        entries: start(s, sheet_starts::ENTRIES),
+        patterns: start(s, sheet_starts::PATTERNS),
+        children: start(s, sheet_starts::CHILDREN),
+        clauses: start(s, sheet_starts::CLAUSES),
+        pool: start(s, sheet_starts::POOL),
         end: s.len() - SHEET_TRAILER,
     }
 }
@@ -71,7 +76,7 @@ pub(crate) fn subject_of(s: &[u8]) -> usize
     requires { ⌜ sheetTrailer ≤ length (now s) ⌝ }
     ensures { λ r. ⌜ r ≡ subject (now (s .entry)) ⌝ }
 {
-    word_at(s, s.len() - 4) as usize
+    word_at(s, s.len() - SUBJECT_BACK) as usize
 }
 
 // From `from` to `to` there are whole records of `size` bytes.
@@ -110,7 +115,7 @@ pub(crate) fn layout_fits(at: Starts) -> bool
     if !whole_records(CLAUSE_SIZE, at.clauses, at.pool) {
         return false;
     }
-    whole_records(1, at.pool, at.end)
+    whole_records(BYTE_SIZE, at.pool, at.end)
 }
 
 // How many records each section has, where the starts rise.

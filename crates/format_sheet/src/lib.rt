@@ -9,7 +9,6 @@
 // fitting, where 192 less the pattern number falls.
 mod fitting;
 mod layout;
-pub mod limits;
 mod names;
 pub mod records;
 mod shape;
@@ -17,6 +16,7 @@ mod standing;
 pub mod texts;
 mod types;
 
+use base_numbers::refusals;
 use fitting::lowest_misfit;
 use layout::counts_fit;
 use layout::counts_of;
@@ -82,13 +82,13 @@ fn check_clauses(s: &[u8], m: Map) -> Checked
 {
     if let Found::At(c) = lowest_misfit(s, m) {
         return Checked::Refused {
-            number: 10,
+            number: refusals::MISFIT,
             place: c,
         };
     }
     if let Found::At(c) = lowest_name_twice(s, m) {
         return Checked::Refused {
-            number: 11,
+            number: refusals::NAME_TWICE,
             place: c,
         };
     }
@@ -102,13 +102,13 @@ fn check_patterns(s: &[u8], m: Map) -> Checked
 {
     if !shape_fits(s, m) {
         return Checked::Refused {
-            number: 8,
+            number: refusals::SHAPE,
             place: 0,
         };
     }
     if let Found::At(p) = lowest_bad_text(s, m) {
         return Checked::Refused {
-            number: 9,
+            number: refusals::TEXT,
             place: p,
         };
     }
@@ -122,13 +122,13 @@ fn check_types(s: &[u8], m: Map) -> Checked
 {
     if !types_fit(s, m) {
         return Checked::Refused {
-            number: 6,
+            number: refusals::TYPES,
             place: 0,
         };
     }
     if let Found::At(t) = lowest_transparent(s, m) {
         return Checked::Refused {
-            number: 7,
+            number: refusals::TRANSPARENT,
             place: t,
         };
     }
@@ -141,27 +141,27 @@ pub fn check(s: &[u8]) -> Checked
 {
     if !length_fits(s) {
         return Checked::Refused {
-            number: 2,
+            number: refusals::LENGTH,
             place: 0,
         };
     }
     let at = starts_of(s);
     if !layout_fits(at) {
         return Checked::Refused {
-            number: 3,
+            number: refusals::LAYOUT,
             place: 0,
         };
     }
     let counts = counts_of(at);
     if counts.clauses == 0 {
         return Checked::Refused {
-            number: 4,
+            number: refusals::NO_CLAUSE,
             place: 0,
         };
     }
     if !counts_fit(counts) {
         return Checked::Refused {
-            number: 5,
+            number: refusals::COUNT,
             place: 0,
         };
     }

@@ -2,16 +2,18 @@
 // with the number of names in it, and each is looked for among those after it.
 use crate::Found;
 use crate::Map;
-use crate::limits::PATTERNS_MOST;
 use crate::records::child_in;
 use crate::records::children_in;
 use crate::records::pattern_in;
 use crate::records::root_at;
+use base_numbers::pattern_kinds;
+use base_numbers::sheet::PATTERNS_MOST;
 ghost use mathlib.Core.Path.{_≡_};
 ghost use mathlib.Core.List.{[], _∷_};
 ghost use Prim.Native.Nat.{_+_, _-_, _<_, _≤_};
 ghost use lib.ListN.{length, getD};
 ghost use Rattle.base_words.specs.Words.{textAt};
+ghost use Rattle.spec_rules.specs.Limits.{patternsMost};
 ghost use Rattle.spec_rules.specs.SheetFile.{patterns, clauses, patternsAt, childrenAt};
 ghost use Rattle.spec_rules.specs.SheetRefusals.{isIn, repeats as Repeats, nameTwice, lowestNameTwice};
 ghost use Rattle.spec_accepted.specs.SheetFacts.{Laid};
@@ -22,7 +24,7 @@ ghost use Rattle.format_sheet.specs.Names.{ownName, namesIn, inBuffer, h
 
 // One name more.
 fn add(found: &mut [u16], count: usize, x: u16) -> usize
-    requires { ⌜ (length (now found) ≡ 192) × (count < 192) ⌝ }
+    requires { ⌜ (length (now found) ≡ patternsMost) × (count < patternsMost) ⌝ }
     ensures { λ r. ⌜ Adds (inBuffer (now (found .entry)) count) (x ∷ []) (inBuffer (now (found .exit)) r) ⌝ }
 {
     found[count] = x;
@@ -32,14 +34,14 @@ fn add(found: &mut [u16], count: usize, x: u16) -> usize
 // The name of pattern p itself, if it has one.
 fn add_own(s: &[u8], records: usize, p: usize, found: &mut [u16], count: usize) -> usize
     requires { ⌜ Laid (now s) × (records ≡ patternsAt (now s)) × (p < patterns (now s)) ⌝ }
-    requires { ⌜ (length (now found) ≡ 192) × (count + length (ownName (now s) p) ≤ 192) ⌝ }
+    requires { ⌜ (length (now found) ≡ patternsMost) × (count + length (ownName (now s) p) ≤ patternsMost) ⌝ }
     ensures { λ r. ⌜ Adds (inBuffer (now (found .entry)) count) (ownName (now (s .entry)) p) (inBuffer (now (found .exit)) r) ⌝ }
 {
     let r = pattern_in(s, records, p);
     let kind = r.kind;
     match kind {
-        1 => add(found, count, r.a as u16),
-        2 => add(found, count, r.a as u16),
+        pattern_kinds::VARIABLE => add(found, count, r.a as u16),
+        pattern_kinds::ASSIGN => add(found, count, r.a as u16),
         _ => count,
     }
 }
@@ -54,7 +56,7 @@ fn collect(
     count: usize,
 ) -> usize
     requires { ⌜ Ready (now s) (mapOf (now s)) × (records ≡ patternsAt (now s)) × (list ≡ childrenAt (now s)) × (p < patterns (now s)) ⌝ }
-    requires { ⌜ (length (now found) ≡ 192) × (count + length (namesIn (now s) p) ≤ 192) ⌝ }
+    requires { ⌜ (length (now found) ≡ patternsMost) × (count + length (namesIn (now s) p) ≤ patternsMost) ⌝ }
     ensures { λ r. ⌜ Adds (inBuffer (now (found .entry)) count) (namesIn (now (s .entry)) p) (inBuffer (now (found .exit)) r) ⌝ }
 {
     let mut next = add_own(s, records, p, found, count);
@@ -76,7 +78,7 @@ fn collect(
 
 // The name at i is among those after it.
 fn again(found: &[u16], count: usize, i: usize) -> bool
-    requires { ⌜ (length (now found) ≡ 192) × (count ≤ 192) × (i < count) ⌝ }
+    requires { ⌜ (length (now found) ≡ patternsMost) × (count ≤ patternsMost) × (i < count) ⌝ }
     ensures { λ r. ⌜ r ≡ isIn (getD (now (found .entry)) i 0) (textAt (now (found .entry)) (i + 1) (count - (i + 1))) ⌝ }
 {
     let mut k = i + 1;
@@ -90,7 +92,7 @@ fn again(found: &[u16], count: usize, i: usize) -> bool
 }
 
 fn repeats(found: &[u16], count: usize) -> bool
-    requires { ⌜ (length (now found) ≡ 192) × (count ≤ 192) ⌝ }
+    requires { ⌜ (length (now found) ≡ patternsMost) × (count ≤ patternsMost) ⌝ }
     ensures { λ r. ⌜ r ≡ Repeats (held (inBuffer (now (found .entry)) count)) ⌝ }
 {
     let mut i: usize = 0;
@@ -105,7 +107,7 @@ fn repeats(found: &[u16], count: usize) -> bool
 
 // What the buffer holds before does not matter.
 fn name_twice(s: &[u8], m: Map, c: usize, found: &mut [u16]) -> bool
-    requires { ⌜ Ready (now s) m × (c < clauses (now s)) × (length (now found) ≡ 192) ⌝ }
+    requires { ⌜ Ready (now s) m × (c < clauses (now s)) × (length (now found) ≡ patternsMost) ⌝ }
     ensures { λ r. ⌜ r ≡ nameTwice (now (s .entry)) c ⌝ }
 {
     let count = collect(s, m.at.patterns, m.at.children, root_at(s, m, c), found, 0);

@@ -1,12 +1,16 @@
 // The records of a sheet whose sections are laid out: each is read once, as a struct by value.
 // Each reader asks that the map is the sheet's and that the record is there.
 use crate::Map;
-use crate::limits::CHILD_SIZE;
-use crate::limits::CLAUSE_SIZE;
-use crate::limits::CONSTRUCTOR_SIZE;
-use crate::limits::ENTRY_SIZE;
-use crate::limits::PATTERN_SIZE;
-use crate::limits::TYPE_SIZE;
+use base_numbers::pattern_kinds;
+use base_numbers::record_fields;
+use base_numbers::run_fields;
+use base_numbers::sheet::CHILD_SIZE;
+use base_numbers::sheet::CLAUSE_SIZE;
+use base_numbers::sheet::CONSTRUCTOR_SIZE;
+use base_numbers::sheet::ENTRY_SIZE;
+use base_numbers::sheet::PATTERN_SIZE;
+use base_numbers::sheet::TYPE_SIZE;
+use base_numbers::type_fields;
 use base_words::word_at;
 ghost use mathlib.Core.Path.{_≡_};
 ghost use Prim.Native.Nat.{_+_, _<_, _≤_};
@@ -46,9 +50,9 @@ fn type_from(s: &[u8], at: usize) -> TypeRecord
     ensures { λ r. ⌜ r ≡ typeFrom (now (s .entry)) at ⌝ }
 {
     let kind = s[at];
-    let flag = s[at + 1];
-    let first = word_at(s, at + 2) as usize;
-    let count = word_at(s, at + 4) as usize;
+    let flag = s[at + type_fields::FLAG];
+    let first = word_at(s, at + type_fields::FIRST) as usize;
+    let count = word_at(s, at + type_fields::COUNT) as usize;
     TypeRecord {
         kind,
         flag,
@@ -62,7 +66,7 @@ fn run_from(s: &[u8], at: usize) -> Run
     ensures { λ r. ⌜ r ≡ runFrom (now (s .entry)) at ⌝ }
 {
     let first = word_at(s, at) as usize;
-    let count = word_at(s, at + 2) as usize;
+    let count = word_at(s, at + run_fields::COUNT) as usize;
     Run { first, count }
 }
 
@@ -72,9 +76,9 @@ pub fn pattern_from(s: &[u8], at: usize) -> PatternRecord
     ensures { λ r. ⌜ r ≡ patternFrom (now (s .entry)) at ⌝ }
 {
     let kind = s[at];
-    let zero = s[at + 1];
-    let a = word_at(s, at + 2) as usize;
-    let run = run_from(s, at + 4);
+    let zero = s[at + record_fields::ZERO];
+    let a = word_at(s, at + record_fields::A) as usize;
+    let run = run_from(s, at + record_fields::RUN);
     PatternRecord {
         kind,
         zero,
@@ -171,13 +175,13 @@ pub fn no_run(first: usize, count: usize) -> bool
 fn has_children(kind: u8) -> bool
     ensures { λ r. ⌜ r ≡ hasChildren (patternKindOf kind) ⌝ }
 {
-    if kind == 2 {
+    if kind == pattern_kinds::ASSIGN {
         return true;
     }
-    if kind < 5 {
+    if kind < pattern_kinds::LIST {
         return false;
     }
-    kind <= 9
+    kind <= pattern_kinds::TUPLE
 }
 
 // The children of pattern p, by the start of the patterns alone: none where its kind has none.

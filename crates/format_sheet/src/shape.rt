@@ -1,7 +1,6 @@
 // Refusal 8: every pattern, child and root keeps 01's rules. All its failures have place 0, so the order of the tests is free:
 // each comes after those that make it safe and linear.
 use crate::Map;
-use crate::limits::DEPTH_MOST;
 use crate::records::PatternRecord;
 use crate::records::child_at;
 use crate::records::child_in;
@@ -13,6 +12,11 @@ use crate::records::root_at;
 use crate::records::run_in;
 use crate::standing::entries_listed_once;
 use crate::standing::patterns_stand_once;
+use base_numbers::pattern_kinds;
+use base_numbers::sheet::ASSIGN_CHILDREN;
+use base_numbers::sheet::DEPTH_MOST;
+use base_numbers::sheet::PAIR_CHILDREN;
+use base_numbers::sheet::TAILED_CHILDREN_LEAST;
 ghost use mathlib.Core.Path.{_≡_};
 ghost use Prim.Native.Nat.{_+_, _-_, _<_, _≤_};
 ghost use lib.Dec.{leb};
@@ -40,36 +44,36 @@ fn fields_fit(r: PatternRecord, children: usize, pool: usize) -> bool
 {
     let kind = r.kind;
     match kind {
-        0 => {
+        pattern_kinds::DISCARD => {
             if r.a != 0 {
                 return false;
             }
             no_run(r.first, r.count)
         }
-        1 => no_run(r.first, r.count),
-        2 => {
-            if r.count != 1 {
+        pattern_kinds::VARIABLE => no_run(r.first, r.count),
+        pattern_kinds::ASSIGN => {
+            if r.count != ASSIGN_CHILDREN {
                 return false;
             }
             run_in(r.first, r.count, children)
         }
-        3 => plain_run(r.a, r.first, r.count, pool),
-        4 => plain_run(r.a, r.first, r.count, pool),
-        5 => plain_run(r.a, r.first, r.count, children),
-        6 => {
-            if r.count < 2 {
+        pattern_kinds::INTEGER => plain_run(r.a, r.first, r.count, pool),
+        pattern_kinds::BYTE_STRING => plain_run(r.a, r.first, r.count, pool),
+        pattern_kinds::LIST => plain_run(r.a, r.first, r.count, children),
+        pattern_kinds::LIST_WITH_TAIL => {
+            if r.count < TAILED_CHILDREN_LEAST {
                 return false;
             }
             plain_run(r.a, r.first, r.count, children)
         }
-        7 => run_in(r.first, r.count, children),
-        8 => {
-            if r.count != 2 {
+        pattern_kinds::CONSTRUCTOR => run_in(r.first, r.count, children),
+        pattern_kinds::PAIR => {
+            if r.count != PAIR_CHILDREN {
                 return false;
             }
             plain_run(r.a, r.first, r.count, children)
         }
-        9 => plain_run(r.a, r.first, r.count, children),
+        pattern_kinds::TUPLE => plain_run(r.a, r.first, r.count, children),
         _ => false,
     }
 }
@@ -82,7 +86,7 @@ fn tail_fits(s: &[u8], m: Map, first: usize, count: usize) -> bool
 {
     let last = child_at(s, m, first + (count - 1));
     let tail = pattern_at(s, m, last);
-    tail.kind <= 1
+    tail.kind <= pattern_kinds::VARIABLE
 }
 
 // The record of pattern p, without what its children are.
@@ -97,7 +101,7 @@ fn record_fits(s: &[u8], m: Map, p: usize) -> bool
     if !fields_fit(r, m.counts.children, m.counts.pool) {
         return false;
     }
-    if r.kind != 6 {
+    if r.kind != pattern_kinds::LIST_WITH_TAIL {
         return true;
     }
     tail_fits(s, m, r.first, r.count)

@@ -2,11 +2,11 @@
 // Things are met and counted in a buffer of 192 bytes that is lent on, so that no section is searched once for each pattern and
 // nothing is copied.
 use crate::Map;
-use crate::limits::CHILDREN_MOST;
-use crate::limits::PATTERNS_MOST;
 use crate::records::child_at;
 use crate::records::children_of;
 use crate::records::root_at;
+use base_numbers::sheet::CHILDREN_MOST;
+use base_numbers::sheet::PATTERNS_MOST;
 ghost use mathlib.Core.Path.{_≡_};
 ghost use mathlib.Core.Bool.{true};
 ghost use Prim.Native.Nat.{_+_, _<_, _≤_};

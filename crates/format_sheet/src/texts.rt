@@ -1,8 +1,9 @@
 // Refusal 9: an integer is canonical, and a text has at most 64 bytes.
 use crate::Found;
 use crate::Map;
-use crate::limits::TEXT_MOST;
 use crate::records::pattern_at;
+use base_numbers::pattern_kinds;
+use base_numbers::sheet::TEXT_MOST;
 ghost use mathlib.Core.Path.{_≡_};
 ghost use Prim.Native.Nat.{_+_, _<_, _≤_};
 ghost use lib.ListN.{length};
@@ -76,13 +77,13 @@ fn bad_text(s: &[u8], m: Map, p: usize) -> bool
     let r = pattern_at(s, m, p);
     let kind = r.kind;
     match kind {
-        3 => {
+        pattern_kinds::INTEGER => {
             if TEXT_MOST < r.count {
                 return true;
             }
             !canonical(s, m.at.pool + r.first, r.count)
         }
-        4 => TEXT_MOST < r.count,
+        pattern_kinds::BYTE_STRING => TEXT_MOST < r.count,
         _ => false,
     }
 }

@@ -7,6 +7,12 @@ use crate::records::entry_at;
 use crate::records::no_run;
 use crate::records::run_in;
 use crate::records::type_at;
+use base_numbers::sheet::DATA_CONSTRUCTORS_LEAST;
+use base_numbers::sheet::LIST_ENTRIES;
+use base_numbers::sheet::PAIR_ENTRIES;
+use base_numbers::sheet::TUPLE_ENTRIES_LEAST;
+use base_numbers::type_flags;
+use base_numbers::type_kinds;
 ghost use mathlib.Core.Path.{_≡_};
 ghost use Prim.Native.Nat.{_<_};
 ghost use Rattle.spec_rules.specs.Searching.{every};
@@ -23,27 +29,27 @@ fn parts_fit(r: TypeRecord, entries: usize, constructors: usize) -> bool
 {
     let kind = r.kind;
     match kind {
-        0 | 1 => no_run(r.first, r.count),
-        2 => {
-            if r.count != 1 {
+        type_kinds::INT | type_kinds::BYTES => no_run(r.first, r.count),
+        type_kinds::LIST => {
+            if r.count != LIST_ENTRIES {
                 return false;
             }
             run_in(r.first, r.count, entries)
         }
-        3 => {
-            if r.count != 2 {
+        type_kinds::PAIR => {
+            if r.count != PAIR_ENTRIES {
                 return false;
             }
             run_in(r.first, r.count, entries)
         }
-        4 => {
-            if r.count < 2 {
+        type_kinds::TUPLE => {
+            if r.count < TUPLE_ENTRIES_LEAST {
                 return false;
             }
             run_in(r.first, r.count, entries)
         }
-        5 => {
-            if r.count < 1 {
+        type_kinds::DATA => {
+            if r.count < DATA_CONSTRUCTORS_LEAST {
                 return false;
             }
             run_in(r.first, r.count, constructors)
@@ -56,13 +62,13 @@ fn parts_fit(r: TypeRecord, entries: usize, constructors: usize) -> bool
 fn flags_fit(kind: u8, flag: u8) -> bool
     ensures { λ r. ⌜ r ≡ flagsFit kind flag ⌝ }
 {
-    if flag == 0 {
+    if flag == type_flags::NONE {
         return true;
     }
-    if kind != 5 {
+    if kind != type_kinds::DATA {
         return false;
     }
-    flag <= 3
+    flag <= type_flags::OPAQUE_DECORATED
 }
 
 fn type_keeps_rules(s: &[u8], m: Map, t: usize) -> bool
@@ -156,10 +162,10 @@ fn transparent(s: &[u8], m: Map, t: usize) -> bool
     ensures { λ r. ⌜ r ≡ Transparent (now (s .entry)) t ⌝ }
 {
     let r = type_at(s, m, t);
-    if r.kind != 5 {
+    if r.kind != type_kinds::DATA {
         return false;
     }
-    if r.flag != 1 {
+    if r.flag != type_flags::OPAQUE {
         return false;
     }
     if r.count != 1 {

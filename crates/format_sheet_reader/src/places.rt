@@ -1,8 +1,8 @@
 // The records of a laid-out sheet by the start of their section: the slice, the start and the number are plain parameters, so that
 // these functions are covered and no reader is needed to call them.
+use base_numbers::sheet::CLAUSE_SIZE;
+use base_numbers::sheet::PATTERN_SIZE;
 use base_words::word_at;
-use format_sheet::limits::CLAUSE_SIZE;
-use format_sheet::limits::PATTERN_SIZE;
 use format_sheet::records::PatternRecord;
 use format_sheet::records::pattern_from;
 ghost use mathlib.Core.Path.{_≡_};

@@ -1,5 +1,12 @@
 // What the test programs share: sheets and panels made piece by piece in a buffer. Whatever would lie past its end is left out.
 // Each contract is one store at a place; a store past the end changes nothing, so none asks for room.
+use base_numbers::sheet::CHILD_SIZE;
+use base_numbers::sheet::CLAUSE_SIZE;
+use base_numbers::sheet::CONSTRUCTOR_SIZE;
+use base_numbers::sheet::ENTRY_SIZE;
+use base_numbers::sheet::PATTERN_SIZE;
+use base_numbers::sheet::SHEET_TRAILER;
+use base_numbers::sheet::TYPE_SIZE;
 ghost use mathlib.Core.Path.{_≡_};
 ghost use Prim.Native.Nat.{_-_, min};
 ghost use Rattle.base_words.specs.Stored.{stored};
@@ -100,14 +107,14 @@ pub fn of(
 pub fn end(b: &mut [u8], n: Sizes, subject: usize) -> usize
     ensures { λ r. ⌜ (r ≡ sheetSize n) × (now (b .exit) ≡ stored (now (b .entry)) (trailerAt n) (trailerOf n subject)) ⌝ }
 {
-    let constructors = 6 * (n.types as usize);
-    let entries = constructors + 4 * (n.constructors as usize);
-    let patterns = entries + 2 * (n.entries as usize);
-    let children = patterns + 8 * (n.patterns as usize);
-    let clauses = children + 2 * (n.children as usize);
-    let pool = clauses + 2 * (n.clauses as usize);
+    let constructors = TYPE_SIZE * (n.types as usize);
+    let entries = constructors + CONSTRUCTOR_SIZE * (n.constructors as usize);
+    let patterns = entries + ENTRY_SIZE * (n.entries as usize);
+    let children = patterns + PATTERN_SIZE * (n.patterns as usize);
+    let clauses = children + CHILD_SIZE * (n.children as usize);
+    let pool = clauses + CLAUSE_SIZE * (n.clauses as usize);
     let at = pool + n.pool as usize;
-    let length = at + 18;
+    let length = at + SHEET_TRAILER;
     four(b, at, 0, constructors, entries, patterns);
     four(b, at + 8, children, clauses, pool, subject);
     word(b, at + 16, length);

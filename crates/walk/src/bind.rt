@@ -2,6 +2,7 @@
 // Rests on following a path and on stores of words.
 use crate::follow::Found;
 use crate::follow::follow;
+use base_numbers::tree::BOUND_WORDS;
 use base_words::zero_words;
 use format_panel::Map as PanelMap;
 use format_tree::layout::Map;
@@ -44,7 +45,13 @@ pub fn bind(
             zero_words(bound);
             return false;
         };
-        put_bound(bound, 3 * i, b.name, p.record as u16, p.dropped as u16);
+        put_bound(
+            bound,
+            BOUND_WORDS * i,
+            b.name,
+            p.record as u16,
+            p.dropped as u16,
+        );
         i += 1;
     }
     true

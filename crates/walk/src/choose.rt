@@ -1,5 +1,6 @@
 // The case of a run that is chosen by what a part shows. The cases of a run are of one kind, so that a search reads no more of a
 // case than what it compares. Rests on the cases of a tree file.
+use base_numbers::record_kinds;
 use base_words::same_text;
 use format_tree::layout::Map;
 use format_tree::reading::Test;
@@ -17,24 +18,31 @@ ghost use Rattle.spec_rules.specs.Walking.{tailNumber, largestTail};
 ghost use Rattle.format_tree.specs.Reading.{Mapped, Ruled};
 ghost use Rattle.walk.specs.Choices.{askedBy, AllKind, AllText, firstNumbered, firstText, chosenOf};
 
+// A switch asks no length: no record is of this kind.
+const NO_RECORD: u8 = record_kinds::CONSTRUCTOR + 1;
+
 pub enum Chosen {
     Child(usize),
     Nothing,
 }
 
-// The kind of record that a switch asks for whose first case has this test. A switch asks no length: no record is of kind 6.
+// The kind of record that a switch asks for whose first case has this test.
 pub fn asked_by(test: Test) -> u8
     ensures { λ r. ⌜ r ≡ askedBy test ⌝ }
 {
     match test {
-        Test::Constr(_) => 5,
+        Test::Constr(_) => record_kinds::CONSTRUCTOR,
         Test::Text {
             integer,
             start: _,
             count: _,
-        } => if integer { 0 } else { 1 },
-        Test::List(_) => 6,
-        Test::Tailed(_) => 6,
+        } => if integer {
+            record_kinds::INTEGER
+        } else {
+            record_kinds::BYTES
+        },
+        Test::List(_) => NO_RECORD,
+        Test::Tailed(_) => NO_RECORD,
     }
 }
 

@@ -1,5 +1,7 @@
 // Following a path of a tree through a panel: each step asks a record of its kind that has the part, else the walk is stuck.
 // A position is a record and how many elements of its list are dropped.
+use base_numbers::record_kinds;
+use base_numbers::step_kinds;
 use format_panel::Map as PanelMap;
 use format_panel::records::Record;
 use format_panel::records::part_at;
@@ -32,7 +34,11 @@ pub enum Found {
 fn left_by(kind: u8) -> u8
     ensures { λ r. ⌜ r ≡ leftBy kind ⌝ }
 {
-    if kind < 3 { kind + 3 } else { 2 }
+    if kind < step_kinds::LIST {
+        kind + record_kinds::PAIR
+    } else {
+        record_kinds::LIST
+    }
 }
 
 // Part i of a record.
@@ -73,10 +79,10 @@ fn take_step(v: &[u8], n: PanelMap, s: Step, p: Position) -> Found
     if x.kind != left_by(kind) {
         return Found::Stuck;
     }
-    if kind < 3 {
+    if kind < step_kinds::LIST {
         return part_in(v, n, x, i);
     }
-    if kind == 3 {
+    if kind == step_kinds::LIST {
         return part_in(v, n, x, dropped + i);
     }
     tail_in(x, r, dropped + i)

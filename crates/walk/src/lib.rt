@@ -2,6 +2,8 @@
 // Its cost is the reader's one pass over the tree and one over the panel, then the depth of the tree times the cases met on the way,
 // and the steps of the paths. A caller who walks one tree often pays the reader's pass each time: that is some steps for each
 // record of the tree, while the walk itself meets few of them.
+use base_numbers::refusals;
+use base_numbers::tree::BOUND_ROOM;
 use base_words::zero_words;
 use bind::bind;
 use format_panel::Map as PanelMap;
@@ -12,6 +14,7 @@ ghost use mathlib.Core.Path.{_≡_};
 ghost use Prim.Native.Nat.{_≤_};
 ghost use lib.ListN.{length};
 ghost use Rattle.base_words.specs.Words.{zeros};
+ghost use Rattle.spec_rules.specs.Limits.{boundRoom};
 ghost use Rattle.spec_rules.specs.Calls.{walkCall};
 ghost use Rattle.format_tree.specs.CheckLaws.{Accept};
 ghost use Rattle.walk.specs.Positions.{Ready};
@@ -22,9 +25,6 @@ pub mod choose;
 pub mod follow;
 pub mod nodes;
 
-// The least binding buffer, in u16.
-pub const BOUND_ROOM: usize = 576;
-
 pub enum Walked {
     Leaf { clause: u16, count: u16 },
     NoLeaf,
@@ -33,7 +33,7 @@ pub enum Walked {
 
 // On a buffer that is all zero.
 fn walk_panel(t: &[u8], m: Map, v: &[u8], n: PanelMap, bound: &mut [u16]) -> Walked
-    requires { ⌜ Ready (now t) m (now v) n × (576 ≤ length (now bound)) × (now bound ≡ zeros (length (now bound))) ⌝ }
+    requires { ⌜ Ready (now t) m (now v) n × (boundRoom ≤ length (now bound)) × (now bound ≡ zeros (length (now bound))) ⌝ }
     ensures { λ r. ⌜ Gives (now (t .entry)) (now (v .entry)) (panelEnd (now (t .entry)) (now (v .entry))) (now (bound .entry)) (now (bound .exit)) r ⌝ }
 {
     match reach(t, m, v, n) {
@@ -49,20 +49,20 @@ fn walk_panel(t: &[u8], m: Map, v: &[u8], n: PanelMap, bound: &mut [u16]) -> Wal
                 };
             }
             Walked::Refused {
-                number: 32,
+                number: refusals::STUCK,
                 place: 0,
             }
         }
         Reached::NoLeaf => Walked::NoLeaf,
         Reached::Stuck => Walked::Refused {
-            number: 32,
+            number: refusals::STUCK,
             place: 0,
         },
     }
 }
 
 fn walk_tree(t: &[u8], m: Map, v: &[u8], bound: &mut [u16]) -> Walked
-    requires { ⌜ Accept (now t) m × (576 ≤ length (now bound)) × (now bound ≡ zeros (length (now bound))) ⌝ }
+    requires { ⌜ Accept (now t) m × (boundRoom ≤ length (now bound)) × (now bound ≡ zeros (length (now bound))) ⌝ }
     ensures { λ r. ⌜ Gives (now (t .entry)) (now (v .entry)) (treeEnd (now (t .entry)) (now (v .entry))) (now (bound .entry)) (now (bound .exit)) r ⌝ }
 {
     match format_panel::check(v) {
@@ -78,13 +78,13 @@ pub fn walk(t: &[u8], v: &[u8], bound: &mut [u16]) -> Walked
     zero_words(bound);
     if bound.len() < BOUND_ROOM {
         return Walked::Refused {
-            number: 1,
+            number: refusals::ROOM,
             place: 0,
         };
     }
     let format_tree::Checked::Accepted(m) = format_tree::check(t) else {
         return Walked::Refused {
-            number: 31,
+            number: refusals::TREE,
             place: 0,
         };
     };

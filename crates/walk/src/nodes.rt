@@ -7,6 +7,7 @@ use crate::choose::numbered_case;
 use crate::choose::text_case;
 use crate::follow::Found;
 use crate::follow::follow;
+use base_numbers::record_kinds;
 use format_panel::Map as PanelMap;
 use format_panel::records::record_at;
 use format_tree::layout::Map;
@@ -81,7 +82,7 @@ fn from_switch(
     if x.kind != asked {
         return Next::End(Reached::Stuck);
     }
-    if asked == 5 {
+    if asked == record_kinds::CONSTRUCTOR {
         return chosen_or(
             numbered_case(t, m, first as usize, cases as usize, x.a),
             default,
@@ -141,7 +142,7 @@ fn from_list_switch(
     };
     let r = p.record;
     let x = record_at(v, r);
-    if x.kind != 2 {
+    if x.kind != record_kinds::LIST {
         return Next::End(Reached::Stuck);
     }
     from_length(
