@@ -10,6 +10,7 @@ use lib.Dec.{leb}
 use lib.ListN.{length}
 use Rattle.base_words.specs.WordsLaws.{both-true}
 use Rattle.spec_rules.specs.Limits.{sheetTrailer}
+use Rattle.spec_rules.specs.RefusalNumbers.{lengthRefusal, layoutRefusal, noClauseRefusal, countRefusal}
 use Rattle.spec_rules.specs.SheetFile.{clauses}
 use Rattle.spec_rules.specs.SheetRefusals.{Verdict, require, requireNone, lengthFits, layoutFits, hasClause, countsFit}
 use Rattle.format_sheet.specs.declared.Starts.{Starts}
@@ -50,7 +51,7 @@ module _ (s : List ℕ) (number : ℕ) (rest : Verdict) where
     search-passes y g = let f : o ≡ none = found-nothing o (sym y ∙ e) in rw f g
 
 -- ---- the first stages
-pub checked-is : (s : List ℕ) → checked s ≡ answer s (require (lengthFits s) 2 (require (layoutFits s) 3 (require (hasClause s) 4 (require (countsFit s) 5 (fromTypes s)))))
+pub checked-is : (s : List ℕ) → checked s ≡ answer s (require (lengthFits s) lengthRefusal (require (layoutFits s) layoutRefusal (require (hasClause s) noClauseRefusal (require (countsFit s) countRefusal (fromTypes s)))))
 unfolding checked fromTypes
 checked-is s = refl
 
@@ -80,8 +81,8 @@ module _ (s : List ℕ) (at : Starts) (e : at ≡ startsOf s) where
     pub map-is : (subject : ℕ) → subject ≡ mapOf s .subject → _≡_ {A = Map} (record { at = at; counts = n; subject = subject }) (mapOf s)
     map-is subject g = rw (e, counts-are, g)
 
-pub clause-refused : (s : List ℕ) (rest : Verdict) → hasClause s ≡ false → _≡_ {A = Checked} (Refused 4 0) (answer s (require (hasClause s) 4 rest))
+pub clause-refused : (s : List ℕ) (rest : Verdict) → hasClause s ≡ false → _≡_ {A = Checked} (Refused noClauseRefusal 0) (answer s (require (hasClause s) noClauseRefusal rest))
 clause-refused s rest e = rw e
 
-pub clause-there : (s : List ℕ) (rest : Verdict) {x : Checked} → hasClause s ≡ true → x ≡ answer s rest → x ≡ answer s (require (hasClause s) 4 rest)
+pub clause-there : (s : List ℕ) (rest : Verdict) {x : Checked} → hasClause s ≡ true → x ≡ answer s rest → x ≡ answer s (require (hasClause s) noClauseRefusal rest)
 clause-there s rest e g = rw e g

@@ -8,6 +8,7 @@ use native.Mathlib.Omega.{arith}
 use lib.ListN.{length, getD, length-append}
 use Rattle.base_words.specs.Words.{wordBytes, Bytes as AllBytes}
 use Rattle.spec_rules.specs.Limits.{treeTrailer}
+use Rattle.spec_rules.specs.Kinds.{switchNode, listSwitchNode, leafNode, hoistNode, constrCase, intCase, bytesCase, listCase, listWithTailCase, pairStep, tupleStep, constrStep, listStep, listtailStep}
 use Rattle.spec_rules.specs.Rows.{Step, pair, tuple, constr, list, listtail, Path, bit, samePath, Binding}
 use Rattle.spec_rules.specs.Splitting.{Test, Constr, Int, Bytes, ListOf, ListWithTail}
 use Rattle.spec_rules.specs.Building.{Tree, Cases, absent, leaf, hoist, switch, listswitch, cnil, ccons}
@@ -77,11 +78,11 @@ module _ (table : List Path) (few : length table < 65536) where
         → AllBytes (nodesFrom table k c b a)
     nodes-bytes absent k c b s l m n = bytes-nil
     nodes-bytes (leaf x bs) k c b s l m n =
-        node-bytes 2 x (firstOf (length bs) b) (length bs) 0 0 (omega arith) s (omega (arith, firstOf-most (length bs) b)) (omega arith) (omega arith) (omega arith)
+        node-bytes leafNode x (firstOf (length bs) b) (length bs) 0 0 (omega arith) s (omega (arith, firstOf-most (length bs) b)) (omega arith) (omega arith) (omega arith)
     nodes-bytes (hoist x bs a) k c b s l m n =
         let e = length-append bs (bindingsIn a) in
-        bytes-append (nodeBytes 3 x (firstOf (length bs) b) (length bs) (k + 1) 0) (nodesFrom table (k + 1) c (b + length bs) a)
-        (node-bytes 3 x (firstOf (length bs) b) (length bs) (k + 1) 0 (omega arith) (s .0) (omega (arith, firstOf-most (length bs) b)) (omega arith) (omega arith)
+        bytes-append (nodeBytes hoistNode x (firstOf (length bs) b) (length bs) (k + 1) 0) (nodesFrom table (k + 1) c (b + length bs) a)
+        (node-bytes hoistNode x (firstOf (length bs) b) (length bs) (k + 1) 0 (omega arith) (s .0) (omega (arith, firstOf-most (length bs) b)) (omega arith) (omega arith)
         (omega arith))
         (nodes-bytes a (k + 1) c (b + length bs) (s .1) (omega arith) (omega arith) (omega arith))
     nodes-bytes (switch p cs d) k c b s l m n =
@@ -90,9 +91,9 @@ module _ (table : List Path) (few : length table < 65536) where
         let k₂ = k + 1 + nodesInOf cs in
         let c₂ = c₁ + casesInOf cs in
         let b₂ = b + length (bindingsInOf cs) in
-        bytes-append (nodeBytes 0 (pathNumber table p) (firstOf (howMany cs) c) (howMany cs) 0 (defaultField k₂ d))
+        bytes-append (nodeBytes switchNode (pathNumber table p) (firstOf (howMany cs) c) (howMany cs) 0 (defaultField k₂ d))
         (nodesFromOf table (k + 1) c₁ b cs ++ nodesFrom table k₂ c₂ b₂ d)
-        (node-bytes 0 (pathNumber table p) (firstOf (howMany cs) c) (howMany cs) 0 (defaultField k₂ d) (omega arith) (number-small p)
+        (node-bytes switchNode (pathNumber table p) (firstOf (howMany cs) c) (howMany cs) 0 (defaultField k₂ d) (omega arith) (number-small p)
         (omega (arith, firstOf-most (howMany cs) c))
         (omega arith)
         (omega arith)
@@ -110,9 +111,9 @@ module _ (table : List Path) (few : length table < 65536) where
         let k₃ = k₂ + nodesInOf ts in
         let c₃ = c₂ + casesInOf ts in
         let b₃ = b₂ + length (bindingsInOf ts) in
-        bytes-append (nodeBytes 1 (pathNumber table p) (firstOf (howMany cs + howMany ts) c) (howMany cs) (howMany ts) (defaultField k₃ d))
+        bytes-append (nodeBytes listSwitchNode (pathNumber table p) (firstOf (howMany cs + howMany ts) c) (howMany cs) (howMany ts) (defaultField k₃ d))
         (nodesFromOf table (k + 1) c₁ b cs ++ (nodesFromOf table k₂ c₂ b₂ ts ++ nodesFrom table k₃ c₃ b₃ d))
-        (node-bytes 1 (pathNumber table p) (firstOf (howMany cs + howMany ts) c) (howMany cs) (howMany ts) (defaultField k₃ d) (omega arith) (number-small p)
+        (node-bytes listSwitchNode (pathNumber table p) (firstOf (howMany cs + howMany ts) c) (howMany cs) (howMany ts) (defaultField k₃ d) (omega arith) (number-small p)
         (omega (arith, firstOf-most (howMany cs + howMany ts) c))
         (omega arith)
         (omega arith)
@@ -154,11 +155,11 @@ module _ (pool : List ℕ) (few : length pool < 65536) where
 
   case-bytes : (u : Test) (start child : ℕ) → TextStarts pool start u → SmallTest u → child < 65536 → AllBytes (caseBytes u start child)
   unfolding caseBytes TextStarts SmallTest
-  case-bytes (Constr a) start child w s l = test-bytes 0 a 0 child (omega arith) s (omega arith) l
-  case-bytes (Int v) start child w s l = test-bytes 1 start (length v) child (omega arith) (omega (arith, w .inside)) (omega (arith, w .inside)) l
-  case-bytes (Bytes v) start child w s l = test-bytes 2 start (length v) child (omega arith) (omega (arith, w .inside)) (omega (arith, w .inside)) l
-  case-bytes (ListOf n) start child w s l = test-bytes 3 n 0 child (omega arith) s (omega arith) l
-  case-bytes (ListWithTail n) start child w s l = test-bytes 4 n 0 child (omega arith) s (omega arith) l
+  case-bytes (Constr a) start child w s l = test-bytes constrCase a 0 child (omega arith) s (omega arith) l
+  case-bytes (Int v) start child w s l = test-bytes intCase start (length v) child (omega arith) (omega (arith, w .inside)) (omega (arith, w .inside)) l
+  case-bytes (Bytes v) start child w s l = test-bytes bytesCase start (length v) child (omega arith) (omega (arith, w .inside)) (omega (arith, w .inside)) l
+  case-bytes (ListOf n) start child w s l = test-bytes listCase n 0 child (omega arith) s (omega arith) l
+  case-bytes (ListWithTail n) start child w s l = test-bytes listWithTailCase n 0 child (omega arith) s (omega arith) l
 
   own-bytes : (cs : Cases) (k : ℕ) → WritableOf pool cs → SmallNumbersOf cs → k + nodesInOf cs < 65536 → AllBytes (ownCases k cs)
   unfolding ownCases WritableOf SmallNumbersOf nodesInOf
@@ -207,12 +208,12 @@ step-record-bytes kind flag i t a b c d =
 
 step-bytes : (s : Step) → SmallStep s → AllBytes (stepBytes s)
 unfolding stepBytes SmallStep bit
-step-bytes (pair i t) h = step-record-bytes 0 0 i t (omega arith) (omega arith) (h .0) (h .1)
-step-bytes (tuple i t) h = step-record-bytes 1 0 i t (omega arith) (omega arith) (h .0) (h .1)
-step-bytes (constr i true t) h = step-record-bytes 2 1 i t (omega arith) (omega arith) (h .0) (h .1)
-step-bytes (constr i false t) h = step-record-bytes 2 0 i t (omega arith) (omega arith) (h .0) (h .1)
-step-bytes (list i t) h = step-record-bytes 3 0 i t (omega arith) (omega arith) (h .0) (h .1)
-step-bytes (listtail i t) h = step-record-bytes 4 0 i t (omega arith) (omega arith) (h .0) (h .1)
+step-bytes (pair i t) h = step-record-bytes pairStep 0 i t (omega arith) (omega arith) (h .0) (h .1)
+step-bytes (tuple i t) h = step-record-bytes tupleStep 0 i t (omega arith) (omega arith) (h .0) (h .1)
+step-bytes (constr i true t) h = step-record-bytes constrStep 1 i t (omega arith) (omega arith) (h .0) (h .1)
+step-bytes (constr i false t) h = step-record-bytes constrStep 0 i t (omega arith) (omega arith) (h .0) (h .1)
+step-bytes (list i t) h = step-record-bytes listStep 0 i t (omega arith) (omega arith) (h .0) (h .1)
+step-bytes (listtail i t) h = step-record-bytes listtailStep 0 i t (omega arith) (omega arith) (h .0) (h .1)
 
 path-bytes : (p : Path) → SmallPath p → AllBytes (pathSteps p)
 unfolding pathSteps SmallPath

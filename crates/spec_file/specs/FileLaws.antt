@@ -95,7 +95,9 @@ tree-filed pool a =
 -- ---- the counts of the answer are those of the records written
 pub file-length : (pool : List ℕ) (a : Tree)
     → length (treeFile pool a)
-    ≡ 12 * nodesIn a + 8 * casesIn a + 4 * length (bindingsIn a) + 4 * length (pathTable a) + 6 * stepsIn (pathTable a) + length pool + 14
+    ≡ nodeSize * nodesIn a + caseSize * casesIn a + bindingSize * length (bindingsIn a) + pathSize * length (pathTable a) + stepSize * stepsIn (pathTable a)
+    + length pool
+    + treeTrailer
 file-length pool a = tree-filed pool a .length-is
 
 pub file-nodes : (pool : List ℕ) (a : Tree) → nodes (treeFile pool a) ≡ nodesIn a

@@ -1,4 +1,6 @@
 pub mod Limits
+pub mod Kinds
+pub mod RefusalNumbers
 pub mod Searching
 pub mod SearchingLaws
 pub mod SheetFile

@@ -7,6 +7,8 @@ use lib.ListN.{length, getD}
 use lib.Dec.{eqb, leb, ltb}
 use Rattle.base_words.specs.Words.{wordAt, textAt, both, pick}
 use Rattle.spec_rules.specs.Limits.{recordSize, partSize, panelTrailer, panelMost, recordsMost, panelDepthMost}
+use Rattle.spec_rules.specs.Kinds.{integerRecord, bytesRecord, listRecord, pairRecord, tupleRecord, constructorRecord}
+use Rattle.spec_rules.specs.RefusalNumbers.{panelLengthRefusal, panelLayoutRefusal, panelShapeRefusal, panelTextRefusal}
 use Rattle.spec_rules.specs.Searching.{every, times}
 use Rattle.spec_rules.specs.SheetFile.{runIn}
 use Rattle.spec_rules.specs.Texts.{canonical, shortText}
@@ -83,12 +85,12 @@ pub data RecordKind : Type 0 where
 
 unfoldable pub recordKindOf : ℕ → RecordKind
 recordKindOf k =
-    pick (eqb k 0) Integer-record
-    (pick (eqb k 1) Bytes-record
-    (pick (eqb k 2) List-record
-    (pick (eqb k 3) Pair-record
-    (pick (eqb k 4) Tuple-record
-    (pick (eqb k 5) Constructor-record
+    pick (eqb k integerRecord) Integer-record
+    (pick (eqb k bytesRecord) Bytes-record
+    (pick (eqb k listRecord) List-record
+    (pick (eqb k pairRecord) Pair-record
+    (pick (eqb k tupleRecord) Tuple-record
+    (pick (eqb k constructorRecord) Constructor-record
     Unknown-record)))))
 
 -- ---- 21: "length (under 8, over 16,384, or trailer differs)"
@@ -201,8 +203,8 @@ panelTextsFit v = every (recordTextFits v) 0 (records v)
 unfoldable pub panelVerdict : List ℕ → Verdict
 unfolding panelLengthFits panelLayoutFits panelShapeFits panelTextsFit
 panelVerdict v =
-    require (panelLengthFits v) 21
-    (require (panelLayoutFits v) 22
-    (require (panelShapeFits v) 23
-    (require (panelTextsFit v) 24
+    require (panelLengthFits v) panelLengthRefusal
+    (require (panelLayoutFits v) panelLayoutRefusal
+    (require (panelShapeFits v) panelShapeRefusal
+    (require (panelTextsFit v) panelTextRefusal
     accepted)))

@@ -8,6 +8,8 @@ use lib.ListN.{length}
 use lib.Dec.{eqb, leb, ltb}
 use Rattle.base_words.specs.Words.{both, either, pick}
 use Rattle.spec_rules.specs.Limits.{typeSize, constructorSize, entrySize, patternSize, childSize, clauseSize, sheetTrailer, sheetMost, typesMost, constructorsMost, entriesMost, patternsMost, childrenMost, clausesMost, depthMost}
+use Rattle.spec_rules.specs.Kinds.{bytesType, listType, pairType, tupleType, dataType, noFlag, opaqueFlag, bothFlags, variablePattern}
+use Rattle.spec_rules.specs.RefusalNumbers.{lengthRefusal, layoutRefusal, noClauseRefusal, countRefusal, typesRefusal, transparentRefusal, shapeRefusal, textRefusal, misfitRefusal, nameTwiceRefusal}
 use Rattle.spec_rules.specs.Searching.{every, lowest, times}
 use Rattle.spec_rules.specs.SheetFile.{subject, sheetLength, typesAt, constructorsAt, entriesAt, patternsAt, childrenAt, clausesAt, poolAt, poolEnd, types, constructors, entries, patterns, children, clauses, poolSize, typeKind, typeFlag, typeFirst, typeCount, constructorFirst, constructorCount, entry, patternKind, patternZero, patternA, patternFirst, patternCount, child, root, poolText, runIn}
 use Rattle.spec_rules.specs.Patterns.{PatternKind, Discard, Variable, Assign, Integer, ByteString, ListOfAll, ListWithRest, Constructor, Pair, Tuple, Unknown, patternKindOf, clausePattern, fits, names}
@@ -57,17 +59,17 @@ countsFit s =
 unfoldable pub typeParts : List ℕ → ℕ → Bool
 unfolding types constructors entries typeKind typeFirst typeCount runIn
 typeParts s t =
-    pick (leb (typeKind s t) 1) (both (eqb (typeFirst s t) 0) (eqb (typeCount s t) 0))
-    (pick (eqb (typeKind s t) 2) (both (eqb (typeCount s t) 1) (runIn (typeFirst s t) (typeCount s t) (entries s)))
-    (pick (eqb (typeKind s t) 3) (both (eqb (typeCount s t) 2) (runIn (typeFirst s t) (typeCount s t) (entries s)))
-    (pick (eqb (typeKind s t) 4) (both (leb 2 (typeCount s t)) (runIn (typeFirst s t) (typeCount s t) (entries s)))
-    (pick (eqb (typeKind s t) 5) (both (leb 1 (typeCount s t)) (runIn (typeFirst s t) (typeCount s t) (constructors s)))
+    pick (leb (typeKind s t) bytesType) (both (eqb (typeFirst s t) 0) (eqb (typeCount s t) 0))
+    (pick (eqb (typeKind s t) listType) (both (eqb (typeCount s t) 1) (runIn (typeFirst s t) (typeCount s t) (entries s)))
+    (pick (eqb (typeKind s t) pairType) (both (eqb (typeCount s t) 2) (runIn (typeFirst s t) (typeCount s t) (entries s)))
+    (pick (eqb (typeKind s t) tupleType) (both (leb 2 (typeCount s t)) (runIn (typeFirst s t) (typeCount s t) (entries s)))
+    (pick (eqb (typeKind s t) dataType) (both (leb 1 (typeCount s t)) (runIn (typeFirst s t) (typeCount s t) (constructors s)))
     false))))
 
 -- "Flags, Data only: 1 opaque, 2 list-decorated, 3 both"
 unfoldable pub typeFlags : List ℕ → ℕ → Bool
 unfolding typeKind typeFlag
-typeFlags s t = either (eqb (typeFlag s t) 0) (both (eqb (typeKind s t) 5) (leb (typeFlag s t) 3))
+typeFlags s t = either (eqb (typeFlag s t) noFlag) (both (eqb (typeKind s t) dataType) (leb (typeFlag s t) bothFlags))
 
 unfoldable pub typeKeepsRules : List ℕ → ℕ → Bool
 unfolding typeParts typeFlags
@@ -95,8 +97,8 @@ typesFit s =
 unfoldable pub transparent : List ℕ → ℕ → Bool
 unfolding typeKind typeFlag typeFirst typeCount constructorCount
 transparent s t =
-    both (eqb (typeKind s t) 5)
-    (both (eqb (typeFlag s t) 1)
+    both (eqb (typeKind s t) dataType)
+    (both (eqb (typeFlag s t) opaqueFlag)
     (both (eqb (typeCount s t) 1)
     (eqb (constructorCount s (typeFirst s t)) 1)))
 
@@ -123,7 +125,7 @@ hasChildren Unknown = false
 -- the last child of a list with tail is a variable or discard
 unfoldable pub tailFits : List ℕ → ℕ → Bool
 unfolding patternKind patternFirst patternCount child
-tailFits s p = leb (patternKind s (child s (patternFirst s p + (patternCount s p - 1)))) 1
+tailFits s p = leb (patternKind s (child s (patternFirst s p + (patternCount s p - 1)))) variablePattern
 
 -- a, first and count of a pattern, by its kind. "Unused fields are 0, and in any record first is 0 where count is 0"
 unfoldable pub fieldsFit : List ℕ → ℕ → PatternKind → Bool
@@ -274,14 +276,14 @@ requireNone (some place) number v = refused number place
 unfoldable pub verdict : List ℕ → Verdict
 unfolding lengthFits layoutFits hasClause countsFit typesFit lowestTransparent shapeFits lowestBadText lowestMisfit lowestNameTwice
 verdict s =
-    require (lengthFits s) 2
-    (require (layoutFits s) 3
-    (require (hasClause s) 4
-    (require (countsFit s) 5
-    (require (typesFit s) 6
-    (requireNone (lowestTransparent s) 7
-    (require (shapeFits s) 8
-    (requireNone (lowestBadText s) 9
-    (requireNone (lowestMisfit s) 10
-    (requireNone (lowestNameTwice s) 11
+    require (lengthFits s) lengthRefusal
+    (require (layoutFits s) layoutRefusal
+    (require (hasClause s) noClauseRefusal
+    (require (countsFit s) countRefusal
+    (require (typesFit s) typesRefusal
+    (requireNone (lowestTransparent s) transparentRefusal
+    (require (shapeFits s) shapeRefusal
+    (requireNone (lowestBadText s) textRefusal
+    (requireNone (lowestMisfit s) misfitRefusal
+    (requireNone (lowestNameTwice s) nameTwiceRefusal
     accepted)))))))))
