@@ -13,6 +13,7 @@ use Rattle.spec_rules.specs.Limits.{sheetTrailer}
 use Rattle.spec_rules.specs.RefusalNumbers.{lengthRefusal, layoutRefusal, noClauseRefusal, countRefusal}
 use Rattle.spec_rules.specs.SheetFile.{clauses}
 use Rattle.spec_rules.specs.SheetRefusals.{Verdict, require, requireNone, lengthFits, layoutFits, hasClause, countsFit}
+use Rattle.spec_rules.specs.SheetRefusalsLaws.{verdict-in-order}
 use Rattle.format_sheet.specs.declared.Starts.{Starts}
 use Rattle.format_sheet.specs.declared.Counts.{Counts}
 use Rattle.format_sheet.specs.declared.Map.{Map}
@@ -24,7 +25,7 @@ use Rattle.format_sheet.specs.Sections.{startsOf, countsOf, mapOf, start
 use Rattle.format_sheet.specs.SectionsLaws.{startsFit-is, countsBetween-is, fewEnough-is}
 use Rattle.format_sheet.specs.Found.{foundOf}
 use Rattle.format_sheet.specs.TestsLaws.{passed, stopped}
-use Rattle.format_sheet.specs.Check.{answer, checked, fromTypes}
+use Rattle.format_sheet.specs.Check.{answer, checked, fromTypes, fromPatterns, fromClauses}
 
 -- ---- a test, and a search
 module _ (s : List ℕ) (number : ℕ) (rest : Verdict) where
@@ -52,8 +53,8 @@ module _ (s : List ℕ) (number : ℕ) (rest : Verdict) where
 
 -- ---- the first stages
 pub checked-is : (s : List ℕ) → checked s ≡ answer s (require (lengthFits s) lengthRefusal (require (layoutFits s) layoutRefusal (require (hasClause s) noClauseRefusal (require (countsFit s) countRefusal (fromTypes s)))))
-unfolding checked fromTypes
-checked-is s = refl
+unfolding checked fromTypes fromPatterns fromClauses
+checked-is s = ap (answer s) (verdict-in-order s)
 
 pub long-enough : (s : List ℕ) → lengthFits s ≡ true → sheetTrailer ≤ length s
 unfolding lengthFits

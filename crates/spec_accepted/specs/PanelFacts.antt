@@ -22,10 +22,11 @@ use Rattle.spec_rules.specs.SheetFile.{typeKind, typeCount, entry, runIn}
 use Rattle.spec_rules.specs.Patterns.{takesArguments}
 use Rattle.spec_rules.specs.Texts.{canonical, shortText}
 use Rattle.spec_rules.specs.SheetRefusals.{accepted}
+use Rattle.spec_rules.specs.SheetRefusalsLaws.{require-accepted}
 use Rattle.spec_rules.specs.PanelFile.{panelLength, recordsAt, partsAt, panelPoolAt, panelPoolEnd, records, parts, panelPoolSize, recordKind, recordZero, recordA, recordFirst, recordCount, part, recordText, RecordKind, Integer-record, Bytes-record, List-record, Pair-record, Tuple-record, Constructor-record, Unknown-record, recordKindOf, panelLengthFits, panelLayoutFits, hasParts, recordFieldsFit, isHigher, partsHigher, recordKeepsRules, isPart, isOnePart, holds, partKeepsRules, recordWithin, panelShapeFits, recordTextOfKind, recordTextFits, panelTextsFit, panelVerdict}
 use Rattle.spec_rules.specs.Fitting.{partsFit, recordFits, hasTypeTo}
 use Rattle.spec_accepted.specs.KindsLaws.{recordNumber, record-number, record-byte, record-unknown}
-use Rattle.spec_accepted.specs.RunsLaws.{Run, run-in, whole-rises, whole-fills, pool-fills, trailer-fills, require-accepted, every-below}
+use Rattle.spec_accepted.specs.RunsLaws.{Run, run-in, whole-rises, whole-fills, pool-fills, trailer-fills, every-below}
 
 -- ---- 21 and 22: the sections stand back to back, each of whole records, and the trailer ends the file
 pub record PanelLaid (v : List ℕ) : Type 0 where

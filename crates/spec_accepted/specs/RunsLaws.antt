@@ -1,9 +1,9 @@
--- What the tests shared by the three files say: a run inside a section, whole records between two starts, and a verdict that accepts.
+-- What the tests shared by the three files say: a run inside a section, whole records between two starts, and what was asked of every record.
 -- Rests on the definitions of spec_rules and on arithmetic.
-use mathlib.Core.Path.{_≡_, refl}
+use mathlib.Core.Path.{_≡_}
 use mathlib.Core.Logic.{⊎-elim}
 use mathlib.Core.Bool.{Bool, true, false}
-use mathlib.Core.Option.{Option, none, some}
+use mathlib.Core.Option.{none}
 use Prim.Native.Nat.{ℕ, _+_, _-_, _*_, _/_, _%_, _≤_, _<_}
 use native.Mathlib.Omega.{arith}
 use native.Mathlib.Nat.{div-add-mod}
@@ -14,7 +14,7 @@ use Rattle.base_words.specs.WordsLaws.{both-true, either-true}
 use Rattle.spec_rules.specs.Searching.{every, lowest}
 use Rattle.spec_rules.specs.SearchingLaws.{every-true, lowest-none}
 use Rattle.spec_rules.specs.SheetFile.{runIn}
-use Rattle.spec_rules.specs.SheetRefusals.{wholeRecords, Verdict, accepted, require, requireNone}
+use Rattle.spec_rules.specs.SheetRefusals.{wholeRecords}
 
 -- "first, count": the run from first on lies in a section of n records, and first is 0 where count is 0
 pub record Run (first count n : ℕ) : Type 0 where
@@ -48,15 +48,6 @@ pool-fills from to h = omega arith
 
 pub trailer-fills : (trailer long : ℕ) → trailer ≤ long → long - trailer + trailer ≡ long
 trailer-fills trailer long h = omega arith
-
--- a verdict that accepts passed its first test, and the rest accepts
-pub require-accepted : (test : Bool) (number : ℕ) (rest : Verdict) → require test number rest ≡ accepted → (test ≡ true) × (rest ≡ accepted)
-require-accepted true number rest h = (refl, h)
-require-accepted false number rest h = (cc, cc)
-
-pub requireNone-accepted : (found : Option ℕ) (number : ℕ) (rest : Verdict) → requireNone found number rest ≡ accepted → (found ≡ none) × (rest ≡ accepted)
-requireNone-accepted none number rest h = (refl, h)
-requireNone-accepted (some place) number rest h = (cc, cc)
 
 -- what was asked of every record of a section, and what was found in none
 module _ (f : ℕ → Bool) (n : ℕ) where

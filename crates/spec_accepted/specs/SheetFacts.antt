@@ -20,9 +20,10 @@ use Rattle.spec_rules.specs.SearchingLaws.{every-true, times-some, times-found,
 use Rattle.spec_rules.specs.SheetFile.{subject, sheetLength, typesAt, constructorsAt, entriesAt, patternsAt, childrenAt, clausesAt, poolAt, poolEnd, types, constructors, entries, patterns, children, clauses, poolSize, typeKind, typeFlag, typeFirst, typeCount, constructorFirst, constructorCount, entry, patternKind, patternZero, patternA, patternFirst, patternCount, child, root, poolText, runIn}
 use Rattle.spec_rules.specs.Patterns.{PatternKind, Discard, Variable, Assign, Integer, ByteString, ListOfAll, ListWithRest, Constructor, Pair, Tuple, Unknown, patternKindOf, constructorOf, clausePattern, fits, names}
 use Rattle.spec_rules.specs.Texts.{canonical, shortText}
-use Rattle.spec_rules.specs.SheetRefusals.{lengthFits, layoutFits, hasClause, countsFit, typeParts, typeFlags, typeKeepsRules, constructorKeepsRules, entryKeepsRules, typesFit, hasChildren, tailFits, fieldsFit, isAbove, childrenAbove, isRoot, isEntry, standsOnce, patternKeepsRules, lists, childKeepsRules, rootKeepsRules, within, depthFits, shapeFits, transparent, lowestTransparent, textOfKind, badText, lowestBadText, misfit, lowestMisfit, repeats, nameTwice, lowestNameTwice, verdict, accepted}
+use Rattle.spec_rules.specs.SheetRefusals.{lengthFits, layoutFits, hasClause, countsFit, typeParts, typeFlags, typeKeepsRules, constructorKeepsRules, entryKeepsRules, typesFit, hasChildren, tailFits, fieldsFit, isAbove, childrenAbove, isRoot, isEntry, standsOnce, patternKeepsRules, lists, childKeepsRules, rootKeepsRules, within, depthFits, shapeFits, transparent, lowestTransparent, textOfKind, badText, lowestBadText, misfit, lowestMisfit, repeats, nameTwice, lowestNameTwice, accepted, readableVerdict, transparentVerdict, shapeVerdict, clausesVerdict, verdict}
+use Rattle.spec_rules.specs.SheetRefusalsLaws.{require-accepted, requireNone-accepted, andThen-accepted}
 use Rattle.spec_accepted.specs.KindsLaws.{patternNumber, pattern-number, pattern-byte, pattern-unknown}
-use Rattle.spec_accepted.specs.RunsLaws.{Run, run-in, whole-rises, whole-fills, pool-fills, trailer-fills, require-accepted, requireNone-accepted, every-below, none-below}
+use Rattle.spec_accepted.specs.RunsLaws.{Run, run-in, whole-rises, whole-fills, pool-fills, trailer-fills, every-below, none-below}
 
 -- ---- 2 and 3: the sections stand back to back, each of whole records, and the trailer ends the file
 pub record Laid (s : List ℕ) : Type 0 where
@@ -561,28 +562,69 @@ module _ (s : List ℕ) (p : ℕ) (good : badText s p ≡ false) where
   good-short low high =
       ⊎-elim (λ e. leb-true _ _ (good-of-kind ByteString (rw e))) (λ l. leb-true _ _ (good-integer (omega arith) .0)) (eq-or-lt-of-le high)
 
-pub accepted-sheet : (s : List ℕ) → verdict s ≡ accepted → Accepted s
-unfolding verdict lowestTransparent lowestBadText lowestMisfit misfit lowestNameTwice nameTwice
-accepted-sheet s h =
+-- ---- what each stage of the verdict gives
+-- 2 to 6: the sections read, and the types keep their rules
+pub record Readable (s : List ℕ) : Type 0 where
+  pub is-laid : Laid s
+  pub is-counted : Counted s
+  pub is-typed : Typed s
+
+pub readable : (s : List ℕ) → readableVerdict s ≡ accepted → Readable s
+unfolding readableVerdict
+readable s h =
     let v2 = require-accepted (lengthFits s) lengthRefusal _ h in
     let v3 = require-accepted (layoutFits s) layoutRefusal _ (v2 .1) in
     let v4 = require-accepted (hasClause s) noClauseRefusal _ (v3 .1) in
     let v5 = require-accepted (countsFit s) countRefusal _ (v4 .1) in
-    let v6 = require-accepted (typesFit s) typesRefusal _ (v5 .1) in
-    let v7 = requireNone-accepted (lowestTransparent s) transparentRefusal _ (v6 .1) in
-    let v8 = require-accepted (shapeFits s) shapeRefusal _ (v7 .1) in
-    let v9 = requireNone-accepted (lowestBadText s) textRefusal _ (v8 .1) in
+    let v6 = require-accepted (typesFit s) typesRefusal accepted (v5 .1) in
+    record { is-laid = laid s (v2 .0) (v3 .0); is-counted = counted s (v4 .0) (v5 .0); is-typed = typed s (v6 .0) }
+
+-- 7
+pub no-transparent : (s : List ℕ) → transparentVerdict s ≡ accepted → (t : ℕ) → t < types s → transparent s t ≡ false
+unfolding transparentVerdict lowestTransparent
+no-transparent s h = none-below (transparent s) (types s) (requireNone-accepted (lowestTransparent s) transparentRefusal accepted h .0)
+
+-- 8
+pub in-shape : (s : List ℕ) → shapeVerdict s ≡ accepted → shapeFits s ≡ true
+unfolding shapeVerdict
+in-shape s h = require-accepted (shapeFits s) shapeRefusal accepted h .0
+
+-- 9 to 11
+pub record ClausesFit (s : List ℕ) : Type 0 where
+  pub good-texts : (p : ℕ) → p < patterns s → badText s p ≡ false
+  pub no-misfit : (c : ℕ) → c < clauses s → misfit s c ≡ false
+  pub no-name-twice : (c : ℕ) → c < clauses s → nameTwice s c ≡ false
+
+pub clauses-fit : (s : List ℕ) → clausesVerdict s ≡ accepted → ClausesFit s
+unfolding clausesVerdict lowestBadText lowestMisfit lowestNameTwice
+clauses-fit s h =
+    let v9 = requireNone-accepted (lowestBadText s) textRefusal _ h in
     let v10 = requireNone-accepted (lowestMisfit s) misfitRefusal _ (v9 .1) in
     let v11 = requireNone-accepted (lowestNameTwice s) nameTwiceRefusal accepted (v10 .1) in
     record {
-      is-laid = laid s (v2 .0) (v3 .0);
-      is-counted = counted s (v4 .0) (v5 .0);
-      is-typed = typed s (v6 .0);
-      none-transparent = none-below (transparent s) (types s) (v7 .0);
-      is-shaped = shaped s (v8 .0);
-      root-depth = shape-depth s (v8 .0);
-      integer-canonical = λ p l e. good-integer s p (none-below (badText s) (patterns s) (v9 .0) p l) e .1;
-      text-short = λ p l. good-short s p (none-below (badText s) (patterns s) (v9 .0) p l);
-      clause-fits = λ c l. not-false _ (none-below (misfit s) (clauses s) (v10 .0) c l);
-      names-once = none-below (nameTwice s) (clauses s) (v11 .0);
+      good-texts = none-below (badText s) (patterns s) (v9 .0);
+      no-misfit = none-below (misfit s) (clauses s) (v10 .0);
+      no-name-twice = none-below (nameTwice s) (clauses s) (v11 .0);
+    }
+
+pub accepted-sheet : (s : List ℕ) → verdict s ≡ accepted → Accepted s
+unfolding verdict misfit nameTwice
+accepted-sheet s h =
+    let (v6, after6) = andThen-accepted (readableVerdict s) _ h in
+    let (v7, after7) = andThen-accepted (transparentVerdict s) _ after6 in
+    let (v8, v11) = andThen-accepted (shapeVerdict s) (clausesVerdict s) after7 in
+    let reads = readable s v6 in
+    let fit = in-shape s v8 in
+    let each = clauses-fit s v11 in
+    record {
+      is-laid = reads .is-laid;
+      is-counted = reads .is-counted;
+      is-typed = reads .is-typed;
+      none-transparent = no-transparent s v7;
+      is-shaped = shaped s fit;
+      root-depth = shape-depth s fit;
+      integer-canonical = λ p l e. good-integer s p (each .good-texts p l) e .1;
+      text-short = λ p l. good-short s p (each .good-texts p l);
+      clause-fits = λ c l. not-false _ (each .no-misfit c l);
+      names-once = each .no-name-twice;
     }

@@ -13,7 +13,7 @@ use Rattle.spec_rules.specs.RefusalNumbers.{roomRefusal, nodesRefusal, b
 use Rattle.spec_rules.specs.Searching.{lowest}
 use Rattle.spec_rules.specs.SheetFile.{clauses, pool}
 use Rattle.spec_rules.specs.Patterns.{Pat, clausePatterns}
-use Rattle.spec_rules.specs.SheetRefusals.{Verdict, accepted, refused, require, requireNone, verdict}
+use Rattle.spec_rules.specs.SheetRefusals.{Verdict, accepted, refused, require, requireNone, andThen, verdict}
 use Rattle.spec_rules.specs.Building.{Tree}
 use Rattle.spec_rules.specs.Hoisting.{wholeTree, nodesIn, bindingsIn, hasLeaf}
 use Rattle.spec_rules.specs.TreeFile.{treeFile}
@@ -100,10 +100,6 @@ buildCall s treeLength workLength = record {
 }
 
 -- ---- the fit check: "a sheet (2 to 11) and a panel, and alone gives 25"
-abbrev pub andThen : Verdict → Verdict → Verdict
-andThen accepted w = w
-andThen (refused number place) w = refused number place
-
 unfoldable pub fitCall : List ℕ → List ℕ → Verdict
 unfolding verdict panelVerdict panelFits
 fitCall s v = andThen (verdict s) (andThen (panelVerdict v) (require (panelFits s v) panelMisfitRefusal accepted))

@@ -7,6 +7,7 @@ pub mod SheetFile
 pub mod Patterns
 pub mod Texts
 pub mod SheetRefusals
+pub mod SheetRefusalsLaws
 pub mod Rows
 pub mod Columns
 pub mod Splitting

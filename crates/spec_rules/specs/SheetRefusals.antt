@@ -1,5 +1,5 @@
 -- 01, "Refusal numbers, in the order they are tried": 2 to 11, of a sheet.
--- Each is a test of the sheet's bytes; `verdict` tries them in 01's order.
+-- Each is a test of the sheet's bytes; `verdict` tries them in 01's order, in four stages that a call may take apart.
 use Prim.Native.Nat.{ℕ, zero, suc, _+_, _-_, _%_}
 use mathlib.Core.Bool.{Bool, true, false, not}
 use mathlib.Core.List.{List, [], _∷_}
@@ -273,17 +273,42 @@ abbrev pub requireNone : Option ℕ → ℕ → Verdict → Verdict
 requireNone none number v = v
 requireNone (some place) number v = refused number place
 
-unfoldable pub verdict : List ℕ → Verdict
-unfolding lengthFits layoutFits hasClause countsFit typesFit lowestTransparent shapeFits lowestBadText lowestMisfit lowestNameTwice
-verdict s =
+-- a verdict, and where it accepts the next
+abbrev pub andThen : Verdict → Verdict → Verdict
+andThen accepted w = w
+andThen (refused number place) w = refused number place
+
+-- 2 to 6: the sections read, and the types keep their rules
+unfoldable pub readableVerdict : List ℕ → Verdict
+unfolding lengthFits layoutFits hasClause countsFit typesFit
+readableVerdict s =
     require (lengthFits s) lengthRefusal
     (require (layoutFits s) layoutRefusal
     (require (hasClause s) noClauseRefusal
     (require (countsFit s) countRefusal
     (require (typesFit s) typesRefusal
-    (requireNone (lowestTransparent s) transparentRefusal
-    (require (shapeFits s) shapeRefusal
-    (requireNone (lowestBadText s) textRefusal
+    accepted))))
+
+-- 7: no type is transparent
+unfoldable pub transparentVerdict : List ℕ → Verdict
+unfolding lowestTransparent
+transparentVerdict s = requireNone (lowestTransparent s) transparentRefusal accepted
+
+-- 8: the patterns keep their rules
+unfoldable pub shapeVerdict : List ℕ → Verdict
+unfolding shapeFits
+shapeVerdict s = require (shapeFits s) shapeRefusal accepted
+
+-- 9 to 11: the texts are canonical and short, and each clause fits and binds no name twice
+unfoldable pub clausesVerdict : List ℕ → Verdict
+unfolding lowestBadText lowestMisfit lowestNameTwice
+clausesVerdict s =
+    requireNone (lowestBadText s) textRefusal
     (requireNone (lowestMisfit s) misfitRefusal
     (requireNone (lowestNameTwice s) nameTwiceRefusal
-    accepted)))))))))
+    accepted))
+
+-- all of them; SheetRefusalsLaws `verdict-in-order` has the ten as one list
+unfoldable pub verdict : List ℕ → Verdict
+unfolding readableVerdict transparentVerdict shapeVerdict clausesVerdict
+verdict s = andThen (readableVerdict s) (andThen (transparentVerdict s) (andThen (shapeVerdict s) (clausesVerdict s)))

@@ -13,13 +13,13 @@ use Rattle.spec_rules.specs.Limits.{nodesMost, bindingsMost}
 use Rattle.spec_rules.specs.RefusalNumbers.{lengthRefusal, layoutRefusal, noClauseRefusal, countRefusal, typesRefusal, transparentRefusal, shapeRefusal, textRefusal, misfitRefusal, nameTwiceRefusal, nodesRefusal, bindingsRefusal, idleRefusal, panelLengthRefusal, panelLayoutRefusal, panelShapeRefusal, panelTextRefusal}
 use Rattle.spec_rules.specs.SearchingLaws.{Lowest}
 use Rattle.spec_rules.specs.SheetFile.{types, patterns, clauses}
-use Rattle.spec_rules.specs.SheetRefusals.{lengthFits, layoutFits, hasClause, countsFit, typesFit, transparent, lowestTransparent, shapeFits, badText, lowestBadText, misfit, lowestMisfit, nameTwice, lowestNameTwice, Verdict, accepted, refused, require, requireNone, verdict}
+use Rattle.spec_rules.specs.SheetRefusals.{lengthFits, layoutFits, hasClause, countsFit, typesFit, transparent, lowestTransparent, shapeFits, badText, lowestBadText, misfit, lowestMisfit, nameTwice, lowestNameTwice, Verdict, accepted, refused, require, requireNone, andThen, readableVerdict, transparentVerdict, shapeVerdict, clausesVerdict, verdict}
 use Rattle.spec_rules.specs.Building.{Tree}
 use Rattle.spec_rules.specs.Hoisting.{nodesIn, bindingsIn, hasLeaf}
 use Rattle.spec_rules.specs.PanelFile.{panelLengthFits, panelLayoutFits, panelShapeFits, panelTextsFit, panelVerdict}
 use Rattle.spec_rules.specs.Calls.{lowestIdle, treeVerdict}
 use Rattle.spec_theorems.specs.Said.{Passes2, Passes3, Passes4, Passes5, Passes6, Passes7, Passes8, Passes9, Passes10, Passes11, Passes12, Passes13, Passes14, Passes21, Passes22, Passes23, Passes24}
-use Rattle.spec_theorems.specs.Stages.{Stage, From, none-from, stage-from, stage-later, stage-here, stage-accepted, test-stage, lowest-stage}
+use Rattle.spec_theorems.specs.Stages.{Stage, then-stage, From, none-from, stage-from, stage-later, stage-here, stage-accepted, test-stage, lowest-stage}
 
 -- ---- chains of stages: Passed and what decides then
 record Chain (w : Verdict) (n : ℕ) (Passed : Type 0) (rest : Verdict) : Type 0 where
@@ -75,51 +75,65 @@ module _ (s : List ℕ) where
   after9 = requireNone (lowestMisfit s) misfitRefusal after10
 
   abbrev after8 : Verdict
-  after8 = requireNone (lowestBadText s) textRefusal after9
+  after8 = clausesVerdict s
 
   abbrev after7 : Verdict
-  after7 = require (shapeFits s) shapeRefusal after8
+  after7 = andThen (shapeVerdict s) after8
 
   abbrev after6 : Verdict
-  after6 = requireNone (lowestTransparent s) transparentRefusal after7
+  after6 = andThen (transparentVerdict s) after7
+
+  -- what is left of the first stage of the verdict, and the other stages after it
+  abbrev left5 : Verdict
+  left5 = require (typesFit s) typesRefusal accepted
+
+  abbrev left4 : Verdict
+  left4 = require (countsFit s) countRefusal left5
+
+  abbrev left3 : Verdict
+  left3 = require (hasClause s) noClauseRefusal left4
+
+  abbrev left2 : Verdict
+  left2 = require (layoutFits s) layoutRefusal left3
 
   abbrev after5 : Verdict
-  after5 = require (typesFit s) typesRefusal after6
+  after5 = andThen left5 after6
 
   abbrev after4 : Verdict
-  after4 = require (countsFit s) countRefusal after5
+  after4 = andThen left4 after6
 
   abbrev after3 : Verdict
-  after3 = require (hasClause s) noClauseRefusal after4
+  after3 = andThen left3 after6
 
   abbrev after2 : Verdict
-  after2 = require (layoutFits s) layoutRefusal after3
+  after2 = andThen left2 after6
 
   stage2 : Stage (verdict s) lengthRefusal (Passes2 s) (λ k. (lengthFits s ≡ false) × (k ≡ 0)) after2
-  unfolding verdict
-  stage2 = test-stage (lengthFits s) lengthRefusal after2
+  unfolding verdict readableVerdict
+  stage2 = then-stage after6 (test-stage (lengthFits s) lengthRefusal left2)
 
   stage3 : Stage after2 layoutRefusal (layoutFits s ≡ true) (λ k. (layoutFits s ≡ false) × (k ≡ 0)) after3
-  stage3 = test-stage (layoutFits s) layoutRefusal after3
+  stage3 = then-stage after6 (test-stage (layoutFits s) layoutRefusal left3)
 
   stage4 : Stage after3 noClauseRefusal (hasClause s ≡ true) (λ k. (hasClause s ≡ false) × (k ≡ 0)) after4
-  stage4 = test-stage (hasClause s) noClauseRefusal after4
+  stage4 = then-stage after6 (test-stage (hasClause s) noClauseRefusal left4)
 
   stage5 : Stage after4 countRefusal (countsFit s ≡ true) (λ k. (countsFit s ≡ false) × (k ≡ 0)) after5
-  stage5 = test-stage (countsFit s) countRefusal after5
+  stage5 = then-stage after6 (test-stage (countsFit s) countRefusal left5)
 
   stage6 : Stage after5 typesRefusal (typesFit s ≡ true) (λ k. (typesFit s ≡ false) × (k ≡ 0)) after6
-  stage6 = test-stage (typesFit s) typesRefusal after6
+  stage6 = then-stage after6 (test-stage (typesFit s) typesRefusal accepted)
 
   stage7 : Stage after6 transparentRefusal ((t : ℕ) → t < types s → transparent s t ≡ false) (Lowest (transparent s) 0 (types s)) after7
-  unfolding lowestTransparent
-  stage7 = lowest-stage (transparent s) (types s) transparentRefusal after7
+  unfolding transparentVerdict lowestTransparent
+  stage7 = then-stage after7 (lowest-stage (transparent s) (types s) transparentRefusal accepted)
 
   stage8 : Stage after7 shapeRefusal (shapeFits s ≡ true) (λ k. (shapeFits s ≡ false) × (k ≡ 0)) after8
-  stage8 = test-stage (shapeFits s) shapeRefusal after8
+  unfolding shapeVerdict
+  stage8 = then-stage after8 (test-stage (shapeFits s) shapeRefusal accepted)
 
   stage9 : Stage after8 textRefusal ((p : ℕ) → p < patterns s → badText s p ≡ false) (Lowest (badText s) 0 (patterns s)) after9
-  unfolding lowestBadText
+  unfolding clausesVerdict lowestBadText
   stage9 = lowest-stage (badText s) (patterns s) textRefusal after9
 
   stage10 : Stage after9 misfitRefusal ((c : ℕ) → c < clauses s → misfit s c ≡ false) (Lowest (misfit s) 0 (clauses s)) after10
@@ -244,7 +258,7 @@ module _ (n : ℕ) (a : Tree) where
   after13 = requireNone (lowestIdle n a) idleRefusal accepted
 
   abbrev after12 : Verdict
-  after12 = require (leb (length (bindingsIn a)) bindingsMost) 13 after13
+  after12 = require (leb (length (bindingsIn a)) bindingsMost) bindingsRefusal after13
 
   stage12 : Stage (treeVerdict n a) nodesRefusal (Passes12 a) (λ k. (nodesMost < nodesIn a) × (k ≡ 0)) after12
   unfolding treeVerdict
