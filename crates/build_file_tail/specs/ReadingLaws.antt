@@ -13,7 +13,7 @@ use Rattle.spec_file.specs.LengthLaws.{length-pathSteps}
 use Rattle.format_sheet.specs.declared.Map.{Map}
 use Rattle.format_sheet.specs.declared.records.TypeRecord.{TypeRecord}
 use Rattle.format_sheet.specs.Records.{typeOf as typeOfRecord}
-use Rattle.build_table.specs.Standing.{pathOf, typeOf, aboveOf, indexOf, stepOf, stepNumber}
+use Rattle.build_table.specs.Standing.{pathOf, typeOf, aboveOf, indexOf, stepOf, sameNumber, stepNumber}
 use Rattle.build_table.specs.TypesLaws.{type-known}
 use Rattle.build_table.specs.Table.{aboveAt, typeAt, stepAt, indexAt, depthAt}
 use Rattle.build_table.specs.Tabled.{Checked, Tabled}

@@ -24,7 +24,7 @@ use Rattle.format_sheet.specs.declared.records.Run.{Run}
 use Rattle.format_sheet.specs.Records.{patternOf, constructorOf as runOf}
 use Rattle.build_table.specs.Standing.{kindOf, typeOf, ownerOf}
 use Rattle.build_table.specs.TypesLaws.{pattern-fits, type-known, list-entry, tailed-entry, pair-entry, tuple-entry, constructor-inside, constructor-entry}
-use Rattle.build_table.specs.Table.{placed, placedEach, placedBelow}
+use Rattle.build_table.specs.Table.{sameNumber, placed, placedEach, placedBelow}
 use Rattle.build_table.specs.Tabled.{Checked, Parts, Reading}
 
 -- ---- a record's fields, as numbers of the sheet
