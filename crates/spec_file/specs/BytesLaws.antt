@@ -7,14 +7,15 @@ use Prim.Native.Nat.{ℕ, zero, suc, _+_, _*_, _/_, _%_, _≤_, _<_}
 use native.Mathlib.Omega.{arith}
 use lib.ListN.{length, getD, length-append}
 use Rattle.base_words.specs.Words.{wordBytes, Bytes as AllBytes}
-use Rattle.spec_rules.specs.Limits.{treeTrailer}
 use Rattle.spec_rules.specs.Kinds.{switchNode, listSwitchNode, leafNode, hoistNode, constrCase, intCase, bytesCase, listCase, listWithTailCase, pairStep, tupleStep, constrStep, listStep, listtailStep}
+use Rattle.spec_rules.specs.Sections.{backToBack, startsFrom, wordsOf, trailerOf, fileWith, fileOf}
 use Rattle.spec_rules.specs.Rows.{Step, pair, tuple, constr, list, listtail, Path, bit, samePath, Binding}
 use Rattle.spec_rules.specs.Splitting.{Test, Constr, Int, Bytes, ListOf, ListWithTail}
 use Rattle.spec_rules.specs.Building.{Tree, Cases, absent, leaf, hoist, switch, listswitch, cnil, ccons}
 use Rattle.spec_rules.specs.Hoisting.{howMany, nodesIn, nodesInOf, bindingsIn, bindingsInOf}
-use Rattle.spec_rules.specs.TreeFile.{isAmong, pathNumber, pathTable, firstOf, nodeBytes, casesIn, casesInOf, defaultField, nodesFrom, nodesFromOf, caseBytes, ownCases, casesFrom, casesFromOf, bindingsBytes, pathsBytes, stepBytes, pathSteps, stepsBytes, backToBack, startsFrom, fileOf, treeSections, treeFile}
+use Rattle.spec_rules.specs.TreeFile.{isAmong, pathNumber, pathTable, firstOf, nodeBytes, casesIn, casesInOf, defaultField, nodesFrom, nodesFromOf, caseBytes, ownCases, casesFrom, casesFromOf, bindingsBytes, pathsBytes, stepBytes, pathSteps, stepsBytes, treeSections, treeFile}
 use Rattle.spec_file.specs.PathsLaws.{isAmong-first, isAmong-rest, pathNumber-first, pathNumber-rest}
+use Rattle.spec_file.specs.SectionsLaws.{trailerSize, file-sections}
 use Rattle.spec_file.specs.FileLaws.{file-length}
 use Rattle.spec_file.specs.Writable.{stepsIn, TextStarts, Writable, WritableOf, SmallStep, SmallPath, SmallNames, SmallTest, SmallNumbers, SmallNumbersOf, InWords}
 use Rattle.spec_file.specs.RulesLaws.{default-inside}
@@ -236,33 +237,21 @@ unfolding backToBack EachBytes
 sections-bytes [] h = bytes-nil
 sections-bytes (x ∷ xs) h = bytes-append x (backToBack xs) (h .0) (sections-bytes xs (h .1))
 
-starts-bytes : (xs : List (List ℕ)) (at : ℕ) → at + length (backToBack xs) < 65536 → AllBytes (startsFrom at xs)
+starts-bytes : (xs : List (List ℕ)) (at : ℕ) (rest : List ℕ) → at + length (backToBack xs) < 65536 → AllBytes (wordsOf rest)
+    → AllBytes (wordsOf (startsFrom at xs ++ rest))
 unfolding backToBack startsFrom
-starts-bytes [] at l = bytes-nil
-starts-bytes (x ∷ xs) at l =
+starts-bytes [] at rest l h = h
+starts-bytes (x ∷ xs) at rest l h =
     let e = length-append x (backToBack xs) in
-    bytes-word at (startsFrom (at + length x) xs) (omega arith) (starts-bytes xs (at + length x) (omega arith))
+    bytes-word at (wordsOf (startsFrom (at + length x) xs ++ rest)) (omega arith) (starts-bytes xs (at + length x) rest (omega arith) h)
 
-file-of-bytes : (xs : List (List ℕ)) → EachBytes xs → length (backToBack xs) + treeTrailer < 65536 → AllBytes (fileOf xs)
-unfolding fileOf
+file-of-bytes : (xs : List (List ℕ)) → EachBytes xs → length (fileOf xs) < 65536 → AllBytes (fileOf xs)
+unfolding fileOf fileWith trailerOf
 file-of-bytes xs h l =
-    bytes-append (backToBack xs) (startsFrom 0 xs ++ wordBytes (length (backToBack xs) + treeTrailer)) (sections-bytes xs h)
-    (bytes-append (startsFrom 0 xs) (wordBytes (length (backToBack xs) + treeTrailer)) (starts-bytes xs 0 (omega arith))
-    (last-word (length (backToBack xs) + treeTrailer) l))
-
-length-file-of : (xs : List (List ℕ)) → length (backToBack xs) + 2 * length xs + 2 ≡ length (fileOf xs)
-unfolding fileOf
-length-file-of xs =
-    omega (
-      arith,
-      length-append (backToBack xs) (startsFrom 0 xs ++ wordBytes (length (backToBack xs) + treeTrailer)),
-      length-append (startsFrom 0 xs) (wordBytes (length (backToBack xs) + treeTrailer)),
-      length-starts xs 0,
-    )
-  where
-    length-starts : (ys : List (List ℕ)) (at : ℕ) → length (startsFrom at ys) ≡ 2 * length ys
-    length-starts [] at = refl
-    length-starts (y ∷ ys) at = omega (arith, length-starts ys (at + length y))
+    let long = file-sections [] xs .length-is in
+    let end = length (backToBack xs) + trailerSize [] xs in
+    bytes-append (backToBack xs) (wordsOf (startsFrom 0 xs ++ end ∷ [])) (sections-bytes xs h)
+    (starts-bytes xs 0 (end ∷ []) (omega arith) (last-word end (omega arith)))
 
 -- the written file is bytes
 pub file-bytes : (pool : List ℕ) (a : Tree) → Writable pool a → InWords a → AllBytes pool → length (treeFile pool a) < 65536 → AllBytes (treeFile pool a)
@@ -270,7 +259,6 @@ unfolding treeFile treeSections EachBytes
 file-bytes pool a w s o l =
     let table = pathTable a in
     let e = file-length pool a in
-    let f = length-file-of (treeSections pool table a) in
     file-of-bytes (treeSections pool table a) (
       nodes-bytes table (omega arith) a 0 0 0 (s .numbers) (omega arith) (omega arith) (omega arith),
       (
@@ -281,4 +269,4 @@ file-bytes pool a w s o l =
         ),
       ),
     )
-    (omega arith)
+    l

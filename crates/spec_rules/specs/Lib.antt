@@ -1,6 +1,7 @@
 pub mod Limits
 pub mod Kinds
 pub mod RefusalNumbers
+pub mod Sections
 pub mod Searching
 pub mod SearchingLaws
 pub mod SheetFile

@@ -5,8 +5,8 @@ use mathlib.Core.Bool.{Bool, true, false}
 use mathlib.Core.List.{List, [], _∷_, _++_}
 use lib.ListN.{length}
 use Rattle.base_words.specs.Words.{wordBytes, either}
-use Rattle.spec_rules.specs.Limits.{treeTrailer}
 use Rattle.spec_rules.specs.Kinds.{switchNode, listSwitchNode, leafNode, hoistNode, constrCase, intCase, bytesCase, listCase, listWithTailCase, pairStep, tupleStep, constrStep, listStep, listtailStep}
+use Rattle.spec_rules.specs.Sections.{fileOf}
 use Rattle.spec_rules.specs.Rows.{Step, pair, tuple, constr, list, listtail, Path, bit, samePath, Binding}
 use Rattle.spec_rules.specs.Splitting.{Test, Constr, Int, Bytes, ListOf, ListWithTail}
 use Rattle.spec_rules.specs.Building.{Tree, Cases, absent, leaf, hoist, switch, listswitch, cnil, ccons}
@@ -177,15 +177,7 @@ stepsBytes [] = []
 stepsBytes (p ∷ ps) = pathSteps p ++ stepsBytes ps
 
 -- ---- the file
--- sections back to back; where each starts, the first at `at`
-unfoldable pub backToBack : List (List ℕ) → List ℕ
-backToBack [] = []
-backToBack (x ∷ xs) = x ++ backToBack xs
-
-unfoldable pub startsFrom : ℕ → List (List ℕ) → List ℕ
-startsFrom at [] = []
-startsFrom at (x ∷ xs) = wordBytes at ++ startsFrom (at + length x) xs
-
+-- nodes, cases, bindings, paths, steps; "Then the sheet's pool"
 unfoldable pub treeSections : List ℕ → List Path → Tree → List (List ℕ)
 unfolding nodesFrom casesFrom bindingsIn bindingsBytes pathsBytes stepsBytes
 treeSections pool table a =
@@ -196,11 +188,6 @@ treeSections pool table a =
     ∷ stepsBytes table
     ∷ pool
     ∷ []
-
--- "Then the sheet's pool. Trailer, 14 bytes: six starts, file length"
-unfoldable pub fileOf : List (List ℕ) → List ℕ
-unfolding backToBack startsFrom
-fileOf sections = backToBack sections ++ (startsFrom 0 sections ++ wordBytes (length (backToBack sections) + treeTrailer))
 
 unfoldable pub treeFile : List ℕ → Tree → List ℕ
 unfolding fileOf treeSections pathTable
