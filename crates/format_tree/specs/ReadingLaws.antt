@@ -2,7 +2,7 @@
 -- Rests on Reading and the rules' definitions of the tree file.
 use mathlib.Core.Path.{_≡_, refl, sym, ap, subst, _∙_}
 use mathlib.Core.Bool.{Bool}
-use mathlib.Core.List.{List}
+use mathlib.Core.List.{List, [], _∷_}
 use Prim.Native.Nat.{ℕ, _+_, _-_, _*_}
 use native.Mathlib.Omega.{arith}
 use native.Mathlib.Nat.{zero-add, div-one}
@@ -10,8 +10,8 @@ use lib.ListN.{length, getD}
 use lib.Dec.{eqb}
 use Rattle.base_words.specs.Words.{wordAt, Bytes, both}
 use Rattle.spec_rules.specs.Limits.{nodeSize, caseSize, bindingSize, pathSize, stepSize, treeTrailer}
-use Rattle.spec_rules.specs.SheetRefusals.{wholeRecords}
-use Rattle.spec_rules.specs.TreeReader.{treeStart, treePoolEnd, nodesAt, casesAt, bindingsAt, pathsAt, stepsAt, treePoolAt, nodes, cases, bindings, paths, steps, treePoolSize, nodeKind, nodeZero, nodeWord, caseKind, caseZero, caseNumber, caseLength, caseChild, bindingName, bindingPath, pathFirst, pathCount, stepKind, stepFlag, stepIndexAt, stepType, startsRise}
+use Rattle.spec_rules.specs.SheetRefusals.{wholeBetween}
+use Rattle.spec_rules.specs.TreeReader.{treeStart, treePoolEnd, nodesAt, casesAt, bindingsAt, pathsAt, stepsAt, treePoolAt, treeSizes, nodes, cases, bindings, paths, steps, treePoolSize, nodeKind, nodeZero, nodeWord, caseKind, caseZero, caseNumber, caseLength, caseChild, bindingName, bindingPath, pathFirst, pathCount, stepKind, stepFlag, stepIndexAt, stepType, startsRise}
 use Rattle.spec_accepted.specs.TreeFacts.{TreeLaid, tree-length-small}
 use Rattle.format_tree.specs.declared.layout.Section.{Section}
 use Rattle.format_tree.specs.declared.layout.Map.{Map}
@@ -127,14 +127,7 @@ module _ {t : List ℕ} {m : Map} (w : Mapped t m) where
 -- ---- the layout, as functions read it
 -- the starts a to f and the end of the pool, as a function reads them one by one
 abbrev pub startsWhole : ℕ → ℕ → ℕ → ℕ → ℕ → ℕ → ℕ → Bool
-startsWhole a b c d e f end =
-    both (eqb a 0)
-    (both (wholeRecords nodeSize a b)
-    (both (wholeRecords caseSize b c)
-    (both (wholeRecords bindingSize c d)
-    (both (wholeRecords pathSize d e)
-    (both (wholeRecords stepSize e f)
-    (wholeRecords 1 f end))))))
+startsWhole a b c d e f end = both (eqb a 0) (wholeBetween treeSizes (a ∷ b ∷ c ∷ d ∷ e ∷ f ∷ end ∷ []))
 
 pub starts-rise-is : (t : List ℕ) (a b c d e f : ℕ)
     → a ≡ treeStart t 0 → b ≡ treeStart t 1 → c ≡ treeStart t 2 → d ≡ treeStart t 3 → e ≡ treeStart t 4 → f ≡ treeStart t 5

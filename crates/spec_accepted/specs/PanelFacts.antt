@@ -23,10 +23,10 @@ use Rattle.spec_rules.specs.Patterns.{takesArguments}
 use Rattle.spec_rules.specs.Texts.{canonical, shortText}
 use Rattle.spec_rules.specs.SheetRefusals.{accepted}
 use Rattle.spec_rules.specs.SheetRefusalsLaws.{require-accepted}
-use Rattle.spec_rules.specs.PanelFile.{panelLength, recordsAt, partsAt, panelPoolAt, panelPoolEnd, records, parts, panelPoolSize, recordKind, recordZero, recordA, recordFirst, recordCount, part, recordText, RecordKind, Integer-record, Bytes-record, List-record, Pair-record, Tuple-record, Constructor-record, Unknown-record, recordKindOf, panelLengthFits, panelLayoutFits, hasParts, recordFieldsFit, isHigher, partsHigher, recordKeepsRules, isPart, isOnePart, holds, partKeepsRules, recordWithin, panelShapeFits, recordTextOfKind, recordTextFits, panelTextsFit, panelVerdict}
+use Rattle.spec_rules.specs.PanelFile.{panelLength, recordsAt, partsAt, panelPoolAt, panelPoolEnd, panelSizes, panelPlaces, records, parts, panelPoolSize, recordKind, recordZero, recordA, recordFirst, recordCount, part, recordText, RecordKind, Integer-record, Bytes-record, List-record, Pair-record, Tuple-record, Constructor-record, Unknown-record, recordKindOf, panelLengthFits, panelLayoutFits, hasParts, recordFieldsFit, isHigher, partsHigher, recordKeepsRules, isPart, isOnePart, holds, partKeepsRules, recordWithin, panelShapeFits, recordTextOfKind, recordTextFits, panelTextsFit, panelVerdict}
 use Rattle.spec_rules.specs.Fitting.{partsFit, recordFits, hasTypeTo}
 use Rattle.spec_accepted.specs.KindsLaws.{recordNumber, record-number, record-byte, record-unknown}
-use Rattle.spec_accepted.specs.RunsLaws.{Run, run-in, whole-rises, whole-fills, pool-fills, trailer-fills, every-below}
+use Rattle.spec_accepted.specs.RunsLaws.{Run, run-in, section-rises, section-fills, pool-fills, trailer-fills, every-below}
 
 -- ---- 21 and 22: the sections stand back to back, each of whole records, and the trailer ends the file
 pub record PanelLaid (v : List ℕ) : Type 0 where
@@ -49,21 +49,19 @@ panel-laid v long out =
     let s1 = both-true _ _ out in
     let s2 = both-true _ _ (s1 .1) in
     let s3 = both-true _ _ (s2 .1) in
-    let s4 = both-true _ _ (s3 .1) in
-    let s5 = both-true _ _ (s4 .1) in
+    let fills = section-fills panelSizes (panelPlaces v) (s2 .0) in
     let least : panelTrailer ≤ length v = leb-true _ _ (l1 .0) in
-    let rises : panelPoolAt v ≤ panelPoolEnd v = whole-rises 1 _ _ (s4 .0) in
     record {
       length-least = least;
       length-most = leb-true _ _ (l2 .0);
       length-told = eqb-true _ _ (l2 .1);
       records-start = eqb-true _ _ (s1 .0);
-      records-end = whole-fills recordSize _ _ (s2 .0);
-      parts-end = whole-fills partSize _ _ (s3 .0);
-      pool-end = pool-fills (panelPoolAt v) (panelPoolEnd v) rises;
+      records-end = fills 0 (omega arith);
+      parts-end = fills 1 (omega arith);
+      pool-end = pool-fills (panelPoolAt v) (panelPoolEnd v) (section-rises panelSizes (panelPlaces v) (s2 .0) 2 (omega arith));
       trailer-end = trailer-fills panelTrailer (length v) least;
-      some-record = leb-true _ _ (s5 .0);
-      records-most = leb-true _ _ (s5 .1);
+      some-record = leb-true _ _ (s3 .0);
+      records-most = leb-true _ _ (s3 .1);
     }
 
 -- a text's bytes lie before the trailer

@@ -17,13 +17,13 @@ use Rattle.spec_rules.specs.Kinds.{bytesType, listType, pairType, tupleType, da
 use Rattle.spec_rules.specs.RefusalNumbers.{lengthRefusal, layoutRefusal, noClauseRefusal, countRefusal, typesRefusal, transparentRefusal, shapeRefusal, textRefusal, misfitRefusal, nameTwiceRefusal}
 use Rattle.spec_rules.specs.Searching.{every, times}
 use Rattle.spec_rules.specs.SearchingLaws.{every-true, times-some, times-found, times-one}
-use Rattle.spec_rules.specs.SheetFile.{subject, sheetLength, typesAt, constructorsAt, entriesAt, patternsAt, childrenAt, clausesAt, poolAt, poolEnd, types, constructors, entries, patterns, children, clauses, poolSize, typeKind, typeFlag, typeFirst, typeCount, constructorFirst, constructorCount, entry, patternKind, patternZero, patternA, patternFirst, patternCount, child, root, poolText, runIn}
+use Rattle.spec_rules.specs.SheetFile.{subject, sheetLength, typesAt, constructorsAt, entriesAt, patternsAt, childrenAt, clausesAt, poolAt, poolEnd, sheetSizes, sheetPlaces, types, constructors, entries, patterns, children, clauses, poolSize, typeKind, typeFlag, typeFirst, typeCount, constructorFirst, constructorCount, entry, patternKind, patternZero, patternA, patternFirst, patternCount, child, root, poolText, runIn}
 use Rattle.spec_rules.specs.Patterns.{PatternKind, Discard, Variable, Assign, Integer, ByteString, ListOfAll, ListWithRest, Constructor, Pair, Tuple, Unknown, patternKindOf, constructorOf, clausePattern, fits, names}
 use Rattle.spec_rules.specs.Texts.{canonical, shortText}
 use Rattle.spec_rules.specs.SheetRefusals.{lengthFits, layoutFits, hasClause, countsFit, typeParts, typeFlags, typeKeepsRules, constructorKeepsRules, entryKeepsRules, typesFit, hasChildren, tailFits, fieldsFit, isAbove, childrenAbove, isRoot, isEntry, standsOnce, patternKeepsRules, lists, childKeepsRules, rootKeepsRules, within, depthFits, shapeFits, transparent, lowestTransparent, textOfKind, badText, lowestBadText, misfit, lowestMisfit, repeats, nameTwice, lowestNameTwice, accepted, readableVerdict, transparentVerdict, shapeVerdict, clausesVerdict, verdict}
 use Rattle.spec_rules.specs.SheetRefusalsLaws.{require-accepted, requireNone-accepted, andThen-accepted}
 use Rattle.spec_accepted.specs.KindsLaws.{patternNumber, pattern-number, pattern-byte, pattern-unknown}
-use Rattle.spec_accepted.specs.RunsLaws.{Run, run-in, whole-rises, whole-fills, pool-fills, trailer-fills, every-below, none-below}
+use Rattle.spec_accepted.specs.RunsLaws.{Run, run-in, section-rises, section-fills, pool-fills, trailer-fills, every-below, none-below}
 
 -- ---- 2 and 3: the sections stand back to back, each of whole records, and the trailer ends the file
 pub record Laid (s : List ℕ) : Type 0 where
@@ -46,26 +46,20 @@ laid s long out =
     let l1 = both-true _ _ long in
     let l2 = both-true _ _ (l1 .1) in
     let s1 = both-true _ _ out in
-    let s2 = both-true _ _ (s1 .1) in
-    let s3 = both-true _ _ (s2 .1) in
-    let s4 = both-true _ _ (s3 .1) in
-    let s5 = both-true _ _ (s4 .1) in
-    let s6 = both-true _ _ (s5 .1) in
-    let s7 = both-true _ _ (s6 .1) in
+    let fills = section-fills sheetSizes (sheetPlaces s) (s1 .1) in
     let least : sheetTrailer ≤ length s = leb-true _ _ (l1 .0) in
-    let rises : poolAt s ≤ poolEnd s = whole-rises 1 _ _ (s7 .1) in
     record {
       length-least = least;
       length-most = leb-true _ _ (l2 .0);
       length-told = eqb-true _ _ (l2 .1);
       types-start = eqb-true _ _ (s1 .0);
-      types-end = whole-fills typeSize _ _ (s2 .0);
-      constructors-end = whole-fills constructorSize _ _ (s3 .0);
-      entries-end = whole-fills entrySize _ _ (s4 .0);
-      patterns-end = whole-fills patternSize _ _ (s5 .0);
-      children-end = whole-fills childSize _ _ (s6 .0);
-      clauses-end = whole-fills clauseSize _ _ (s7 .0);
-      pool-end = pool-fills (poolAt s) (poolEnd s) rises;
+      types-end = fills 0 (omega arith);
+      constructors-end = fills 1 (omega arith);
+      entries-end = fills 2 (omega arith);
+      patterns-end = fills 3 (omega arith);
+      children-end = fills 4 (omega arith);
+      clauses-end = fills 5 (omega arith);
+      pool-end = pool-fills (poolAt s) (poolEnd s) (section-rises sheetSizes (sheetPlaces s) (s1 .1) 6 (omega arith));
       trailer-end = trailer-fills sheetTrailer (length s) least;
     }
 

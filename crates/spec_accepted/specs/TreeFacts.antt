@@ -19,9 +19,9 @@ use Rattle.spec_rules.specs.Searching.{every}
 use Rattle.spec_rules.specs.SearchingLaws.{every-true, first-or-rest}
 use Rattle.spec_rules.specs.SheetRefusals.{isIn}
 use Rattle.spec_rules.specs.Building.{Tree, Cases, hoist, switch, listswitch, ccons}
-use Rattle.spec_rules.specs.TreeReader.{treeLength, nodesAt, casesAt, bindingsAt, pathsAt, stepsAt, treePoolAt, treePoolEnd, nodes, cases, bindings, paths, steps, treePoolSize, nodeKind, nodeZero, nodeWord, nodePath, nodeFirstCase, nodeCases, nodeTailCases, nodeDefault, nodeClause, nodeFirstBinding, nodeBindings, nodeChild, caseKind, caseZero, caseNumber, caseLength, caseChild, bindingPath, pathFirst, pathCount, stepKind, stepFlag, lengthTrue, startsRise, switchParts, isKind, switchCases, listSwitchCases, bindingParts, NodeKind, Switch, List-switch, Leaf, Hoist-node, Unknown-node, nodeKindOf, nodeOfKind, nodeKeepsRules, CaseKind, Constr-case, Int-case, Bytes-case, List-case, List-with-tail-case, Unknown-case, caseKindOf, caseOfKind, caseKeepsRules, bindingKeepsRules, pathKeepsRules, stepKeepsRules, caseChildren, defaultChild, childrenOfKind, nodeChildren, inPreOrder, nodesInPreOrder, treeFits, stepAt, stepsFrom, pathAt, bindingName, bindingsFrom, caseTest, startOfTest, casesFor, defaultFor, nodeFor, treeBelow}
+use Rattle.spec_rules.specs.TreeReader.{treeLength, nodesAt, casesAt, bindingsAt, pathsAt, stepsAt, treePoolAt, treePoolEnd, treeSizes, treePlaces, nodes, cases, bindings, paths, steps, treePoolSize, nodeKind, nodeZero, nodeWord, nodePath, nodeFirstCase, nodeCases, nodeTailCases, nodeDefault, nodeClause, nodeFirstBinding, nodeBindings, nodeChild, caseKind, caseZero, caseNumber, caseLength, caseChild, bindingPath, pathFirst, pathCount, stepKind, stepFlag, lengthTrue, startsRise, switchParts, isKind, switchCases, listSwitchCases, bindingParts, NodeKind, Switch, List-switch, Leaf, Hoist-node, Unknown-node, nodeKindOf, nodeOfKind, nodeKeepsRules, CaseKind, Constr-case, Int-case, Bytes-case, List-case, List-with-tail-case, Unknown-case, caseKindOf, caseOfKind, caseKeepsRules, bindingKeepsRules, pathKeepsRules, stepKeepsRules, caseChildren, defaultChild, childrenOfKind, nodeChildren, inPreOrder, nodesInPreOrder, treeFits, stepAt, stepsFrom, pathAt, bindingName, bindingsFrom, caseTest, startOfTest, casesFor, defaultFor, nodeFor, treeBelow}
 use Rattle.spec_accepted.specs.KindsLaws.{node-unknown, case-unknown, case-byte}
-use Rattle.spec_accepted.specs.RunsLaws.{Run, run-in, whole-rises, whole-fills, pool-fills, trailer-fills, every-below}
+use Rattle.spec_accepted.specs.RunsLaws.{Run, run-in, section-rises, section-fills, pool-fills, trailer-fills, every-below}
 
 -- ---- the length and the starts: the sections stand back to back, each of whole records, and the trailer ends the file
 pub record TreeLaid (t : List ℕ) : Type 0 where
@@ -41,21 +41,17 @@ unfolding lengthTrue startsRise nodes cases bindings paths steps treePoolSize tr
 tree-laid t long out =
     let l1 = both-true _ _ long in
     let s1 = both-true _ _ out in
-    let s2 = both-true _ _ (s1 .1) in
-    let s3 = both-true _ _ (s2 .1) in
-    let s4 = both-true _ _ (s3 .1) in
-    let s5 = both-true _ _ (s4 .1) in
-    let s6 = both-true _ _ (s5 .1) in
+    let fills = section-fills treeSizes (treePlaces t) (s1 .1) in
     record {
       length-least = leb-true _ _ (l1 .0);
       length-told = eqb-true _ _ (l1 .1);
       nodes-start = eqb-true _ _ (s1 .0);
-      nodes-end = whole-fills nodeSize _ _ (s2 .0);
-      cases-end = whole-fills caseSize _ _ (s3 .0);
-      bindings-end = whole-fills bindingSize _ _ (s4 .0);
-      paths-end = whole-fills pathSize _ _ (s5 .0);
-      steps-end = whole-fills stepSize _ _ (s6 .0);
-      pool-end = pool-fills (treePoolAt t) (treePoolEnd t) (whole-rises 1 _ _ (s6 .1));
+      nodes-end = fills 0 (omega arith);
+      cases-end = fills 1 (omega arith);
+      bindings-end = fills 2 (omega arith);
+      paths-end = fills 3 (omega arith);
+      steps-end = fills 4 (omega arith);
+      pool-end = pool-fills (treePoolAt t) (treePoolEnd t) (section-rises treeSizes (treePlaces t) (s1 .1) 5 (omega arith));
       trailer-end = trailer-fills treeTrailer (length t) (leb-true _ _ (l1 .0));
     }
 

@@ -2,7 +2,7 @@
 -- A panel is the list of its bytes; a field that is not there reads 0.
 use Prim.Native.Nat.{ℕ, zero, suc, _+_, _-_, _*_, _/_}
 use mathlib.Core.Bool.{Bool, true, false}
-use mathlib.Core.List.{List}
+use mathlib.Core.List.{List, [], _∷_}
 use lib.ListN.{length, getD}
 use lib.Dec.{eqb, leb, ltb}
 use Rattle.base_words.specs.Words.{wordAt, textAt, both, pick}
@@ -12,7 +12,7 @@ use Rattle.spec_rules.specs.RefusalNumbers.{panelLengthRefusal, panelLay
 use Rattle.spec_rules.specs.Searching.{every, times}
 use Rattle.spec_rules.specs.SheetFile.{runIn}
 use Rattle.spec_rules.specs.Texts.{canonical, shortText}
-use Rattle.spec_rules.specs.SheetRefusals.{Verdict, accepted, require, wholeRecords}
+use Rattle.spec_rules.specs.SheetRefusals.{Verdict, accepted, require, wholeRecords, wholeBetween}
 
 -- ---- sections: "Panel records are 8 bytes like patterns ..; then children, pool, and a trailer of three starts and the length"
 unfoldable pub panelStart : List ℕ → ℕ → ℕ
@@ -37,6 +37,13 @@ panelPoolAt v = panelStart v 2
 
 unfoldable pub panelPoolEnd : List ℕ → ℕ
 panelPoolEnd v = length v - panelTrailer
+
+-- in this order: the sizes of their records (of the pool, of a byte), and where they start; the last ends where the trailer starts
+abbrev pub panelSizes : List ℕ
+panelSizes = recordSize ∷ partSize ∷ 1 ∷ []
+
+abbrev pub panelPlaces : List ℕ → List ℕ
+panelPlaces v = recordsAt v ∷ partsAt v ∷ panelPoolAt v ∷ panelPoolEnd v ∷ []
 
 unfoldable pub records : List ℕ → ℕ
 unfolding recordsAt partsAt
@@ -103,10 +110,8 @@ unfoldable pub panelLayoutFits : List ℕ → Bool
 unfolding recordsAt partsAt panelPoolAt panelPoolEnd records wholeRecords
 panelLayoutFits v =
     both (eqb (recordsAt v) 0)
-    (both (wholeRecords recordSize (recordsAt v) (partsAt v))
-    (both (wholeRecords partSize (partsAt v) (panelPoolAt v))
-    (both (wholeRecords 1 (panelPoolAt v) (panelPoolEnd v))
-    (both (leb 1 (records v)) (leb (records v) recordsMost)))))
+    (both (wholeBetween panelSizes (panelPlaces v))
+    (both (leb 1 (records v)) (leb (records v) recordsMost)))
 
 -- ---- 23: shape
 unfoldable pub hasParts : RecordKind → Bool

@@ -7,11 +7,11 @@ use mathlib.Core.Option.{Option, none, some}
 use lib.ListN.{length}
 use lib.Dec.{eqb, leb, ltb}
 use Rattle.base_words.specs.Words.{both, either, pick}
-use Rattle.spec_rules.specs.Limits.{typeSize, constructorSize, entrySize, patternSize, childSize, clauseSize, sheetTrailer, sheetMost, typesMost, constructorsMost, entriesMost, patternsMost, childrenMost, clausesMost, depthMost}
+use Rattle.spec_rules.specs.Limits.{sheetTrailer, sheetMost, typesMost, constructorsMost, entriesMost, patternsMost, childrenMost, clausesMost, depthMost}
 use Rattle.spec_rules.specs.Kinds.{bytesType, listType, pairType, tupleType, dataType, noFlag, opaqueFlag, bothFlags, variablePattern}
 use Rattle.spec_rules.specs.RefusalNumbers.{lengthRefusal, layoutRefusal, noClauseRefusal, countRefusal, typesRefusal, transparentRefusal, shapeRefusal, textRefusal, misfitRefusal, nameTwiceRefusal}
 use Rattle.spec_rules.specs.Searching.{every, lowest, times}
-use Rattle.spec_rules.specs.SheetFile.{subject, sheetLength, typesAt, constructorsAt, entriesAt, patternsAt, childrenAt, clausesAt, poolAt, poolEnd, types, constructors, entries, patterns, children, clauses, poolSize, typeKind, typeFlag, typeFirst, typeCount, constructorFirst, constructorCount, entry, patternKind, patternZero, patternA, patternFirst, patternCount, child, root, poolText, runIn}
+use Rattle.spec_rules.specs.SheetFile.{subject, sheetLength, typesAt, constructorsAt, entriesAt, patternsAt, childrenAt, clausesAt, poolAt, poolEnd, sheetSizes, sheetPlaces, types, constructors, entries, patterns, children, clauses, poolSize, typeKind, typeFlag, typeFirst, typeCount, constructorFirst, constructorCount, entry, patternKind, patternZero, patternA, patternFirst, patternCount, child, root, poolText, runIn}
 use Rattle.spec_rules.specs.Patterns.{PatternKind, Discard, Variable, Assign, Integer, ByteString, ListOfAll, ListWithRest, Constructor, Pair, Tuple, Unknown, patternKindOf, clausePattern, fits, names}
 use Rattle.spec_rules.specs.Texts.{canonical, shortText}
 
@@ -25,17 +25,17 @@ lengthFits s = both (leb sheetTrailer (length s)) (both (leb (length s) sheetMos
 unfoldable pub wholeRecords : ℕ → ℕ → ℕ → Bool
 wholeRecords size from to = both (leb from to) (eqb ((to - from) % size) 0)
 
+-- the same from each of these places to the next, each by its own size
+abbrev pub wholeBetween : List ℕ → List ℕ → Bool
+wholeBetween [] places = true
+wholeBetween (size ∷ sizes) [] = false
+wholeBetween (size ∷ sizes) (from ∷ []) = false
+wholeBetween (size ∷ []) (from ∷ to ∷ places) = wholeRecords size from to
+wholeBetween (size ∷ next ∷ sizes) (from ∷ to ∷ places) = both (wholeRecords size from to) (wholeBetween (next ∷ sizes) (to ∷ places))
+
 unfoldable pub layoutFits : List ℕ → Bool
 unfolding typesAt constructorsAt entriesAt patternsAt childrenAt clausesAt poolAt poolEnd wholeRecords
-layoutFits s =
-    both (eqb (typesAt s) 0)
-    (both (wholeRecords typeSize (typesAt s) (constructorsAt s))
-    (both (wholeRecords constructorSize (constructorsAt s) (entriesAt s))
-    (both (wholeRecords entrySize (entriesAt s) (patternsAt s))
-    (both (wholeRecords patternSize (patternsAt s) (childrenAt s))
-    (both (wholeRecords childSize (childrenAt s) (clausesAt s))
-    (both (wholeRecords clauseSize (clausesAt s) (poolAt s))
-    (wholeRecords 1 (poolAt s) (poolEnd s))))))))
+layoutFits s = both (eqb (typesAt s) 0) (wholeBetween sheetSizes (sheetPlaces s))
 
 -- ---- 4 No clause: "clause section empty"
 unfoldable pub hasClause : List ℕ → Bool

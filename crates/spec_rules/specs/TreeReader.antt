@@ -10,7 +10,7 @@ use Rattle.spec_rules.specs.Limits.{nodeSize, caseSize, bindingSize, pat
 use Rattle.spec_rules.specs.Kinds.{switchNode, listSwitchNode, leafNode, hoistNode, pathWord, firstCaseWord, casesWord, tailCasesWord, defaultWord, clauseWord, firstBindingWord, bindingsWord, childWord, constrCase, intCase, bytesCase, listCase, listWithTailCase, pairStep, tupleStep, constrStep, listStep, listtailStep}
 use Rattle.spec_rules.specs.Searching.{every}
 use Rattle.spec_rules.specs.SheetFile.{runIn}
-use Rattle.spec_rules.specs.SheetRefusals.{wholeRecords}
+use Rattle.spec_rules.specs.SheetRefusals.{wholeRecords, wholeBetween}
 use Rattle.spec_rules.specs.Rows.{Step, pair, tuple, constr, list, listtail, Path, Binding}
 use Rattle.spec_rules.specs.Splitting.{Test, Constr, Int, Bytes, ListOf, ListWithTail}
 use Rattle.spec_rules.specs.Building.{Tree, Cases, absent, leaf, hoist, switch, listswitch, cnil, ccons}
@@ -50,6 +50,13 @@ treePoolAt t = treeStart t 5
 
 unfoldable pub treePoolEnd : List ℕ → ℕ
 treePoolEnd t = length t - treeTrailer
+
+-- in this order: the sizes of their records (of the pool, of a byte), and where they start; the last ends where the trailer starts
+abbrev pub treeSizes : List ℕ
+treeSizes = nodeSize ∷ caseSize ∷ bindingSize ∷ pathSize ∷ stepSize ∷ 1 ∷ []
+
+abbrev pub treePlaces : List ℕ → List ℕ
+treePlaces t = nodesAt t ∷ casesAt t ∷ bindingsAt t ∷ pathsAt t ∷ stepsAt t ∷ treePoolAt t ∷ treePoolEnd t ∷ []
 
 unfoldable pub nodes : List ℕ → ℕ
 unfolding nodesAt casesAt
@@ -191,14 +198,7 @@ lengthTrue t = both (leb treeTrailer (length t)) (eqb (treeLength t) (length t))
 -- "starts rising from 0, whole records"
 unfoldable pub startsRise : List ℕ → Bool
 unfolding nodesAt casesAt bindingsAt pathsAt stepsAt treePoolAt treePoolEnd wholeRecords
-startsRise t =
-    both (eqb (nodesAt t) 0)
-    (both (wholeRecords nodeSize (nodesAt t) (casesAt t))
-    (both (wholeRecords caseSize (casesAt t) (bindingsAt t))
-    (both (wholeRecords bindingSize (bindingsAt t) (pathsAt t))
-    (both (wholeRecords pathSize (pathsAt t) (stepsAt t))
-    (both (wholeRecords stepSize (stepsAt t) (treePoolAt t))
-    (wholeRecords 1 (treePoolAt t) (treePoolEnd t)))))))
+startsRise t = both (eqb (nodesAt t) 0) (wholeBetween treeSizes (treePlaces t))
 
 -- a switch's and a list switch's path, run of cases and default: "parts inside their sections", "first 0 at count 0 (a switch's
 -- count is cases plus tail cases)"
