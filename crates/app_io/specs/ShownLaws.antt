@@ -11,6 +11,7 @@ use lib.ListN.{length, take, length-take, length-append, length-replicate}
 use Rattle.io.specs.Counts.{Counts}
 use Rattle.base_words.specs.Words.{pick, zeros}
 use Rattle.spec_rules.specs.Limits.{treeRoom, workRoom}
+use Rattle.spec_rules.specs.RefusalNumbers.{treeRefusal}
 use Rattle.spec_rules.specs.TreeReader.{treeFits}
 use Rattle.spec_rules.specs.Calls.{Answer, answers, refuses, Built as BuiltTree, BuildCall, buildAnswer, buildCall, sheetTreeFile}
 use Rattle.spec_rules.specs.Listing.{listing, refusedLine, printed, sheetListing}
@@ -68,7 +69,7 @@ module _ (t : List ℕ) (room : ℕ) where
       ends false = refl
 
       fits : (b : Bool)
-          → counting (pick b (record { answer = answers (endIn (listing t) room); out = textIn (listing t) room }) (record { answer = refuses 31 0; out = zeros room }))
+          → counting (pick b (record { answer = answers (endIn (listing t) room); out = textIn (listing t) room }) (record { answer = refuses treeRefusal 0; out = zeros room }))
           ≡ pick b (shown (listing t) room) (record { answer = 0; out = zeros room })
       fits true = ap (λ (n : ℕ). lineOf n (textIn (listing t) room)) (ends (leb (length (listing t)) room))
       fits false = refl

@@ -5,6 +5,7 @@ use Prim.Native.Nat.{ℕ, _-_}
 use lib.Dec.{leb}
 use lib.ListN.{length}
 use Rattle.base_words.specs.Words.{pick, zeros}
+use Rattle.spec_rules.specs.RefusalNumbers.{treeRefusal}
 use Rattle.spec_rules.specs.TreeReader.{treeFits}
 use Rattle.spec_rules.specs.Calls.{Answer, answers, refuses}
 use Rattle.spec_rules.specs.Listing.{listing, refusedLine}
@@ -19,7 +20,7 @@ pub data End : Type 0 where
 abbrev pub answerOf : Listed → Answer End
 answerOf (Listed.Written n) = answers (written n)
 answerOf Listed.Full = answers full
-answerOf Listed.Refused = refuses 31 0
+answerOf Listed.Refused = refuses treeRefusal 0
 
 -- a text that has room is followed by zeros; in the place of one that has none there are zeros alone
 unfoldable pub textIn : List ℕ → ℕ → List ℕ
@@ -40,7 +41,7 @@ unfolding textIn endIn
 listingCall t room =
     pick (treeFits t)
     (record { answer = answers (endIn (listing t) room); out = textIn (listing t) room })
-    (record { answer = refuses 31 0; out = zeros room })
+    (record { answer = refuses treeRefusal 0; out = zeros room })
 
 -- the line of a refused sheet: how many bytes were written, none where it has no room
 pub record LineCall : Type 0 where

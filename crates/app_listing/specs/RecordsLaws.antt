@@ -10,8 +10,9 @@ use borrow.Author.Tests.{ne-eqb}
 use lib.Dec.{eqb}
 use lib.ListN.{length}
 use Rattle.base_words.specs.Words.{textAt}
+use Rattle.spec_rules.specs.Kinds.{hoistNode, listWithTailCase, pairStep, tupleStep, constrStep, listStep}
 use Rattle.spec_rules.specs.TreeReader.{nodes, cases, nodeKind, nodeTailCases, nodeCases, NodeKind, Switch, List-switch, Leaf, Hoist-node, Unknown-node, nodeKindOf, nodePath, nodeFirstCase, nodeDefault, caseKind, CaseKind, Constr-case, Int-case, Bytes-case, List-case, List-with-tail-case, Unknown-case, caseKindOf, testOfKind, caseText, caseTest, caseChild, stepOfFields, stepAt, stepsFrom, pathAt}
-use Rattle.spec_rules.specs.Listing.{treeWord, refusedWord, trueFlag, falseFlag, switchWord, elseWord, pairStep, tupleStep, constrStep, listStep, listtailStep, decimal, flagText, stepText, moreSteps, pathText, testText, casesText, bindingsText, defaultText, switchText, nodeText, nodeLines, firstLine, listing, refusedLine}
+use Rattle.spec_rules.specs.Listing.{treeWord, refusedWord, trueFlag, falseFlag, switchWord, elseWord, pairStepWord, tupleStepWord, constrStepWord, listStepWord, listtailStepWord, decimal, flagText, stepText, moreSteps, pathText, testText, casesText, bindingsText, defaultText, switchText, nodeText, nodeLines, firstLine, listing, refusedLine}
 use Rattle.spec_accepted.specs.KindsLaws.{node-byte, unknown-node, case-byte, unknown-case}
 use Rattle.format_tree.specs.declared.layout.Map.{Map}
 use Rattle.format_tree.specs.declared.reading.Test.{Test}
@@ -97,23 +98,23 @@ module _ (t : List ℕ) (i : ℕ) (s : Step) (is : s ≡ stepOf t i) where
   unfolding stepAt
   step-is = rw is
 
-  pub step-pair : s .kind ≡ 0 → pairStep ++ decimal (s .index) ≡ stepText (stepAt t i)
+  pub step-pair : s .kind ≡ pairStep → pairStepWord ++ decimal (s .index) ≡ stepText (stepAt t i)
   unfolding stepText stepOfFields
   step-pair e = rw e at step-is
 
-  pub step-tuple : s .kind ≡ 1 → tupleStep ++ decimal (s .index) ≡ stepText (stepAt t i)
+  pub step-tuple : s .kind ≡ tupleStep → tupleStepWord ++ decimal (s .index) ≡ stepText (stepAt t i)
   unfolding stepText stepOfFields
   step-tuple e = rw e at step-is
 
-  pub step-constr : s .kind ≡ 2 → constrStep ++ (decimal (s .index) ++ flagText (eqb (s .flag) 1)) ≡ stepText (stepAt t i)
+  pub step-constr : s .kind ≡ constrStep → constrStepWord ++ (decimal (s .index) ++ flagText (eqb (s .flag) 1)) ≡ stepText (stepAt t i)
   unfolding stepText stepOfFields
   step-constr e = rw e at step-is
 
-  pub step-list : s .kind ≡ 3 → listStep ++ decimal (s .index) ≡ stepText (stepAt t i)
+  pub step-list : s .kind ≡ listStep → listStepWord ++ decimal (s .index) ≡ stepText (stepAt t i)
   unfolding stepText stepOfFields
   step-list e = rw e at step-is
 
-  pub step-listtail : (s .kind ≡ 0 → ⊥) → (s .kind ≡ 1 → ⊥) → (s .kind ≡ 2 → ⊥) → (s .kind ≡ 3 → ⊥) → listtailStep ++ decimal (s .index) ≡ stepText (stepAt t i)
+  pub step-listtail : (s .kind ≡ pairStep → ⊥) → (s .kind ≡ tupleStep → ⊥) → (s .kind ≡ constrStep → ⊥) → (s .kind ≡ listStep → ⊥) → listtailStepWord ++ decimal (s .index) ≡ stepText (stepAt t i)
   unfolding stepText stepOfFields
   step-listtail a b c d = rw (ne-eqb _ _ a, ne-eqb _ _ b, ne-eqb _ _ c, ne-eqb _ _ d) at step-is
 
@@ -174,7 +175,7 @@ module _ {t : List ℕ} {m : Map} (ruled : Ruled t m) (i : ℕ) (h : i < m .case
   in-cases : i < cases t
   in-cases = omega (arith, cases-count (ruled .mapped))
 
-  pub case-kind-known : caseKind t i ≤ 4
+  pub case-kind-known : caseKind t i ≤ listWithTailCase
   case-kind-known = ruled .rules .case-kind i in-cases
 
   case-read-of : (kind : CaseKind) → caseKindOf (caseKind t i) ≡ kind → testRead t (testOfFields t i kind) ≡ testText (testOfKind t i kind)
@@ -218,7 +219,7 @@ module _ {t : List ℕ} {m : Map} (ruled : Ruled t m) (k : ℕ) (h : k < m .node
   in-nodes : k < nodes t
   in-nodes = omega (arith, nodes-count (ruled .mapped))
 
-  pub node-kind-known : nodeKind t k ≤ 3
+  pub node-kind-known : nodeKind t k ≤ hoistNode
   node-kind-known = ruled .rules .node-kind k in-nodes
 
   node-read-of : (kind : NodeKind) → nodeKindOf (nodeKind t k) ≡ kind → nodeRead t (nodeOfFields t k kind) ≡ nodeText t k kind

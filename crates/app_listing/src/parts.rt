@@ -16,7 +16,7 @@ ghost use mathlib.Core.List.{[], _∷_, _++_};
 ghost use Prim.Native.Nat.{_+_, _<_, _≤_};
 ghost use lib.Dec.{eqb};
 ghost use Rattle.spec_rules.specs.TreeReader.{stepAt, stepsFrom, pathAt};
-ghost use Rattle.spec_rules.specs.Listing.{constrStep, decimal, flagText, stepText, moreSteps, pathText, casesText, bindingsText, defaultText};
+ghost use Rattle.spec_rules.specs.Listing.{constrStepWord, decimal, flagText, stepText, moreSteps, pathText, casesText, bindingsText, defaultText};
 ghost use Rattle.format_tree.specs.Reading.{Mapped, Ruled};
 ghost use Rattle.app_listing.specs.Writing.{Writes};
 ghost use Rattle.app_listing.specs.Records.{caseLine, bindingLine, textTest, testRead, TestInside};
@@ -24,7 +24,7 @@ ghost use Rattle.app_listing.specs.Records.{caseLine, bindingLine, textT
 // ---- paths
 
 fn put_constr_step(out: &mut [u8], at: usize, index: u16, flag: u8) -> usize
-    ensures { λ r. ⌜ Writes (now (out .entry)) (now (out .exit)) at r (constrStep ++ (decimal index ++ flagText (eqb flag 1))) ⌝ }
+    ensures { λ r. ⌜ Writes (now (out .entry)) (now (out .exit)) at r (constrStepWord ++ (decimal index ++ flagText (eqb flag 1))) ⌝ }
 {
     let end = put_numbered(out, at, b"constr_", index);
     if flag == 1 {

@@ -9,6 +9,7 @@ use lib.Dec.{leb}
 use lib.ListN.{length, take}
 use Rattle.base_words.specs.Words.{pick, zeros}
 use Rattle.spec_rules.specs.Limits.{treeRoom, workRoom, boundRoom, nodeBindingsMost}
+use Rattle.spec_rules.specs.RefusalNumbers.{stuckRefusal}
 use Rattle.spec_rules.specs.SheetRefusals.{accepted}
 use Rattle.spec_rules.specs.TreeReader.{treeFits, treeOf}
 use Rattle.spec_rules.specs.PanelFile.{panelVerdict}
@@ -81,7 +82,7 @@ module _ (t v : List ℕ) (n : ℕ) (r : Walked) (bound : List ℕ) (fits : tree
       go (without-leaf w a b) = unfold walkedText in rw w
       go (with-32 w a b) = let z : _≡_ {A = ℕ} 0 1 = cc (told, a) in absurd (omega arith)
 
-  with-refusal : (number place : ℕ) → walk (treeOf t) v ≡ stuck → number ≡ 32 → place ≡ 0 → refusedLine number place ≡ walkedText v (walk (treeOf t) v)
+  with-refusal : (number place : ℕ) → walk (treeOf t) v ≡ stuck → number ≡ stuckRefusal → place ≡ 0 → refusedLine number place ≡ walkedText v (walk (treeOf t) v)
   unfolding walkedText
   with-refusal number place w e f = rw (w, e, f)
 

@@ -2,6 +2,7 @@
 -- Each holds by computing.
 use mathlib.Core.Path.{_≡_, refl}
 use mathlib.Core.List.{[], _∷_}
+use Rattle.spec_rules.specs.Sections.{panelFileOf}
 use Rattle.spec_rules.specs.Samples.{sheet1, panel2, panel3, panel4}
 use Rattle.app_report.specs.Telling.{telling}
 
@@ -20,12 +21,12 @@ P3-told : telling sheet1 panel3
     ≡ 108 ∷ 101 ∷ 97 ∷ 102 ∷ 32 ∷ 49 ∷ 10
     ∷ 110 ∷ 50 ∷ 32 ∷ 114 ∷ 101 ∷ 99 ∷ 111 ∷ 114 ∷ 100 ∷ 32 ∷ 49 ∷ 32 ∷ 100 ∷ 114 ∷ 111 ∷ 112 ∷ 112 ∷ 101 ∷ 100 ∷ 32 ∷ 48
     ∷ 32 ∷ 105 ∷ 110 ∷ 116 ∷ 32 ∷ 53 ∷ 10 ∷ []
-unfolding telling
+unfolding telling panelFileOf
 P3-told = refl
 
 -- leaf 2
 P4-told : telling sheet1 panel4 ≡ 108 ∷ 101 ∷ 97 ∷ 102 ∷ 32 ∷ 50 ∷ 10 ∷ []
-unfolding telling
+unfolding telling panelFileOf
 P4-told = refl
 
 -- refused 21 0

@@ -6,6 +6,7 @@ use Prim.Native.Nat.{ℕ, _-_, _≤_, _<_}
 use borrow.Author.Tests.{le-leb, lt-leb, lt-ltb, le-ltb}
 use Rattle.base_words.specs.Words.{Bytes}
 use Rattle.base_words.specs.WordsLaws.{wordAt-small}
+use Rattle.spec_rules.specs.Kinds.{integerRecord, bytesRecord, listRecord, pairRecord, tupleRecord, constructorRecord}
 use Rattle.spec_rules.specs.SheetRefusals.{accepted, refused}
 use Rattle.spec_rules.specs.PanelFile.{records, recordA, recordCount, RecordKind, Integer-record, Bytes-record, List-record, Pair-record, Tuple-record, Constructor-record, Unknown-record, recordKindOf, panelVerdict}
 use Rattle.spec_rules.specs.Calls.{textPart}
@@ -30,31 +31,31 @@ module _ (v : List ℕ) (r d : ℕ) (x : Record) (read : x ≡ recordOf v r) whe
   unfolding recordText
   of-kind kind e = ap (kindText v r d) (sym e ∙ ap (λ (y : Record). recordKindOf (y .kind)) read)
 
-  pub int-is : x .kind ≡ 0 → intWord ++ textPart v r d ≡ recordText v r d
+  pub int-is : x .kind ≡ integerRecord → intWord ++ textPart v r d ≡ recordText v r d
   unfolding kindText
   int-is k = of-kind Integer-record (byte-record _ Integer-record k)
 
-  pub bytes-is : x .kind ≡ 1 → bytesWord ++ hex (textPart v r d) ≡ recordText v r d
+  pub bytes-is : x .kind ≡ bytesRecord → bytesWord ++ hex (textPart v r d) ≡ recordText v r d
   unfolding kindText
   bytes-is k = of-kind Bytes-record (byte-record _ Bytes-record k)
 
-  pub list-is : x .kind ≡ 2 → listText (x .count) d ≡ recordText v r d
+  pub list-is : x .kind ≡ listRecord → listText (x .count) d ≡ recordText v r d
   unfolding kindText
   list-is k = ap (λ (y : Record). listText (y .count) d) read ∙ of-kind List-record (byte-record _ List-record k)
 
-  pub pair-is : x .kind ≡ 3 → pairWord ≡ recordText v r d
+  pub pair-is : x .kind ≡ pairRecord → pairWord ≡ recordText v r d
   unfolding kindText
   pair-is k = of-kind Pair-record (byte-record _ Pair-record k)
 
-  pub tuple-is : x .kind ≡ 4 → tupleWord ++ decimal (x .count) ≡ recordText v r d
+  pub tuple-is : x .kind ≡ tupleRecord → tupleWord ++ decimal (x .count) ≡ recordText v r d
   unfolding kindText
   tuple-is k = ap (λ (y : Record). tupleWord ++ decimal (y .count)) read ∙ of-kind Tuple-record (byte-record _ Tuple-record k)
 
-  pub constr-is : x .kind ≡ 5 → constrWord ++ decimal (x .a) ≡ recordText v r d
+  pub constr-is : x .kind ≡ constructorRecord → constrWord ++ decimal (x .a) ≡ recordText v r d
   unfolding kindText
   constr-is k = ap (λ (y : Record). constrWord ++ decimal (y .a)) read ∙ of-kind Constructor-record (byte-record _ Constructor-record k)
 
-  pub unknown-is : 6 ≤ x .kind → [] ≡ recordText v r d
+  pub unknown-is : constructorRecord < x .kind → [] ≡ recordText v r d
   unfolding kindText
   unknown-is k = of-kind Unknown-record (record-unknown _ k)
 

@@ -11,6 +11,8 @@ use lib.ListN.{length, length-append, length-take}
 use Rattle.base_words.specs.Words.{pick}
 use Rattle.base_words.specs.WordsLaws.{both-true}
 use Rattle.spec_rules.specs.Limits.{textMost, treeRoom, workRoom}
+use Rattle.spec_rules.specs.Kinds.{bytesRecord}
+use Rattle.spec_rules.specs.RefusalNumbers.{stuckRefusal}
 use Rattle.spec_rules.specs.SheetRefusals.{Verdict, accepted, refused}
 use Rattle.spec_rules.specs.PanelFile.{records, recordKind, recordA, recordCount, RecordKind, Integer-record, Bytes-record, List-record, Pair-record, Tuple-record, Constructor-record, Unknown-record, recordKindOf, panelVerdict}
 use Rattle.spec_rules.specs.TreeReader.{treeFits, treeOf}
@@ -58,7 +60,7 @@ module _ (v : List ℕ) (ok : panelVerdict v ≡ accepted) (r d : ℕ) where
       few : hasText v r d ≡ true → recordCount v r ≤ textMost
       few e = unfold hasText in
           let a = both-true (ltb r (records v)) _ e in
-          let b = both-true (leb (recordKind v r) 1) (eqb d 0) (a .1) in
+          let b = both-true (leb (recordKind v r) bytesRecord) (eqb d 0) (a .1) in
           accepted-panel v ok .text-short r (ltb-true _ _ (a .0)) (leb-true _ _ (b .0))
 
       go : (b : Bool) → hasText v r d ≡ b → length (textPart v r d) ≤ textMost
@@ -121,7 +123,7 @@ module _ (v : List ℕ) (ok : panelVerdict v ≡ accepted) where
           short (ap (walkedText v) e)
           (unfold walkedText in omega (arith, leaf-short c (bindingLines v xs), lines-short xs, few-are-bound t v ok fits c xs e))
       go noLeaf e = short (ap (walkedText v) e) (unfold walkedText in omega arith)
-      go stuck e = short (ap (walkedText v) e) (unfold walkedText in refused-short 32 0)
+      go stuck e = short (ap (walkedText v) e) (unfold walkedText in refused-short stuckRefusal 0)
 
 -- ---- the whole text
 module _ (s v : List ℕ) where

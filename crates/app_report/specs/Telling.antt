@@ -5,6 +5,7 @@ use mathlib.Core.List.{List, [], _∷_, _++_}
 use lib.Dec.{leb, ltb}
 use Rattle.base_words.specs.Words.{pick}
 use Rattle.spec_rules.specs.Limits.{treeRoom, workRoom}
+use Rattle.spec_rules.specs.RefusalNumbers.{stuckRefusal}
 use Rattle.spec_rules.specs.SheetRefusals.{Verdict, accepted, refused}
 use Rattle.spec_rules.specs.PanelFile.{records, recordKind, recordA, recordCount, RecordKind, Integer-record, Bytes-record, List-record, Pair-record, Tuple-record, Constructor-record, Unknown-record, recordKindOf, panelVerdict}
 use Rattle.spec_rules.specs.TreeReader.{treeOf}
@@ -98,7 +99,7 @@ unfoldable pub walkedText : List ℕ → Walked → List ℕ
 unfolding leafLine bindingLines refusedLine
 walkedText v (reached clause bs) = leafLine clause ++ bindingLines v bs
 walkedText v noLeaf = noLeafLine
-walkedText v stuck = refusedLine 32 0
+walkedText v stuck = refusedLine stuckRefusal 0
 
 -- a text where the panel fits the sheet, or where the sheet's tree was built, and else the line of the refusal
 abbrev pub whereFits : Verdict → List ℕ → List ℕ

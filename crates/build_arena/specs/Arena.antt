@@ -4,7 +4,7 @@ use Prim.Native.Nat.{ℕ, _+_, _*_}
 use mathlib.Core.List.{List}
 use lib.ListN.{getD}
 use Rattle.base_words.specs.Words.{wordAt}
-use Rattle.spec_rules.specs.Limits.{nodesMost, nodeSize, caseSize, bindingSize}
+use Rattle.spec_rules.specs.Limits.{nodesMost, bindingsMost, nodeSize, caseSize, bindingSize}
 use Rattle.spec_rules.specs.Rows.{Path}
 use Rattle.spec_rules.specs.Building.{Tree, Cases}
 use Rattle.spec_file.specs.TreeStands.{Starts, TreeStands, TreeStandsOf}
@@ -15,17 +15,17 @@ abbrev pub nodesStart : ℕ
 nodesStart = 0
 
 abbrev pub casesStart : ℕ
-casesStart = 12288
+casesStart = nodesStart + nodeSize * nodesMost
 
 -- 1,024 cases: each has a node of its own, so that a tree has fewer cases than nodes
 abbrev pub casesMost : ℕ
 casesMost = nodesMost
 
 abbrev pub bindingsStart : ℕ
-bindingsStart = 20480
+bindingsStart = casesStart + caseSize * casesMost
 
 abbrev pub arenaEnd : ℕ
-arenaEnd = 36864
+arenaEnd = bindingsStart + bindingSize * bindingsMost
 
 abbrev pub arenaStarts : Starts
 arenaStarts = record { nodes = nodesStart; cases = casesStart; bindings = bindingsStart }

@@ -6,6 +6,7 @@ use mathlib.Core.List.{List, [], _∷_, _++_}
 use Prim.Native.Nat.{ℕ, zero, suc, _+_, _*_, _≤_, _<_}
 use lib.ListN.{length, getD}
 use Rattle.spec_rules.specs.Limits.{nodesMost, bindingsMost, caseSize, bindingSize}
+use Rattle.spec_rules.specs.Kinds.{leafNode, firstCaseWord, casesWord, tailCasesWord, defaultWord, clauseWord, firstBindingWord, bindingsWord}
 use Rattle.spec_rules.specs.Rows.{Path, Binding}
 use Rattle.spec_rules.specs.Building.{Tree, Cases, absent, leaf, hoist, switch, listswitch, cnil, ccons}
 use Rattle.spec_rules.specs.Hoisting.{howMany, nodesIn, nodesInOf, bindingsIn}
@@ -99,19 +100,19 @@ pub record HeldAt (w : List ℕ) (table : List Path) (cases bindings j : ℕ) (s
 
 -- a leaf
 pub record LeafNode (w : List ℕ) (table : List Path) (bindings j x : ℕ) (bs : List Binding) : Type 0 where
-  pub kind-is : nodeKind w j ≡ 2
-  pub clause-is : nodeWord w j 0 ≡ x
-  pub count-is : nodeWord w j 2 ≡ length bs
-  pub inside : nodeWord w j 1 + length bs ≤ bindings
-  pub bound : Stands w (bindingsStart + bindingSize * nodeWord w j 1) (bindingsBytes table bs)
+  pub kind-is : nodeKind w j ≡ leafNode
+  pub clause-is : nodeWord w j clauseWord ≡ x
+  pub count-is : nodeWord w j bindingsWord ≡ length bs
+  pub inside : nodeWord w j firstBindingWord + length bs ≤ bindings
+  pub bound : Stands w (bindingsStart + bindingSize * nodeWord w j firstBindingWord) (bindingsBytes table bs)
 
 -- a switch or a list switch
 pub record SwitchNode (w : List ℕ) (cases j : ℕ) (s : Tree) : Type 0 where
-  pub kind-is : nodeKind w j < 2
-  pub count-is : nodeWord w j 2 + nodeWord w j 3 ≡ howMany (casesUnder s)
-  pub inside : nodeWord w j 1 + howMany (casesUnder s) ≤ cases
-  pub own : Stands w (casesStart + caseSize * nodeWord w j 1) (ownCases (j + 1) (casesUnder s))
-  pub default-is : nodeWord w j 4 ≡ defaultField (j + 1 + nodesInOf (casesUnder s)) (defaultUnder s)
+  pub kind-is : nodeKind w j < leafNode
+  pub count-is : nodeWord w j casesWord + nodeWord w j tailCasesWord ≡ howMany (casesUnder s)
+  pub inside : nodeWord w j firstCaseWord + howMany (casesUnder s) ≤ cases
+  pub own : Stands w (casesStart + caseSize * nodeWord w j firstCaseWord) (ownCases (j + 1) (casesUnder s))
+  pub default-is : nodeWord w j defaultWord ≡ defaultField (j + 1 + nodesInOf (casesUnder s)) (defaultUnder s)
 
 -- n is the number of the child s of node j of the tree a
 pub record ChildNode (a : Tree) (j n : ℕ) (s : Tree) : Type 0 where

@@ -9,6 +9,7 @@ use native.Mathlib.Nat.{add-zero, zero-add}
 use lib.ListN.{length, getD, length-append, List·getD-append}
 use lib.Seq.{getD-append-add}
 use Rattle.spec_rules.specs.Limits.{nodesMost, bindingsMost, caseSize, bindingSize}
+use Rattle.spec_rules.specs.Kinds.{firstCaseWord, defaultWord, firstBindingWord}
 use Rattle.spec_rules.specs.Rows.{Path, Binding}
 use Rattle.spec_rules.specs.Building.{Tree, Cases, absent, leaf, hoist, switch, listswitch, cnil, ccons}
 use Rattle.spec_rules.specs.Hoisting.{howMany, nodesIn, nodesInOf, bindingsIn, bindingsInOf}
@@ -280,9 +281,9 @@ leaf-node w table cases bindings j x bs r h =
       kind-is = n .kind-is;
       clause-is = n .word-0;
       count-is = n .word-2;
-      inside = first-inside (length bs) (h .first-binding) (nodeWord w j 1) bindings (length bs) (n .word-1) (h .bindings-inside) (omega arith);
+      inside = first-inside (length bs) (h .first-binding) (nodeWord w j firstBindingWord) bindings (length bs) (n .word-1) (h .bindings-inside) (omega arith);
       bound =
-          run-start w (bindingsBytes table bs) bindingsStart bindingSize (length bs) (h .first-binding) (nodeWord w j 1) (n .word-1) (no-bindings table bs)
+          run-start w (bindingsBytes table bs) bindingsStart bindingSize (length bs) (h .first-binding) (nodeWord w j firstBindingWord) (n .word-1) (no-bindings table bs)
           (omega arith) (h .held .1);
     }
 
@@ -297,21 +298,21 @@ switch-node w table cases bindings j (switch p cs d) e r h =
     record {
       kind-is = omega (arith, n .kind-is);
       count-is = omega (arith, n .word-2, n .word-3);
-      inside = first-inside (howMany cs) (h .first-case) (nodeWord w j 1) cases (casesIn (switch p cs d)) (n .word-1) (h .cases-inside) (omega arith);
-      own = run-start w (ownCases (j + 1) cs) casesStart caseSize (howMany cs) (h .first-case) (nodeWord w j 1) (n .word-1) (no-cases (j + 1) cs) (omega arith) (h .held .1);
+      inside = first-inside (howMany cs) (h .first-case) (nodeWord w j firstCaseWord) cases (casesIn (switch p cs d)) (n .word-1) (h .cases-inside) (omega arith);
+      own = run-start w (ownCases (j + 1) cs) casesStart caseSize (howMany cs) (h .first-case) (nodeWord w j firstCaseWord) (n .word-1) (no-cases (j + 1) cs) (omega arith) (h .held .1);
       default-is = n .word-4;
     }
 switch-node w table cases bindings j (listswitch p cs ts d) e r h =
     let n = node-is (h .held .0) in
     let m = howMany-joined cs ts in
-    let first : nodeWord w j 1 ≡ firstOf (howMany (joined cs ts)) (h .first-case) = n .word-1 ∙ ap (λ z. firstOf z (h .first-case)) (sym m) in
+    let first : nodeWord w j firstCaseWord ≡ firstOf (howMany (joined cs ts)) (h .first-case) = n .word-1 ∙ ap (λ z. firstOf z (h .first-case)) (sym m) in
     let own : Stands w (casesStart + caseSize * h .first-case) (ownCases (j + 1) (joined cs ts)) = rw (ownCases-joined (j + 1) (j + 1 + nodesInOf cs) cs ts refl) (h .held .1) in
     let after : j + 1 + nodesInOf cs + nodesInOf ts ≡ j + 1 + nodesInOf (joined cs ts) = omega (arith, nodesInOf-joined cs ts) in
     record {
       kind-is = omega (arith, n .kind-is);
       count-is = omega (arith, n .word-2, n .word-3);
-      inside = first-inside (howMany (joined cs ts)) (h .first-case) (nodeWord w j 1) cases (casesIn (listswitch p cs ts d)) first (h .cases-inside) (omega arith);
-      own = run-start w (ownCases (j + 1) (joined cs ts)) casesStart caseSize (howMany (joined cs ts)) (h .first-case) (nodeWord w j 1) first (no-cases (j + 1) (joined cs ts))
+      inside = first-inside (howMany (joined cs ts)) (h .first-case) (nodeWord w j firstCaseWord) cases (casesIn (listswitch p cs ts d)) first (h .cases-inside) (omega arith);
+      own = run-start w (ownCases (j + 1) (joined cs ts)) casesStart caseSize (howMany (joined cs ts)) (h .first-case) (nodeWord w j firstCaseWord) first (no-cases (j + 1) (joined cs ts))
           (omega arith) own;
       default-is = n .word-4 ∙ ap (λ z. defaultField z d) after;
     }
@@ -403,22 +404,22 @@ module _ (w : List ℕ) (table : List Path) (a : Tree) (nodes : Nodes w table a)
 
   -- THEOREM: the child field of case i is the number of its subtree
   pub case-node : (i : ℕ) → i < howMany (casesUnder (subtreeAt a j)) → AllThere (casesUnder (subtreeAt a j))
-      → ChildNode a j (caseChild w (nodeWord w j 1 + i)) (caseAt (casesUnder (subtreeAt a j)) i)
+      → ChildNode a j (caseChild w (nodeWord w j firstCaseWord + i)) (caseAt (casesUnder (subtreeAt a j)) i)
   case-node i m t =
       let cs = casesUnder (subtreeAt a j) in
       let n = j + 1 + nodesBefore cs i in
-      subst (λ z. ChildNode a j z (caseAt cs i)) (sym (caseAt-child w cs (nodeWord w j 1) (j + 1) i m (switch-shown .own)))
+      subst (λ z. ChildNode a j z (caseAt cs i)) (sym (caseAt-child w cs (nodeWord w j firstCaseWord) (j + 1) i m (switch-shown .own)))
       (child-node n (caseAt cs i) (caseAt-there cs i m t) (omega arith)
       (caseAt-within (subtrees a) cs (j + 1) i m (cases-within (subtrees a) j (subtreeAt a j) e (nodes .within j l))))
 
   -- THEOREM: the default field is one more than the number of the default, or 0 where there is none
-  pub default-node : 0 < nodeWord w j 4 → ChildNode a j (nodeWord w j 4 - 1) (defaultUnder (subtreeAt a j))
+  pub default-node : 0 < nodeWord w j defaultWord → ChildNode a j (nodeWord w j defaultWord - 1) (defaultUnder (subtreeAt a j))
   default-node h =
       let d = defaultUnder (subtreeAt a j) in
       let k = j + 1 + nodesInOf (casesUnder (subtreeAt a j)) in
       let f = defaultField-some k d (rw (switch-shown .default-is) at h) in
-      let n : nodeWord w j 4 - 1 ≡ k = omega (arith, switch-shown .default-is, f .0) in
+      let n : nodeWord w j defaultWord - 1 ≡ k = omega (arith, switch-shown .default-is, f .0) in
       subst (λ z. ChildNode a j z d) (sym n) (child-node k d (f .1) (omega arith) (default-within (subtrees a) j (subtreeAt a j) e (nodes .within j l)))
 
-  pub default-none : nodeWord w j 4 ≡ 0 → defaultUnder (subtreeAt a j) ≡ absent
+  pub default-none : nodeWord w j defaultWord ≡ 0 → defaultUnder (subtreeAt a j) ≡ absent
   default-none h = defaultField-none (j + 1 + nodesInOf (casesUnder (subtreeAt a j))) (defaultUnder (subtreeAt a j)) (sym (switch-shown .default-is) ∙ h)

@@ -5,6 +5,7 @@ use mathlib.Core.List.{List}
 use lib.ListN.{length}
 use lib.Dec.{eqb}
 use Rattle.base_words.specs.Words.{pick}
+use Rattle.spec_rules.specs.Kinds.{constrCase, intCase, bytesCase, listCase, listWithTailCase}
 use Rattle.spec_rules.specs.Splitting as splitting
 use Rattle.spec_file.specs.RecordsLaws.{caseFields}
 use Rattle.build_arena.specs.declared.reading.Test.{Test}
@@ -15,10 +16,10 @@ use Rattle.build_arena.specs.Arena.{caseKind, caseNumber, caseLength, ca
 -- the test of a case from its kind, number and length
 unfoldable pub testOf : ℕ → ℕ → ℕ → Test
 testOf kind number count =
-    pick (eqb kind 0) (Test.Constr number)
-    (pick (eqb kind 1) (Test.Text 1 number count)
-    (pick (eqb kind 2) (Test.Text 2 number count)
-    (pick (eqb kind 3) (Test.List number)
+    pick (eqb kind constrCase) (Test.Constr number)
+    (pick (eqb kind intCase) (Test.Text intCase number count)
+    (pick (eqb kind bytesCase) (Test.Text bytesCase number count)
+    (pick (eqb kind listCase) (Test.List number)
     (Test.Tailed number))))
 
 unfoldable pub caseOf : List ℕ → ℕ → Case
@@ -30,10 +31,10 @@ bindingOf w b = record { name = bindingName w b; path = bindingPath w b }
 
 -- a case's kind, number and length
 abbrev pub kindOf : Test → ℕ
-kindOf (Test.Constr number) = 0
+kindOf (Test.Constr number) = constrCase
 kindOf (Test.Text kind start count) = kind
-kindOf (Test.List count) = 3
-kindOf (Test.Tailed count) = 4
+kindOf (Test.List count) = listCase
+kindOf (Test.Tailed count) = listWithTailCase
 
 abbrev pub numberOf : Test → ℕ
 numberOf (Test.Constr number) = number
@@ -53,7 +54,7 @@ caseRecord x = caseFields (kindOf (x .test)) (numberOf (x .test)) (lengthOf (x .
 -- the rules' test u, whose text starts at `start`, as the code has it
 unfoldable pub testFor : ℕ → splitting.Test → Test
 testFor start (splitting.Constr a) = Test.Constr a
-testFor start (splitting.Int v) = Test.Text 1 start (length v)
-testFor start (splitting.Bytes v) = Test.Text 2 start (length v)
+testFor start (splitting.Int v) = Test.Text intCase start (length v)
+testFor start (splitting.Bytes v) = Test.Text bytesCase start (length v)
 testFor start (splitting.ListOf n) = Test.List n
 testFor start (splitting.ListWithTail n) = Test.Tailed n

@@ -10,6 +10,7 @@ use borrow.Author.Tests.{le-leb}
 use Rattle.base_words.specs.Words.{zeros}
 use Rattle.base_words.specs.WordsLaws.{both-make}
 use Rattle.spec_rules.specs.Limits.{treeRoom, workRoom}
+use Rattle.spec_rules.specs.RefusalNumbers.{roomRefusal}
 use Rattle.spec_rules.specs.SheetRefusals.{accepted, refused, verdict}
 use Rattle.spec_rules.specs.Calls.{Answer, refuses, Built as BuiltTree, buildRoom, buildAnswer, buildCall}
 use Rattle.spec_theorems.specs.CallsLaws.{build-room, build-sheet}
@@ -28,7 +29,7 @@ gives-same s a b tree tree' r e g = rw e at g
 
 module _ (s : List ℕ) (n m : ℕ) where
   -- 1
-  pub no-room : (n < treeRoom) ⊎ (m < workRoom) → buildAnswer s n m ≡ refuses 1 0
+  pub no-room : (n < treeRoom) ⊎ (m < workRoom) → buildAnswer s n m ≡ refuses roomRefusal 0
   no-room o = build-room s n m o
 
   -- with room: the sheet's refusal, or the end for an accepted sheet

@@ -5,6 +5,7 @@ use Prim.Native.Nat.{ℕ}
 use lib.Dec.{eqb, leb}
 use Rattle.base_words.specs.Words.{pick}
 use Rattle.spec_rules.specs.Limits.{nodesMost}
+use Rattle.spec_rules.specs.Kinds.{bindingsWord}
 use Rattle.build_arena.specs.Arena.{nodeWord}
 
 abbrev pub isMarked : ℕ → Bool
@@ -13,4 +14,4 @@ isMarked mark = not (eqb mark 0)
 -- none where the number is no node's
 unfoldable pub leafBindings : List ℕ → ℕ → ℕ
 unfolding nodeWord
-leafBindings w leaf = pick (leb nodesMost leaf) 0 (nodeWord w leaf 2)
+leafBindings w leaf = pick (leb nodesMost leaf) 0 (nodeWord w leaf bindingsWord)

@@ -10,6 +10,7 @@ use lib.Dec.{leb}
 use Rattle.base_words.specs.Words.{Bytes, pick}
 use Rattle.base_words.specs.WordsLaws.{wordAt-small}
 use Rattle.spec_rules.specs.Limits.{nodesMost, nodeSize}
+use Rattle.spec_rules.specs.Kinds.{bindingsWord}
 use Rattle.spec_rules.specs.Searching.{times}
 use Rattle.spec_rules.specs.Rows.{bit}
 use Rattle.spec_hoist.specs.Trees.{sum}
@@ -35,7 +36,7 @@ pub no-leaf : (w : List ℕ) (k : ℕ) → nodesMost ≤ k → 0 ≡ leafBinding
 unfolding leafBindings
 no-leaf w k l = rw (le-leb nodesMost k l)
 
-pub some-leaf : (w : List ℕ) (k : ℕ) → k < nodesMost → nodeWord w k 2 ≡ leafBindings w k
+pub some-leaf : (w : List ℕ) (k : ℕ) → k < nodesMost → nodeWord w k bindingsWord ≡ leafBindings w k
 unfolding leafBindings
 some-leaf w k l = rw (lt-leb nodesMost k l)
 
@@ -44,7 +45,7 @@ pub leaf-most : (w : List ℕ) (k : ℕ) → Bytes w → leafBindings w k ≤ 65
 unfolding leafBindings nodeWord
 leaf-most w k b = go (leb nodesMost k) refl
   where
-    go : (x : Bool) → leb nodesMost k ≡ x → pick x 0 (nodeWord w k 2) ≤ 65535
+    go : (x : Bool) → leb nodesMost k ≡ x → pick x 0 (nodeWord w k bindingsWord) ≤ 65535
     go true e = omega arith
     go false e = omega (arith, wordAt-small b (nodeSize * k + 2 + 2 * 2))
 

@@ -11,6 +11,7 @@ use Rattle.base_words.specs.Words.{pick, zeros}
 use Rattle.base_words.specs.Stored.{stored}
 use Rattle.base_words.specs.StoredLaws.{stored-zeros}
 use Rattle.spec_rules.specs.Limits.{nodesMost, bindingsMost, clausesMost, treeRoom, nodeSize, caseSize, bindingSize}
+use Rattle.spec_rules.specs.RefusalNumbers.{nodesRefusal, bindingsRefusal, idleRefusal}
 use Rattle.spec_rules.specs.Searching.{lowest, times}
 use Rattle.spec_rules.specs.SearchingLaws.{lowest-some, times-agree}
 use Rattle.spec_rules.specs.SheetFile.{clauses, patterns, pool}
@@ -36,7 +37,7 @@ use Rattle.build_table.specs.Tabled.{Checked, Tabled}
 use Rattle.format_sheet.specs.declared.Map.{Map}
 use Rattle.build_scopes.specs.declared.Scopes.{Scopes}
 use Rattle.build_scopes.specs.Marks.{Ready, ReadyWith}
-use Rattle.build_scopes.specs.Numbers.{descent, never, firstNumber, leafNode, idleNumber, BindCounts}
+use Rattle.build_scopes.specs.Numbers.{descent, never, firstNumber, firstLeafNode, idleNumber, BindCounts}
 use Rattle.build_scopes.specs.NumbersLaws.{descent-in}
 use Rattle.build_scopes.specs.Scoped.{Scoped}
 use Rattle.build_scopes.specs.FirstLeafLaws.{counts-each}
@@ -73,19 +74,19 @@ module _ (s : List ℕ) where
   end-refused : (number place : ℕ) → treeVerdict (clauses s) (sheetTree s) ≡ refused number place → treeEnd s ≡ refuses number place
   end-refused number place e = rw e
 
-  pub end-12 : nodesMost < nodesIn (rawTree s) + hoistsOf s → treeEnd s ≡ refuses 12 0
-  end-12 l = end-refused 12 0 (refused-12 s l)
+  pub end-12 : nodesMost < nodesIn (rawTree s) + hoistsOf s → treeEnd s ≡ refuses nodesRefusal 0
+  end-12 l = end-refused nodesRefusal 0 (refused-12 s l)
 
   -- more nodes than there may be even before it is hoisted
-  pub end-12-raw : nodesMost < nodesIn (rawTree s) → treeEnd s ≡ refuses 12 0
+  pub end-12-raw : nodesMost < nodesIn (rawTree s) → treeEnd s ≡ refuses nodesRefusal 0
   end-12-raw l = end-12 (omega arith)
 
   module _ (few : nodesIn (rawTree s) + hoistsOf s ≤ nodesMost) where
-    pub end-13 : bindingsMost < length (bindingsIn (rawTree s)) + hoistBindings s → treeEnd s ≡ refuses 13 0
-    end-13 l = end-refused 13 0 (refused-13 s few l)
+    pub end-13 : bindingsMost < length (bindingsIn (rawTree s)) + hoistBindings s → treeEnd s ≡ refuses bindingsRefusal 0
+    end-13 l = end-refused bindingsRefusal 0 (refused-13 s few l)
 
-    pub end-14 : length (bindingsIn (rawTree s)) + hoistBindings s ≤ bindingsMost → (c : ℕ) → lowestIdle (clauses s) (rawTree s) ≡ some c → treeEnd s ≡ refuses 14 c
-    end-14 l c e = end-refused 14 c (refused-14 s few l c e)
+    pub end-14 : length (bindingsIn (rawTree s)) + hoistBindings s ≤ bindingsMost → (c : ℕ) → lowestIdle (clauses s) (rawTree s) ≡ some c → treeEnd s ≡ refuses idleRefusal c
+    end-14 l c e = end-refused idleRefusal c (refused-14 s few l c e)
 
     pub end-built : length (bindingsIn (rawTree s)) + hoistBindings s ≤ bindingsMost → lowestIdle (clauses s) (rawTree s) ≡ none
         → treeEnd s ≡ answers (builtOf (sheetTreeFile s) (sheetTree s))
@@ -159,7 +160,7 @@ module _ {s : List ℕ} (ok : Accepted s) where
 
     -- the bindings of the hoists are those of the first leaves that were found
     pub found-bindings : (x : Scopes) → Scoped (rawTree s) (clauses s) x → sum (λ c. leafBindings w (getD (x .leaf) c 0)) 0 (clauses s) ≡ hoistBindings s
-    unfolding leafNode firstNumber raw-ready
+    unfolding firstLeafNode firstNumber raw-ready
     found-bindings x scoped = sum-agree (λ c. leafBindings w (getD (x .leaf) c 0)) (λ c. length (firstBindings c (rawTree s))) 0 (clauses s) (λ c l h. one c (omega arith) (hasLeaf c (rawTree s)) refl)
       where
         one : (c : ℕ) → c < clauses s → (b : Bool) → hasLeaf c (rawTree s) ≡ b → leafBindings w (getD (x .leaf) c 0) ≡ length (firstBindings c (rawTree s))

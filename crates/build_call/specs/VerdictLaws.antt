@@ -10,6 +10,7 @@ use borrow.Author.Tests.{le-leb, lt-leb}
 use lib.Dec.{leb}
 use lib.ListN.{length}
 use Rattle.spec_rules.specs.Limits.{nodesMost, bindingsMost}
+use Rattle.spec_rules.specs.RefusalNumbers.{nodesRefusal, bindingsRefusal, idleRefusal}
 use Rattle.spec_rules.specs.Searching.{lowest, times}
 use Rattle.spec_hoist.specs.Trees.{sum}
 use Rattle.spec_rules.specs.SheetFile.{clauses}
@@ -46,7 +47,7 @@ module _ (s : List ℕ) where
   unfolding lowestIdle sheetTree
   whole-idle n = ap (λ f. lowest f 0 n) (λ i c. not (wholeTree-hasLeaf (sheetPatterns s) c i))
 
-  pub refused-12 : nodesMost < nodesIn rawTree + hoistsOf → treeVerdict (clauses s) (sheetTree s) ≡ refused 12 0
+  pub refused-12 : nodesMost < nodesIn rawTree + hoistsOf → treeVerdict (clauses s) (sheetTree s) ≡ refused nodesRefusal 0
   unfolding treeVerdict
   refused-12 l = rw (lt-leb (nodesIn (sheetTree s)) nodesMost (omega (arith, whole-nodes)))
 
@@ -55,7 +56,7 @@ module _ (s : List ℕ) where
     nodes-fit : leb (nodesIn (sheetTree s)) nodesMost ≡ true
     nodes-fit = le-leb (nodesIn (sheetTree s)) nodesMost (omega (arith, whole-nodes))
 
-    pub refused-13 : bindingsMost < length (bindingsIn rawTree) + hoistBindings → treeVerdict (clauses s) (sheetTree s) ≡ refused 13 0
+    pub refused-13 : bindingsMost < length (bindingsIn rawTree) + hoistBindings → treeVerdict (clauses s) (sheetTree s) ≡ refused bindingsRefusal 0
     unfolding treeVerdict
     refused-13 l = rw (nodes-fit, lt-leb (length (bindingsIn (sheetTree s))) bindingsMost (omega (arith, whole-bindings)))
 
@@ -63,7 +64,7 @@ module _ (s : List ℕ) where
       bindings-fit : leb (length (bindingsIn (sheetTree s))) bindingsMost ≡ true
       bindings-fit = le-leb (length (bindingsIn (sheetTree s))) bindingsMost (omega (arith, whole-bindings))
 
-      pub refused-14 : (c : ℕ) → lowestIdle (clauses s) rawTree ≡ some c → treeVerdict (clauses s) (sheetTree s) ≡ refused 14 c
+      pub refused-14 : (c : ℕ) → lowestIdle (clauses s) rawTree ≡ some c → treeVerdict (clauses s) (sheetTree s) ≡ refused idleRefusal c
       unfolding treeVerdict
       refused-14 c e = rw (nodes-fit, bindings-fit, whole-idle (clauses s) ∙ e)
 

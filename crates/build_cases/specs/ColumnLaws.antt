@@ -10,6 +10,7 @@ use lib.ListN.{length, getD, take}
 use lib.Seq.{slice, slice-empty}
 use Rattle.base_words.specs.Words.{pick, both, either, Bytes as IsBytes}
 use Rattle.base_words.specs.WordsLaws.{wordAt-small}
+use Rattle.spec_rules.specs.Kinds.{listPattern, listWithTailPattern}
 use Rattle.spec_rules.specs.SheetFile.{patternKind, patternCount}
 use Rattle.spec_rules.specs.Splitting.{taillessLength, tailedLength, larger, longest}
 use Rattle.spec_accepted.specs.SheetFacts.{Accepted}
@@ -54,9 +55,9 @@ module _ {s : List ℕ} (bytes : IsBytes s) (ok : Accepted s) where
   longest-most (p ∷ ps) a =
       let (x, y) = longest-most ps (a .1) in (
         larger-most (taillessLength (patternOf s p)) (longest taillessLength (map (patternOf s) ps)) 65536
-            (rw (tailless-length ok p (a .0)) (pick-most (eqb (patternKind s p) 5) (suc (patternCount s p)) 65536 (count-small p))) x,
+            (rw (tailless-length ok p (a .0)) (pick-most (eqb (patternKind s p) listPattern) (suc (patternCount s p)) 65536 (count-small p))) x,
         larger-most (tailedLength (patternOf s p)) (longest tailedLength (map (patternOf s) ps)) 65536
-            (rw (tailed-length ok p (a .0)) (pick-most (eqb (patternKind s p) 6) (patternCount s p) 65536 (omega (arith, count-small p)))) y,
+            (rw (tailed-length ok p (a .0)) (pick-most (eqb (patternKind s p) listWithTailPattern) (patternCount s p) 65536 (omega (arith, count-small p)))) y,
       )
 
   pub longest-few : (ps : List ℕ) → All (TestKnown s) ps → (l : Longest) → l ≡ longestOf s ps → (l .tailless ≤ 65536) × (l .tails ≤ 65536)

@@ -6,6 +6,7 @@ use mathlib.Core.List.{List}
 use Prim.Native.Nat.{ℕ, zero, suc, _+_, _≤_, _<_}
 use lib.Dec.{eqb}
 use Rattle.base_words.specs.Words.{both, either, pick}
+use Rattle.spec_rules.specs.Kinds.{constrCase, intCase, bytesCase, listCase, listWithTailCase}
 use Rattle.spec_rules.specs.SheetFile.{poolSize, poolText}
 use Rattle.spec_rules.specs.Splitting.{Test, Constr, Int, Bytes, ListOf, ListWithTail, Met, sameTest}
 use Rattle.build_arena.specs.Arena.{caseKind, caseNumber, caseLength}
@@ -17,16 +18,16 @@ abbrev pub fieldsOf : arena.Test → Fields
 fieldsOf test = record { kind = kindOf test; number = numberOf test; len = lengthOf test }
 
 abbrev pub isText : ℕ → Bool
-isText kind = either (eqb kind 1) (eqb kind 2)
+isText kind = either (eqb kind intCase) (eqb kind bytesCase)
 
 -- the test that these fields stand for, and where its text starts
 unfoldable pub testIn : List ℕ → ℕ → ℕ → ℕ → Test
 unfolding poolText
 testIn s kind number len =
-    pick (eqb kind 0) (Constr number)
-    (pick (eqb kind 1) (Int (poolText s number len))
-    (pick (eqb kind 2) (Bytes (poolText s number len))
-    (pick (eqb kind 3) (ListOf number)
+    pick (eqb kind constrCase) (Constr number)
+    (pick (eqb kind intCase) (Int (poolText s number len))
+    (pick (eqb kind bytesCase) (Bytes (poolText s number len))
+    (pick (eqb kind listCase) (ListOf number)
     (ListWithTail number))))
 
 unfoldable pub startIn : ℕ → ℕ → ℕ
@@ -37,7 +38,7 @@ metIn s kind number len = record { test = testIn s kind number len; start = star
 
 -- fields of a case: a text lies in the pool, and what is no text has no length
 pub record Fit (s : List ℕ) (kind number len : ℕ) : Type 0 where
-  pub known : kind ≤ 4
+  pub known : kind ≤ listWithTailCase
   pub inside : isText kind ≡ true → number + len ≤ poolSize s
   pub plain : isText kind ≡ false → len ≡ 0
 

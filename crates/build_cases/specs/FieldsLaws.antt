@@ -11,6 +11,7 @@ use lib.Dec.{eqb}
 use lib.ListN.{length, getD, drop}
 use Rattle.base_words.specs.Words.{both, either, pick, textAt}
 use Rattle.base_words.specs.WordsLaws.{length-textAt, texts-agree, texts-differ, both-true, both-false, either-false}
+use Rattle.spec_rules.specs.Kinds.{intCase, bytesCase, listWithTailCase}
 use Rattle.spec_rules.specs.SheetFile.{poolAt, poolSize, poolText}
 use Rattle.spec_rules.specs.Splitting.{Test, Int, Bytes, testFields, sameTest}
 use Rattle.spec_rules.specs.SplittingLaws.{sameTest-sound, sameTest-make}
@@ -34,15 +35,15 @@ five P a b c d e (suc (suc (suc (suc (suc k))))) h = absurd (omega arith)
 
 -- ---- a test gives its fields back
 module _ (s : List ℕ) (number len : ℕ) where
-  pub kind-back : (kind : ℕ) → kind ≤ 4 → testKind (testIn s kind number len) ≡ kind
+  pub kind-back : (kind : ℕ) → kind ≤ listWithTailCase → testKind (testIn s kind number len) ≡ kind
   unfolding testIn testKind
   kind-back = five (λ k. testKind (testIn s k number len) ≡ k) refl refl refl refl refl
 
-  pub number-back : (kind : ℕ) → kind ≤ 4 → testNumber (startIn kind number) (testIn s kind number len) ≡ number
+  pub number-back : (kind : ℕ) → kind ≤ listWithTailCase → testNumber (startIn kind number) (testIn s kind number len) ≡ number
   unfolding testIn startIn testNumber
   number-back = five (λ k. testNumber (startIn k number) (testIn s k number len) ≡ number) refl refl refl refl refl
 
-  plain-number : (kind : ℕ) → kind ≤ 4 → isText kind ≡ false → testNumber 0 (testIn s kind number len) ≡ number
+  plain-number : (kind : ℕ) → kind ≤ listWithTailCase → isText kind ≡ false → testNumber 0 (testIn s kind number len) ≡ number
   unfolding testIn testNumber
   plain-number = five (λ k. isText k ≡ false → testNumber 0 (testIn s k number len) ≡ number) (λ e. refl) (λ e. absurd (true≢false e)) (λ e. absurd (true≢false e)) (λ e. refl) (λ e. refl)
 
@@ -55,14 +56,14 @@ module _ (s : List ℕ) (number len : ℕ) where
       long : number + len ≤ poolSize s → length (textAt s (poolAt s + number) len) ≡ len
       long h = length-textAt s (poolAt s + number) len (omega (arith, text-inside laid number len h))
 
-  text-back : (kind : ℕ) → kind ≤ 4 → isText kind ≡ true → drop 1 (testFields (testIn s kind number len)) ≡ textAt s (poolAt s + number) len
+  text-back : (kind : ℕ) → kind ≤ listWithTailCase → isText kind ≡ true → drop 1 (testFields (testIn s kind number len)) ≡ textAt s (poolAt s + number) len
   unfolding testIn testFields poolText
   text-back =
       five (λ k. isText k ≡ true → drop 1 (testFields (testIn s k number len)) ≡ textAt s (poolAt s + number) len) (λ e. absurd (true≢false (sym e))) (λ e. refl) (λ e. refl)
       (λ e. absurd (true≢false (sym e))) (λ e. absurd (true≢false (sym e)))
 
 -- a test from equal fields, or from an equal text
-text-same : (s : List ℕ) (number start len kind : ℕ) → kind ≤ 4 → isText kind ≡ true → textAt s (poolAt s + number) len ≡ textAt s (poolAt s + start) len
+text-same : (s : List ℕ) (number start len kind : ℕ) → kind ≤ listWithTailCase → isText kind ≡ true → textAt s (poolAt s + number) len ≡ textAt s (poolAt s + start) len
     → testIn s kind number len ≡ testIn s kind start len
 unfolding testIn poolText
 text-same s number start len kind h e t =
@@ -176,11 +177,11 @@ module _ (test : arena.Test) (f : Fields) (is : f ≡ fieldsOf test) where
   fields-searched s w from n at e = e ∙ ap (λ (g : Fields). firstWhere (hasTest s w (g .kind) (g .number) (g .len)) from n) is
 
 -- the last comparison of fields
-pub alike-number : (w : List ℕ) (i kind number len k l n : ℕ) → k ≡ caseKind w i → k ≡ kind → l ≡ caseLength w i → l ≡ len → (kind ≡ 1 → ⊥) → (kind ≡ 2 → ⊥) → n ≡ caseNumber w i
+pub alike-number : (w : List ℕ) (i kind number len k l n : ℕ) → k ≡ caseKind w i → k ≡ kind → l ≡ caseLength w i → l ≡ len → (kind ≡ intCase → ⊥) → (kind ≡ bytesCase → ⊥) → n ≡ caseNumber w i
     → eqb n number ≡ isAlike w i kind number len
 unfolding isAlike
 alike-number w i kind number len k l n a b c d e f g =
-    rw (eq-eqb (caseKind w i) kind (sym a ∙ b), eq-eqb (caseLength w i) len (sym c ∙ d), ne-eqb kind 1 e, ne-eqb kind 2 f, ← g)
+    rw (eq-eqb (caseKind w i) kind (sym a ∙ b), eq-eqb (caseLength w i) len (sym c ∙ d), ne-eqb kind intCase e, ne-eqb kind bytesCase f, ← g)
 
 -- texts at `other` and at `start`
 module _ {s : List ℕ} (laid : Laid s) (w : List ℕ) (i : ℕ) {kind number len : ℕ} (fit : Fit s kind number len) (its : Fit s (caseKind w i) (caseNumber w i) (caseLength w i))

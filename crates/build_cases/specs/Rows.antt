@@ -5,6 +5,7 @@ use mathlib.Core.List.{List, [], _∷_, map}
 use Prim.Native.Nat.{ℕ, suc, _<_}
 use lib.Dec.{eqb}
 use Rattle.base_words.specs.Words.{pick}
+use Rattle.spec_rules.specs.Kinds.{integerPattern, byteStringPattern, listPattern, listWithTailPattern, intCase, bytesCase}
 use Rattle.spec_rules.specs.Splitting.{Test, ListOf, ListWithTail, Met, rising, taillessLength, tailedLength, larger, longest, meet}
 use Rattle.spec_match.specs.Depth.{isTail, isExact}
 use Rattle.format_sheet.specs.declared.records.PatternRecord.{PatternRecord}
@@ -18,9 +19,9 @@ use Rattle.build_cases.specs.Passes.{meetRow, meetRows, upTo}
 -- the test of a pattern without a tail
 abbrev pub exactTest : PatternRecord → arena.Test
 exactTest r =
-    pick (eqb (r .kind) 3) (arena.Test.Text 1 (r .first) (r .count))
-    (pick (eqb (r .kind) 4) (arena.Test.Text 2 (r .first) (r .count))
-    (pick (eqb (r .kind) 5) (arena.Test.List (r .count))
+    pick (eqb (r .kind) integerPattern) (arena.Test.Text intCase (r .first) (r .count))
+    (pick (eqb (r .kind) byteStringPattern) (arena.Test.Text bytesCase (r .first) (r .count))
+    (pick (eqb (r .kind) listPattern) (arena.Test.List (r .count))
     (arena.Test.Constr (r .a))))
 
 -- fields that two bytes hold
@@ -39,9 +40,9 @@ abbrev pub listTest : Bool → ℕ → Test
 listTest true n = ListWithTail n
 listTest false n = ListOf n
 
-abbrev pub listCase : Bool → ℕ → arena.Test
-listCase true n = arena.Test.Tailed n
-listCase false n = arena.Test.List n
+abbrev pub arenaListTest : Bool → ℕ → arena.Test
+arenaListTest true n = arena.Test.Tailed n
+arenaListTest false n = arena.Test.List n
 
 -- n rising cases from k elements on
 abbrev pub riseTo : ℕ → Bool → ℕ → ℕ → List Met → List Met
@@ -61,8 +62,8 @@ longestOf s ps = record { tailless = longest taillessLength (map (patternOf s) p
 -- one pattern more
 abbrev pub longer : PatternRecord → Longest → Longest
 longer r l = record {
-  tailless = pick (eqb (r .kind) 5) (larger (suc (r .count)) (l .tailless)) (l .tailless);
-  tails = pick (eqb (r .kind) 6) (larger (r .count) (l .tails)) (l .tails);
+  tailless = pick (eqb (r .kind) listPattern) (larger (suc (r .count)) (l .tailless)) (l .tailless);
+  tails = pick (eqb (r .kind) listWithTailPattern) (larger (r .count) (l .tails)) (l .tails);
 }
 
 -- ---- the tests of a column, by number

@@ -7,7 +7,7 @@ use format_sheet::records::PatternRecord;
 ghost use mathlib.Core.Path.{_≡_};
 ghost use Prim.Native.Nat.{_<_};
 ghost use Rattle.base_words.specs.Words.{pick};
-ghost use Rattle.build_cases.specs.Rows.{exactTest, Small, listCase, longer};
+ghost use Rattle.build_cases.specs.Rows.{exactTest, Small, arenaListTest, longer};
 
 // The longest lengths of lists in a column, each one more than it is, or 0 where there is none: of those without a tail, and of those
 // with, whose tail is not counted.
@@ -68,7 +68,7 @@ pub fn test_of(r: PatternRecord) -> Test
 // The case of lists with n elements, and a tail or none.
 pub fn list_test(tail: bool, n: usize) -> Test
     requires { ⌜ n < 65536 ⌝ }
-    ensures { λ out. ⌜ out ≡ listCase tail n ⌝ }
+    ensures { λ out. ⌜ out ≡ arenaListTest tail n ⌝ }
 {
     if tail {
         Test::Tailed(n as u16)

@@ -8,6 +8,7 @@ use lib.Dec.{eqb}
 use Rattle.base_words.specs.Words.{wordBytes, pick}
 use Rattle.base_words.specs.Stored.{stored}
 use Rattle.spec_rules.specs.Limits.{clausesMost, patternsMost, nodesMost, bindingsMost, treeRoom, nodeSize, caseSize, bindingSize}
+use Rattle.spec_rules.specs.Kinds.{leafNode, hoistNode, pathWord, firstCaseWord, casesWord, tailCasesWord, defaultWord, clauseWord, firstBindingWord, bindingsWord}
 use Rattle.spec_rules.specs.TreeFile.{firstOf, nodeBytes}
 use Rattle.build_arena.specs.Arena.{casesStart, casesMost, bindingsStart, arenaEnd, nodeKind, nodeWord, caseKind, caseNumber, caseLength, caseChild, bindingName, bindingPath}
 use Rattle.spec_file.specs.RecordsLaws.{caseFields}
@@ -140,17 +141,17 @@ unfoldable pub boundOut : List ℕ → ℕ → ℕ → ℕ → ℕ → Out → O
 unfolding nodeBytes firstOf boundBytes boundUses
 boundOut w at leaf kind child o =
     let f = o .tops in
-    let n = nodeWord w leaf 2 in
-    let record-bytes = nodeBytes kind (nodeWord w leaf 0) (firstOf n (f .bindings)) n child 0 in
+    let n = nodeWord w leaf bindingsWord in
+    let record-bytes = nodeBytes kind (nodeWord w leaf clauseWord) (firstOf n (f .bindings)) n child 0 in
     record {
-      tree = stored (stored (o .tree) (nodeSize * f .nodes) record-bytes) (at + bindingSize * f .bindings) (boundBytes w (nodeWord w leaf 1) n (f .uses));
-      tops = record { nodes = f .nodes + 1; cases = f .cases; bindings = f .bindings + n; uses = boundUses w (nodeWord w leaf 1) n (f .uses) };
+      tree = stored (stored (o .tree) (nodeSize * f .nodes) record-bytes) (at + bindingSize * f .bindings) (boundBytes w (nodeWord w leaf firstBindingWord) n (f .uses));
+      tops = record { nodes = f .nodes + 1; cases = f .cases; bindings = f .bindings + n; uses = boundUses w (nodeWord w leaf firstBindingWord) n (f .uses) };
     }
 
 -- the hoist of clause c, if node k is its scope
 unfoldable pub hoistOut : List ℕ → ℕ → Places → ℕ → ℕ → Out → Out
 unfolding boundOut
-hoistOut w at x k c o = pick (eqb (clauseNode x c) k) (boundOut w at (getD (x .leaf) c 0) 3 (o .tops .nodes + 1) o) o
+hoistOut w at x k c o = pick (eqb (clauseNode x c) k) (boundOut w at (getD (x .leaf) c 0) hoistNode (o .tops .nodes + 1) o) o
 
 -- of the n clauses from c on
 unfoldable pub hoistsOut : List ℕ → ℕ → Places → ℕ → ℕ → ℕ → Out → Out
@@ -162,7 +163,7 @@ hoistsOut w at x k c (suc n) o = hoistsOut w at x k (c + 1) n (hoistOut w at x k
 pub record LeafSound (w : List ℕ) (leaf : ℕ) : Type 0 where
   pub room : arenaEnd ≤ length w
   pub node : leaf < nodesMost
-  pub bindings : BindingsAsked w (nodeWord w leaf 1) (nodeWord w leaf 2)
+  pub bindings : BindingsAsked w (nodeWord w leaf firstBindingWord) (nodeWord w leaf bindingsWord)
 
 pub record BoundAsked (w : List ℕ) (leaf at : ℕ) (tree : List ℕ) (f : Reach) : Type 0 where
   pub sound : LeafSound w leaf
@@ -170,7 +171,7 @@ pub record BoundAsked (w : List ℕ) (leaf at : ℕ) (tree : List ℕ) (f : Reac
   pub start : at ≤ bindingsStart
   pub counted : Counted (f .uses)
   pub nodes-fit : f .nodes < nodesMost
-  pub bindings-fit : f .bindings + nodeWord w leaf 2 ≤ bindingsMost
+  pub bindings-fit : f .bindings + nodeWord w leaf bindingsWord ≤ bindingsMost
 
 -- r is the first clause from c on that is hoisted above node k, or how many clauses there are
 pub record NextHoist (node : ℕ → ℕ) (k c clauses r : ℕ) : Type 0 where
@@ -197,36 +198,36 @@ pub record HoistsAsked (w : List ℕ) (k : ℕ) (x : Places) (clauses : ℕ) (sh
 
 -- ---- a switch
 abbrev pub switchUses : List ℕ → ℕ → Reach → Uses
-switchUses w k f = withClass (f .uses) (nodeWord w k 0)
+switchUses w k f = withClass (f .uses) (nodeWord w k pathWord)
 
 unfoldable pub switchBytes : List ℕ → (ℕ → ℕ) → ℕ → Reach → List ℕ
 unfolding nodeBytes movedDefault withClass
 switchBytes w stand k f =
-    nodeBytes (nodeKind w k) (numberIn (switchUses w k f) (nodeWord w k 0)) (f .cases) (nodeWord w k 2) (nodeWord w k 3) (movedDefault stand (nodeWord w k 4))
+    nodeBytes (nodeKind w k) (numberIn (switchUses w k f) (nodeWord w k pathWord)) (f .cases) (nodeWord w k casesWord) (nodeWord w k tailCasesWord) (movedDefault stand (nodeWord w k defaultWord))
 
 unfoldable pub switchOut : List ℕ → ℕ → (ℕ → ℕ) → ℕ → Out → Out
 unfolding switchBytes movedCases withClass
 switchOut w at stand k o =
     let f = o .tops in
-    let m = nodeWord w k 2 + nodeWord w k 3 in
+    let m = nodeWord w k casesWord + nodeWord w k tailCasesWord in
     record {
-      tree = stored (stored (o .tree) (nodeSize * f .nodes) (switchBytes w stand k f)) (at + caseSize * f .cases) (movedCases w stand (nodeWord w k 1) m);
+      tree = stored (stored (o .tree) (nodeSize * f .nodes) (switchBytes w stand k f)) (at + caseSize * f .cases) (movedCases w stand (nodeWord w k firstCaseWord) m);
       tops = record { nodes = f .nodes + 1; cases = f .cases + m; bindings = f .bindings; uses = switchUses w k f };
     }
 
 pub record SwitchSound (w : List ℕ) (k : ℕ) : Type 0 where
   pub room : arenaEnd ≤ length w
   pub node : k < nodesMost
-  pub path : nodeWord w k 0 < patternsMost
-  pub cases : CasesAsked w (nodeWord w k 1) (nodeWord w k 2 + nodeWord w k 3)
-  pub default : nodeWord w k 4 ≤ nodesMost
+  pub path : nodeWord w k pathWord < patternsMost
+  pub cases : CasesAsked w (nodeWord w k firstCaseWord) (nodeWord w k casesWord + nodeWord w k tailCasesWord)
+  pub default : nodeWord w k defaultWord ≤ nodesMost
 
 pub record SwitchNodeAsked (w : List ℕ) (k : ℕ) (tree : List ℕ) (f : Reach) : Type 0 where
   pub sound : SwitchSound w k
   pub tree-room : treeRoom ≤ length tree
   pub counted : Counted (f .uses)
   pub nodes-fit : f .nodes < nodesMost
-  pub cases-fit : f .cases + (nodeWord w k 2 + nodeWord w k 3) ≤ casesMost
+  pub cases-fit : f .cases + (nodeWord w k casesWord + nodeWord w k tailCasesWord) ≤ casesMost
 
 pub record SwitchAsked (w : List ℕ) (k at : ℕ) (tree : List ℕ) (f : Reach) : Type 0 where
   pub asked : SwitchNodeAsked w k tree f
@@ -239,13 +240,13 @@ pub record PutSwitchNode (w : List ℕ) (stand : ℕ → ℕ) (k : ℕ) (f : Rea
 -- ---- nodes
 unfoldable pub ownOut : List ℕ → ℕ → ℕ → (ℕ → ℕ) → ℕ → Out → Out
 unfolding boundOut switchOut
-ownOut w cases-at bindings-at stand k o = pick (eqb (nodeKind w k) 2) (boundOut w bindings-at k 2 0 o) (switchOut w cases-at stand k o)
+ownOut w cases-at bindings-at stand k o = pick (eqb (nodeKind w k) leafNode) (boundOut w bindings-at k leafNode 0 o) (switchOut w cases-at stand k o)
 
 pub record OwnAsked (w : List ℕ) (k cases-at bindings-at : ℕ) (tree : List ℕ) (f : Reach) : Type 0 where
   pub room : arenaEnd ≤ length w
   pub node : k < nodesMost
-  pub leaf : nodeKind w k ≡ 2 → BoundAsked w k bindings-at tree f
-  pub switch : (nodeKind w k ≡ 2 → ⊥) → SwitchAsked w k cases-at tree f
+  pub leaf : nodeKind w k ≡ leafNode → BoundAsked w k bindings-at tree f
+  pub switch : (nodeKind w k ≡ leafNode → ⊥) → SwitchAsked w k cases-at tree f
 
 -- node k with the hoists above it
 unfoldable pub nodeOut : List ℕ → ℕ → ℕ → Places → ℕ → ℕ → Out → Out
@@ -263,9 +264,9 @@ pub record ArenaSound (w : List ℕ) (nodes : ℕ) (x : Places) (clauses : ℕ) 
   pub room : arenaEnd ≤ length w
   pub most : nodes ≤ nodesMost
   pub few : clauses ≤ clausesMost
-  pub leaf : (k : ℕ) → k < nodes → nodeKind w k ≡ 2 → LeafSound w k
-  pub switch : (k : ℕ) → k < nodes → (nodeKind w k ≡ 2 → ⊥) → SwitchSound w k
-  pub below : (k : ℕ) → k < nodes → (nodeKind w k ≡ 2 → ⊥) → SwitchInside w k nodes
+  pub leaf : (k : ℕ) → k < nodes → nodeKind w k ≡ leafNode → LeafSound w k
+  pub switch : (k : ℕ) → k < nodes → (nodeKind w k ≡ leafNode → ⊥) → SwitchSound w k
+  pub below : (k : ℕ) → k < nodes → (nodeKind w k ≡ leafNode → ⊥) → SwitchInside w k nodes
   pub hoist : (c : ℕ) → c < clauses → clauseNode x c < nodes → LeafSound w (getD (x .leaf) c 0)
 
 -- a file with room for all that a tree may have

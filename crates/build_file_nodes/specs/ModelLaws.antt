@@ -14,6 +14,7 @@ use Rattle.base_words.specs.WordsLaws.{pick-true, pick-false}
 use Rattle.base_words.specs.Stored.{stored}
 use Rattle.base_words.specs.StoredLaws.{length-stored, stored-nil, stored-append}
 use Rattle.spec_rules.specs.Limits.{patternsMost, nodeSize, caseSize, bindingSize}
+use Rattle.spec_rules.specs.Kinds.{leafNode, hoistNode, pathWord, firstCaseWord, casesWord, tailCasesWord, defaultWord, clauseWord, firstBindingWord, bindingsWord}
 use Rattle.spec_rules.specs.TreeFile.{firstOf, nodeBytes}
 use Rattle.build_arena.specs.Arena.{nodeKind, nodeWord, caseKind, caseNumber, caseLength, caseChild, bindingName, bindingPath}
 use Rattle.spec_file.specs.RecordsLaws.{caseFields}
@@ -56,7 +57,7 @@ module _ (w : List ℕ) (first count at : ℕ) (u : Uses) (before : List ℕ) wh
       let v₁ = withClass v class in
       let d : count - i ≡ suc (count - (i + 1)) = omega arith in
       let f : first + i + 1 ≡ first + (i + 1) = omega arith in
-      let e : at + bindingSize * i + 4 ≡ at + bindingSize * (i + 1) = omega arith in
+      let e : at + bindingSize * i + bindingSize ≡ at + bindingSize * (i + 1) = omega arith in
       record {
         inside = omega arith;
         counted = rw (p .uses-are) (counted-with v class (h .counted) (a .classes i l));
@@ -127,7 +128,7 @@ module _ (w : List ℕ) (stand : ℕ → ℕ) (first count at : ℕ) (before : L
   cases-next tree i child moved tree₂ h l e f g =
       let d : count - i ≡ suc (count - (i + 1)) = omega arith in
       let q : first + i + 1 ≡ first + (i + 1) = omega arith in
-      let x : at + caseSize * i + 8 ≡ at + caseSize * (i + 1) = omega arith in
+      let x : at + caseSize * i + caseSize ≡ at + caseSize * (i + 1) = omega arith in
       let here = movedCase w (first + i) (stand (caseChild w (first + i))) in
       let g₂ : tree₂ ≡ stored tree (at + caseSize * i) here = g ∙ ap (λ z. stored tree (at + caseSize * i) (movedCase w (first + i) z)) (f ∙ ap stand e) in
       record {
@@ -198,22 +199,22 @@ first-small zero first = omega arith
 first-small (suc count) first = omega arith
 
 pub bound-put : (w : List ℕ) (at leaf kind child : ℕ) (t : List ℕ) (f : Reach) (clause from count first : ℕ) (uses : Uses) {t₁ t₂ : List ℕ}
-    → clause ≡ nodeWord w leaf 0 → from ≡ nodeWord w leaf 1 → count ≡ nodeWord w leaf 2 → first ≡ firstOf count (f .bindings)
+    → clause ≡ nodeWord w leaf clauseWord → from ≡ nodeWord w leaf firstBindingWord → count ≡ nodeWord w leaf bindingsWord → first ≡ firstOf count (f .bindings)
     → t₁ ≡ stored t (nodeSize * f .nodes) (nodeBytes kind clause first count child 0) → PutBindings w from count (at + bindingSize * f .bindings) (f .uses) t₁ t₂ uses
     → outOf t₂ (record { nodes = f .nodes + 1; cases = f .cases; bindings = f .bindings + count; uses = uses }) ≡ boundOut w at leaf kind child (outOf t f)
 unfolding boundOut
 bound-put w at leaf kind child t f clause from count first uses e₀ e₁ e₂ e₃ e₄ p = rw (p .bytes-are, p .uses-are, e₄, e₃, e₂, e₁, e₀)
 
 pub switch-node-put : (w : List ℕ) (stand : ℕ → ℕ) (k : ℕ) (t : List ℕ) (f : Reach) (path cases tails default : ℕ) (uses : Uses) (number kind : ℕ) {t₁ : List ℕ}
-    → path ≡ nodeWord w k 0 → cases ≡ nodeWord w k 2 → tails ≡ nodeWord w k 3 → default ≡ movedDefault stand (nodeWord w k 4)
+    → path ≡ nodeWord w k pathWord → cases ≡ nodeWord w k casesWord → tails ≡ nodeWord w k tailCasesWord → default ≡ movedDefault stand (nodeWord w k defaultWord)
     → uses ≡ withClass (f .uses) path → number ≡ getD (uses .number) path 0 → kind ≡ nodeKind w k
     → t₁ ≡ stored t (nodeSize * f .nodes) (nodeBytes kind (number - 1) (f .cases) cases tails default) → PutSwitchNode w stand k f t t₁ uses
 unfolding switchBytes
 switch-node-put w stand k t f path cases tails default uses number kind e₀ e₂ e₃ e₄ u m q g =
     record { uses-are = u ∙ ap (withClass (f .uses)) e₀; bytes-are = rw (g, q, m, u, e₄, e₃, e₂, e₀) }
 
-pub switch-put : (w : List ℕ) (at : ℕ) (stand : ℕ → ℕ) (k : ℕ) (t : List ℕ) (f : Reach) (first count : ℕ) (uses : Uses) {t₁ t₂ : List ℕ} → first ≡ nodeWord w k 1
-    → count ≡ nodeWord w k 2 + nodeWord w k 3 → PutSwitchNode w stand k f t t₁ uses → t₂ ≡ stored t₁ (at + caseSize * f .cases) (movedCases w stand first count)
+pub switch-put : (w : List ℕ) (at : ℕ) (stand : ℕ → ℕ) (k : ℕ) (t : List ℕ) (f : Reach) (first count : ℕ) (uses : Uses) {t₁ t₂ : List ℕ} → first ≡ nodeWord w k firstCaseWord
+    → count ≡ nodeWord w k casesWord + nodeWord w k tailCasesWord → PutSwitchNode w stand k f t t₁ uses → t₂ ≡ stored t₁ (at + caseSize * f .cases) (movedCases w stand first count)
     → outOf t₂ (record { nodes = f .nodes + 1; cases = f .cases + count; bindings = f .bindings; uses = uses }) ≡ switchOut w at stand k (outOf t f)
 unfolding switchOut
 switch-put w at stand k t f first count uses e₁ e₂ p g = rw (g, p .bytes-are, p .uses-are, e₂, e₁)
@@ -223,16 +224,16 @@ cases-asked-as w first count a b e f h = rw (e, f) h
 
 -- ---- hoists
 module _ (w : List ℕ) (at : ℕ) (x : Places) (k c : ℕ) (o : Out) where
-  pub hoist-here : clauseNode x c ≡ k → hoistOut w at x k c o ≡ boundOut w at (getD (x .leaf) c 0) 3 (o .tops .nodes + 1) o
+  pub hoist-here : clauseNode x c ≡ k → hoistOut w at x k c o ≡ boundOut w at (getD (x .leaf) c 0) hoistNode (o .tops .nodes + 1) o
   unfolding hoistOut
-  hoist-here e = pick-true (eqb (clauseNode x c) k) (boundOut w at (getD (x .leaf) c 0) 3 (o .tops .nodes + 1) o) o (eq-eqb (clauseNode x c) k e)
+  hoist-here e = pick-true (eqb (clauseNode x c) k) (boundOut w at (getD (x .leaf) c 0) hoistNode (o .tops .nodes + 1) o) o (eq-eqb (clauseNode x c) k e)
 
   pub hoist-elsewhere : (clauseNode x c ≡ k → ⊥) → hoistOut w at x k c o ≡ o
   unfolding hoistOut
-  hoist-elsewhere e = pick-false (eqb (clauseNode x c) k) (boundOut w at (getD (x .leaf) c 0) 3 (o .tops .nodes + 1) o) o (ne-eqb (clauseNode x c) k e)
+  hoist-elsewhere e = pick-false (eqb (clauseNode x c) k) (boundOut w at (getD (x .leaf) c 0) hoistNode (o .tops .nodes + 1) o) o (ne-eqb (clauseNode x c) k e)
 
   -- whichever it is
-  by-hoist : (P : Out → Type 0) → (clauseNode x c ≡ k → P (boundOut w at (getD (x .leaf) c 0) 3 (o .tops .nodes + 1) o)) → P o → P (hoistOut w at x k c o)
+  by-hoist : (P : Out → Type 0) → (clauseNode x c ≡ k → P (boundOut w at (getD (x .leaf) c 0) hoistNode (o .tops .nodes + 1) o)) → P o → P (hoistOut w at x k c o)
   by-hoist P f g = go (eqb (clauseNode x c) k) refl
     where
       go : (b : Bool) → eqb (clauseNode x c) k ≡ b → P (hoistOut w at x k c o)
@@ -240,9 +241,9 @@ module _ (w : List ℕ) (at : ℕ) (x : Places) (k c : ℕ) (o : Out) where
       go false e = rw (hoist-elsewhere (eqb-false (clauseNode x c) k e)) g
 
 -- a hoist with the bindings of a leaf, by the number that was read
-pub hoist-from : (w : List ℕ) (at : ℕ) (tree : List ℕ) (g : Reach) (leaf real : ℕ) → leaf ≡ real → (o : Out) → o ≡ boundOut w at leaf 3 (g .nodes + 1) (outOf tree g)
-    → o ≡ boundOut w at real 3 (g .nodes + 1) (outOf tree g)
-hoist-from w at tree g leaf real e o h = h ∙ ap (λ z. boundOut w at z 3 (g .nodes + 1) (outOf tree g)) e
+pub hoist-from : (w : List ℕ) (at : ℕ) (tree : List ℕ) (g : Reach) (leaf real : ℕ) → leaf ≡ real → (o : Out) → o ≡ boundOut w at leaf hoistNode (g .nodes + 1) (outOf tree g)
+    → o ≡ boundOut w at real hoistNode (g .nodes + 1) (outOf tree g)
+hoist-from w at tree g leaf real e o h = h ∙ ap (λ z. boundOut w at z hoistNode (g .nodes + 1) (outOf tree g)) e
 
 -- nothing written is taken back
 pub record Grown (f g : Reach) : Type 0 where
@@ -279,7 +280,7 @@ switch-grows w at stand k o = record { nodes-grow = omega arith; cases-grow = om
 
 hoist-grows : (w : List ℕ) (at : ℕ) (x : Places) (k c : ℕ) (o : Out) → Grown (o .tops) (hoistOut w at x k c o .tops)
 hoist-grows w at x k c o =
-    by-hoist w at x k c o (λ z. Grown (o .tops) (z .tops)) (λ e. bound-grows w at (getD (x .leaf) c 0) 3 (o .tops .nodes + 1) o) (grown-refl (o .tops))
+    by-hoist w at x k c o (λ z. Grown (o .tops) (z .tops)) (λ e. bound-grows w at (getD (x .leaf) c 0) hoistNode (o .tops .nodes + 1) o) (grown-refl (o .tops))
 
 hoists-grow : (w : List ℕ) (at : ℕ) (x : Places) (k c n : ℕ) (o : Out) → Grown (o .tops) (hoistsOut w at x k c n o .tops)
 unfolding hoistsOut
@@ -357,7 +358,7 @@ module _ (w : List ℕ) (at : ℕ) (x : Places) (k clauses : ℕ) (before : List
 
   module _ (shift : List ℕ) (a : HoistsAsked w k x clauses shift at before f) (tree : List ℕ) (g : Reach) (c : ℕ) (h : HoistsLeft w at x k clauses before f tree g c) (l : c < clauses) where
     abbrev next : Out
-    next = boundOut w at (getD (x .leaf) c 0) 3 (g .nodes + 1) (outOf tree g)
+    next = boundOut w at (getD (x .leaf) c 0) hoistNode (g .nodes + 1) (outOf tree g)
 
     next-is : hoistsOut w at x k c (clauses - c) (outOf tree g) ≡ hoistsOut w at x k (c + 1) (clauses - (c + 1)) next
     next-is = hoists-on c (outOf tree g) l ∙ ap (hoistsOut w at x k (c + 1) (clauses - (c + 1))) (hoist-here w at x k c (outOf tree g) (h .here l))
@@ -383,7 +384,7 @@ module _ (w : List ℕ) (at : ℕ) (x : Places) (k clauses : ℕ) (before : List
     next-counted : Counted (next .tops .uses)
     unfolding boundOut
     next-counted =
-        counted-bound w (nodeWord w (getD (x .leaf) c 0) 1) (nodeWord w (getD (x .leaf) c 0) 2) (g .uses) (a .leaf c l (h .here l) .bindings) (h .counted)
+        counted-bound w (nodeWord w (getD (x .leaf) c 0) firstBindingWord) (nodeWord w (getD (x .leaf) c 0) bindingsWord) (g .uses) (a .leaf c l (h .here l) .bindings) (h .counted)
 
     pub hoists-next : (tree₂ : List ℕ) (g₂ : Reach) (r : ℕ) → length tree₂ ≡ length tree → outOf tree₂ g₂ ≡ next → NextHoist (clauseNode x) k (c + 1) clauses r
         → HoistsLeft w at x k clauses before f tree₂ g₂ r
@@ -411,15 +412,15 @@ module _ (w : List ℕ) (at : ℕ) (x : Places) (k clauses : ℕ) (before : List
       hoists-end before f clauses
       (hoists-start clauses h (record { from = omega arith; most = omega arith; passed = λ d m q e. none d q e; here = λ l. absurd (omega arith) })) (omega arith)
 
-bound-counted : (w : List ℕ) (at leaf kind child : ℕ) (o : Out) → BindingsAsked w (nodeWord w leaf 1) (nodeWord w leaf 2) → Counted (o .tops .uses)
+bound-counted : (w : List ℕ) (at leaf kind child : ℕ) (o : Out) → BindingsAsked w (nodeWord w leaf firstBindingWord) (nodeWord w leaf bindingsWord) → Counted (o .tops .uses)
     → Counted (boundOut w at leaf kind child o .tops .uses)
 unfolding boundOut
-bound-counted w at leaf kind child o a h = counted-bound w (nodeWord w leaf 1) (nodeWord w leaf 2) (o .tops .uses) a h
+bound-counted w at leaf kind child o a h = counted-bound w (nodeWord w leaf firstBindingWord) (nodeWord w leaf bindingsWord) (o .tops .uses) a h
 
-switch-counted : (w : List ℕ) (at : ℕ) (stand : ℕ → ℕ) (k : ℕ) (o : Out) → Counted (o .tops .uses) → nodeWord w k 0 < patternsMost
+switch-counted : (w : List ℕ) (at : ℕ) (stand : ℕ → ℕ) (k : ℕ) (o : Out) → Counted (o .tops .uses) → nodeWord w k pathWord < patternsMost
     → Counted (switchOut w at stand k o .tops .uses)
 unfolding switchOut
-switch-counted w at stand k o h l = counted-with (o .tops .uses) (nodeWord w k 0) h l
+switch-counted w at stand k o h l = counted-with (o .tops .uses) (nodeWord w k pathWord) h l
 
 hoists-counted : (w : List ℕ) (at : ℕ) (x : Places) (k c n m : ℕ) (o : Out) → c + n ≤ m → ((d : ℕ) → d < m → clauseNode x d ≡ k → LeafSound w (getD (x .leaf) d 0))
     → Counted (o .tops .uses) → Counted (hoistsOut w at x k c n o .tops .uses)
@@ -428,48 +429,48 @@ hoists-counted w at x k c zero m o l s h = h
 hoists-counted w at x k c (suc n) m o l s h =
     hoists-counted w at x k (c + 1) n m (hoistOut w at x k c o) (omega arith) s
     (by-hoist w at x k c o (λ z. Counted (z .tops .uses))
-    (λ e. counted-bound w (nodeWord w (getD (x .leaf) c 0) 1) (nodeWord w (getD (x .leaf) c 0) 2) (o .tops .uses) (s c (omega arith) e .bindings) h) h)
+    (λ e. counted-bound w (nodeWord w (getD (x .leaf) c 0) firstBindingWord) (nodeWord w (getD (x .leaf) c 0) bindingsWord) (o .tops .uses) (s c (omega arith) e .bindings) h) h)
 
 -- ---- a node
 -- by the table of how far nodes are moved, a node is written with its references where their nodes come to stand
 pub own-moved : (w : List ℕ) (cases-at bindings-at : ℕ) (node : ℕ → ℕ) (n nodes k : ℕ) (shift : List ℕ) (o : Out) → Shifted node n nodes shift
-    → ((nodeKind w k ≡ 2 → ⊥) → SwitchInside w k nodes) → ownOut w cases-at bindings-at (movedBy shift) k o ≡ ownOut w cases-at bindings-at (standsAt node n) k o
+    → ((nodeKind w k ≡ leafNode → ⊥) → SwitchInside w k nodes) → ownOut w cases-at bindings-at (movedBy shift) k o ≡ ownOut w cases-at bindings-at (standsAt node n) k o
 unfolding ownOut switchOut switchBytes standsAt
-own-moved w cases-at bindings-at node n nodes k shift o s b = go (eqb (nodeKind w k) 2) refl
+own-moved w cases-at bindings-at node n nodes k shift o s b = go (eqb (nodeKind w k) leafNode) refl
   where
     same : (j : ℕ) → j ≤ nodes → movedBy shift j ≡ standsAt node n j
     same j l = ap (λ z. j + z) (s .shift-is j l)
 
-    go : (t : Bool) → eqb (nodeKind w k) 2 ≡ t
-        → pick (eqb (nodeKind w k) 2) (boundOut w bindings-at k 2 0 o) (switchOut w cases-at (movedBy shift) k o)
-        ≡ pick (eqb (nodeKind w k) 2) (boundOut w bindings-at k 2 0 o) (switchOut w cases-at (standsAt node n) k o)
+    go : (t : Bool) → eqb (nodeKind w k) leafNode ≡ t
+        → pick (eqb (nodeKind w k) leafNode) (boundOut w bindings-at k leafNode 0 o) (switchOut w cases-at (movedBy shift) k o)
+        ≡ pick (eqb (nodeKind w k) leafNode) (boundOut w bindings-at k leafNode 0 o) (switchOut w cases-at (standsAt node n) k o)
     go true e = rw e
     go false e =
-        let i = b (eqb-false (nodeKind w k) 2 e) in
-        let cases = moved-cases-same w (movedBy shift) (standsAt node n) (nodeWord w k 1) (nodeWord w k 2 + nodeWord w k 3)
-        (λ j l. same (caseChild w (nodeWord w k 1 + j)) (omega (arith, i .cases .children j l))) in
-        let default = moved-default-same (movedBy shift) (standsAt node n) (nodeWord w k 4) (λ z. same (nodeWord w k 4 - 1) (omega (arith, i .default))) in
+        let i = b (eqb-false (nodeKind w k) leafNode e) in
+        let cases = moved-cases-same w (movedBy shift) (standsAt node n) (nodeWord w k firstCaseWord) (nodeWord w k casesWord + nodeWord w k tailCasesWord)
+        (λ j l. same (caseChild w (nodeWord w k firstCaseWord + j)) (omega (arith, i .cases .children j l))) in
+        let default = moved-default-same (movedBy shift) (standsAt node n) (nodeWord w k defaultWord) (λ z. same (nodeWord w k defaultWord - 1) (omega (arith, i .default))) in
         rw (e, cases, default)
 
 module _ (w : List ℕ) (cases-at bindings-at : ℕ) (stand : ℕ → ℕ) (k : ℕ) (o : Out) where
-  pub own-leaf : nodeKind w k ≡ 2 → ownOut w cases-at bindings-at stand k o ≡ boundOut w bindings-at k 2 0 o
+  pub own-leaf : nodeKind w k ≡ leafNode → ownOut w cases-at bindings-at stand k o ≡ boundOut w bindings-at k leafNode 0 o
   unfolding ownOut
-  own-leaf e = pick-true (eqb (nodeKind w k) 2) (boundOut w bindings-at k 2 0 o) (switchOut w cases-at stand k o) (eq-eqb (nodeKind w k) 2 e)
+  own-leaf e = pick-true (eqb (nodeKind w k) leafNode) (boundOut w bindings-at k leafNode 0 o) (switchOut w cases-at stand k o) (eq-eqb (nodeKind w k) leafNode e)
 
-  pub own-switch : (nodeKind w k ≡ 2 → ⊥) → ownOut w cases-at bindings-at stand k o ≡ switchOut w cases-at stand k o
+  pub own-switch : (nodeKind w k ≡ leafNode → ⊥) → ownOut w cases-at bindings-at stand k o ≡ switchOut w cases-at stand k o
   unfolding ownOut
-  own-switch e = pick-false (eqb (nodeKind w k) 2) (boundOut w bindings-at k 2 0 o) (switchOut w cases-at stand k o) (ne-eqb (nodeKind w k) 2 e)
+  own-switch e = pick-false (eqb (nodeKind w k) leafNode) (boundOut w bindings-at k leafNode 0 o) (switchOut w cases-at stand k o) (ne-eqb (nodeKind w k) leafNode e)
 
-  by-own : (P : Out → Type 0) → (nodeKind w k ≡ 2 → P (boundOut w bindings-at k 2 0 o)) → ((nodeKind w k ≡ 2 → ⊥) → P (switchOut w cases-at stand k o))
+  by-own : (P : Out → Type 0) → (nodeKind w k ≡ leafNode → P (boundOut w bindings-at k leafNode 0 o)) → ((nodeKind w k ≡ leafNode → ⊥) → P (switchOut w cases-at stand k o))
       → P (ownOut w cases-at bindings-at stand k o)
-  by-own P f g = go (eqb (nodeKind w k) 2) refl
+  by-own P f g = go (eqb (nodeKind w k) leafNode) refl
     where
-      go : (b : Bool) → eqb (nodeKind w k) 2 ≡ b → P (ownOut w cases-at bindings-at stand k o)
-      go true e = let z = eqb-true (nodeKind w k) 2 e in rw (own-leaf z) (f z)
-      go false e = let z = eqb-false (nodeKind w k) 2 e in rw (own-switch z) (g z)
+      go : (b : Bool) → eqb (nodeKind w k) leafNode ≡ b → P (ownOut w cases-at bindings-at stand k o)
+      go true e = let z = eqb-true (nodeKind w k) leafNode e in rw (own-leaf z) (f z)
+      go false e = let z = eqb-false (nodeKind w k) leafNode e in rw (own-switch z) (g z)
 
   own-grows : Grown (o .tops) (ownOut w cases-at bindings-at stand k o .tops)
-  own-grows = by-own (λ z. Grown (o .tops) (z .tops)) (λ e. bound-grows w bindings-at k 2 0 o) (λ e. switch-grows w cases-at stand k o)
+  own-grows = by-own (λ z. Grown (o .tops) (z .tops)) (λ e. bound-grows w bindings-at k leafNode 0 o) (λ e. switch-grows w cases-at stand k o)
 
 node-grows : (w : List ℕ) (cases-at bindings-at : ℕ) (x : Places) (n k : ℕ) (o : Out) → Grown (o .tops) (nodeOut w cases-at bindings-at x n k o .tops)
 unfolding nodeOut
@@ -553,7 +554,7 @@ module _ (w : List ℕ) (k : ℕ) (x : Places) (clauses : ℕ) (shift : List ℕ
   unfolding nodeOut
   node-counted =
       by-own w cases-at bindings-at (standsAt (clauseNode x) clauses) k lifted (λ z. Counted (z .tops .uses))
-      (λ q. bound-counted w bindings-at k 2 0 lifted (a .sound .leaf k (a .inside) q .bindings) up) (λ q. switch-counted w cases-at (standsAt (clauseNode x) clauses) k lifted up (a .sound .switch k (a .inside) q .path))
+      (λ q. bound-counted w bindings-at k leafNode 0 lifted (a .sound .leaf k (a .inside) q .bindings) up) (λ q. switch-counted w cases-at (standsAt (clauseNode x) clauses) k lifted up (a .sound .switch k (a .inside) q .path))
     where
       up : Counted (lifted .tops .uses)
       up = hoists-counted w bindings-at x k 0 clauses clauses (outOf tree f) (omega arith) leaves-sound (a .counted)

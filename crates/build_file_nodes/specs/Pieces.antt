@@ -5,6 +5,7 @@ use mathlib.Core.Bool.{Bool, true, false}
 use mathlib.Core.List.{List, [], _∷_, _++_}
 use lib.ListN.{length}
 use lib.Dec.{eqb}
+use Rattle.spec_rules.specs.Kinds.{leafNode, hoistNode}
 use Rattle.spec_rules.specs.Rows.{Path, Binding}
 use Rattle.spec_rules.specs.Building.{Tree, Cases, absent, leaf, hoist, switch, listswitch, cnil, ccons}
 use Rattle.spec_rules.specs.Hoisting.{howMany, nodesIn, nodesInOf, bindingsIn, bindingsInOf}
@@ -75,7 +76,7 @@ unfoldable pub hoistsPiece : (ℕ → Bool) → (ℕ → List Binding) → ℕ �
 unfolding nothing join boundPiece
 hoistsPiece f bs k b i zero = nothing
 hoistsPiece f bs k b i (suc n) =
-    elim (f i) [ true ↦ join (boundPiece 3 i (k + 1) b (bs i)) (hoistsPiece f bs (k + 1) (b + length (bs i)) (i + 1) n) | false ↦ hoistsPiece f bs k b (i + 1) n ]
+    elim (f i) [ true ↦ join (boundPiece hoistNode i (k + 1) b (bs i)) (hoistsPiece f bs (k + 1) (b + length (bs i)) (i + 1) n) | false ↦ hoistsPiece f bs k b (i + 1) n ]
 
 module _ (table : List Path) (node : ℕ → ℕ) (n : ℕ) where
   -- the cases of a switch, whose first child was node k before hoisting: each child is where it comes to stand
@@ -101,7 +102,7 @@ module _ (table : List Path) (node : ℕ → ℕ) (n : ℕ) where
   unfoldable pub ownPiece : ℕ → ℕ → ℕ → Tree → Piece
   unfolding nothing boundPiece switchPiece joined
   ownPiece k c b absent = nothing
-  ownPiece k c b (leaf x bs) = boundPiece 2 x 0 b bs
+  ownPiece k c b (leaf x bs) = boundPiece leafNode x 0 b bs
   ownPiece k c b (hoist x bs a) = nothing
   ownPiece k c b (switch p cs d) = switchPiece k c 0 p (howMany cs) 0 cs d
   ownPiece k c b (listswitch p cs ts d) = switchPiece k c 1 p (howMany cs) (howMany ts) (joined cs ts) d

@@ -8,6 +8,7 @@ use native.Mathlib.Omega.{arith}
 use native.Mathlib.Nat.{add-zero, zero-add, add-assoc}
 use lib.ListN.{length, length-append}
 use lib.Dec.{eqb}
+use Rattle.spec_rules.specs.Kinds.{hoistNode}
 use Rattle.spec_rules.specs.Rows.{Path, Binding}
 use Rattle.spec_rules.specs.Searching.{times}
 use Rattle.spec_rules.specs.Splitting.{Test}
@@ -64,7 +65,7 @@ join-assoc x y z =
 
 -- ---- hoists over a node
 hoist-piece : (table : List Path) (k c b x : ℕ) (bs : List Binding) (a : Tree)
-    → treePiece table k c b (hoist x bs a) ≡ join (boundPiece 3 x (k + 1) b bs) (treePiece table (k + 1) c (b + length bs) a)
+    → treePiece table k c b (hoist x bs a) ≡ join (boundPiece hoistNode x (k + 1) b bs) (treePiece table (k + 1) c (b + length bs) a)
 unfolding treePiece join boundPiece
 hoist-piece table k c b x bs a =
     let e : suc (nodesIn a) ≡ 1 + nodesIn a = omega arith in
@@ -79,7 +80,7 @@ hoist-piece table k c b x bs a =
     }
 
 pub hoistsPiece-on : (f : ℕ → Bool) (bs : ℕ → List Binding) (k b i n : ℕ) → f i ≡ true
-    → hoistsPiece f bs k b i (suc n) ≡ join (boundPiece 3 i (k + 1) b (bs i)) (hoistsPiece f bs (k + 1) (b + length (bs i)) (i + 1) n)
+    → hoistsPiece f bs k b i (suc n) ≡ join (boundPiece hoistNode i (k + 1) b (bs i)) (hoistsPiece f bs (k + 1) (b + length (bs i)) (i + 1) n)
 unfolding hoistsPiece
 hoistsPiece-on f bs k b i n e = rw (hoistsPiece, e)
 
@@ -138,8 +139,8 @@ wrap-piece table f bs k c b i (suc n) j d a e g =
         let q : treePiece table k c b (wrapBy f bs i (suc n) a) ≡ treePiece table k c b (hoist i (bs i) (wrapBy f bs (i + 1) n a)) = rw (wrapBy, x) in
         q
         ∙ hoist-piece table k c b i (bs i) (wrapBy f bs (i + 1) n a)
-        ∙ ap (join (boundPiece 3 i (k + 1) b (bs i))) (first (omega arith) (omega (arith, length-append (bs i) (on (k + 1) (b + length (bs i)) .bindings))))
-        ∙ sym (join-assoc (boundPiece 3 i (k + 1) b (bs i)) (on (k + 1) (b + length (bs i))) (treePiece table j c d a))
+        ∙ ap (join (boundPiece hoistNode i (k + 1) b (bs i))) (first (omega arith) (omega (arith, length-append (bs i) (on (k + 1) (b + length (bs i)) .bindings))))
+        ∙ sym (join-assoc (boundPiece hoistNode i (k + 1) b (bs i)) (on (k + 1) (b + length (bs i))) (treePiece table j c d a))
         ∙ ap (λ z. join z (treePiece table j c d a)) (sym p)
     go false x first rest =
         let p = hoistsPiece-past f bs k b i n x in

@@ -14,6 +14,7 @@ use Rattle.base_words.specs.Words.{wordBytes}
 use Rattle.base_words.specs.Stored.{stored}
 use Rattle.base_words.specs.StoredLaws.{stored-nil, stored-append, stored-swap}
 use Rattle.spec_rules.specs.Limits.{patternsMost, nodeSize, caseSize, bindingSize}
+use Rattle.spec_rules.specs.Kinds.{leafNode, hoistNode, pathWord, firstCaseWord, casesWord, tailCasesWord, defaultWord, clauseWord, firstBindingWord, bindingsWord}
 use Rattle.spec_rules.specs.Rows.{Path, Binding}
 use Rattle.spec_rules.specs.Building.{Tree, Cases, absent, leaf, hoist, switch, listswitch, cnil, ccons}
 use Rattle.spec_rules.specs.Hoisting.{howMany, nodesIn, nodesInOf}
@@ -64,7 +65,7 @@ sized-hoists f bs k b i (suc n) = go (f i) refl (sized-hoists f bs (k + 1) (b + 
     go : (t : Bool) → f i ≡ t → Sized (hoistsPiece f bs (k + 1) (b + length (bs i)) (i + 1) n) → Sized (hoistsPiece f bs k b (i + 1) n) → Sized (hoistsPiece f bs k b i (suc n))
     go true e on past =
         subst Sized (sym (hoistsPiece-on f bs k b i n e))
-        (sized-join (boundPiece 3 i (k + 1) b (bs i)) (hoistsPiece f bs (k + 1) (b + length (bs i)) (i + 1) n) (sized-bound 3 i (k + 1) b (bs i)) on)
+        (sized-join (boundPiece hoistNode i (k + 1) b (bs i)) (hoistsPiece f bs (k + 1) (b + length (bs i)) (i + 1) n) (sized-bound hoistNode i (k + 1) b (bs i)) on)
     go false e on past = subst Sized (sym (hoistsPiece-past f bs k b i n e)) past
 
 module _ (table : List Path) (node : ℕ → ℕ) (n : ℕ) where
@@ -81,7 +82,7 @@ module _ (table : List Path) (node : ℕ → ℕ) (n : ℕ) where
   sized-own : (k c b : ℕ) (s : Tree) → Sized (ownPiece table node n k c b s)
   unfolding ownPiece
   sized-own k c b absent = sized-nothing
-  sized-own k c b (leaf x bs) = sized-bound 2 x 0 b bs
+  sized-own k c b (leaf x bs) = sized-bound leafNode x 0 b bs
   sized-own k c b (hoist x bs a) = sized-nothing
   sized-own k c b (switch p cs d) = sized-switch k c 0 p (howMany cs) 0 cs d (sym (add-zero (howMany cs)))
   sized-own k c b (listswitch p cs ts d) = sized-switch k c 1 p (howMany cs) (howMany ts) (joined cs ts) d (howMany-joined cs ts)
@@ -111,12 +112,12 @@ pub record HoistLeaf (w : List ℕ) (all : List Path) (x : Places) (most : ℕ) 
 -- a switch of either kind, with so many cases and tail cases
 pub record SwitchFacts (w : List ℕ) (all : List Path) (k kind : ℕ) (p : Path) (cases tails : ℕ) (cs : Cases) (d : Tree) : Type 0 where
   pub kind-is : nodeKind w k ≡ kind
-  pub kind-small : kind < 2
-  pub path-is : nodeWord w k 0 ≡ pathNumber all p
-  pub cases-are : nodeWord w k 2 ≡ cases
-  pub tails-are : nodeWord w k 3 ≡ tails
-  pub default-is : nodeWord w k 4 ≡ defaultField (k + 1 + nodesInOf cs) d
-  pub own : Stands w (casesStart + caseSize * nodeWord w k 1) (ownCases (k + 1) cs)
+  pub kind-small : kind < leafNode
+  pub path-is : nodeWord w k pathWord ≡ pathNumber all p
+  pub cases-are : nodeWord w k casesWord ≡ cases
+  pub tails-are : nodeWord w k tailCasesWord ≡ tails
+  pub default-is : nodeWord w k defaultWord ≡ defaultField (k + 1 + nodesInOf cs) d
+  pub own : Stands w (casesStart + caseSize * nodeWord w k firstCaseWord) (ownCases (k + 1) cs)
   pub count : howMany cs ≡ cases + tails
   pub some-case : 0 < howMany cs
   pub among : isAmong p all ≡ true
@@ -140,7 +141,7 @@ module _ (table : List Path) (node : ℕ → ℕ) (n : ℕ) (bs : ℕ → List B
   above-sized = sized-hoists (λ x. eqb (node x) k) bs (standsAt node n k) b 0 n
 
 both-covered : (all : List Path) (i child b : ℕ) (bs : List Binding) (y : Piece) → Covers all (bindingPaths bs) → Covers all (y .paths)
-    → Covers all (join (boundPiece 3 i child b bs) y .paths)
+    → Covers all (join (boundPiece hoistNode i child b bs) y .paths)
 unfolding join boundPiece
 both-covered all i child b bs y v w = covers-append all (bindingPaths bs) (y .paths) v w
 
@@ -286,13 +287,13 @@ module _ (all table : List Path) (cases-at bindings-at : ℕ) where
     bound-after j kind child most x bs o there rest h s v e =
         let f = o .tops in
         let k = bindings-at + bindingSize * f .bindings in
-        let bytes : boundBytes w (nodeWord w j 1) (nodeWord w j 2) (f .uses) ≡ bindingsBytes table bs =
-        ap (λ z. boundBytes w (nodeWord w j 1) z (f .uses)) (h .count-is) ∙ bound-bytes bs (nodeWord w j 1) (f .uses) there rest (h .bound) s v e in
-        let uses : boundUses w (nodeWord w j 1) (nodeWord w j 2) (f .uses) ≡ withClasses (f .uses) (classNumbers all (bindingPaths bs)) =
-        ap (λ z. boundUses w (nodeWord w j 1) z (f .uses)) (h .count-is) ∙ bound-uses bs (nodeWord w j 1) (f .uses) (h .bound) in
+        let bytes : boundBytes w (nodeWord w j firstBindingWord) (nodeWord w j bindingsWord) (f .uses) ≡ bindingsBytes table bs =
+        ap (λ z. boundBytes w (nodeWord w j firstBindingWord) z (f .uses)) (h .count-is) ∙ bound-bytes bs (nodeWord w j firstBindingWord) (f .uses) there rest (h .bound) s v e in
+        let uses : boundUses w (nodeWord w j firstBindingWord) (nodeWord w j bindingsWord) (f .uses) ≡ withClasses (f .uses) (classNumbers all (bindingPaths bs)) =
+        ap (λ z. boundUses w (nodeWord w j firstBindingWord) z (f .uses)) (h .count-is) ∙ bound-uses bs (nodeWord w j firstBindingWord) (f .uses) (h .bound) in
         let first = stored (o .tree) (nodeSize * f .nodes) (nodeBytes kind x (firstOf (length bs) (f .bindings)) (length bs) child 0) in
-        let tree : stored (stored (o .tree) (nodeSize * f .nodes) (nodeBytes kind (nodeWord w j 0) (firstOf (nodeWord w j 2) (f .bindings)) (nodeWord w j 2) child 0)) k
-        (boundBytes w (nodeWord w j 1) (nodeWord w j 2) (f .uses))
+        let tree : stored (stored (o .tree) (nodeSize * f .nodes) (nodeBytes kind (nodeWord w j clauseWord) (firstOf (nodeWord w j bindingsWord) (f .bindings)) (nodeWord w j bindingsWord) child 0)) k
+        (boundBytes w (nodeWord w j firstBindingWord) (nodeWord w j bindingsWord) (f .uses))
         ≡ stored (stored first (cases-at + caseSize * f .cases) []) k (bindingsBytes table bs) =
         (λ l.
         stored (stored (o .tree) (nodeSize * f .nodes) (nodeBytes kind (h .clause-is l) (firstOf (h .count-is l) (f .bindings)) (h .count-is l) child 0)) k (bytes l))
@@ -330,24 +331,24 @@ module _ (all table : List Path) (cases-at bindings-at : ℕ) where
 
       hoist-on : (c n : ℕ) (o : Out) (there rest : List Path) → clauseNode x c ≡ k
           → hoistsHere c (suc n) o
-          ≡ join (boundPiece 3 c (o .tops .nodes + 1) (o .tops .bindings) (bs c)) (hoistsPiece here bs (o .tops .nodes + 1) (o .tops .bindings + length (bs c)) (c + 1) n)
+          ≡ join (boundPiece hoistNode c (o .tops .nodes + 1) (o .tops .bindings) (bs c)) (hoistsPiece here bs (o .tops .nodes + 1) (o .tops .bindings + length (bs c)) (c + 1) n)
           → HoistLeaf w all x most bs c → Stand all (o .tops .uses) there → table ≡ firstUses there (hoistsHere c (suc n) o .paths ++ rest) → Fitting (o .tops) (hoistsHere c (suc n) o)
           → ((o₂ : Out) (there₂ : List Path) → From (c + 1) n rest o₂ there₂)
           → hoistsOut w bindings-at x k (c + 1) n (hoistOut w bindings-at x k c o) ≡ after o (hoistsHere c (suc n) o)
       unfolding join boundPiece after
       hoist-on c n o there rest q on g s e h ih =
-          let first = boundPiece 3 c (o .tops .nodes + 1) (o .tops .bindings) (bs c) in
+          let first = boundPiece hoistNode c (o .tops .nodes + 1) (o .tops .bindings) (bs c) in
           let next = hoistsPiece here bs (o .tops .nodes + 1) (o .tops .bindings + length (bs c)) (c + 1) n in
           let e₁ : table ≡ firstUses there ((bindingPaths (bs c) ++ next .paths) ++ rest) = e ∙ ap (λ z. firstUses there (z .paths ++ rest)) on in
           let h₁ : Fitting (o .tops) (join first next) = subst (Fitting (o .tops)) on h in
           let step : hoistOut w bindings-at x k c o ≡ after o first =
           hoist-here w bindings-at x k c o q
-          ∙ bound-after (getD (x .leaf) c 0) 3 (o .tops .nodes + 1) most c (bs c) o there (next .paths ++ rest) (g .node) s (g .covers)
+          ∙ bound-after (getD (x .leaf) c 0) hoistNode (o .tops .nodes + 1) most c (bs c) o there (next .paths ++ rest) (g .node) s (g .covers)
           (first-paths (bindingPaths (bs c)) (next .paths) there rest e₁) in
           ap (hoistsOut w bindings-at x k (c + 1) n) step
           ∙ ih (after o first) (firstUses there (bindingPaths (bs c))) (after-stand o first there s (g .covers)) (left-paths (bindingPaths (bs c)) (next .paths) there rest e₁)
           (fitting-rest o first next h₁)
-          ∙ after-join o first next (sized-bound 3 c (o .tops .nodes + 1) (o .tops .bindings) (bs c)) (sized-hoists here bs (o .tops .nodes + 1) (o .tops .bindings + length (bs c)) (c + 1) n) h₁
+          ∙ after-join o first next (sized-bound hoistNode c (o .tops .nodes + 1) (o .tops .bindings) (bs c)) (sized-hoists here bs (o .tops .nodes + 1) (o .tops .bindings + length (bs c)) (c + 1) n) h₁
           ∙ ap (after o) (sym on)
 
       hoists-after : (c n m : ℕ) (o : Out) (there rest : List Path) → c + n ≤ m → ((d : ℕ) → d < m → clauseNode x d ≡ k → HoistLeaf w all x most bs d) → From c n rest o there
@@ -389,17 +390,17 @@ module _ (all table : List Path) (cases-at bindings-at : ℕ) where
       switch-after kind p cases tails cs d o there rest h s e =
           let f = o .tops in
           let j = cases-at + caseSize * f .cases in
-          let number : numberIn (withClass (f .uses) (nodeWord w k 0)) (nodeWord w k 0) ≡ pathNumber table p =
+          let number : numberIn (withClass (f .uses) (nodeWord w k pathWord)) (nodeWord w k pathWord) ≡ pathNumber table p =
           ap (λ z. numberIn (withClass (f .uses) z) z) (h .path-is)
           ∙ number-used all short (f .uses) there s p (h .among)
           ∙ sym (number-first-use there rest p)
           ∙ ap (λ z. pathNumber z p) (sym e) in
           let first : f .cases ≡ firstOf (cases + tails) (f .cases) = first-some (cases + tails) (f .cases) (λ z. omega (arith, h .some-case, h .count)) in
-          let default : movedDefault (standsAt node n) (nodeWord w k 4) ≡ defaultField (standsAt node n (k + 1 + nodesInOf cs)) d = moved-default-is node n (k + 1 + nodesInOf cs) d (nodeWord w k 4) (h .default-is) in
-          let many : nodeWord w k 2 + nodeWord w k 3 ≡ cases + tails = ap₂ (λ y z. y + z) (h .cases-are) (h .tails-are) in
-          let own : movedCases w (standsAt node n) (nodeWord w k 1) (nodeWord w k 2 + nodeWord w k 3) ≡ shiftedCases table node n (k + 1) cs =
-          ap (movedCases w (standsAt node n) (nodeWord w k 1)) (many ∙ sym (h .count)) ∙ moved-cases node n cs (nodeWord w k 1) (k + 1) (h .own) in
-          let bytes : nodeBytes (nodeKind w k) (numberIn (withClass (f .uses) (nodeWord w k 0)) (nodeWord w k 0)) (f .cases) (nodeWord w k 2) (nodeWord w k 3) (movedDefault (standsAt node n) (nodeWord w k 4))
+          let default : movedDefault (standsAt node n) (nodeWord w k defaultWord) ≡ defaultField (standsAt node n (k + 1 + nodesInOf cs)) d = moved-default-is node n (k + 1 + nodesInOf cs) d (nodeWord w k defaultWord) (h .default-is) in
+          let many : nodeWord w k casesWord + nodeWord w k tailCasesWord ≡ cases + tails = ap₂ (λ y z. y + z) (h .cases-are) (h .tails-are) in
+          let own : movedCases w (standsAt node n) (nodeWord w k firstCaseWord) (nodeWord w k casesWord + nodeWord w k tailCasesWord) ≡ shiftedCases table node n (k + 1) cs =
+          ap (movedCases w (standsAt node n) (nodeWord w k firstCaseWord)) (many ∙ sym (h .count)) ∙ moved-cases node n cs (nodeWord w k firstCaseWord) (k + 1) (h .own) in
+          let bytes : nodeBytes (nodeKind w k) (numberIn (withClass (f .uses) (nodeWord w k pathWord)) (nodeWord w k pathWord)) (f .cases) (nodeWord w k casesWord) (nodeWord w k tailCasesWord) (movedDefault (standsAt node n) (nodeWord w k defaultWord))
           ≡ nodeBytes kind (pathNumber table p) (firstOf (cases + tails) (f .cases)) cases tails (defaultField (standsAt node n (k + 1 + nodesInOf cs)) d) =
           λ l. nodeBytes (h .kind-is l) (number l) (first l) (h .cases-are l) (h .tails-are l) (default l) in
           let done = stored (stored (o .tree) (nodeSize * f .nodes) (nodeBytes kind (pathNumber table p) (firstOf (cases + tails) (f .cases)) cases tails (defaultField (standsAt node n (k + 1 + nodesInOf cs)) d))) j
@@ -421,7 +422,7 @@ module _ (all table : List Path) (cases-at bindings-at : ℕ) where
       unfolding Own ownPiece boundPiece switchPiece
       own-after most absent o there rest h s e = absurd h
       own-after most (leaf c bs) o there rest h s e =
-          own-leaf w cases-at bindings-at (standsAt (clauseNode x) n) k o (h .0 .kind-is) ∙ bound-after k 2 0 most c bs o there rest (h .0) s (h .1) e
+          own-leaf w cases-at bindings-at (standsAt (clauseNode x) n) k o (h .0 .kind-is) ∙ bound-after k leafNode 0 most c bs o there rest (h .0) s (h .1) e
       own-after most (hoist c bs a) o there rest h s e = absurd h
       own-after most (switch p cs d) o there rest h s e =
           own-switch w cases-at bindings-at (standsAt (clauseNode x) n) k o (λ z. omega (arith, h .kind-is)) ∙ switch-after 0 p (howMany cs) 0 cs d o there rest h s e

@@ -14,6 +14,7 @@ use Rattle.base_words.specs.WordsLaws.{pick-true, pick-false}
 use Rattle.base_words.specs.Stored.{stored}
 use Rattle.base_words.specs.StoredLaws.{stored-append}
 use Rattle.spec_rules.specs.Limits.{patternsMost, nodesMost, bindingsMost, treeRoom, nodeSize, caseSize, bindingSize}
+use Rattle.spec_rules.specs.Kinds.{leafNode, pathWord, firstBindingWord}
 use Rattle.spec_rules.specs.Rows.{Path, Binding}
 use Rattle.spec_rules.specs.Building.{Tree, Cases, absent, leaf, hoist, switch, listswitch, cnil, ccons}
 use Rattle.spec_rules.specs.Hoisting.{howMany, firstBindings, hoistAll, nodesIn, nodesInOf, bindingsIn, hasLeaf}
@@ -31,7 +32,7 @@ use Rattle.build_arena.specs.RecordsLaws.{node-is, first-binding}
 use Rattle.build_arena.specs.Numbered.{subtrees, subtreesOf, subtreeAt, isSwitch, casesUnder, defaultUnder, Each, HeldAt, LeafNode}
 use Rattle.build_arena.specs.NumberedLaws.{length-subtrees, each-append, each-at, howMany-joined, leaf-node, switch-node}
 use Rattle.build_scopes.specs.declared.Scopes.{Scopes}
-use Rattle.build_scopes.specs.Numbers.{never, firstNumber, scopeNumber, leafNode, scopeNode, hoistByNumber, hoistByNumberOf}
+use Rattle.build_scopes.specs.Numbers.{never, firstNumber, scopeNumber, firstLeafNode, scopeNode, hoistByNumber, hoistByNumberOf}
 use Rattle.build_scopes.specs.NumbersLaws.{descent-in}
 use Rattle.build_scopes.specs.Marks.{LeafThere, SwitchThere}
 use Rattle.build_scopes.specs.ReadyLaws.{node-there, node-inside}
@@ -187,11 +188,11 @@ leaf-sound w all most j x bs short r l m h v =
       bindings = record {
         room = r;
         inside = omega (arith, h .inside, h .count-is);
-        classes = λ i q. bound-classes w all short bs (nodeWord w j 1) (h .bound) v i (omega (arith, h .count-is));
+        classes = λ i q. bound-classes w all short bs (nodeWord w j firstBindingWord) (h .bound) v i (omega (arith, h .count-is));
       };
     }
 
-own-path : (w : List ℕ) (all : List Path) (most k : ℕ) (s : Tree) → length all ≤ patternsMost → isSwitch s ≡ true → Own w all most k s → nodeWord w k 0 < patternsMost
+own-path : (w : List ℕ) (all : List Path) (most k : ℕ) (s : Tree) → length all ≤ patternsMost → isSwitch s ≡ true → Own w all most k s → nodeWord w k pathWord < patternsMost
 unfolding isSwitch Own
 own-path w all most k absent short e h = absurd h
 own-path w all most k (leaf c bs) short e h = absurd (false≢true e)
@@ -256,7 +257,7 @@ module _ (w : List ℕ) (nodes cases : ℕ) (x : Scopes) (clauses : ℕ) (h : Wr
           absurd (omega (arith, q, h .ready .nodes .nodes-most, h .scoped .node c l, pick-false (hasLeaf c a) (scopeNumber c 0 a) nodesMost e))
 
   leaf-inside : (c : ℕ) → c < clauses → hasLeaf c a ≡ true → getD (x .leaf) c 0 < nodesIn a
-  unfolding leafNode firstNumber
+  unfolding firstLeafNode firstNumber
   leaf-inside c l e =
       omega (arith, h .scoped .leaf c l, pick-true (hasLeaf c a) (firstNumber c 0 a) nodesMost e, descent-in never c 0 a e (h .ready .plain) .1)
 
@@ -269,7 +270,7 @@ module _ (w : List ℕ) (nodes cases : ℕ) (x : Scopes) (clauses : ℕ) (h : Wr
   small : (j : ℕ) → j < nodesIn a → j < nodesMost
   small j l = omega (arith, h .ready .nodes .nodes-most)
 
-  sound-leaf : (k : ℕ) → k < nodesIn a → nodeKind w k ≡ 2 → LeafSound w k
+  sound-leaf : (k : ℕ) → k < nodesIn a → nodeKind w k ≡ leafNode → LeafSound w k
   sound-leaf k l e =
       ⊎-elim
       (λ (t : LeafThere w a k).
@@ -278,7 +279,7 @@ module _ (w : List ℕ) (nodes cases : ℕ) (x : Scopes) (clauses : ℕ) (h : Wr
       (λ (t : SwitchThere w a k). absurd (omega (arith, t .shown .kind-is)))
       (node-there w a (h .ready) k l)
 
-  sound-switch : (k : ℕ) → k < nodesIn a → (nodeKind w k ≡ 2 → ⊥) → SwitchSound w k
+  sound-switch : (k : ℕ) → k < nodesIn a → (nodeKind w k ≡ leafNode → ⊥) → SwitchSound w k
   sound-switch k l e =
       let i = node-inside w a (h .ready) k l nodesMost (h .ready .nodes .nodes-most) .switch e in
       record {
@@ -383,14 +384,14 @@ module _ (w : List ℕ) (nodes cases : ℕ) (x : Scopes) (clauses : ℕ) (h : Wr
       }
 
   -- a table of zeros takes the hoists
-  pub shift-asked : ShiftAsked (clauseNode places) clauses (replicate 1025 0)
+  pub shift-asked : ShiftAsked (clauseNode places) clauses (replicate (suc nodesMost) 0)
   unfolding scopeNode scopeNumber
   shift-asked =
       record {
         few = h .few;
         scopes = λ c l. omega (arith, h .scoped .node c l, scope-most c);
-        long = length-replicate {A = ℕ} 1025 0;
-        none-yet = λ k l. getD-replicate 1025 k 0 0 (omega arith);
+        long = length-replicate {A = ℕ} (suc nodesMost) 0;
+        none-yet = λ k l. getD-replicate (suc nodesMost) k 0 0 (omega arith);
       }
     where
       scope-most : (c : ℕ) → scopeNode c a ≤ nodesMost

@@ -5,15 +5,15 @@ use mathlib.Core.List.{List, [], _∷_, _++_, append-assoc, append-nil}
 use Prim.Native.Nat.{ℕ, _+_, _*_, _≤_, _<_}
 use native.Mathlib.Omega.{arith}
 use lib.ListN.{length, length-append}
-use Rattle.base_words.specs.Words.{wordBytes}
 use Rattle.base_words.specs.Stored.{stored}
 use Rattle.base_words.specs.StoredLaws.{stored-append}
 use Rattle.spec_rules.specs.Limits.{nodeSize, caseSize, bindingSize, pathSize, stepSize, treeTrailer, treeRoom}
+use Rattle.spec_rules.specs.Sections.{backToBack, startsFrom, wordsOf, trailerOf, fileWith, fileOf}
 use Rattle.spec_rules.specs.SheetFile.{patterns, pool}
 use Rattle.spec_rules.specs.Rows.{Path}
 use Rattle.spec_rules.specs.Building.{Tree}
 use Rattle.spec_rules.specs.Hoisting.{nodesIn, bindingsIn}
-use Rattle.spec_rules.specs.TreeFile.{casesIn, nodesFrom, casesFrom, bindingsBytes, pathsBytes, stepsBytes, pathTable, backToBack, startsFrom, fileOf, treeSections, treeFile}
+use Rattle.spec_rules.specs.TreeFile.{casesIn, nodesFrom, casesFrom, bindingsBytes, pathsBytes, stepsBytes, pathTable, treeSections, treeFile}
 use Rattle.spec_file.specs.Writable.{stepsIn}
 use Rattle.spec_file.specs.LengthLaws.{length-nodesFrom, length-casesFrom, length-bindingsBytes, length-pathsBytes, length-stepsBytes}
 use Rattle.format_sheet.specs.declared.Map.{Map}
@@ -32,21 +32,18 @@ length-tail pool table cases bindings at =
     simp (length-append, length-trailer, length-pathsBytes, length-stepsBytes) (omega arith)
 
 -- ---- the trailer, by where the sections start
-sevenWords : ℕ → ℕ → ℕ → ℕ → ℕ → ℕ → ℕ → List ℕ
-sevenWords a b c d e f g = wordBytes a ++ (wordBytes b ++ (wordBytes c ++ (wordBytes d ++ (wordBytes e ++ (wordBytes f ++ wordBytes g)))))
-
-sevenWords-same : {b b' c c' d d' e e' f f' g g' : ℕ} → b ≡ b' → c ≡ c' → d ≡ d' → e ≡ e' → f ≡ f' → g ≡ g' → sevenWords 0 b c d e f g ≡ sevenWords 0 b' c' d' e' f' g'
-sevenWords-same p q r s t u = λ i. sevenWords 0 (p i) (q i) (r i) (s i) (t i) (u i)
-
 module _ (ns cs bs ps ss pool : List ℕ) where
   trailer-is : (x y z u v end : ℕ) → x ≡ length ns → y ≡ x + length cs → z ≡ y + length bs → u ≡ z + length ps → v ≡ u + length ss → end ≡ v + length pool
-      → startsFrom 0 (ns ∷ cs ∷ bs ∷ ps ∷ ss ∷ pool ∷ []) ++ wordBytes (length (backToBack (ns ∷ cs ∷ bs ∷ ps ∷ ss ∷ pool ∷ [])) + treeTrailer)
-      ≡ trailerBytes x y z u v end
-  unfolding startsFrom backToBack trailerBytes sevenWords
+      → wordsOf (trailerOf [] (ns ∷ cs ∷ bs ∷ ps ∷ ss ∷ pool ∷ [])) ≡ trailerBytes x y z u v end
+  unfolding trailerOf startsFrom backToBack trailerBytes
   trailer-is x y z u v end a b c d e f =
-      let whole : length (ns ++ (cs ++ (bs ++ (ps ++ (ss ++ (pool ++ [])))))) ≡ length ns + length cs + length bs + length ps + length ss + length pool =
-      simp length-append (omega arith) in
-      sevenWords-same (omega arith) (omega arith) (omega arith) (omega arith) (omega arith) (omega (arith, whole))
+      let whole : length (ns ++ (cs ++ (bs ++ (ps ++ (ss ++ (pool ++ [])))))) ≡ end = simp length-append (omega arith) in
+      let at-cases : 0 + length ns ≡ x = omega arith in
+      let at-bindings : 0 + length ns + length cs ≡ y = omega arith in
+      let at-paths : 0 + length ns + length cs + length bs ≡ z = omega arith in
+      let at-steps : 0 + length ns + length cs + length bs + length ps ≡ u = omega arith in
+      let at-pool : 0 + length ns + length cs + length bs + length ps + length ss ≡ v = omega arith in
+      ap wordsOf (λ i. 0 ∷ at-cases i ∷ at-bindings i ∷ at-paths i ∷ at-steps i ∷ at-pool i ∷ (whole i + treeTrailer) ∷ [])
 
   file-parts : (trailer : List ℕ)
       → (ns ++ (cs ++ (bs ++ (ps ++ (ss ++ (pool ++ [])))))) ++ trailer ≡ (ns ++ (cs ++ bs)) ++ (ps ++ (ss ++ (pool ++ trailer)))
@@ -68,7 +65,7 @@ module _ (pool : List ℕ) (a : Tree) (table : List Path) (is-table : table ≡ 
       )
 
   pub file-is : frontBytes table a ++ tailBytes pool table cases bindings paths ≡ treeFile pool a
-  unfolding treeFile treeSections fileOf backToBack frontBytes tailBytes
+  unfolding treeFile treeSections fileOf fileWith backToBack frontBytes tailBytes
   file-is =
       let ns = nodesFrom table 0 0 0 a in
       let cs = casesFrom 0 a in

@@ -13,7 +13,7 @@ use Rattle.spec_file.specs.LengthLaws.{length-pathSteps}
 use Rattle.format_sheet.specs.declared.Map.{Map}
 use Rattle.format_sheet.specs.declared.records.TypeRecord.{TypeRecord}
 use Rattle.format_sheet.specs.Records.{typeOf as typeOfRecord}
-use Rattle.build_table.specs.Standing.{pathOf, typeOf, aboveOf, indexOf, stepOf, stepNumber}
+use Rattle.build_table.specs.Standing.{pathOf, typeOf, aboveOf, indexOf, stepOf, sameNumber, stepNumber}
 use Rattle.build_table.specs.TypesLaws.{type-known}
 use Rattle.build_table.specs.Table.{aboveAt, typeAt, stepAt, indexAt, depthAt}
 use Rattle.build_table.specs.Tabled.{Checked, Tabled}
@@ -45,12 +45,12 @@ module _ {s : List ℕ} {m : Map} {t : List ℕ} (ch : Checked s m) (tabled : Ta
   depth-is count e = omega (arith, e, tabled .classed p h .depth, length-pathSteps (pathOf s p))
 
   -- ---- no step
-  pub none-put : getD t (stepAt + p) 0 ≡ 5 → (l : List ℕ) (end : ℕ) → Puts l l end end (pathSteps (ownSteps (stepOf s p)))
+  pub none-put : getD t (stepAt + p) 0 ≡ sameNumber → (l : List ℕ) (end : ℕ) → Puts l l end end (pathSteps (ownSteps (stepOf s p)))
   unfolding pathSteps
   none-put e l end = puts-as (puts-nothing l end) (sym (ap pathSteps (no-step (ch .ok) p (sym (tabled .placed p h .step) ∙ e))))
 
   -- ---- a step
-  module _ (is-step : getD t (stepAt + p) 0 ≡ 5 → ⊥) where
+  module _ (is-step : getD t (stepAt + p) 0 ≡ sameNumber → ⊥) where
     own-bytes : pathSteps (ownSteps (stepOf s p))
         ≡ stepRecord (stepNumber (stepOf s p)) (flagOf (stepNumber (stepOf s p)) (typeOfRecord s (typeOf s (aboveOf s p)))) (indexOf s p) (typeOf s (aboveOf s p))
     own-bytes = step-bytes (ch .ok) p h (λ e. is-step (tabled .placed p h .step ∙ e))

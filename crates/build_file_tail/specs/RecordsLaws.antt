@@ -10,6 +10,7 @@ use lib.ListN.{length, getD}
 use Rattle.base_words.specs.Words.{textAt}
 use Rattle.base_words.specs.Stored.{stored}
 use Rattle.spec_rules.specs.Limits.{pathSize}
+use Rattle.spec_rules.specs.Kinds.{dataType, decoratedFlag, constrStep}
 use Rattle.spec_rules.specs.SheetFile.{patterns, poolAt, poolSize, poolText, pool}
 use Rattle.spec_rules.specs.Rows.{Path, bit}
 use Rattle.spec_rules.specs.TreeFile.{firstOf, pathsBytes}
@@ -24,27 +25,27 @@ use Rattle.build_file_tail.specs.StoringLaws.{begun, begun-more, begun-a
 
 -- ---- a flag, by the first test that fails
 module _ (step : ℕ) (ty : TypeRecord) where
-  pub flag-of-another-step : (step ≡ 2 → ⊥) → 0 ≡ flagOf step ty
-  flag-of-another-step h = rw (ne-eqb step 2 h)
+  pub flag-of-another-step : (step ≡ constrStep → ⊥) → 0 ≡ flagOf step ty
+  flag-of-another-step h = rw (ne-eqb step constrStep h)
 
-  module _ (is-constr : step ≡ 2) where
-    pub flag-of-no-data : (ty .kind ≡ 5 → ⊥) → 0 ≡ flagOf step ty
+  module _ (is-constr : step ≡ constrStep) where
+    pub flag-of-no-data : (ty .kind ≡ dataType → ⊥) → 0 ≡ flagOf step ty
     unfolding bit
-    flag-of-no-data h = rw (eq-eqb step 2 is-constr, ne-eqb (ty .kind) 5 h)
+    flag-of-no-data h = rw (eq-eqb step constrStep is-constr, ne-eqb (ty .kind) dataType h)
 
-    module _ (is-data : ty .kind ≡ 5) where
+    module _ (is-data : ty .kind ≡ dataType) where
       pub flag-of-several : (ty .count ≡ 1 → ⊥) → 0 ≡ flagOf step ty
       unfolding bit
-      flag-of-several h = rw (eq-eqb step 2 is-constr, eq-eqb (ty .kind) 5 is-data, ne-eqb (ty .count) 1 h)
+      flag-of-several h = rw (eq-eqb step constrStep is-constr, eq-eqb (ty .kind) dataType is-data, ne-eqb (ty .count) 1 h)
 
       module _ (is-one : ty .count ≡ 1) where
-        pub flag-of-undecorated : ty .flag < 2 → 0 ≡ flagOf step ty
+        pub flag-of-undecorated : ty .flag < decoratedFlag → 0 ≡ flagOf step ty
         unfolding bit
-        flag-of-undecorated h = rw (eq-eqb step 2 is-constr, eq-eqb (ty .kind) 5 is-data, eq-eqb (ty .count) 1 is-one, lt-leb 2 (ty .flag) h)
+        flag-of-undecorated h = rw (eq-eqb step constrStep is-constr, eq-eqb (ty .kind) dataType is-data, eq-eqb (ty .count) 1 is-one, lt-leb decoratedFlag (ty .flag) h)
 
-        pub flag-of-decorated : 2 ≤ ty .flag → 1 ≡ flagOf step ty
+        pub flag-of-decorated : decoratedFlag ≤ ty .flag → 1 ≡ flagOf step ty
         unfolding bit
-        flag-of-decorated h = rw (eq-eqb step 2 is-constr, eq-eqb (ty .kind) 5 is-data, eq-eqb (ty .count) 1 is-one, le-leb 2 (ty .flag) h)
+        flag-of-decorated h = rw (eq-eqb step constrStep is-constr, eq-eqb (ty .kind) dataType is-data, eq-eqb (ty .count) 1 is-one, le-leb decoratedFlag (ty .flag) h)
 
 -- ---- the first step
 pub first-none : (count first : ℕ) → count ≡ 0 → 0 ≡ firstOf count first

@@ -11,6 +11,7 @@ use Rattle.base_words.specs.Words.{both, pick}
 use Rattle.base_words.specs.Stored.{stored}
 use Rattle.base_words.specs.StoredLaws.{stored-append, stored-swap, stored-nil}
 use Rattle.spec_rules.specs.Limits.{stepSize}
+use Rattle.spec_rules.specs.Kinds.{constrStep}
 use Rattle.spec_rules.specs.SheetFile.{patterns, patternFirst}
 use Rattle.spec_rules.specs.Patterns.{PatternKind, Discard, Variable, Assign, Integer, ByteString, ListOfAll, ListWithRest, Constructor, Pair, Tuple, Unknown, oneConstructor, decorated}
 use Rattle.spec_rules.specs.Rows.{Step, pair, tuple, constr, list, listtail, Path, into, bit}
@@ -18,7 +19,7 @@ use Rattle.spec_rules.specs.TreeFile.{stepBytes, pathSteps}
 use Rattle.spec_accepted.specs.SheetFacts.{Accepted, Shaped}
 use Rattle.spec_file.specs.LengthLaws.{length-pathSteps}
 use Rattle.format_sheet.specs.Records.{typeOf as typeOfRecord}
-use Rattle.build_table.specs.Standing.{kindOf, isTail, stepTo, follows, pathOf, typeOf, aboveOf, indexOf, stepOf, stepNumber}
+use Rattle.build_table.specs.Standing.{kindOf, isTail, stepTo, follows, pathOf, typeOf, aboveOf, indexOf, stepOf, sameNumber, stepNumber}
 use Rattle.build_table.specs.StandingLaws.{by-standing, root-path, root-step, child-index, child-step, child-above, above-below, path-above}
 use Rattle.build_file_tail.specs.Tail.{Puts, ownSteps, flagOf, stepRecord}
 use Rattle.build_file_tail.specs.StoringLaws.{length-put}
@@ -36,12 +37,12 @@ follows-own p (some step) = refl
 
 -- ---- the bytes of a step
 -- a type's record says what makes a field's flag
-flag-decorated : (s : List ℕ) (t : ℕ) → bit (both (oneConstructor s t) (decorated s t)) ≡ flagOf 2 (typeOfRecord s t)
+flag-decorated : (s : List ℕ) (t : ℕ) → bit (both (oneConstructor s t) (decorated s t)) ≡ flagOf constrStep (typeOfRecord s t)
 unfolding oneConstructor decorated
 flag-decorated s t = refl
 
 -- the step to child i of a pattern of type t, if it is one
-stepTo-bytes : (s : List ℕ) (p t i : ℕ) (kind : PatternKind) → (stepNumber (stepTo s p t kind i) ≡ 5 → ⊥)
+stepTo-bytes : (s : List ℕ) (p t i : ℕ) (kind : PatternKind) → (stepNumber (stepTo s p t kind i) ≡ sameNumber → ⊥)
     → pathSteps (ownSteps (stepTo s p t kind i))
     ≡ stepRecord (stepNumber (stepTo s p t kind i)) (flagOf (stepNumber (stepTo s p t kind i)) (typeOfRecord s t)) i t
 unfolding stepTo stepNumber ownSteps pathSteps stepBytes
@@ -63,7 +64,7 @@ stepTo-bytes s p t i Pair h = refl
 stepTo-bytes s p t i Tuple h = refl
 stepTo-bytes s p t i Unknown h = absurd (h refl)
 
-stepNumber-none : (step : Option Step) → stepNumber step ≡ 5 → ownSteps step ≡ []
+stepNumber-none : (step : Option Step) → stepNumber step ≡ sameNumber → ownSteps step ≡ []
 unfolding stepNumber ownSteps
 stepNumber-none none e = refl
 stepNumber-none (some (pair i t)) e = absurd (omega arith)
@@ -74,13 +75,13 @@ stepNumber-none (some (listtail i t)) e = absurd (omega arith)
 
 module _ {s : List ℕ} (ok : Accepted s) where
   -- a pattern with a step of its own has it as its number, flag, index and the type above
-  pub step-bytes : (p : ℕ) → p < patterns s → (stepNumber (stepOf s p) ≡ 5 → ⊥)
+  pub step-bytes : (p : ℕ) → p < patterns s → (stepNumber (stepOf s p) ≡ sameNumber → ⊥)
       → pathSteps (ownSteps (stepOf s p))
       ≡ stepRecord (stepNumber (stepOf s p)) (flagOf (stepNumber (stepOf s p)) (typeOfRecord s (typeOf s (aboveOf s p)))) (indexOf s p) (typeOf s (aboveOf s p))
   unfolding stepNumber
   step-bytes =
       by-standing sh
-      (λ p. (stepNumber (stepOf s p) ≡ 5 → ⊥)
+      (λ p. (stepNumber (stepOf s p) ≡ sameNumber → ⊥)
       → pathSteps (ownSteps (stepOf s p))
       ≡ stepRecord (stepNumber (stepOf s p)) (flagOf (stepNumber (stepOf s p)) (typeOfRecord s (typeOf s (aboveOf s p)))) (indexOf s p) (typeOf s (aboveOf s p)))
       (λ c h n. absurd (n (ap stepNumber (root-step sh c h))))
@@ -91,7 +92,7 @@ module _ {s : List ℕ} (ok : Accepted s) where
       sh = ok .is-shaped
 
   -- one with none has none
-  pub no-step : (p : ℕ) → stepNumber (stepOf s p) ≡ 5 → ownSteps (stepOf s p) ≡ []
+  pub no-step : (p : ℕ) → stepNumber (stepOf s p) ≡ sameNumber → ownSteps (stepOf s p) ≡ []
   no-step p e = stepNumber-none (stepOf s p) e
 
   -- ---- the pattern above

@@ -9,6 +9,8 @@ use lib.ListN.{length, getD}
 use Rattle.base_words.specs.Words.{wordBytes, both, pick, textAt}
 use Rattle.base_words.specs.Stored.{stored}
 use Rattle.spec_rules.specs.Limits.{treeTrailer, treeRoom}
+use Rattle.spec_rules.specs.Kinds.{dataType, decoratedFlag, constrStep}
+use Rattle.spec_rules.specs.Sections.{wordsOf}
 use Rattle.spec_rules.specs.SheetFile.{patterns, pool}
 use Rattle.spec_rules.specs.Rows.{Step, Path, bit}
 use Rattle.spec_rules.specs.Building.{Tree}
@@ -67,7 +69,7 @@ ownSteps (some step) = step ∷ []
 
 -- a step's flag, by its number and its type's record: 1 for a field of a list-decorated one-constructor type
 abbrev pub flagOf : ℕ → TypeRecord → ℕ
-flagOf step ty = pick (eqb step 2) (bit (both (both (eqb (ty .kind) 5) (eqb (ty .count) 1)) (leb 2 (ty .flag)))) 0
+flagOf step ty = pick (eqb step constrStep) (bit (both (both (eqb (ty .kind) dataType) (eqb (ty .count) 1)) (leb decoratedFlag (ty .flag)))) 0
 
 -- "Steps, 6 bytes: kind ..; flag; index; type of the part stepped from"
 abbrev pub stepRecord : ℕ → ℕ → ℕ → ℕ → List ℕ
@@ -76,9 +78,7 @@ stepRecord kind flag index type = kind ∷ flag ∷ (wordBytes index ++ wordByte
 -- ---- the trailer and the whole tail
 -- "Trailer, 14 bytes: six starts, file length": the sections after the nodes start at these places, and the trailer at `end`
 unfoldable pub trailerBytes : ℕ → ℕ → ℕ → ℕ → ℕ → ℕ → List ℕ
-trailerBytes cases bindings paths steps pool end =
-    wordBytes 0
-    ++ (wordBytes cases ++ (wordBytes bindings ++ (wordBytes paths ++ (wordBytes steps ++ (wordBytes pool ++ wordBytes (end + treeTrailer))))))
+trailerBytes cases bindings paths steps pool end = wordsOf (0 ∷ cases ∷ bindings ∷ paths ∷ steps ∷ pool ∷ (end + treeTrailer) ∷ [])
 
 -- what stands before the paths: nodes, cases and bindings
 unfoldable pub frontBytes : List Path → Tree → List ℕ

@@ -13,6 +13,7 @@ use lib.Seq.{slice}
 use Rattle.base_words.specs.Words.{pick}
 use Rattle.base_words.specs.WordsLaws.{pick-true, pick-false}
 use Rattle.spec_rules.specs.Limits.{patternsMost, childrenMost}
+use Rattle.spec_rules.specs.Kinds.{discardPattern, variablePattern, assignPattern, constructorPattern, tuplePattern}
 use Rattle.spec_rules.specs.SheetFile.{patterns, children, clauses, patternKind, patternFirst, patternCount, child, root}
 use Rattle.spec_rules.specs.Patterns.{patternKindOf}
 use Rattle.spec_rules.specs.SheetRefusals.{hasChildren}
@@ -109,16 +110,16 @@ module _ (s : List ℕ) (ok : Accepted s) (p : ℕ) where
     kind-is : r .kind ≡ patternKind s p
     kind-is = ap (λ (x : PatternRecord). x .kind) is
 
-    pub variable-gives : r .kind ≡ 1 → Gives s p (record { named = true; first = 0; count = 0 })
+    pub variable-gives : r .kind ≡ variablePattern → Gives s p (record { named = true; first = 0; count = 0 })
     variable-gives k = own-gives h true (binds-variable sh few p h (sym kind-is ∙ k))
 
-    pub assign-gives : r .kind ≡ 2 → Gives s p (record { named = true; first = r .first; count = r .count })
+    pub assign-gives : r .kind ≡ assignPattern → Gives s p (record { named = true; first = r .first; count = r .count })
     assign-gives k =
         let e = sym kind-is ∙ k in
         all-give h (assign-parent s p e) true (r .first) (r .count) (ap (λ (x : PatternRecord). x .first) is) (ap (λ (x : PatternRecord). x .count) is)
         (binds-of-name sh few p h (no-test-of-plain s p (omega arith)) (binds-a-name s p (omega arith) (omega arith)))
 
-    pub parts-here : 7 ≤ r .kind → r .kind < 10 → Parts s p (r .first) (r .count)
+    pub parts-here : constructorPattern ≤ r .kind → r .kind < suc tuplePattern → Parts s p (r .first) (r .count)
     parts-here low high =
         record {
           known = h;
@@ -128,13 +129,13 @@ module _ (s : List ℕ) (ok : Accepted s) (p : ℕ) where
           is-count = ap (λ (x : PatternRecord). x .count) is;
         }
 
-    pub others-give : (r .kind ≡ 1 → ⊥) → (r .kind ≡ 2 → ⊥) → (r .kind < 7) ⊎ (9 < r .kind) → Gives s p (record { named = false; first = 0; count = 0 })
+    pub others-give : (r .kind ≡ variablePattern → ⊥) → (r .kind ≡ assignPattern → ⊥) → (r .kind < constructorPattern) ⊎ (tuplePattern < r .kind) → Gives s p (record { named = false; first = 0; count = 0 })
     others-give n1 n2 (inr high) = absurd (omega (arith, kind-is, sh .pattern-kind p h))
-    others-give n1 n2 (inl low) = own-gives h false (go (eqb (r .kind) 0) refl)
+    others-give n1 n2 (inl low) = own-gives h false (go (eqb (r .kind) discardPattern) refl)
       where
-        go : (b : Bool) → eqb (r .kind) 0 ≡ b → bindsOf s p ≡ []
-        go true e = binds-discard sh few p h (sym kind-is ∙ eqb-true (r .kind) 0 e)
-        go false e = binds-text-or-list sh few p h (omega (arith, kind-is, eqb-false (r .kind) 0 e)) (omega (arith, kind-is))
+        go : (b : Bool) → eqb (r .kind) discardPattern ≡ b → bindsOf s p ≡ []
+        go true e = binds-discard sh few p h (sym kind-is ∙ eqb-true (r .kind) discardPattern e)
+        go false e = binds-text-or-list sh few p h (omega (arith, kind-is, eqb-false (r .kind) discardPattern e)) (omega (arith, kind-is))
 
   -- ---- of a constructor, pair or tuple
   module _ (first count : ℕ) (x : Parts s p first count) where
@@ -222,7 +223,7 @@ module _ (s : List ℕ) (p : ℕ) (h : p < patterns s) (run : Run) (is : run ≡
   run-empty e = run-opened ∙ ap (bindsOfEach s (run .first)) e ∙ binds-each-none s (run .first)
 
 -- the cell of the class, as it was read
-module _ (s t : List ℕ) (tabled : Tabled s t) (c class : ℕ) (hc : c < clauses s) (hk : class < patternsMost) (cell : ℕ) (is : cell ≡ getD t (cellsAt + 192 * c + class) 0) where
+module _ (s t : List ℕ) (tabled : Tabled s t) (c class : ℕ) (hc : c < clauses s) (hk : class < patternsMost) (cell : ℕ) (is : cell ≡ getD t (cellsAt + patternsMost * c + class) 0) where
   cell-is : cell ≡ cellOf s c class
   cell-is = is ∙ tabled .cell c class hc hk
 

@@ -8,6 +8,7 @@ use native.Mathlib.Numerals.{add-one}
 use borrow.Author.Tests.{eq-eqb, ne-eqb}
 use lib.ListN.{length, getD, take, drop, set, length-append, length-set, List·getD-append}
 use lib.Seq.{slice, slice-cons, slice-empty, length-slice, split-at, take-suc, take-at, take-take, set-at, getD-take, append-snoc, length-take-le, take-suc-set}
+use Rattle.spec_rules.specs.Limits.{patternsMost, clausesMost}
 use Rattle.spec_rules.specs.SheetRefusals.{isIn}
 use Rattle.build_matrix.specs.declared.PerRow.{PerRow}
 use Rattle.build_matrix.specs.declared.Classes.{Classes}
@@ -110,10 +111,10 @@ whole h = record { long = h .long; most = h .most; are = refl }
 pub whole-rows : {r : PerRow} {l : List ℕ} → HoldsRows r l → WholeRows r
 whole-rows h = record { long = h .long; most = h .most; are = refl }
 
-pub holds-push : (l : List ℕ) (n x : ℕ) → length l ≡ 192 → n < 192 → Holds (record { list = set l n x; count = n + 1 }) (take n l ++ x ∷ [])
+pub holds-push : (l : List ℕ) (n x : ℕ) → length l ≡ patternsMost → n < patternsMost → Holds (record { list = set l n x; count = n + 1 }) (take n l ++ x ∷ [])
 holds-push l n x e h = record { long = length-set l n x ∙ e; most = omega arith; are = push-one l n x (omega arith) }
 
-pub holds-push-row : (l : List ℕ) (n x : ℕ) → length l ≡ 32 → n < 32 → HoldsRows (record { list = set l n x; count = n + 1 }) (take n l ++ x ∷ [])
+pub holds-push-row : (l : List ℕ) (n x : ℕ) → length l ≡ clausesMost → n < clausesMost → HoldsRows (record { list = set l n x; count = n + 1 }) (take n l ++ x ∷ [])
 holds-push-row l n x e h = record { long = length-set l n x ∙ e; most = omega arith; are = push-one l n x (omega arith) }
 
 -- ---- the others put behind: all before the place of k, and all behind it

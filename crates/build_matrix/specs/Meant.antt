@@ -5,6 +5,7 @@ use mathlib.Core.List.{List, [], _∷_}
 use Prim.Native.Nat.{ℕ, _+_, _-_, _≤_}
 use lib.Dec.{eqb, leb}
 use Rattle.base_words.specs.Words.{both, either, pick, sameText}
+use Rattle.spec_rules.specs.Kinds.{integerPattern, byteStringPattern, listPattern, listWithTailPattern, constructorPattern, intCase}
 use Rattle.spec_rules.specs.SheetFile.{poolSize, poolText}
 use Rattle.spec_rules.specs.Splitting as splitting
 use Rattle.format_sheet.specs.declared.records.PatternRecord.{PatternRecord}
@@ -36,20 +37,20 @@ InPool s (Test.Tailed count) = Unit {0}
 
 -- ---- does the test of the pattern with record r belong to the case?
 abbrev pub coversConstructor : PatternRecord → ℕ → Bool
-coversConstructor r number = both (eqb (r .kind) 7) (eqb number (r .a))
+coversConstructor r number = both (eqb (r .kind) constructorPattern) (eqb number (r .a))
 
 -- the kind of the patterns that a text's case covers
 abbrev pub textPattern : ℕ → ℕ
-textPattern kind = pick (eqb kind 1) 3 4
+textPattern kind = pick (eqb kind intCase) integerPattern byteStringPattern
 
 abbrev pub coversText : List ℕ → PatternRecord → ℕ → ℕ → ℕ → Bool
 coversText s r kind start count = both (eqb (r .kind) (textPattern kind)) (sameText (poolText s start count) (poolText s (r .first) (r .count)))
 
 abbrev pub coversTailed : PatternRecord → ℕ → Bool
-coversTailed r n = both (eqb (r .kind) 6) (leb (r .count - 1) n)
+coversTailed r n = both (eqb (r .kind) listWithTailPattern) (leb (r .count - 1) n)
 
 abbrev pub coversList : PatternRecord → ℕ → Bool
-coversList r n = either (both (eqb (r .kind) 5) (eqb n (r .count))) (coversTailed r n)
+coversList r n = either (both (eqb (r .kind) listPattern) (eqb n (r .count))) (coversTailed r n)
 
 abbrev pub coversRead : List ℕ → PatternRecord → Test → Bool
 coversRead s r (Test.Constr number) = coversConstructor r number

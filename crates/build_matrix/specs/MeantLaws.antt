@@ -9,6 +9,7 @@ use lib.Dec.{eqb, leb}
 use lib.ListN.{length}
 use Rattle.base_words.specs.Words.{both, either, pick, textAt, sameText}
 use Rattle.base_words.specs.WordsLaws.{length-textAt, not-sameText}
+use Rattle.spec_rules.specs.Kinds.{integerPattern, byteStringPattern, listPattern, listWithTailPattern, constructorPattern, intCase}
 use Rattle.spec_rules.specs.SheetFile.{typeFirst, patternKind, patternA, patternFirst, patternCount, child, poolAt, poolSize, poolText}
 use Rattle.spec_rules.specs.Patterns.{PatternKind, Discard, Variable, Assign, Integer, ByteString, ListOfAll, ListWithRest, Constructor, Pair, Tuple, Unknown, patternKindOf, Mark, Pat, Pats, tailed, many, oneConstructor, along, ofConstructor, ofKind, pattern}
 use Rattle.spec_rules.specs.Splitting as splitting
@@ -31,36 +32,36 @@ module _ (s : List ℕ) (z a first count : ℕ) where
   abbrev withKind : ℕ → PatternRecord
   withKind k = record { kind = k; zero = z; a = a; first = first; count = count }
 
-  of-integer : (u : Test) → coversRead s (withKind 3) u ≡ sameTest (meant s u) (splitting.Int (poolText s first count))
+  of-integer : (u : Test) → coversRead s (withKind integerPattern) u ≡ sameTest (meant s u) (splitting.Int (poolText s first count))
   unfolding meant sameTest testFields sameText
   of-integer (Test.Constr n) = refl
-  of-integer (Test.Text kind start n) = go (eqb kind 1)
+  of-integer (Test.Text kind start n) = go (eqb kind intCase)
     where
-      go : (b : Bool) → both (eqb 3 (pick b 3 4)) (sameText (poolText s start n) (poolText s first count))
+      go : (b : Bool) → both (eqb integerPattern (pick b integerPattern byteStringPattern)) (sameText (poolText s start n) (poolText s first count))
           ≡ sameTest (pick b (splitting.Int (poolText s start n)) (splitting.Bytes (poolText s start n))) (splitting.Int (poolText s first count))
       go true = refl
       go false = refl
   of-integer (Test.List n) = refl
   of-integer (Test.Tailed n) = refl
 
-  of-bytes : (u : Test) → coversRead s (withKind 4) u ≡ sameTest (meant s u) (splitting.Bytes (poolText s first count))
+  of-bytes : (u : Test) → coversRead s (withKind byteStringPattern) u ≡ sameTest (meant s u) (splitting.Bytes (poolText s first count))
   unfolding meant sameTest testFields sameText
   of-bytes (Test.Constr n) = refl
-  of-bytes (Test.Text kind start n) = go (eqb kind 1)
+  of-bytes (Test.Text kind start n) = go (eqb kind intCase)
     where
-      go : (b : Bool) → both (eqb 4 (pick b 3 4)) (sameText (poolText s start n) (poolText s first count))
+      go : (b : Bool) → both (eqb byteStringPattern (pick b integerPattern byteStringPattern)) (sameText (poolText s start n) (poolText s first count))
           ≡ sameTest (pick b (splitting.Int (poolText s start n)) (splitting.Bytes (poolText s start n))) (splitting.Bytes (poolText s first count))
       go true = refl
       go false = refl
   of-bytes (Test.List n) = refl
   of-bytes (Test.Tailed n) = refl
 
-  of-list : (u : Test) → coversRead s (withKind 5) u ≡ sameTest (meant s u) (splitting.ListOf count)
+  of-list : (u : Test) → coversRead s (withKind listPattern) u ≡ sameTest (meant s u) (splitting.ListOf count)
   unfolding meant sameTest testFields sameText
   of-list (Test.Constr n) = refl
-  of-list (Test.Text kind start n) = go (eqb kind 1)
+  of-list (Test.Text kind start n) = go (eqb kind intCase)
     where
-      go : (b : Bool) → both (eqb 5 (pick b 3 4)) (sameText (poolText s start n) (poolText s first count))
+      go : (b : Bool) → both (eqb listPattern (pick b integerPattern byteStringPattern)) (sameText (poolText s start n) (poolText s first count))
           ≡ sameTest (pick b (splitting.Int (poolText s start n)) (splitting.Bytes (poolText s start n))) (splitting.ListOf count)
       go true = refl
       go false = refl
@@ -73,28 +74,28 @@ module _ (s : List ℕ) (z a first count : ℕ) where
 
   of-tailed : (t : Pat) (many-is : (u : splitting.Test) → covers t u
       ≡ elim u [ splitting.Constr a ↦ false | splitting.Int w ↦ false | splitting.Bytes w ↦ false | splitting.ListOf n ↦ leb (count - 1) n | splitting.ListWithTail n ↦ leb (count - 1) n ])
-      → (u : Test) → coversRead s (withKind 6) u ≡ covers t (meant s u)
+      → (u : Test) → coversRead s (withKind listWithTailPattern) u ≡ covers t (meant s u)
   unfolding meant
   of-tailed t many-is (Test.Constr n) = rw (many-is (splitting.Constr n))
-  of-tailed t many-is (Test.Text kind start n) = go (eqb kind 1)
+  of-tailed t many-is (Test.Text kind start n) = go (eqb kind intCase)
     where
-      go : (b : Bool) → both (eqb 6 (pick b 3 4)) (sameText (poolText s start n) (poolText s first count))
+      go : (b : Bool) → both (eqb listWithTailPattern (pick b integerPattern byteStringPattern)) (sameText (poolText s start n) (poolText s first count))
           ≡ covers t (pick b (splitting.Int (poolText s start n)) (splitting.Bytes (poolText s start n)))
       go true = rw (many-is (splitting.Int (poolText s start n)))
       go false = rw (many-is (splitting.Bytes (poolText s start n)))
   of-tailed t many-is (Test.List n) = rw (many-is (splitting.ListOf n))
   of-tailed t many-is (Test.Tailed n) = rw (many-is (splitting.ListWithTail n))
 
-  of-constructor : (u : Test) → coversRead s (withKind 7) u ≡ sameTest (meant s u) (splitting.Constr a)
+  of-constructor : (u : Test) → coversRead s (withKind constructorPattern) u ≡ sameTest (meant s u) (splitting.Constr a)
   unfolding meant sameTest testFields sameText
   of-constructor (Test.Constr n) = go (eqb n a)
     where
       go : (b : Bool) → b ≡ both b true
       go true = refl
       go false = refl
-  of-constructor (Test.Text kind start n) = go (eqb kind 1)
+  of-constructor (Test.Text kind start n) = go (eqb kind intCase)
     where
-      go : (b : Bool) → both (eqb 7 (pick b 3 4)) (sameText (poolText s start n) (poolText s first count))
+      go : (b : Bool) → both (eqb constructorPattern (pick b integerPattern byteStringPattern)) (sameText (poolText s start n) (poolText s first count))
           ≡ sameTest (pick b (splitting.Int (poolText s start n)) (splitting.Bytes (poolText s start n))) (splitting.Constr a)
       go true = refl
       go false = refl
@@ -150,7 +151,7 @@ module _ {s : List ℕ} (ok : Accepted s) (p : ℕ) (k : TestKnown s p) (u : Tes
   covers-read = by-kind (patternKindOf (patternKind s p)) refl ∙ ap (λ (q : Pat). covers q (meant s u)) (sym (opens-as (patternKindOf (patternKind s p)) refl))
 
   -- a text pattern's text lies in the pool
-  pub text-inside : 3 ≤ patternKind s p → patternKind s p ≤ 4 → patternFirst s p + patternCount s p ≤ poolSize s
+  pub text-inside : integerPattern ≤ patternKind s p → patternKind s p ≤ byteStringPattern → patternFirst s p + patternCount s p ≤ poolSize s
   text-inside low high = ok .is-shaped .text-run p (k .known) low high .inside
 
 -- ---- counting a tail as the code does
@@ -163,32 +164,32 @@ tail-counts count n = go (leb count (n + 1)) refl
 
 -- ---- as the code has them
 module _ (r : PatternRecord) (n : ℕ) where
-  pub constructor-not : (r .kind ≡ 7 → ⊥) → false ≡ coversConstructor r n
-  constructor-not h = rw (ne-eqb (r .kind) 7 h)
+  pub constructor-not : (r .kind ≡ constructorPattern → ⊥) → false ≡ coversConstructor r n
+  constructor-not h = rw (ne-eqb (r .kind) constructorPattern h)
 
-  pub constructor-is : r .kind ≡ 7 → eqb n (r .a) ≡ coversConstructor r n
+  pub constructor-is : r .kind ≡ constructorPattern → eqb n (r .a) ≡ coversConstructor r n
   constructor-is e = rw e
 
-  pub tailed-not : (r .kind ≡ 6 → ⊥) → false ≡ coversTailed r n
-  tailed-not h = rw (ne-eqb (r .kind) 6 h)
+  pub tailed-not : (r .kind ≡ listWithTailPattern → ⊥) → false ≡ coversTailed r n
+  tailed-not h = rw (ne-eqb (r .kind) listWithTailPattern h)
 
-  pub tailed-is : r .kind ≡ 6 → leb (r .count) (n + 1) ≡ coversTailed r n
+  pub tailed-is : r .kind ≡ listWithTailPattern → leb (r .count) (n + 1) ≡ coversTailed r n
   tailed-is e = rw e (tail-counts (r .count) n)
 
-  pub list-is : r .kind ≡ 5 → eqb n (r .count) ≡ coversList r n
+  pub list-is : r .kind ≡ listPattern → eqb n (r .count) ≡ coversList r n
   list-is e = rw e (go (eqb n (r .count)))
     where
       go : (b : Bool) → b ≡ either b false
       go true = refl
       go false = refl
 
-  pub list-not : (x : Bool) → (r .kind ≡ 5 → ⊥) → x ≡ coversTailed r n → x ≡ coversList r n
-  list-not x h e = e ∙ rw (ne-eqb (r .kind) 5 h)
+  pub list-not : (x : Bool) → (r .kind ≡ listPattern → ⊥) → x ≡ coversTailed r n → x ≡ coversList r n
+  list-not x h e = e ∙ rw (ne-eqb (r .kind) listPattern h)
 
-pub text-pattern-most : (kind : ℕ) → (3 ≤ textPattern kind) × (textPattern kind ≤ 4)
-text-pattern-most kind = go (eqb kind 1)
+pub text-pattern-most : (kind : ℕ) → (integerPattern ≤ textPattern kind) × (textPattern kind ≤ byteStringPattern)
+text-pattern-most kind = go (eqb kind intCase)
   where
-    go : (b : Bool) → (3 ≤ pick b 3 4) × (pick b 3 4 ≤ 4)
+    go : (b : Bool) → (integerPattern ≤ pick b integerPattern byteStringPattern) × (pick b integerPattern byteStringPattern ≤ byteStringPattern)
     go true = (omega arith, omega arith)
     go false = (omega arith, omega arith)
 
@@ -226,7 +227,7 @@ module _ {s : List ℕ} (ok : Accepted s) (p : ℕ) (k : TestKnown s p) (r : Pat
   pub covers-by : (test : Test) (x : Bool) → x ≡ coversRead s r test → x ≡ joinsCase s (meant s test) p
   covers-by test x e = e ∙ ap (λ (z : PatternRecord). coversRead s z test) is ∙ covers-read ok p k test
 
-  pub record-text : 3 ≤ r .kind → r .kind ≤ 4 → r .first + r .count ≤ poolSize s
+  pub record-text : integerPattern ≤ r .kind → r .kind ≤ byteStringPattern → r .first + r .count ≤ poolSize s
   record-text low high =
       let e = ap (λ (z : PatternRecord). z .kind) is in
       rw is (text-inside ok p k (Test.List 0) (omega arith) (omega arith))

@@ -12,6 +12,8 @@ use lib.Dec.{eqb}
 use lib.ListN.{length, getD, take, length-append, take-append-drop}
 use lib.Seq.{slice, slice-cons, slice-empty, length-slice, length-take-le, take-take, take-suc, append-snoc}
 use Rattle.base_words.specs.Words.{pick}
+use Rattle.spec_rules.specs.Limits.{childrenMost}
+use Rattle.spec_rules.specs.Kinds.{variablePattern, assignPattern, integerPattern, listPattern, listWithTailPattern, constructorPattern, pairPattern, tuplePattern}
 use Rattle.spec_rules.specs.SheetFile.{patterns, children, patternKind, child}
 use Rattle.spec_rules.specs.SheetRefusals.{isIn}
 use Rattle.spec_rules.specs.SplittingLaws.{All}
@@ -143,30 +145,30 @@ module _ {s : List ℕ} {m : Map} {t : List ℕ} (ready : Ready s m t) where
     each-child : Parent s p → isTest s p ≡ false → testsOf s p ≡ testsOfEach s (r .first) (r .count)
     each-child parent e = rw is (tests-of-parts (ok .is-shaped) (ok .is-counted) p h e ∙ opened-tests-each (ok .is-shaped) (ok .is-counted) p h parent)
 
-    pub gives-none : r .kind ≤ 1 → Gives s p Nothing
+    pub gives-none : r .kind ≤ variablePattern → Gives s p Nothing
     gives-none k = tests-plain (ok .is-shaped) (ok .is-counted) p h (omega (arith, kind-is))
 
-    pub gives-assigned : r .kind ≡ 2 → Gives s p (Inside (r .first) (r .count))
+    pub gives-assigned : r .kind ≡ assignPattern → Gives s p (Inside (r .first) (r .count))
     gives-assigned k =
         let parent = assign-parent s p (sym kind-is ∙ k) in
         (each-child parent (no-test-of-plain s p (omega (arith, kind-is))), all-children parent)
 
-    pub gives-parts : 8 ≤ r .kind → r .kind ≤ 9 → Gives s p (Inside (r .first) (r .count))
+    pub gives-parts : pairPattern ≤ r .kind → r .kind ≤ tuplePattern → Gives s p (Inside (r .first) (r .count))
     gives-parts low high =
         let parent = many-parent s p (omega (arith, kind-is)) (omega (arith, kind-is)) in
         (each-child parent (no-test-of-pair s p (omega (arith, kind-is))), all-children parent)
 
-    pub kind-known : 10 ≤ r .kind → ⊥
+    pub kind-known : tuplePattern < r .kind → ⊥
     kind-known k = omega (arith, kind-is, ok .is-shaped .pattern-kind p h)
 
     module _ (class : ℕ) (told : class ≡ getD t (classAt + p) 0) where
       class-told : class ≡ classOf s p
       class-told = told ∙ ready .tabled .classed p h .class
 
-      pub gives-itself : 3 ≤ r .kind → r .kind ≤ 6 → Gives s p (Itself class)
+      pub gives-itself : integerPattern ≤ r .kind → r .kind ≤ listWithTailPattern → Gives s p (Itself class)
       gives-itself low high = (tests-text-or-list (ok .is-shaped) (ok .is-counted) p h (omega (arith, kind-is)) (omega (arith, kind-is)), class-told)
 
-      pub gives-by-test : r .kind ≡ 7 → (test : Bool) → test ≡ isTest s p → (g : Given) → g ≡ itselfOrInside test class (r .first) (r .count) → Gives s p g
+      pub gives-by-test : r .kind ≡ constructorPattern → (test : Bool) → test ≡ isTest s p → (g : Given) → g ≡ itselfOrInside test class (r .first) (r .count) → Gives s p g
       gives-by-test k true e g f = rw f (tests-of-test (ok .is-shaped) (ok .is-counted) p h (sym e), class-told)
       gives-by-test k false e g f =
           let parent = many-parent s p (omega (arith, kind-is)) (omega (arith, kind-is)) in
@@ -224,7 +226,7 @@ module _ {s : List ℕ} {m : Map} {t : List ℕ} (ready : Ready s m t) where
 
   -- ---- the children of p, the last first
   module _ {o : Classes} (l : Listed s o) (p j n : ℕ) (c : Children s p j n) (room : Roomy s (testsOfEach s j n) o) where
-    pub children-few : j + n ≤ 192
+    pub children-few : j + n ≤ childrenMost
     children-few = omega (arith, c .to, ok .is-shaped .children-run p (c .known) (c .parent) .inside, ok .is-counted .children-most)
 
     pub none-is : n ≡ 0 → Holds o (putTests s (testsOfEach s j n) (classesIn o))
@@ -273,13 +275,13 @@ module _ {s : List ℕ} {m : Map} {t : List ℕ} (ready : Ready s m t) where
 
   -- ---- what test p opens to: nothing for a text, else what its children give
   module _ {o : Classes} (l : Listed s o) (p : ℕ) (k : TestKnown s p) (room : Roomy s (openedTests s p) o) (r : PatternRecord) (is : r ≡ patternOf s p) where
-    pub open-none : r .kind < 5 → Holds o (putTests s (openedTests s p) (classesIn o))
+    pub open-none : r .kind < listPattern → Holds o (putTests s (openedTests s p) (classesIn o))
     unfolding putEach
     open-none low =
         let none-there = opened-tests-none (ok .is-shaped) (ok .is-counted) p (k .known) (inr (test-kind s p (k .test), omega (arith, kind-is p (k .known) r is))) in
         holds-same (l .whole) (sym (ap (λ (qs : List ℕ). putTests s qs (classesIn o)) none-there))
 
-    module _ (high : 5 ≤ r .kind) where
+    module _ (high : listPattern ≤ r .kind) where
       parent : Parent s p
       parent = many-parent s p (omega (arith, kind-is p (k .known) r is)) (omega (arith, test-kind-most s p (k .test)))
 

@@ -7,7 +7,7 @@ use Prim.Native.Nat.{ℕ, zero, suc, _+_, _-_, _*_, _≤_, _<_}
 use lib.Dec.{eqb, ltb}
 use lib.ListN.{length, getD}
 use Rattle.base_words.specs.Words.{both, either, pick}
-use Rattle.spec_rules.specs.Limits.{depthMost}
+use Rattle.spec_rules.specs.Limits.{patternsMost, clausesMost, depthMost}
 use Rattle.build_table.specs.Table.{ownerAt, depthAt, cellsAt, tableSize, firstBefore, indicesIn}
 use Rattle.build_matrix.specs.declared.Held.{Held}
 use Rattle.build_matrix.specs.declared.Held.the-variants.{Test, Wildcard}
@@ -16,7 +16,7 @@ use Rattle.build_matrix.specs.declared.rows.Best.{Best}
 
 -- the test of clause c in the column of a class
 abbrev pub cellIn : List ℕ → ℕ → ℕ → ℕ
-cellIn t class c = getD t (cellsAt + 192 * c + class) 0
+cellIn t class c = getD t (cellsAt + patternsMost * c + class) 0
 
 -- what the test is inside of, in the table
 abbrev pub ownerIn : List ℕ → ℕ → ℕ
@@ -33,14 +33,14 @@ heldIn t opened class c = cellHeld t opened (cellIn t class c)
 -- a cell of the table that names a pattern, which is inside of another or of none
 pub record InTable (t : List ℕ) (class c : ℕ) : Type 0 where
   pub long : length t ≡ tableSize
-  pub clause : c < 32
-  pub known : class < 192
-  pub cell : cellIn t class c ≤ 192
-  pub owner : ownerIn t (cellIn t class c - 1) ≤ 192
+  pub clause : c < clausesMost
+  pub known : class < patternsMost
+  pub cell : cellIn t class c ≤ patternsMost
+  pub owner : ownerIn t (cellIn t class c - 1) ≤ patternsMost
 
 -- a class whose path's indices can be read, and the order by them
 pub record Ranked (t : List ℕ) (k : ℕ) : Type 0 where
-  pub known : k < 192
+  pub known : k < patternsMost
   pub depth : getD t (depthAt + k) 0 < depthMost
 
 abbrev pub firstIn : List ℕ → ℕ → ℕ → Bool

@@ -10,6 +10,7 @@ use lib.Dec.{ltb}
 use lib.ListN.{length, getD, take}
 use lib.Seq.{slice, slice-cons, slice-empty}
 use Rattle.base_words.specs.Words.{pick}
+use Rattle.spec_rules.specs.Limits.{patternsMost}
 use Rattle.spec_rules.specs.SplittingLaws.{All}
 use Rattle.build_matrix.specs.declared.PerRow.{PerRow}
 use Rattle.build_matrix.specs.declared.Held.{Held}
@@ -50,7 +51,7 @@ module _ (t opened : List ℕ) (class c cell : ℕ) (is : cell ≡ cellIn t clas
         held-inside n = rw (cell-back, shut, ← is-owner, ne-eqb owner 0 some-owner, ne-eqb (getD opened (owner - 1) 0) 0 n)
 
 -- what a test is inside of is a pattern
-pub owner-most : (t : List ℕ) (class c : ℕ) → InTable t class c → (cell : ℕ) → cell ≡ cellIn t class c → (owner : ℕ) → owner ≡ ownerIn t (cell - 1) → owner ≤ 192
+pub owner-most : (t : List ℕ) (class c : ℕ) → InTable t class c → (cell : ℕ) → cell ≡ cellIn t class c → (owner : ℕ) → owner ≡ ownerIn t (cell - 1) → owner ≤ patternsMost
 owner-most t class c h cell e owner f = omega (arith, h .owner, f ∙ ap (λ (x : ℕ). ownerIn t (x - 1)) e)
 
 -- ---- rows counted from the front: i have a test

@@ -336,7 +336,7 @@ module _ {s : List ℕ} {m : Map} {t : List ℕ} (ready : Ready s m t) (x : Matr
   pub case-opens-room : length (putTests s (gather (openedTests s) (opensIn s class u (inNumbers x))) []) ≤ patternsMost
   case-opens-room = omega (arith, opened-few)
 
-  pub case-rest-room : {o : Classes} → Holds o (putTests s (gather (openedTests s) (opensIn s class u (inNumbers x))) []) → o .count + x .columns .count ≤ 193
+  pub case-rest-room : {o : Classes} → Holds o (putTests s (gather (openedTests s) (opensIn s class u (inNumbers x))) []) → o .count + x .columns .count ≤ suc patternsMost
   case-rest-room h = omega (arith, opened-few, holds-count h)
 
   -- ---- a case of what its parts are
@@ -358,7 +358,7 @@ module _ {s : List ℕ} {m : Map} {t : List ℕ} (ready : Ready s m t) (x : Matr
       opened-are : Holds o (putTests s (gather (openedTests s) (opensIn s class u (inNumbers x))) [])
       opened-are = holds-same h (ap (λ (ps : List ℕ). putTests s (gather (openedTests s) ps) []) opens-are)
 
-      pub joined-rest : o .count + x .columns .count ≤ 193
+      pub joined-rest : o .count + x .columns .count ≤ suc patternsMost
       joined-rest = case-rest-room opened-are
 
       pub case-stands : {columns tested : Classes} {opened : List ℕ} → Holds columns (classesIn o ++ withoutClass class (classesIn (x .columns)))

@@ -14,6 +14,7 @@ use Rattle.base_words.specs.Words.{either, pick}
 use Rattle.base_words.specs.Stored.{stored}
 use Rattle.base_words.specs.StoredLaws.{length-stored, getD-stored-below, getD-stored-above}
 use Rattle.spec_rules.specs.Limits.{clausesMost, nodesMost, bindingsMost, nodeSize, caseSize, bindingSize}
+use Rattle.spec_rules.specs.Kinds.{leafNode}
 use Rattle.spec_rules.specs.Rows.{Path, Binding}
 use Rattle.spec_rules.specs.Building.{Cases, absent, leaf}
 use Rattle.spec_rules.specs.Hoisting.{nodesIn, nodesInOf, bindingsIn, bindingsInOf, hasLeaf}
@@ -111,7 +112,7 @@ pub leaf-put : (table : List Path) (w w₁ w' : List ℕ) (x : ℕ) (bs : List B
     → Roomy w from → from .nodes < nodesMost → x < clausesMost
     → Kept nodesMost casesMost (from .bindings) w w₁
     → (from .bindings + length bs ≤ bindingsMost → Stands w₁ (bindingsStart + bindingSize * from .bindings) (bindingsBytes table bs))
-    → w' ≡ stored w₁ (nodeSize * from .nodes) (nodeBytes 2 x first n 0 0)
+    → w' ≡ stored w₁ (nodeSize * from .nodes) (nodeBytes leafNode x first n 0 0)
     → n ≡ to .bindings - from .bindings → first ≡ firstOf n (from .bindings)
     → to .nodes ≡ from .nodes + 1 → to .cases ≡ from .cases → to .bindings ≡ capped (from .bindings + length bs) → to .leaves ≡ set (from .leaves) x 1
     → Put table w w' (leaf x bs) from to
@@ -131,7 +132,7 @@ leaf-put table w w₁ w' x bs from to first n r k-room x-room kept₁ bound stor
     }
   where
     record₁ : List ℕ
-    record₁ = nodeBytes 2 x first n 0 0
+    record₁ = nodeBytes leafNode x first n 0 0
 
     kept₂ : Kept (from .nodes) (from .cases) (from .bindings) w₁ w'
     kept₂ = rw stored-is (kept-node (from .nodes) (from .cases) (from .bindings) (from .nodes) w₁ record₁ (omega arith) k-room refl)
@@ -151,6 +152,6 @@ leaf-put table w w₁ w' x bs from to first n r k-room x-room kept₁ bound stor
     held : from .bindings + length bs ≤ bindingsMost → Held w' table (from .nodes) (from .cases) (from .bindings) (leaf x bs)
     held h =
         let count : n ≡ length bs = omega arith in (
-          rw (stored-is, first-is, count) (node-stored w₁ (from .nodes) (nodeBytes 2 x (firstOf (length bs) (from .bindings)) (length bs) 0 0) (omega (arith, kept₁ .same-length, r .long))),
+          rw (stored-is, first-is, count) (node-stored w₁ (from .nodes) (nodeBytes leafNode x (firstOf (length bs) (from .bindings)) (length bs) 0 0) (omega (arith, kept₁ .same-length, r .long))),
           rw stored-is (stands-apart w₁ (bindingsStart + bindingSize * from .bindings) (bindingsBytes table bs) (nodeSize * from .nodes) record₁ (inl (omega arith)) (bound h)),
         )

@@ -8,6 +8,7 @@ use native.Mathlib.Omega.{arith}
 use lib.ListN.{length, take, set}
 use Rattle.base_words.specs.Stored.{stored}
 use Rattle.spec_rules.specs.Limits.{clausesMost, nodesMost, bindingsMost, nodeSize}
+use Rattle.spec_rules.specs.Kinds.{leafNode}
 use Rattle.spec_rules.specs.Rows.{Binding}
 use Rattle.spec_rules.specs.Building.{leaf}
 use Rattle.spec_rules.specs.Hoisting.{nodesIn}
@@ -76,7 +77,7 @@ module _ {s : List ℕ} (ok : Accepted s) {c n : ℕ} {tested : List ℕ} (asked
   -- the leaf's record behind its bindings
   pub leaf-step : (w w₁ w' : List ℕ) (tops to : Tops) (top count first : ℕ) → Roomy w tops → tops .nodes < nodesMost
       → bound w₁ top ≡ boundAll s (bound w (tops .bindings)) numbers → count ≡ top - tops .bindings → first ≡ firstOf count (tops .bindings)
-      → w' ≡ stored w₁ (nodeSize * tops .nodes) (nodeBytes 2 c first count 0 0)
+      → w' ≡ stored w₁ (nodeSize * tops .nodes) (nodeBytes leafNode c first count 0 0)
       → to ≡ record { nodes = tops .nodes + 1; cases = tops .cases; bindings = top; leaves = set (tops .leaves) c 1 }
       → Put (sheetPaths s) w w' (clauseLeaf s opened (take n tested) c) tops to
   leaf-step w w₁ w' tops to top count first room l bs count-is first-is put to-is =

@@ -6,7 +6,7 @@ use native.Mathlib.Omega.{arith}
 use native.Mathlib.Nat.{zero-add}
 use lib.ListN.{length, getD, length-replicate}
 use Rattle.base_words.specs.Words.{pick, zeros}
-use Rattle.spec_rules.specs.Limits.{bindingsMost}
+use Rattle.spec_rules.specs.Limits.{clausesMost, bindingsMost}
 use Rattle.spec_rules.specs.Building.{Tree}
 use Rattle.spec_rules.specs.Hoisting.{nodesIn, bindingsIn, hasLeaf}
 use Rattle.spec_rules.specs.TreeFile.{casesIn}
@@ -26,7 +26,7 @@ use Rattle.build_nodes.specs.Raw.{rawTree, BuildsRaw}
 
 -- nothing is built yet
 abbrev pub noTops : Tops
-noTops = record { nodes = 0; cases = 0; bindings = 0; leaves = zeros 32 }
+noTops = record { nodes = 0; cases = 0; bindings = 0; leaves = zeros clausesMost }
 
 zeros-zero : (n i : ℕ) → getD (zeros n) i 0 ≡ 0
 zeros-zero zero i = refl
@@ -48,7 +48,7 @@ module _ {s : List ℕ} {m : Map} {t : List ℕ} (ready : Ready s m t) (x : Matr
           nodes-most = omega arith;
           cases-most = omega arith;
           bindings-most = omega arith;
-          leaves-long = length-replicate {A = ℕ} 32 0;
+          leaves-long = length-replicate {A = ℕ} clausesMost 0;
         };
       }
 
@@ -67,7 +67,7 @@ module _ {s : List ℕ} {m : Map} {t : List ℕ} (ready : Ready s m t) (x : Matr
               cases = p .counted .cases ∙ zero-add (casesIn (rawTree s));
               bindings = p .counted .bindings ∙ ap (λ z. min z (bindingsMost + 1)) (zero-add (length (bindingsIn (rawTree s))));
               leaves-long = p .room .leaves-long;
-              leaves = λ c l. p .counted .leaves c l ∙ ap (pick (hasLeaf c (rawTree s)) 1) (zeros-zero 32 c);
+              leaves = λ c l. p .counted .leaves c l ∙ ap (pick (hasLeaf c (rawTree s)) 1) (zeros-zero clausesMost c);
               nodes-most = omega (arith, p .counted .nodes, p .room .nodes-most);
               cases-most = omega (arith, p .counted .cases, p .room .cases-most);
               fewer-cases = b .fewer-cases f;

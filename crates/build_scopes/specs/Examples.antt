@@ -9,7 +9,7 @@ use Rattle.spec_rules.specs.Building.{Tree, Cases, absent, leaf, switch, cnil, 
 use Rattle.spec_rules.specs.Hoisting.{firstBindings}
 use Rattle.spec_rules.specs.Calls.{sheetPatterns, sheetTree}
 use Rattle.spec_rules.specs.Samples.{sheet1}
-use Rattle.build_scopes.specs.Numbers.{scopeNode, leafNode, hoistByNumber}
+use Rattle.build_scopes.specs.Numbers.{scopeNode, firstLeafNode, hoistByNumber}
 
 -- the tree of the sheet's clauses, and its hoisting by numbers
 abbrev listing : Tree
@@ -20,8 +20,8 @@ unfolding plainTree sheetPatterns scopeNode
 listing-scopes = (refl, refl, refl)
 
 -- the default is built before the cases: clause 2 has node 12 for its first leaf, not node 3
-listing-leaves : (leafNode 0 listing ≡ 2) × (leafNode 1 listing ≡ 7) × (leafNode 2 listing ≡ 12)
-unfolding plainTree sheetPatterns leafNode
+listing-leaves : (firstLeafNode 0 listing ≡ 2) × (firstLeafNode 1 listing ≡ 7) × (firstLeafNode 2 listing ≡ 12)
+unfolding plainTree sheetPatterns firstLeafNode
 listing-leaves = (refl, refl, refl)
 
 listing-hoisted : hoistByNumber (λ c. scopeNode c listing) (λ c. firstBindings c listing) 3 0 listing ≡ sheetTree sheet1

@@ -11,6 +11,7 @@ use lib.Dec.{eqb, leb, ltb}
 use lib.Bits.{bitOr}
 use Rattle.base_words.specs.Words.{either, pick}
 use Rattle.spec_rules.specs.Limits.{clausesMost, nodesMost}
+use Rattle.spec_rules.specs.Kinds.{leafNode, firstCaseWord, casesWord, tailCasesWord, defaultWord, clauseWord}
 use Rattle.spec_rules.specs.Rows.{Path, Binding, bit}
 use Rattle.spec_rules.specs.Building.{Tree, leaf}
 use Rattle.spec_rules.specs.Hoisting.{howMany, nodesIn, hasLeaf}
@@ -41,8 +42,8 @@ pub record LeafThere (w : List ℕ) (a : Tree) (k : ℕ) : Type 0 where
   pub clause : ℕ
   pub bindings : List Binding
   pub is : subtreeAt a k ≡ leaf clause bindings
-  pub kind-is : nodeKind w k ≡ 2
-  pub clause-is : nodeWord w k 0 ≡ clause
+  pub kind-is : nodeKind w k ≡ leafNode
+  pub clause-is : nodeWord w k clauseWord ≡ clause
   pub small : clause < clausesMost
 
 -- .. or a switch
@@ -99,16 +100,16 @@ pub record CasesInside (w : List ℕ) (i n m : ℕ) : Type 0 where
 
 pub record SwitchInside (w : List ℕ) (k m : ℕ) : Type 0 where
   pub node : k < nodesMost
-  pub cases : CasesInside w (nodeWord w k 1) (nodeWord w k 2 + nodeWord w k 3) m
-  pub some-case : 1 ≤ nodeWord w k 2 + nodeWord w k 3
-  pub default : nodeWord w k 4 ≤ m
+  pub cases : CasesInside w (nodeWord w k firstCaseWord) (nodeWord w k casesWord + nodeWord w k tailCasesWord) m
+  pub some-case : 1 ≤ nodeWord w k casesWord + nodeWord w k tailCasesWord
+  pub default : nodeWord w k defaultWord ≤ m
 
 -- a node that is a leaf of a small clause, or a switch
 pub record NodeInside (w : List ℕ) (k m : ℕ) : Type 0 where
   pub room : arenaEnd ≤ length w
   pub node : k < nodesMost
-  pub clause : nodeKind w k ≡ 2 → nodeWord w k 0 < clausesMost
-  pub switch : (nodeKind w k ≡ 2 → ⊥) → SwitchInside w k m
+  pub clause : nodeKind w k ≡ leafNode → nodeWord w k clauseWord < clausesMost
+  pub switch : (nodeKind w k ≡ leafNode → ⊥) → SwitchInside w k m
 
 -- a node at which a clause has a leaf: where that is not visited last, the node is a switch
 pub record ScopeInside (w last sets : List ℕ) (c k : ℕ) : Type 0 where
@@ -118,7 +119,7 @@ pub record ScopeInside (w last sets : List ℕ) (c k : ℕ) : Type 0 where
 
 -- where a switch's cases begin, how many it has with the tail cases, and its default, one more than the node or 0
 abbrev pub childrenOf : List ℕ → ℕ → Children
-childrenOf w k = record { first = nodeWord w k 1; count = nodeWord w k 2 + nodeWord w k 3; default = nodeWord w k 4 }
+childrenOf w k = record { first = nodeWord w k firstCaseWord; count = nodeWord w k casesWord + nodeWord w k tailCasesWord; default = nodeWord w k defaultWord }
 
 -- the sum of the marks of the n cases from i on
 unfoldable pub markedCases : List ℕ → List ℕ → ℕ → ℕ → ℕ
@@ -136,21 +137,21 @@ markedDefault has default = pick (eqb default 0) 0 (getD has (default - 1) 0)
 -- the sum of the marks of the children of switch k
 unfoldable pub markedChildren : List ℕ → List ℕ → ℕ → ℕ
 unfolding markedCases markedDefault
-markedChildren w has k = markedCases w has (nodeWord w k 1) (nodeWord w k 2 + nodeWord w k 3) + markedDefault has (nodeWord w k 4)
+markedChildren w has k = markedCases w has (nodeWord w k firstCaseWord) (nodeWord w k casesWord + nodeWord w k tailCasesWord) + markedDefault has (nodeWord w k defaultWord)
 
 -- the child of switch k that was built first of those with a mark: the default, or the first of the cases
 unfoldable pub firstChild : List ℕ → List ℕ → ℕ → ℕ
 unfolding firstMarked markedDefault
-firstChild w has k = pick (ltb 0 (markedDefault has (nodeWord w k 4))) (nodeWord w k 4 - 1) (firstMarked w has (nodeWord w k 1) (nodeWord w k 2 + nodeWord w k 3))
+firstChild w has k = pick (ltb 0 (markedDefault has (nodeWord w k defaultWord))) (nodeWord w k defaultWord - 1) (firstMarked w has (nodeWord w k firstCaseWord) (nodeWord w k casesWord + nodeWord w k tailCasesWord))
 
 -- the child of switch k that is visited last: the default, or the last of the cases
 unfoldable pub lastChild : List ℕ → ℕ → ℕ
-lastChild w k = pick (eqb (nodeWord w k 4) 0) (caseChild w (nodeWord w k 1 + (nodeWord w k 2 + nodeWord w k 3) - 1)) (nodeWord w k 4 - 1)
+lastChild w k = pick (eqb (nodeWord w k defaultWord) 0) (caseChild w (nodeWord w k firstCaseWord + (nodeWord w k casesWord + nodeWord w k tailCasesWord) - 1)) (nodeWord w k defaultWord - 1)
 
 -- whether the subtree of node k has a leaf of clause c
 unfoldable pub nodeMarked : List ℕ → List ℕ → ℕ → ℕ → ℕ
 unfolding bit markedChildren
-nodeMarked w has c k = pick (eqb (nodeKind w k) 2) (bit (eqb c (nodeWord w k 0))) (bit (ltb 0 (markedChildren w has k)))
+nodeMarked w has c k = pick (eqb (nodeKind w k) leafNode) (bit (eqb c (nodeWord w k clauseWord))) (bit (ltb 0 (markedChildren w has k)))
 
 -- the clauses of `all` and those of the n cases from i on
 unfoldable pub unionCases : List ℕ → List ℕ → ℕ → ℕ → ℕ → ℕ
@@ -164,12 +165,12 @@ defaultSet sets default = pick (eqb default 0) 0 (getD sets (default - 1) 0)
 unfoldable pub nodeSet : List ℕ → List ℕ → ℕ → ℕ
 unfolding unionCases defaultSet
 nodeSet w sets k =
-    pick (eqb (nodeKind w k) 2) (2 ^ nodeWord w k 0)
-    (unionCases w sets (nodeWord w k 1) (nodeWord w k 2 + nodeWord w k 3) (defaultSet sets (nodeWord w k 4)))
+    pick (eqb (nodeKind w k) leafNode) (2 ^ nodeWord w k clauseWord)
+    (unionCases w sets (nodeWord w k firstCaseWord) (nodeWord w k casesWord + nodeWord w k tailCasesWord) (defaultSet sets (nodeWord w k defaultWord)))
 
 unfoldable pub lastOf : List ℕ → List ℕ → ℕ → ℕ
 unfolding lastChild
-lastOf w last k = pick (eqb (nodeKind w k) 2) (nodeWord w k 0) (getD last (lastChild w k) 0)
+lastOf w last k = pick (eqb (nodeKind w k) leafNode) (nodeWord w k clauseWord) (getD last (lastChild w k) 0)
 
 unfoldable pub scopeHere : List ℕ → List ℕ → List ℕ → ℕ → ℕ → Bool
 unfolding markedChildren

@@ -12,6 +12,7 @@ use borrow.Author.Tests.{eq-eqb, ne-eqb, lt-ltb, le-ltb}
 use Rattle.base_words.specs.Words.{pick}
 use Rattle.base_words.specs.WordsLaws.{pick-true, pick-false}
 use Rattle.spec_rules.specs.Limits.{nodesMost}
+use Rattle.spec_rules.specs.Kinds.{leafNode, firstCaseWord, casesWord, tailCasesWord, defaultWord, clauseWord}
 use Rattle.build_arena.specs.Arena.{casesMost, nodeKind, nodeWord, caseChild}
 use Rattle.build_scopes.specs.declared.marks.Children.{Children}
 use Rattle.build_scopes.specs.Marks.{CasesInside, SwitchInside, childrenOf, markedCases, firstMarked, markedDefault, markedChildren, firstChild, lastChild, lastOf, scopeHere}
@@ -135,31 +136,31 @@ module _ (w : List ℕ) (k m : ℕ) (x : Children) (e : x ≡ childrenOf w k) wh
 
 pub lastChild-inside : (w : List ℕ) (k m : ℕ) → SwitchInside w k m → lastChild w k < m
 unfolding lastChild
-lastChild-inside w k m h = go (nodeWord w k 4) refl
+lastChild-inside w k m h = go (nodeWord w k defaultWord) refl
   where
     count : ℕ
-    count = nodeWord w k 2 + nodeWord w k 3
+    count = nodeWord w k casesWord + nodeWord w k tailCasesWord
 
     byCases : ℕ
-    byCases = caseChild w (nodeWord w k 1 + count - 1)
+    byCases = caseChild w (nodeWord w k firstCaseWord + count - 1)
 
-    go : (d : ℕ) → nodeWord w k 4 ≡ d → pick (eqb (nodeWord w k 4) 0) byCases (nodeWord w k 4 - 1) < m
+    go : (d : ℕ) → nodeWord w k defaultWord ≡ d → pick (eqb (nodeWord w k defaultWord) 0) byCases (nodeWord w k defaultWord - 1) < m
     go zero e =
-        let f : nodeWord w k 1 + (count - 1) ≡ nodeWord w k 1 + count - 1 = omega (arith, h .some-case) in
-        rw (pick-true (eqb (nodeWord w k 4) 0) byCases (nodeWord w k 4 - 1) (eq-eqb (nodeWord w k 4) 0 e))
+        let f : nodeWord w k firstCaseWord + (count - 1) ≡ nodeWord w k firstCaseWord + count - 1 = omega (arith, h .some-case) in
+        rw (pick-true (eqb (nodeWord w k defaultWord) 0) byCases (nodeWord w k defaultWord - 1) (eq-eqb (nodeWord w k defaultWord) 0 e))
         (subst (λ z. caseChild w z < m) f (h .cases .children (count - 1) (omega (arith, h .some-case))))
-    go (suc d) e = rw (pick-false (eqb (nodeWord w k 4) 0) byCases (nodeWord w k 4 - 1) (ne-eqb (nodeWord w k 4) 0 (λ z. omega arith))) (omega (arith, h .default))
+    go (suc d) e = rw (pick-false (eqb (nodeWord w k defaultWord) 0) byCases (nodeWord w k defaultWord - 1) (ne-eqb (nodeWord w k defaultWord) 0 (λ z. omega arith))) (omega (arith, h .default))
 
 -- ---- a node, as a leaf and as a switch
 module _ (w : List ℕ) (k kind : ℕ) (e : kind ≡ nodeKind w k) where
-  pub lastOf-leaf : (last : List ℕ) (r : ℕ) → kind ≡ 2 → r ≡ nodeWord w k 0 → r ≡ lastOf w last k
+  pub lastOf-leaf : (last : List ℕ) (r : ℕ) → kind ≡ leafNode → r ≡ nodeWord w k clauseWord → r ≡ lastOf w last k
   unfolding lastOf
-  lastOf-leaf last r h g = g ∙ sym (pick-true (eqb (nodeKind w k) 2) (nodeWord w k 0) (getD last (lastChild w k) 0) (eq-eqb (nodeKind w k) 2 (sym e ∙ h)))
+  lastOf-leaf last r h g = g ∙ sym (pick-true (eqb (nodeKind w k) leafNode) (nodeWord w k clauseWord) (getD last (lastChild w k) 0) (eq-eqb (nodeKind w k) leafNode (sym e ∙ h)))
 
-  pub lastOf-switch : (last : List ℕ) (child : ℕ) → (kind ≡ 2 → ⊥) → child ≡ lastChild w k → getD last child 0 ≡ lastOf w last k
+  pub lastOf-switch : (last : List ℕ) (child : ℕ) → (kind ≡ leafNode → ⊥) → child ≡ lastChild w k → getD last child 0 ≡ lastOf w last k
   unfolding lastOf
   lastOf-switch last child h f =
-      ap (λ z. getD last z 0) f ∙ sym (pick-false (eqb (nodeKind w k) 2) (nodeWord w k 0) (getD last (lastChild w k) 0) (ne-eqb (nodeKind w k) 2 (λ z. h (e ∙ z))))
+      ap (λ z. getD last z 0) f ∙ sym (pick-false (eqb (nodeKind w k) leafNode) (nodeWord w k clauseWord) (getD last (lastChild w k) 0) (ne-eqb (nodeKind w k) leafNode (λ z. h (e ∙ z))))
 
 pub scopeHere-last : (w last has : List ℕ) (c k : ℕ) → c ≡ getD last k 0 → true ≡ scopeHere w last has c k
 unfolding scopeHere

@@ -54,9 +54,9 @@ unfoldable pub scopeNode : ℕ → Tree → ℕ
 unfolding hasLeaf scopeNumber
 scopeNode c a = pick (hasLeaf c a) (scopeNumber c 0 a) nodesMost
 
-unfoldable pub leafNode : ℕ → Tree → ℕ
+unfoldable pub firstLeafNode : ℕ → Tree → ℕ
 unfolding hasLeaf firstNumber
-leafNode c a = pick (hasLeaf c a) (firstNumber c 0 a) nodesMost
+firstLeafNode c a = pick (hasLeaf c a) (firstNumber c 0 a) nodesMost
 
 -- the lowest idle clause, or 32 where there is none
 unfoldable pub idleNumber : Option ℕ → ℕ

@@ -13,6 +13,7 @@ use borrow.Author.Tests.{eq-eqb, ne-eqb, lt-ltb, le-ltb}
 use Rattle.base_words.specs.Words.{pick}
 use Rattle.base_words.specs.WordsLaws.{pick-true, pick-false}
 use Rattle.spec_rules.specs.Limits.{clausesMost, caseSize}
+use Rattle.spec_rules.specs.Kinds.{leafNode, firstCaseWord, casesWord, tailCasesWord, defaultWord, clauseWord}
 use Rattle.spec_rules.specs.Rows.{bit}
 use Rattle.spec_rules.specs.Building.{Tree, Cases, absent, leaf, hoist, switch, listswitch, cnil, ccons}
 use Rattle.spec_rules.specs.Hoisting.{howMany, nodesIn, nodesInOf, bindingsIn, hasLeaf, hasLeafOf}
@@ -119,10 +120,10 @@ module _ (w : List ℕ) (a : Tree) (r : Ready w a) (k : ℕ) (l : k < nodesIn a)
           children = λ j h. omega (arith, case-node w (r .table) a n k l (t .is) j (omega (arith, s .count-is)) (t .all-there) .inside);
         };
         some-case = omega (arith, s .count-is, t .some-case);
-        default = at-most (nodeWord w k 4) refl;
+        default = at-most (nodeWord w k defaultWord) refl;
       }
     where
-      at-most : (d : ℕ) → nodeWord w k 4 ≡ d → nodeWord w k 4 ≤ m
+      at-most : (d : ℕ) → nodeWord w k defaultWord ≡ d → nodeWord w k defaultWord ≤ m
       at-most zero e = omega arith
       at-most (suc d) e = omega (arith, default-node w (r .table) a (r .nodes) k l (t .is) (omega arith) .inside)
 
@@ -206,16 +207,16 @@ module _ (w : List ℕ) (a : Tree) (c : ℕ) (has : List ℕ) where
     abbrev s : Tree
     s = subtreeAt a k
 
-    marked-default : SwitchThere w a k → markedDefault has (nodeWord w k 4) ≡ bit (hasLeaf c (defaultUnder s))
+    marked-default : SwitchThere w a k → markedDefault has (nodeWord w k defaultWord) ≡ bit (hasLeaf c (defaultUnder s))
     unfolding markedDefault hasLeaf bit
-    marked-default t = go (nodeWord w k 4) refl
+    marked-default t = go (nodeWord w k defaultWord) refl
       where
-        go : (d : ℕ) → nodeWord w k 4 ≡ d → pick (eqb (nodeWord w k 4) 0) 0 (getD has (nodeWord w k 4 - 1) 0) ≡ bit (hasLeaf c (defaultUnder s))
+        go : (d : ℕ) → nodeWord w k defaultWord ≡ d → pick (eqb (nodeWord w k defaultWord) 0) 0 (getD has (nodeWord w k defaultWord - 1) 0) ≡ bit (hasLeaf c (defaultUnder s))
         go zero e = rw (e, default-none w (r .table) a (r .nodes) k l (t .is) e)
         go (suc d) e =
             let n = default-node w (r .table) a (r .nodes) k l (t .is) (omega arith) in
-            pick-false (eqb (nodeWord w k 4) 0) 0 (getD has (nodeWord w k 4 - 1) 0) (ne-eqb (nodeWord w k 4) 0 (λ z. omega arith))
-            ∙ m .mark (nodeWord w k 4 - 1) (omega (arith, n .above)) (n .inside)
+            pick-false (eqb (nodeWord w k defaultWord) 0) 0 (getD has (nodeWord w k defaultWord - 1) 0) (ne-eqb (nodeWord w k defaultWord) 0 (λ z. omega arith))
+            ∙ m .mark (nodeWord w k defaultWord - 1) (omega (arith, n .above)) (n .inside)
             ∙ ap (λ z. bit (hasLeaf c z)) (n .there)
 
     -- THEOREM: the marks of a switch's children count those with a leaf of the clause
@@ -223,8 +224,8 @@ module _ (w : List ℕ) (a : Tree) (c : ℕ) (has : List ℕ) where
     unfolding markedChildren
     marked-children t =
         ap₂ _+_
-        (ap (markedCases w has (nodeWord w k 1)) (t .shown .count-is)
-        ∙ marked-cases (casesUnder s) (nodeWord w k 1) (k + 1) (k + 1) (omega arith) (t .shown .own) (cases-within (subtrees a) k s (t .is) (r .nodes .within k l)) (t .all-there) m)
+        (ap (markedCases w has (nodeWord w k firstCaseWord)) (t .shown .count-is)
+        ∙ marked-cases (casesUnder s) (nodeWord w k firstCaseWord) (k + 1) (k + 1) (omega arith) (t .shown .own) (cases-within (subtrees a) k s (t .is) (r .nodes .within k l)) (t .all-there) m)
         (marked-default t)
         ∙ sym (childrenWith-switch c s (t .is))
 
@@ -234,11 +235,11 @@ module _ (w : List ℕ) (a : Tree) (c : ℕ) (has : List ℕ) where
     node-marked =
         ⊎-elim
         (λ t.
-        pick-true (eqb (nodeKind w k) 2) (bit (eqb c (nodeWord w k 0))) (bit (ltb 0 (markedChildren w has k))) (eq-eqb (nodeKind w k) 2 (t .kind-is))
+        pick-true (eqb (nodeKind w k) leafNode) (bit (eqb c (nodeWord w k clauseWord))) (bit (ltb 0 (markedChildren w has k))) (eq-eqb (nodeKind w k) leafNode (t .kind-is))
         ∙ ap (λ z. bit (eqb c z)) (t .clause-is)
         ∙ ap (λ z. bit (hasLeaf c z)) (sym (t .is)))
         (λ t.
-        pick-false (eqb (nodeKind w k) 2) (bit (eqb c (nodeWord w k 0))) (bit (ltb 0 (markedChildren w has k))) (ne-eqb (nodeKind w k) 2 (λ e. omega (arith, t .shown .kind-is)))
+        pick-false (eqb (nodeKind w k) leafNode) (bit (eqb c (nodeWord w k clauseWord))) (bit (ltb 0 (markedChildren w has k))) (ne-eqb (nodeKind w k) leafNode (λ e. omega (arith, t .shown .kind-is)))
         ∙ ap bit (ap (ltb 0) (marked-children t) ∙ sym (hasLeaf-some c s (t .is))))
         (node-there w a r k l)
 
@@ -249,31 +250,31 @@ module _ (w : List ℕ) (a : Tree) (c : ℕ) (has : List ℕ) where
     below stop = pick (hasLeaf c (defaultUnder s)) (descent stop c k₂ (defaultUnder s)) (descentOf stop c (k + 1) (casesUnder s) k)
 
     -- a default with a leaf of the clause is there, and is node k₂
-    default-led : SwitchThere w a k → hasLeaf c (defaultUnder s) ≡ true → Led (k + 1) (nodeWord w k 4 - 1) below
+    default-led : SwitchThere w a k → hasLeaf c (defaultUnder s) ≡ true → Led (k + 1) (nodeWord w k defaultWord - 1) below
     unfolding markedDefault bit
-    default-led t x = go (nodeWord w k 4) refl
+    default-led t x = go (nodeWord w k defaultWord) refl
       where
-        go : (d : ℕ) → nodeWord w k 4 ≡ d → Led (k + 1) (nodeWord w k 4 - 1) below
+        go : (d : ℕ) → nodeWord w k defaultWord ≡ d → Led (k + 1) (nodeWord w k defaultWord - 1) below
         go zero e =
             let y : _≡_ {A = ℕ} 0 1 = sym (ap (markedDefault has) e) ∙ marked-default t ∙ ap bit x in
             absurd (omega arith)
         go (suc d) e =
             let f = defaultField-some k₂ (defaultUnder s) (omega (arith, t .shown .default-is)) in
-            let n : nodeWord w k 4 - 1 ≡ k₂ = omega (arith, t .shown .default-is, f .0) in
+            let n : nodeWord w k defaultWord - 1 ≡ k₂ = omega (arith, t .shown .default-is, f .0) in
             rw n
             (led-to (k + 1) k₂ (defaultUnder s) below (omega arith) (f .1) (default-within (subtrees a) k s (t .is) (r .nodes .within k l)) x
             (λ stop. pick-true (hasLeaf c (defaultUnder s)) (descent stop c k₂ (defaultUnder s)) (descentOf stop c (k + 1) (casesUnder s) k) x))
 
     case-led : SwitchThere w a k → hasLeaf c s ≡ true → hasLeaf c (defaultUnder s) ≡ false
-        → Led (k + 1) (firstMarked w has (nodeWord w k 1) (nodeWord w k 2 + nodeWord w k 3)) below
+        → Led (k + 1) (firstMarked w has (nodeWord w k firstCaseWord) (nodeWord w k casesWord + nodeWord w k tailCasesWord)) below
     case-led t h x =
         let e : hasLeafOf c (casesUnder s) ≡ true =
         other-has (hasLeaf c (defaultUnder s)) (hasLeafOf c (casesUnder s)) (either-turn (hasLeaf c (defaultUnder s)) (hasLeafOf c (casesUnder s)) ∙ sym (hasLeaf-switch c s (t .is)) ∙ h) x in
-        let n = firstMarked w has (nodeWord w k 1) (howMany (casesUnder s)) in
+        let n = firstMarked w has (nodeWord w k firstCaseWord) (howMany (casesUnder s)) in
         rw (t .shown .count-is)
         (led-up (k + 1) (k + 1) n (λ stop. descentOf stop c (k + 1) (casesUnder s) k) below (omega arith)
         (λ stop. pick-false (hasLeaf c (defaultUnder s)) (descent stop c k₂ (defaultUnder s)) (descentOf stop c (k + 1) (casesUnder s) k) x)
-        (first-marked (casesUnder s) (nodeWord w k 1) (k + 1) (k + 1) k (omega arith) (t .shown .own) (cases-within (subtrees a) k s (t .is) (r .nodes .within k l))
+        (first-marked (casesUnder s) (nodeWord w k firstCaseWord) (k + 1) (k + 1) k (omega arith) (t .shown .own) (cases-within (subtrees a) k s (t .is) (r .nodes .within k l))
         (t .all-there) m e))
 
     -- THEOREM: from a switch with a leaf of the clause the way down goes on in the first marked child
@@ -282,14 +283,14 @@ module _ (w : List ℕ) (a : Tree) (c : ℕ) (has : List ℕ) where
     first-led t h = go (hasLeaf c (defaultUnder s)) refl
       where
         mark : ℕ
-        mark = markedDefault has (nodeWord w k 4)
+        mark = markedDefault has (nodeWord w k defaultWord)
 
         first : ℕ
-        first = firstMarked w has (nodeWord w k 1) (nodeWord w k 2 + nodeWord w k 3)
+        first = firstMarked w has (nodeWord w k firstCaseWord) (nodeWord w k casesWord + nodeWord w k tailCasesWord)
 
-        go : (b : Bool) → hasLeaf c (defaultUnder s) ≡ b → Led (k + 1) (pick (ltb 0 mark) (nodeWord w k 4 - 1) first) below
-        go true x = rw (pick-true (ltb 0 mark) (nodeWord w k 4 - 1) first (lt-ltb 0 mark (omega (arith, marked-default t ∙ ap bit x)))) (default-led t x)
-        go false x = rw (pick-false (ltb 0 mark) (nodeWord w k 4 - 1) first (le-ltb 0 mark (omega (arith, marked-default t ∙ ap bit x)))) (case-led t h x)
+        go : (b : Bool) → hasLeaf c (defaultUnder s) ≡ b → Led (k + 1) (pick (ltb 0 mark) (nodeWord w k defaultWord - 1) first) below
+        go true x = rw (pick-true (ltb 0 mark) (nodeWord w k defaultWord - 1) first (lt-ltb 0 mark (omega (arith, marked-default t ∙ ap bit x)))) (default-led t x)
+        go false x = rw (pick-false (ltb 0 mark) (nodeWord w k defaultWord - 1) first (le-ltb 0 mark (omega (arith, marked-default t ∙ ap bit x)))) (case-led t h x)
 
 -- ---- the leaf visited last
 module _ (w : List ℕ) (a : Tree) (last : List ℕ) where
@@ -318,29 +319,29 @@ module _ (w : List ℕ) (a : Tree) (last : List ℕ) where
 
   module _ (r : Ready w a) (k : ℕ) (l : k < nodesIn a) (m : LastMarked a (k + 1) last) where
     abbrev byCases : ℕ
-    byCases = caseChild w (nodeWord w k 1 + (nodeWord w k 2 + nodeWord w k 3) - 1)
+    byCases = caseChild w (nodeWord w k firstCaseWord + (nodeWord w k casesWord + nodeWord w k tailCasesWord) - 1)
 
     last-child : SwitchThere w a k → lastLeaf (subtreeAt a k) ≡ some (getD last (lastChild w k) 0)
     unfolding lastChild lastLeaf later
-    last-child t = go (nodeWord w k 4) refl
+    last-child t = go (nodeWord w k defaultWord) refl
       where
         cs : Cases
         cs = casesUnder (subtreeAt a k)
 
-        go : (d : ℕ) → nodeWord w k 4 ≡ d → lastLeaf (subtreeAt a k) ≡ some (getD last (pick (eqb (nodeWord w k 4) 0) byCases (nodeWord w k 4 - 1)) 0)
+        go : (d : ℕ) → nodeWord w k defaultWord ≡ d → lastLeaf (subtreeAt a k) ≡ some (getD last (pick (eqb (nodeWord w k defaultWord) 0) byCases (nodeWord w k defaultWord - 1)) 0)
         go zero e =
             lastLeaf-switch (subtreeAt a k) (t .is)
             ∙ ap (λ z. later (lastLeafOf cs) (lastLeaf z)) (default-none w (r .table) a (r .nodes) k l (t .is) e)
-            ∙ last-case cs (nodeWord w k 1) (k + 1) (k + 1) (t .some-case) (omega arith) (t .shown .own)
+            ∙ last-case cs (nodeWord w k firstCaseWord) (k + 1) (k + 1) (t .some-case) (omega arith) (t .shown .own)
             (cases-within (subtrees a) k (subtreeAt a k) (t .is) (r .nodes .within k l)) (t .all-there) m
-            ∙ ap (λ z. some (getD last (caseChild w (nodeWord w k 1 + z - 1)) 0)) (sym (t .shown .count-is))
-            ∙ ap (λ z. some (getD last z 0)) (sym (pick-true (eqb (nodeWord w k 4) 0) byCases (nodeWord w k 4 - 1) (eq-eqb (nodeWord w k 4) 0 e)))
+            ∙ ap (λ z. some (getD last (caseChild w (nodeWord w k firstCaseWord + z - 1)) 0)) (sym (t .shown .count-is))
+            ∙ ap (λ z. some (getD last z 0)) (sym (pick-true (eqb (nodeWord w k defaultWord) 0) byCases (nodeWord w k defaultWord - 1) (eq-eqb (nodeWord w k defaultWord) 0 e)))
         go (suc d) e =
             let n = default-node w (r .table) a (r .nodes) k l (t .is) (omega arith) in
             lastLeaf-switch (subtreeAt a k) (t .is)
-            ∙ later-some (lastLeafOf cs) (lastLeaf (defaultUnder (subtreeAt a k))) (getD last (nodeWord w k 4 - 1) 0)
-            (ap lastLeaf (sym (n .there)) ∙ m .last-leaf (nodeWord w k 4 - 1) (omega (arith, n .above)) (n .inside))
-            ∙ ap (λ z. some (getD last z 0)) (sym (pick-false (eqb (nodeWord w k 4) 0) byCases (nodeWord w k 4 - 1) (ne-eqb (nodeWord w k 4) 0 (λ z. omega arith))))
+            ∙ later-some (lastLeafOf cs) (lastLeaf (defaultUnder (subtreeAt a k))) (getD last (nodeWord w k defaultWord - 1) 0)
+            (ap lastLeaf (sym (n .there)) ∙ m .last-leaf (nodeWord w k defaultWord - 1) (omega (arith, n .above)) (n .inside))
+            ∙ ap (λ z. some (getD last z 0)) (sym (pick-false (eqb (nodeWord w k defaultWord) 0) byCases (nodeWord w k defaultWord - 1) (ne-eqb (nodeWord w k defaultWord) 0 (λ z. omega arith))))
 
     -- THEOREM: the leaf visited last at or below a node
     pub last-of : lastLeaf (subtreeAt a k) ≡ some (lastOf w last k)
@@ -350,8 +351,8 @@ module _ (w : List ℕ) (a : Tree) (last : List ℕ) where
         (λ t.
         ap lastLeaf (t .is)
         ∙ ap some (sym (t .clause-is))
-        ∙ ap some (sym (pick-true (eqb (nodeKind w k) 2) (nodeWord w k 0) (getD last (lastChild w k) 0) (eq-eqb (nodeKind w k) 2 (t .kind-is)))))
+        ∙ ap some (sym (pick-true (eqb (nodeKind w k) leafNode) (nodeWord w k clauseWord) (getD last (lastChild w k) 0) (eq-eqb (nodeKind w k) leafNode (t .kind-is)))))
         (λ t.
         last-child t
-        ∙ ap some (sym (pick-false (eqb (nodeKind w k) 2) (nodeWord w k 0) (getD last (lastChild w k) 0) (ne-eqb (nodeKind w k) 2 (λ e. omega (arith, t .shown .kind-is))))))
+        ∙ ap some (sym (pick-false (eqb (nodeKind w k) leafNode) (nodeWord w k clauseWord) (getD last (lastChild w k) 0) (ne-eqb (nodeKind w k) leafNode (λ e. omega (arith, t .shown .kind-is))))))
         (node-there w a r k l)

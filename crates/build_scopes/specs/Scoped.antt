@@ -10,7 +10,7 @@ use Rattle.spec_rules.specs.Building.{Tree}
 use Rattle.spec_rules.specs.Hoisting.{nodesIn, hasLeaf}
 use Rattle.spec_rules.specs.Calls.{lowestIdle}
 use Rattle.build_scopes.specs.declared.Scopes.{Scopes}
-use Rattle.build_scopes.specs.Numbers.{scopeNumber, firstNumber, scopeNode, leafNode, idleNumber}
+use Rattle.build_scopes.specs.Numbers.{scopeNumber, firstNumber, scopeNode, firstLeafNode, idleNumber}
 use Rattle.build_scopes.specs.Marks.{Ready, LastMarked, SetsMarked}
 
 -- the tree in the arena, with the clause of the last leaf of each node and the clauses with a leaf there
@@ -32,6 +32,6 @@ withClause a c x =
 -- THE ANSWER: by clause the node above which it is hoisted and its first leaf, how many clauses have one, and the lowest that has none
 pub record Scoped (a : Tree) (clauses : ℕ) (x : Scopes) : Type 0 where
   pub node : (c : ℕ) → c < clauses → getD (x .node) c 0 ≡ scopeNode c a
-  pub leaf : (c : ℕ) → c < clauses → getD (x .leaf) c 0 ≡ leafNode c a
+  pub leaf : (c : ℕ) → c < clauses → getD (x .leaf) c 0 ≡ firstLeafNode c a
   pub hoists : x .hoists ≡ times (λ c. hasLeaf c a) 0 clauses
   pub idle : x .idle ≡ idleNumber (lowestIdle clauses a)

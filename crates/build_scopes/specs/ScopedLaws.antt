@@ -18,7 +18,7 @@ use Rattle.spec_rules.specs.Hoisting.{hasLeaf}
 use Rattle.spec_rules.specs.Calls.{lowestIdle}
 use Rattle.build_arena.specs.NumberedLaws.{subtreeAt-root}
 use Rattle.build_scopes.specs.declared.Scopes.{Scopes}
-use Rattle.build_scopes.specs.Numbers.{scopeNumber, firstNumber, scopeNode, leafNode, idleNumber}
+use Rattle.build_scopes.specs.Numbers.{scopeNumber, firstNumber, scopeNode, firstLeafNode, idleNumber}
 use Rattle.build_scopes.specs.SwitchLaws.{present-nodes}
 use Rattle.build_scopes.specs.NumbersLaws.{descent-in}
 use Rattle.build_scopes.specs.Marks.{ReadyWith, SetsMarked, LastMarked, ClauseMarks, ScopeMarks, bitAt}
@@ -84,7 +84,7 @@ pub record ScopedFrom (a : Tree) (clauses c : ℕ) (x : Scopes) : Type 0 where
   pub node-length : length (x .node) ≡ clausesMost
   pub leaf-length : length (x .leaf) ≡ clausesMost
   pub node : (j : ℕ) → c ≤ j → j < clauses → getD (x .node) j 0 ≡ scopeNode j a
-  pub leaf : (j : ℕ) → c ≤ j → j < clauses → getD (x .leaf) j 0 ≡ leafNode j a
+  pub leaf : (j : ℕ) → c ≤ j → j < clauses → getD (x .leaf) j 0 ≡ firstLeafNode j a
   pub no-node : (j : ℕ) → j < c → getD (x .node) j 0 ≡ nodesMost
   pub no-leaf-node : (j : ℕ) → j < c → getD (x .leaf) j 0 ≡ nodesMost
   pub hoists : x .hoists ≡ times (λ d. hasLeaf d a) c (clauses - c)
@@ -92,16 +92,16 @@ pub record ScopedFrom (a : Tree) (clauses c : ℕ) (x : Scopes) : Type 0 where
 
 -- no clause yet
 pub scoped-start : (a : Tree) (clauses : ℕ) → clauses ≤ clausesMost
-    → ScopedFrom a clauses clauses (record { node = replicate 32 nodesMost; leaf = replicate 32 nodesMost; hoists = 0; idle = clausesMost })
+    → ScopedFrom a clauses clauses (record { node = replicate clausesMost nodesMost; leaf = replicate clausesMost nodesMost; hoists = 0; idle = clausesMost })
 unfolding idleNumber
 scoped-start a clauses l =
     record {
-      node-length = length-replicate 32 nodesMost;
-      leaf-length = length-replicate 32 nodesMost;
+      node-length = length-replicate clausesMost nodesMost;
+      leaf-length = length-replicate clausesMost nodesMost;
       node = λ j f g. absurd (omega arith);
       leaf = λ j f g. absurd (omega arith);
-      no-node = λ j f. getD-replicate 32 j nodesMost 0 (omega arith);
-      no-leaf-node = λ j f. getD-replicate 32 j nodesMost 0 (omega arith);
+      no-node = λ j f. getD-replicate clausesMost j nodesMost 0 (omega arith);
+      no-leaf-node = λ j f. getD-replicate clausesMost j nodesMost 0 (omega arith);
       hoists = sym (times-end (λ d. hasLeaf d a) clauses clauses (omega arith));
       idle = sym (ap idleNumber (lowest-end (λ d. not (hasLeaf d a)) clauses clauses (omega arith)));
     }
@@ -113,7 +113,7 @@ hoists-few a clauses c x p l f s = omega (arith, s .hoists, times-most (λ d. ha
 module _ (a : Tree) (clauses c : ℕ) (x : Scopes) (l : c < clauses) (m : clauses ≤ clausesMost) (s : ScopedFrom a clauses (c + 1) x) where
   with-leaf : hasLeaf c a ≡ true
       → ScopedFrom a clauses c (record { node = set (x .node) c (scopeNumber c 0 a); leaf = set (x .leaf) c (firstNumber c 0 a); hoists = x .hoists + 1; idle = x .idle })
-  unfolding scopeNode leafNode
+  unfolding scopeNode firstLeafNode
   with-leaf e =
       record {
         node-length = length-set (x .node) c (scopeNumber c 0 a) ∙ s .node-length;
@@ -135,7 +135,7 @@ module _ (a : Tree) (clauses c : ℕ) (x : Scopes) (l : c < clauses) (m : clause
       }
 
   without-leaf : hasLeaf c a ≡ false → ScopedFrom a clauses c (record { node = x .node; leaf = x .leaf; hoists = x .hoists; idle = c })
-  unfolding scopeNode leafNode idleNumber
+  unfolding scopeNode firstLeafNode idleNumber
   without-leaf e =
       record {
         node-length = s .node-length;

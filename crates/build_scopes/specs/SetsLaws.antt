@@ -14,6 +14,7 @@ use borrow.Author.Tests.{eq-eqb, ne-eqb, eqb-true, lt-ltb, ltb-true, ltb-false}
 use Rattle.base_words.specs.Words.{pick}
 use Rattle.base_words.specs.WordsLaws.{pick-true, pick-false}
 use Rattle.spec_rules.specs.Limits.{clausesMost}
+use Rattle.spec_rules.specs.Kinds.{leafNode, firstCaseWord, casesWord, tailCasesWord, defaultWord, clauseWord}
 use Rattle.spec_rules.specs.Rows.{bit}
 use Rattle.build_arena.specs.Arena.{nodeKind, nodeWord, caseChild}
 use Rattle.build_scopes.specs.declared.marks.Children.{Children}
@@ -138,21 +139,21 @@ module _ (w sets : List ℕ) where
   -- THEOREM: the set of a node has the clauses that are marked there
   pub nodeSet-marked : (c k : ℕ) → bitAt c (nodeSet w sets k) ≡ nodeMarked w (column c sets) c k
   unfolding nodeSet nodeMarked markedChildren
-  nodeSet-marked c k = go (eqb (nodeKind w k) 2)
+  nodeSet-marked c k = go (eqb (nodeKind w k) leafNode)
     where
       cases : ℕ
-      cases = markedCases w (column c sets) (nodeWord w k 1) (nodeWord w k 2 + nodeWord w k 3)
+      cases = markedCases w (column c sets) (nodeWord w k firstCaseWord) (nodeWord w k casesWord + nodeWord w k tailCasesWord)
 
       default : ℕ
-      default = markedDefault (column c sets) (nodeWord w k 4)
+      default = markedDefault (column c sets) (nodeWord w k defaultWord)
 
       go : (b : Bool)
-          → bitAt c (pick b (2 ^ nodeWord w k 0) (unionCases w sets (nodeWord w k 1) (nodeWord w k 2 + nodeWord w k 3) (defaultSet sets (nodeWord w k 4))))
-          ≡ pick b (bit (eqb c (nodeWord w k 0))) (bit (ltb 0 (cases + default)))
-      go true = bitAt-one c (nodeWord w k 0)
+          → bitAt c (pick b (2 ^ nodeWord w k clauseWord) (unionCases w sets (nodeWord w k firstCaseWord) (nodeWord w k casesWord + nodeWord w k tailCasesWord) (defaultSet sets (nodeWord w k defaultWord))))
+          ≡ pick b (bit (eqb c (nodeWord w k clauseWord))) (bit (ltb 0 (cases + default)))
+      go true = bitAt-one c (nodeWord w k clauseWord)
       go false =
-          union-marked c (nodeWord w k 1) (nodeWord w k 2 + nodeWord w k 3) (defaultSet sets (nodeWord w k 4))
-          ∙ ap (λ z. bit (ltb 0 (z + cases))) (markedDefault-column c sets (nodeWord w k 4))
+          union-marked c (nodeWord w k firstCaseWord) (nodeWord w k casesWord + nodeWord w k tailCasesWord) (defaultSet sets (nodeWord w k defaultWord))
+          ∙ ap (λ z. bit (ltb 0 (z + cases))) (markedDefault-column c sets (nodeWord w k defaultWord))
           ∙ ap (λ z. bit (ltb 0 z)) (add-comm default cases)
 
   module _ (i n : ℕ) where
@@ -181,22 +182,22 @@ unfolding defaultSet
 defaultSet-some sets default h = rw (ne-eqb default 0 h)
 
 module _ (w sets : List ℕ) (k kind : ℕ) (e : kind ≡ nodeKind w k) where
-  pub nodeSet-leaf : (word : ℕ) → kind ≡ 2 → word ≡ nodeWord w k 0 → word < clausesMost → 1 * 2 ^ word % 4294967296 ≡ nodeSet w sets k
+  pub nodeSet-leaf : (word : ℕ) → kind ≡ leafNode → word ≡ nodeWord w k clauseWord → word < clausesMost → 1 * 2 ^ word % 4294967296 ≡ nodeSet w sets k
   unfolding nodeSet
   nodeSet-leaf word h f l =
       let one : 1 * 2 ^ word ≡ 2 ^ word = omega arith in
       shl-exact {a = 1} 1 word 32 (omega arith) (omega arith)
       ∙ one
       ∙ ap (λ z. 2 ^ z) f
-      ∙ sym (pick-true (eqb (nodeKind w k) 2) (2 ^ nodeWord w k 0)
-      (unionCases w sets (nodeWord w k 1) (nodeWord w k 2 + nodeWord w k 3) (defaultSet sets (nodeWord w k 4))) (eq-eqb (nodeKind w k) 2 (sym e ∙ h)))
+      ∙ sym (pick-true (eqb (nodeKind w k) leafNode) (2 ^ nodeWord w k clauseWord)
+      (unionCases w sets (nodeWord w k firstCaseWord) (nodeWord w k casesWord + nodeWord w k tailCasesWord) (defaultSet sets (nodeWord w k defaultWord))) (eq-eqb (nodeKind w k) leafNode (sym e ∙ h)))
 
-  pub nodeSet-switch : (x : Children) (default r : ℕ) → (kind ≡ 2 → ⊥) → x ≡ childrenOf w k → default ≡ defaultSet sets (x .default)
+  pub nodeSet-switch : (x : Children) (default r : ℕ) → (kind ≡ leafNode → ⊥) → x ≡ childrenOf w k → default ≡ defaultSet sets (x .default)
       → r ≡ unionCases w sets (x .first) (x .count) default → r ≡ nodeSet w sets k
   unfolding nodeSet
   nodeSet-switch x default r h f g p =
       p
       ∙ ap (unionCases w sets (x .first) (x .count)) g
       ∙ ap (λ (z : Children). unionCases w sets (z .first) (z .count) (defaultSet sets (z .default))) f
-      ∙ sym (pick-false (eqb (nodeKind w k) 2) (2 ^ nodeWord w k 0)
-      (unionCases w sets (nodeWord w k 1) (nodeWord w k 2 + nodeWord w k 3) (defaultSet sets (nodeWord w k 4))) (ne-eqb (nodeKind w k) 2 (λ z. h (e ∙ z))))
+      ∙ sym (pick-false (eqb (nodeKind w k) leafNode) (2 ^ nodeWord w k clauseWord)
+      (unionCases w sets (nodeWord w k firstCaseWord) (nodeWord w k casesWord + nodeWord w k tailCasesWord) (defaultSet sets (nodeWord w k defaultWord))) (ne-eqb (nodeKind w k) leafNode (λ z. h (e ∙ z))))

@@ -14,6 +14,7 @@ use borrow.Author.Tests.{eq-eqb, eqb-true}
 use Rattle.base_words.specs.Words.{either, pick}
 use Rattle.base_words.specs.WordsLaws.{pick-false}
 use Rattle.spec_rules.specs.Limits.{clausesMost, nodesMost}
+use Rattle.spec_rules.specs.Kinds.{leafNode}
 use Rattle.spec_rules.specs.Rows.{bit}
 use Rattle.spec_rules.specs.Building.{Tree, absent, leaf, hoist, switch, listswitch}
 use Rattle.spec_rules.specs.Hoisting.{nodesIn, nodesInOf, hasLeaf}
@@ -194,14 +195,14 @@ module _ (w : List ℕ) (c : ℕ) (last sets : List ℕ) (h : ScopeMarks w c las
 
 -- ---- the first leaf
 module _ (w : List ℕ) (c : ℕ) (sets : List ℕ) (h : ClauseMarks w c sets) (k : ℕ) (o : OnWay never (h .tree) c k) where
-  pub leaf-found : nodeKind w k ≡ 2 → k ≡ firstNumber c 0 (h .tree)
+  pub leaf-found : nodeKind w k ≡ leafNode → k ≡ firstNumber c 0 (h .tree)
   unfolding firstNumber descent
   leaf-found e =
       ⊎-elim (λ t. sym (ap (descent never c k) (t .is)) ∙ o .same) (λ t. absurd (omega (arith, t .shown .kind-is))) (node-there w (h .tree) (h .ready) k (o .inside))
 
-  pub leaf-child : (nodeKind w k ≡ 2 → ⊥) → SwitchInside w k (length sets)
+  pub leaf-child : (nodeKind w k ≡ leafNode → ⊥) → SwitchInside w k (length sets)
   leaf-child n = node-inside w (h .tree) (h .ready) k (o .inside) (length sets) (h .long) .switch n
 
-  pub leaf-on : (nodeKind w k ≡ 2 → ⊥) → NextOnWay never (h .tree) c k (firstChild w (column c sets) k)
+  pub leaf-on : (nodeKind w k ≡ leafNode → ⊥) → NextOnWay never (h .tree) c k (firstChild w (column c sets) k)
   leaf-on n =
       ⊎-elim (λ t. absurd (n (t .kind-is))) (λ t. way-next never w (h .tree) c k (column c sets) (h .ready) (h .marked) o t refl) (node-there w (h .tree) (h .ready) k (o .inside))

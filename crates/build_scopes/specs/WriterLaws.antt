@@ -23,7 +23,7 @@ use Rattle.build_arena.specs.Arena.{arenaEnd, Held}
 use Rattle.build_arena.specs.Numbered.{subtreeAt}
 use Rattle.build_arena.specs.NumberedLaws.{nodes-held}
 use Rattle.build_scopes.specs.declared.Scopes.{Scopes}
-use Rattle.build_scopes.specs.Numbers.{firstNumber, leafNode, hoistByNumber, hoistByNumberOf, BindCounts}
+use Rattle.build_scopes.specs.Numbers.{firstNumber, firstLeafNode, hoistByNumber, hoistByNumberOf, BindCounts}
 use Rattle.build_scopes.specs.NumbersLaws.{hoistAll-number}
 use Rattle.build_scopes.specs.FirstLeafLaws.{first-leaf}
 use Rattle.build_scopes.specs.Marks.{Ready}
@@ -66,7 +66,7 @@ scoped-hoisted w a n x r s =
 -- THEOREM: the bindings of a clause's hoist are those of the leaf that was found
 pub scoped-leaf : (w : List ℕ) (f : ℕ → ℕ) (a : Tree) (n : ℕ) (x : Scopes) → Ready w a → BindCounts f a → Scoped a n x → (c : ℕ) → c < n → hasLeaf c a ≡ true
     → subtreeAt a (getD (x .leaf) c 0) ≡ leaf c (firstBindings c a)
-unfolding leafNode
+unfolding firstLeafNode
 scoped-leaf w f a n x r b s c l h =
     ap (subtreeAt a) (s .leaf c l ∙ pick-true (hasLeaf c a) (firstNumber c 0 a) nodesMost h) ∙ first-leaf f c a (r .plain) b h
 

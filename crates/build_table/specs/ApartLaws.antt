@@ -9,6 +9,7 @@ use native.Mathlib.Omega.{arith}
 use borrow.Author.Tests.{eqb-true, eqb-false, eq-eqb, ne-eqb}
 use lib.Dec.{eqb}
 use Rattle.spec_rules.specs.Limits.{patternsMost}
+use Rattle.spec_rules.specs.Kinds.{assignPattern}
 use Rattle.spec_rules.specs.SheetFile.{patterns, clauses, patternKind, patternFirst, child, root}
 use Rattle.spec_rules.specs.Patterns.{PatternKind, Discard, Variable, Assign, Integer, ByteString, ListOfAll, ListWithRest, Constructor, Pair, Tuple, Unknown}
 use Rattle.spec_rules.specs.SheetRefusals.{hasChildren}
@@ -25,7 +26,7 @@ use Rattle.build_table.specs.SeenLaws.{test-kind}
 -- what is inside the assigns at p: p itself if it is no assign
 coreTo : ℕ → List ℕ → ℕ → ℕ
 coreTo zero s p = p
-coreTo (suc deep) s p = elim (eqb (patternKind s p) 2) [ true ↦ coreTo deep s (child s (patternFirst s p)) | false ↦ p ]
+coreTo (suc deep) s p = elim (eqb (patternKind s p) assignPattern) [ true ↦ coreTo deep s (child s (patternFirst s p)) | false ↦ p ]
 
 core : List ℕ → ℕ → ℕ
 core s p = coreTo patternsMost s p
@@ -46,37 +47,37 @@ step-to-part s p t i Tuple has other = (_, refl)
 step-to-part s p t i Unknown has other = absurd (true≢false (sym has))
 
 module _ {s : List ℕ} (sh : Shaped s) (few : Counted s) where
-  coreTo-assign : (deep p : ℕ) → patternKind s p ≡ 2 → coreTo (suc deep) s p ≡ coreTo deep s (child s (patternFirst s p))
+  coreTo-assign : (deep p : ℕ) → patternKind s p ≡ assignPattern → coreTo (suc deep) s p ≡ coreTo deep s (child s (patternFirst s p))
   unfolding coreTo
-  coreTo-assign deep p e = rw (eq-eqb (patternKind s p) 2 e, coreTo)
+  coreTo-assign deep p e = rw (eq-eqb (patternKind s p) assignPattern e, coreTo)
 
-  coreTo-other : (deep p : ℕ) → (patternKind s p ≡ 2 → ⊥) → coreTo (suc deep) s p ≡ p
+  coreTo-other : (deep p : ℕ) → (patternKind s p ≡ assignPattern → ⊥) → coreTo (suc deep) s p ≡ p
   unfolding coreTo
-  coreTo-other deep p e = rw (ne-eqb (patternKind s p) 2 e, coreTo)
+  coreTo-other deep p e = rw (ne-eqb (patternKind s p) assignPattern e, coreTo)
 
   -- an assign's only child
-  pub assign-child : (p j : ℕ) → p < patterns s → Owns s p j → patternKind s p ≡ 2 → j ≡ patternFirst s p
+  pub assign-child : (p j : ℕ) → p < patterns s → Owns s p j → patternKind s p ≡ assignPattern → j ≡ patternFirst s p
   assign-child p j h o e = omega (arith, sh .assign-one p h e, o .from, o .to)
 
-  assign-owns : (p : ℕ) → p < patterns s → patternKind s p ≡ 2 → Owns s p (patternFirst s p)
+  assign-owns : (p : ℕ) → p < patterns s → patternKind s p ≡ assignPattern → Owns s p (patternFirst s p)
   assign-owns p h e = record { parent = assign-parent s p e; from = omega arith; to = omega (arith, sh .assign-one p h e) }
 
   coreTo-enough : (k l p : ℕ) → p < patterns s → patterns s ≤ k + p → patterns s ≤ l + p → coreTo k s p ≡ coreTo l s p
   coreTo-enough zero l p h a b = absurd (omega arith)
   coreTo-enough (suc k) zero p h a b = absurd (omega arith)
-  coreTo-enough (suc k) (suc l) p h a b = go (eqb (patternKind s p) 2) refl (coreTo-enough k l)
+  coreTo-enough (suc k) (suc l) p h a b = go (eqb (patternKind s p) assignPattern) refl (coreTo-enough k l)
     where
-      go : (test : Bool) → eqb (patternKind s p) 2 ≡ test
+      go : (test : Bool) → eqb (patternKind s p) assignPattern ≡ test
           → ((q : ℕ) → q < patterns s → patterns s ≤ k + q → patterns s ≤ l + q → coreTo k s q ≡ coreTo l s q) → coreTo (suc k) s p ≡ coreTo (suc l) s p
       go true e ih =
-          let f = eqb-true (patternKind s p) 2 e in
+          let f = eqb-true (patternKind s p) assignPattern e in
           let o = assign-owns p h f in
           let above = sh .child-above p (patternFirst s p) h o in
           coreTo-assign k p f ∙ ih (child s (patternFirst s p)) (owned-pattern sh p (patternFirst s p) h o) (omega arith) (omega arith) ∙ sym (coreTo-assign l p f)
-      go false e ih = let f = eqb-false (patternKind s p) 2 e in coreTo-other k p f ∙ sym (coreTo-other l p f)
+      go false e ih = let f = eqb-false (patternKind s p) assignPattern e in coreTo-other k p f ∙ sym (coreTo-other l p f)
 
   -- a child of an assign has the core of the assign
-  core-assign : (p j : ℕ) → p < patterns s → Owns s p j → patternKind s p ≡ 2 → core s p ≡ core s (child s j)
+  core-assign : (p j : ℕ) → p < patterns s → Owns s p j → patternKind s p ≡ assignPattern → core s p ≡ core s (child s j)
   unfolding core
   core-assign p j h o e =
       let above = sh .child-above p j h o in
@@ -85,18 +86,18 @@ module _ {s : List ℕ} (sh : Shaped s) (few : Counted s) where
       ∙ ap (λ (k : ℕ). coreTo (patternsMost - 1) s (child s k)) (sym (assign-child p j h o e))
       ∙ coreTo-enough (patternsMost - 1) patternsMost (child s j) (owned-pattern sh p j h o) (omega arith) (omega arith)
 
-  core-other : (p : ℕ) → (patternKind s p ≡ 2 → ⊥) → core s p ≡ p
+  core-other : (p : ℕ) → (patternKind s p ≡ assignPattern → ⊥) → core s p ≡ p
   unfolding core
   core-other p e = coreTo-other (patternsMost - 1) p e
 
   -- ---- the path of a child, of an assign and of any other
-  pub inside-assign : (p j : ℕ) → p < patterns s → Owns s p j → patternKind s p ≡ 2 → pathOf s (child s j) ≡ pathOf s p
+  pub inside-assign : (p j : ℕ) → p < patterns s → Owns s p j → patternKind s p ≡ assignPattern → pathOf s (child s j) ≡ pathOf s p
   unfolding stepTo follows kindOf
   inside-assign p j h o e =
       child-path sh p j h o few
       ∙ ap (λ (kind : PatternKind). follows (pathOf s p) (stepTo s p (typeOf s p) kind (j - patternFirst s p))) (byte-pattern (patternKind s p) Assign e)
 
-  pub inside-other : (p j : ℕ) → p < patterns s → Owns s p j → (patternKind s p ≡ 2 → ⊥)
+  pub inside-other : (p j : ℕ) → p < patterns s → Owns s p j → (patternKind s p ≡ assignPattern → ⊥)
       → (step : Step) × (pathOf s (child s j) ≡ into (pathOf s p) step) × (stepIndex step ≡ j - patternFirst s p)
   unfolding follows kindOf
   inside-other p j h o e =
@@ -111,11 +112,11 @@ module _ {s : List ℕ} (sh : Shaped s) (few : Counted s) where
   SameCore p q = clauseOf s p ≡ clauseOf s q → pathOf s p ≡ pathOf s q → core s p ≡ core s q
 
   -- of a child of an assign it is that of the assign
-  to-assign : (p q j : ℕ) → q < patterns s → Owns s q j → patternKind s q ≡ 2 → SameCore p q → SameCore p (child s j)
+  to-assign : (p q j : ℕ) → q < patterns s → Owns s q j → patternKind s q ≡ assignPattern → SameCore p q → SameCore p (child s j)
   to-assign p q j l o e ih c path =
       ih (c ∙ child-clause sh q j l o few) (path ∙ inside-assign q j l o e) ∙ core-assign q j l o e
 
-  from-assign : (p q j : ℕ) → p < patterns s → Owns s p j → patternKind s p ≡ 2 → SameCore p q → SameCore (child s j) q
+  from-assign : (p q j : ℕ) → p < patterns s → Owns s p j → patternKind s p ≡ assignPattern → SameCore p q → SameCore (child s j) q
   from-assign p q j h o e ih c path =
       sym (core-assign p j h o e) ∙ ih (sym (child-clause sh p j h o few) ∙ c) (sym (inside-assign p j h o e) ∙ path)
 
@@ -128,16 +129,16 @@ module _ {s : List ℕ} (sh : Shaped s) (few : Counted s) where
           ap (λ (k : ℕ). core s (root s k)) same
 
       at-child : (q j : ℕ) → q < patterns s → Owns s q j → SameCore (root s c) q → SameCore (root s c) (child s j)
-      at-child q j l o ih = go (eqb (patternKind s q) 2) refl
+      at-child q j l o ih = go (eqb (patternKind s q) assignPattern) refl
         where
-          go : (test : Bool) → eqb (patternKind s q) 2 ≡ test → SameCore (root s c) (child s j)
+          go : (test : Bool) → eqb (patternKind s q) assignPattern ≡ test → SameCore (root s c) (child s j)
           go true e = to-assign (root s c) q j l o (eqb-true _ _ e) ih
           go false e = λ f path.
               let w = inside-other q j l o (eqb-false _ _ e) in
               absurd (into-some (pathOf s q) (w .0) (sym (root-path sh c h) ∙ path ∙ w .1))
 
   -- of two children of patterns that are no assigns
-  both-others : (p j q k : ℕ) → p < patterns s → Owns s p j → (patternKind s p ≡ 2 → ⊥) → q < patterns s → Owns s q k → (patternKind s q ≡ 2 → ⊥) → SameCore p q
+  both-others : (p j q k : ℕ) → p < patterns s → Owns s p j → (patternKind s p ≡ assignPattern → ⊥) → q < patterns s → Owns s q k → (patternKind s q ≡ assignPattern → ⊥) → SameCore p q
       → SameCore (child s j) (child s k)
   both-others p j q k h o e l v f ih c path =
       let x = inside-other p j h o e in
@@ -151,9 +152,9 @@ module _ {s : List ℕ} (sh : Shaped s) (few : Counted s) where
       ap (λ (i : ℕ). core s (child s i)) entries
 
   child-core : (p j : ℕ) → p < patterns s → Owns s p j → ((q : ℕ) → q < patterns s → SameCore p q) → (q : ℕ) → q < patterns s → SameCore (child s j) q
-  child-core p j h o ih = go (eqb (patternKind s p) 2) refl
+  child-core p j h o ih = go (eqb (patternKind s p) assignPattern) refl
     where
-      other : (patternKind s p ≡ 2 → ⊥) → (q : ℕ) → q < patterns s → SameCore (child s j) q
+      other : (patternKind s p ≡ assignPattern → ⊥) → (q : ℕ) → q < patterns s → SameCore (child s j) q
       other e = by-standing sh (SameCore (child s j)) at-root at-child
         where
           at-root : (d : ℕ) → d < clauses s → SameCore (child s j) (root s d)
@@ -162,13 +163,13 @@ module _ {s : List ℕ} (sh : Shaped s) (few : Counted s) where
               absurd (into-some (pathOf s p) (w .0) (sym (root-path sh d l) ∙ sym path ∙ w .1))
 
           at-child : (q k : ℕ) → q < patterns s → Owns s q k → SameCore (child s j) q → SameCore (child s j) (child s k)
-          at-child q k l v inner = by-kind (eqb (patternKind s q) 2) refl
+          at-child q k l v inner = by-kind (eqb (patternKind s q) assignPattern) refl
             where
-              by-kind : (test : Bool) → eqb (patternKind s q) 2 ≡ test → SameCore (child s j) (child s k)
+              by-kind : (test : Bool) → eqb (patternKind s q) assignPattern ≡ test → SameCore (child s j) (child s k)
               by-kind true f = to-assign (child s j) q k l v (eqb-true _ _ f) inner
               by-kind false f = both-others p j q k h o e l v (eqb-false _ _ f) (ih q l)
 
-      go : (test : Bool) → eqb (patternKind s p) 2 ≡ test → (q : ℕ) → q < patterns s → SameCore (child s j) q
+      go : (test : Bool) → eqb (patternKind s p) assignPattern ≡ test → (q : ℕ) → q < patterns s → SameCore (child s j) q
       go true e q l = from-assign p q j h o (eqb-true _ _ e) (ih q l)
       go false e q l = other (eqb-false _ _ e) q l
 
@@ -176,7 +177,7 @@ module _ {s : List ℕ} (sh : Shaped s) (few : Counted s) where
   same-core = by-standing sh (λ p. (q : ℕ) → q < patterns s → SameCore p q) root-core child-core
 
   -- so two of one clause that are no assigns and have the same path are the same
-  pub same-path-same : (p q : ℕ) → p < patterns s → q < patterns s → (patternKind s p ≡ 2 → ⊥) → (patternKind s q ≡ 2 → ⊥)
+  pub same-path-same : (p q : ℕ) → p < patterns s → q < patterns s → (patternKind s p ≡ assignPattern → ⊥) → (patternKind s q ≡ assignPattern → ⊥)
       → clauseOf s p ≡ clauseOf s q → pathOf s p ≡ pathOf s q → p ≡ q
   same-path-same p q h l e f c path = sym (core-other p e) ∙ same-core p h q l c path ∙ core-other q f
 

@@ -11,6 +11,7 @@ use borrow.Author.Tests.{eqb-true, eqb-false}
 use lib.ListN.{length, getD}
 use Rattle.base_words.specs.Words.{pick}
 use Rattle.spec_rules.specs.Limits.{patternsMost}
+use Rattle.spec_rules.specs.Kinds.{assignPattern, pairStep, tupleStep, constrStep, listStep, listtailStep}
 use Rattle.spec_rules.specs.SheetFile.{patterns, typeFirst, constructorFirst, entry, patternKind, patternA, patternFirst, patternCount, child}
 use Rattle.spec_rules.specs.Patterns.{PatternKind, Discard, Variable, Assign, Integer, ByteString, ListOfAll, ListWithRest, Constructor, Pair, Tuple, Unknown, oneConstructor, constructorOf}
 use Rattle.spec_rules.specs.SheetRefusals.{hasChildren}
@@ -33,14 +34,14 @@ length-placedBelow s t p Variable = refl
 length-placedBelow s t p Assign = length-placed t p (child s (patternFirst s p)) sameNumber 0 (typeOf s p) (ownerOf s p)
 length-placedBelow s t p Integer = refl
 length-placedBelow s t p ByteString = refl
-length-placedBelow s t p ListOfAll = length-placedEach s t p 3 (typeFirst s (typeOf s p)) 0 (p + 1) 0 (patternCount s p)
+length-placedBelow s t p ListOfAll = length-placedEach s t p listStep (typeFirst s (typeOf s p)) 0 (p + 1) 0 (patternCount s p)
 length-placedBelow s t p ListWithRest =
-    length-placed (placedEach s t p 3 (typeFirst s (typeOf s p)) 0 (p + 1) 0 (patternCount s p - 1)) p (child s (patternFirst s p + (patternCount s p - 1))) 4 (patternCount s p - 1) (typeOf s p) (p + 1)
-    ∙ length-placedEach s t p 3 (typeFirst s (typeOf s p)) 0 (p + 1) 0 (patternCount s p - 1)
+    length-placed (placedEach s t p listStep (typeFirst s (typeOf s p)) 0 (p + 1) 0 (patternCount s p - 1)) p (child s (patternFirst s p + (patternCount s p - 1))) listtailStep (patternCount s p - 1) (typeOf s p) (p + 1)
+    ∙ length-placedEach s t p listStep (typeFirst s (typeOf s p)) 0 (p + 1) 0 (patternCount s p - 1)
 length-placedBelow s t p Constructor =
-    length-placedEach s t p 2 (constructorFirst s (constructorOf s (typeOf s p) (patternA s p))) 1 (pick (oneConstructor s (typeOf s p)) (ownerOf s p) (p + 1)) 0 (patternCount s p)
-length-placedBelow s t p Pair = length-placedEach s t p 0 (typeFirst s (typeOf s p)) 1 (ownerOf s p) 0 (patternCount s p)
-length-placedBelow s t p Tuple = length-placedEach s t p 1 (typeFirst s (typeOf s p)) 1 (ownerOf s p) 0 (patternCount s p)
+    length-placedEach s t p constrStep (constructorFirst s (constructorOf s (typeOf s p) (patternA s p))) 1 (pick (oneConstructor s (typeOf s p)) (ownerOf s p) (p + 1)) 0 (patternCount s p)
+length-placedBelow s t p Pair = length-placedEach s t p pairStep (typeFirst s (typeOf s p)) 1 (ownerOf s p) 0 (patternCount s p)
+length-placedBelow s t p Tuple = length-placedEach s t p tupleStep (typeFirst s (typeOf s p)) 1 (ownerOf s p) 0 (patternCount s p)
 length-placedBelow s t p Unknown = refl
 
 -- a pattern of one constructor is no test
@@ -111,7 +112,7 @@ module _ {s : List ℕ} (ok : Accepted s) {p : ℕ} (h : p < patterns s) (t : Li
   unfolding placedBelow kindOf stepTo stepNumber typeTo testOfKind hasChildren
   assign-given e = record { each = each-one; others = λ k free. placed-other t p (child s (patternFirst s p)) sameNumber 0 (typeOf s p) (ownerOf s p) k (free (patternFirst s p) first-owned) }
     where
-      byte : patternKind s p ≡ 2
+      byte : patternKind s p ≡ assignPattern
       byte = pattern-byte (patternKind s p) Assign e (omega arith)
 
       first-owned : Owns s p (patternFirst s p)
@@ -132,8 +133,8 @@ module _ {s : List ℕ} (ok : Accepted s) {p : ℕ} (h : p < patterns s) (t : Li
       record {
         each = λ j o.
             let same : first + 0 * nth j ≡ first = omega arith in
-            fields-as refl refl refl (ap (entry s) same) refl refl (several-given has (patternCount s p) (omega arith) 3 first 0 (p + 1) j o (inside j o));
-        others = several-others has (patternCount s p) (omega arith) 3 first 0 (p + 1);
+            fields-as refl refl refl (ap (entry s) same) refl refl (several-given has (patternCount s p) (omega arith) listStep first 0 (p + 1) j o (inside j o));
+        others = several-others has (patternCount s p) (omega arith) listStep first 0 (p + 1);
       }
 
   pair-given : kindOf s p ≡ Pair → AllGiven (placedBelow s t p Pair) Pair
@@ -144,8 +145,8 @@ module _ {s : List ℕ} (ok : Accepted s) {p : ℕ} (h : p < patterns s) (t : Li
       record {
         each = λ j o.
             let same : first + 1 * nth j ≡ first + nth j = omega arith in
-            fields-as refl refl refl (ap (entry s) same) refl refl (several-given has (patternCount s p) (omega arith) 0 first 1 (ownerOf s p) j o (inside j o));
-        others = several-others has (patternCount s p) (omega arith) 0 first 1 (ownerOf s p);
+            fields-as refl refl refl (ap (entry s) same) refl refl (several-given has (patternCount s p) (omega arith) pairStep first 1 (ownerOf s p) j o (inside j o));
+        others = several-others has (patternCount s p) (omega arith) pairStep first 1 (ownerOf s p);
       }
 
   tuple-given : kindOf s p ≡ Tuple → AllGiven (placedBelow s t p Tuple) Tuple
@@ -156,8 +157,8 @@ module _ {s : List ℕ} (ok : Accepted s) {p : ℕ} (h : p < patterns s) (t : Li
       record {
         each = λ j o.
             let same : first + 1 * nth j ≡ first + nth j = omega arith in
-            fields-as refl refl refl (ap (entry s) same) refl refl (several-given has (patternCount s p) (omega arith) 1 first 1 (ownerOf s p) j o (inside j o));
-        others = several-others has (patternCount s p) (omega arith) 1 first 1 (ownerOf s p);
+            fields-as refl refl refl (ap (entry s) same) refl refl (several-given has (patternCount s p) (omega arith) tupleStep first 1 (ownerOf s p) j o (inside j o));
+        others = several-others has (patternCount s p) (omega arith) tupleStep first 1 (ownerOf s p);
       }
 
   constructor-given : kindOf s p ≡ Constructor → AllGiven (placedBelow s t p Constructor) Constructor
@@ -170,14 +171,14 @@ module _ {s : List ℕ} (ok : Accepted s) {p : ℕ} (h : p < patterns s) (t : Li
         each = λ j o.
             let same : first + 1 * nth j ≡ first + nth j = omega arith in
             fields-as refl refl refl (ap (entry s) same) (pick-not (oneConstructor s (typeOf s p)) (ownerOf s p) (p + 1)) refl
-            (several-given has (patternCount s p) (omega arith) 2 first 1 owner j o (inside j o));
-        others = several-others has (patternCount s p) (omega arith) 2 first 1 owner;
+            (several-given has (patternCount s p) (omega arith) constrStep first 1 owner j o (inside j o));
+        others = several-others has (patternCount s p) (omega arith) constrStep first 1 owner;
       }
 
   -- a loop over all but the tail, and the tail
   tailed-given : kindOf s p ≡ ListWithRest → AllGiven (placedBelow s t p ListWithRest) ListWithRest
   unfolding placedBelow kindOf stepTo stepNumber typeTo testOfKind hasChildren isTail
-  tailed-given e = record { each = each-one; others = λ k free. placed-other mid p tail 4 last (typeOf s p) (p + 1) k (free (patternFirst s p + last) tail-owned) ∙ mid-others k free }
+  tailed-given e = record { each = each-one; others = λ k free. placed-other mid p tail listtailStep last (typeOf s p) (p + 1) k (free (patternFirst s p + last) tail-owned) ∙ mid-others k free }
     where
       has : Parent s p
       has = parent-is ListWithRest e refl
@@ -192,16 +193,16 @@ module _ {s : List ℕ} (ok : Accepted s) {p : ℕ} (h : p < patterns s) (t : Li
       tail = child s (patternFirst s p + last)
 
       mid : List ℕ
-      mid = placedEach s t p 3 (typeFirst s (typeOf s p)) 0 (p + 1) 0 last
+      mid = placedEach s t p listStep (typeFirst s (typeOf s p)) 0 (p + 1) 0 last
 
       tail-owned : Owns s p (patternFirst s p + last)
       tail-owned = record { parent = has; from = omega arith; to = omega (arith, some-part) }
 
       mid-others : (k : ℕ) → ((j : ℕ) → Owns s p j → FieldAt (child s j) k → ⊥) → getD mid k 0 ≡ getD t k 0
-      mid-others = several-others has last (omega arith) 3 (typeFirst s (typeOf s p)) 0 (p + 1)
+      mid-others = several-others has last (omega arith) listStep (typeFirst s (typeOf s p)) 0 (p + 1)
 
       mid-long : length mid ≡ tableSize
-      mid-long = length-placedEach s t p 3 (typeFirst s (typeOf s p)) 0 (p + 1) 0 last ∙ long
+      mid-long = length-placedEach s t p listStep (typeFirst s (typeOf s p)) 0 (p + 1) 0 last ∙ long
 
       -- the clause of p, which is no child of its own
       mid-clause : getD mid (clauseAt + p) 0 ≡ getD t (clauseAt + p) 0
@@ -210,22 +211,22 @@ module _ {s : List ℕ} (ok : Accepted s) {p : ℕ} (h : p < patterns s) (t : Li
           (λ j o f. omega (arith, ok .is-shaped .child-above p j h o, f .here, f .high, child-known j o, few))
 
       u : List ℕ
-      u = placed mid p tail 4 last (typeOf s p) (p + 1)
+      u = placed mid p tail listtailStep last (typeOf s p) (p + 1)
 
-      tail-given : (j : ℕ) → Owns s p j → nth j + 1 ≡ patternCount s p → Fields u (child s j) p 4 (nth j) (typeOf s p) (p + 1) (getD t (clauseAt + p) 0)
+      tail-given : (j : ℕ) → Owns s p j → nth j + 1 ≡ patternCount s p → Fields u (child s j) p listtailStep (nth j) (typeOf s p) (p + 1) (getD t (clauseAt + p) 0)
       tail-given j o l =
           let same : patternFirst s p + last ≡ j = omega (arith, o .from, some-part) in
-          let f = placed-fields mid p tail 4 last (typeOf s p) (p + 1) mid-long (child-known (patternFirst s p + last) tail-owned) in
+          let f = placed-fields mid p tail listtailStep last (typeOf s p) (p + 1) mid-long (child-known (patternFirst s p + last) tail-owned) in
           let index : last ≡ nth j = omega (arith, o .from) in
           fields-as refl refl index refl refl mid-clause (fields-of (ap (child s) same) f)
 
       part-given : (j : ℕ) → Owns s p j → (nth j + 1 ≡ patternCount s p → ⊥)
-          → Fields u (child s j) p 3 (nth j) (entry s (typeFirst s (typeOf s p))) (p + 1) (getD t (clauseAt + p) 0)
+          → Fields u (child s j) p listStep (nth j) (entry s (typeFirst s (typeOf s p))) (p + 1) (getD t (clauseAt + p) 0)
       part-given j o l =
           let same : typeFirst s (typeOf s p) + 0 * nth j ≡ typeFirst s (typeOf s p) = omega arith in
-          let f = several-given has last (omega arith) 3 (typeFirst s (typeOf s p)) 0 (p + 1) j o (omega (arith, inside j o)) in
-          kept-fields mid u (child s j) p 3 (nth j) (entry s (typeFirst s (typeOf s p))) (p + 1) (getD t (clauseAt + p) 0)
-          (λ k g. placed-other mid p tail 4 last (typeOf s p) (p + 1) k
+          let f = several-given has last (omega arith) listStep (typeFirst s (typeOf s p)) 0 (p + 1) j o (omega (arith, inside j o)) in
+          kept-fields mid u (child s j) p listStep (nth j) (entry s (typeFirst s (typeOf s p))) (p + 1) (getD t (clauseAt + p) 0)
+          (λ k g. placed-other mid p tail listtailStep last (typeOf s p) (p + 1) k
           (λ x.
           let both-there = one-field (child s j) tail k (child-known j o) (child-known (patternFirst s p + last) tail-owned) g x in
           let equal = one-entry (ok .is-shaped) j (patternFirst s p + last) (owned-entry (ok .is-shaped) p j h o) (owned-entry (ok .is-shaped) p (patternFirst s p + last) h tail-owned) both-there in
@@ -318,5 +319,5 @@ module _ {s : List ℕ} (ok : Accepted s) {p : ℕ} (h : p < patterns s) {t : Li
         kept-classed s t after q (class-stays q small) (depth-stays q small) (filled .classed q l k);
     indexed = λ q l k.
         kept-indexed s t after q (length-placedBelow s t p (kindOf s p)) (λ x low high. later-stays x (omega arith)) (path-short (ok .is-shaped) (ok .is-counted) (ok .root-depth) q l) (filled .indexed q l k);
-    cell = λ c class l k. later-stays (cellsAt + 192 * c + class) (omega arith) ∙ filled .cell c class l k;
+    cell = λ c class l k. later-stays (cellsAt + patternsMost * c + class) (omega arith) ∙ filled .cell c class l k;
   }

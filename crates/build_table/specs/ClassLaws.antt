@@ -14,6 +14,7 @@ use lib.Dec.{eqb}
 use lib.ListN.{length, length-append}
 use Rattle.base_words.specs.Words.{both, pick}
 use Rattle.base_words.specs.WordsLaws.{both-true, both-make}
+use Rattle.spec_rules.specs.Kinds.{pairStep, tupleStep, constrStep, listStep, listtailStep}
 use Rattle.spec_rules.specs.Searching.{lowest}
 use Rattle.spec_rules.specs.SearchingLaws.{lowest-some, lowest-none}
 use Rattle.spec_rules.specs.SheetFile.{patterns, patternFirst}
@@ -103,11 +104,11 @@ samePath-class s p q h l = go (eqb (classOf s p) (classOf s q)) refl
 -- the step with this number and index, from a part of type t
 stepMade : List ℕ → ℕ → ℕ → ℕ → Option Step
 stepMade s n i t =
-    pick (eqb n 0) (some (pair i t))
-    (pick (eqb n 1) (some (tuple i t))
-    (pick (eqb n 2) (some (constr i (both (oneConstructor s t) (decorated s t)) t))
-    (pick (eqb n 3) (some (list i t))
-    (pick (eqb n 4) (some (listtail i t))
+    pick (eqb n pairStep) (some (pair i t))
+    (pick (eqb n tupleStep) (some (tuple i t))
+    (pick (eqb n constrStep) (some (constr i (both (oneConstructor s t) (decorated s t)) t))
+    (pick (eqb n listStep) (some (list i t))
+    (pick (eqb n listtailStep) (some (listtail i t))
     none))))
 
 stepTo-made : (s : List ℕ) (p t i : ℕ) (kind : PatternKind) → stepTo s p t kind i ≡ stepMade s (stepNumber (stepTo s p t kind i)) i t

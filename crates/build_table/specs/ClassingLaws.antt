@@ -17,6 +17,7 @@ use Rattle.base_words.specs.WordsLaws.{pick-true, pick-false, length-textAt, te
 use Rattle.base_words.specs.Stored.{stored}
 use Rattle.base_words.specs.StoredLaws.{set-stored, stored-append, getD-stored-below}
 use Rattle.spec_rules.specs.Limits.{patternsMost, depthMost}
+use Rattle.spec_rules.specs.Kinds.{dataType, integerPattern, listWithTailPattern, constructorPattern}
 use Rattle.spec_rules.specs.SheetFile.{subject, patterns, root}
 use Rattle.spec_rules.specs.Patterns.{oneConstructor}
 use Rattle.format_sheet.specs.declared.Map.{Map}
@@ -213,7 +214,7 @@ pub record Row (p above depth : ℕ) : Type 0 where
   pub known : p < patternsMost
   pub above-known : above < patternsMost
   pub depth-known : depth + 1 < depthMost
-  pub lower : 12 * above + depth ≤ 12 * p
+  pub lower : depthMost * above + depth ≤ depthMost * p
 
 module _ {t : List ℕ} {p above depth : ℕ} (row : RowBelow t p) (is-above : above ≡ aboveIn t p) (is-depth : depth ≡ getD t (depthAt + above) 0) where
   deep : depth ≡ getD t (depthAt + aboveIn t p) 0
@@ -227,9 +228,9 @@ module _ {t : List ℕ} {p above depth : ℕ} (row : RowBelow t p) (is-above : a
     lower = omega (arith, deep, row .lower);
   }
 
-  pub indexed-is : stored t (indicesAt + 12 * p) (textAt t (indicesAt + 12 * above) depth ++ getD t (indexAt + p) 0 ∷ []) ≡ indexed t p
+  pub indexed-is : stored t (indicesAt + depthMost * p) (textAt t (indicesAt + depthMost * above) depth ++ getD t (indexAt + p) 0 ∷ []) ≡ indexed t p
   unfolding indexed
-  indexed-is = ap₂ (λ (k d : ℕ). stored t (indicesAt + 12 * p) (textAt t (indicesAt + 12 * k) d ++ getD t (indexAt + p) 0 ∷ [])) is-above deep
+  indexed-is = ap₂ (λ (k d : ℕ). stored t (indicesAt + depthMost * p) (textAt t (indicesAt + depthMost * k) d ++ getD t (indexAt + p) 0 ∷ [])) is-above deep
 
 -- ---- roots
 pub length-rooted : (t : List ℕ) (r c type : ℕ) → length (rooted t r c type) ≡ length t
@@ -250,35 +251,35 @@ module _ (s : List ℕ) (n : ℕ) where
 
 -- ---- a test and its cell
 module _ (s : List ℕ) (p : ℕ) (r : PatternRecord) (is-pattern : r ≡ patternOf s p) where
-  pub constructor-tests : (ty : TypeRecord) (tipo : ℕ) (one : Bool) → tipo ≡ typeOf s p → ty ≡ typeOfRecord s tipo → one ≡ both (eqb (ty .kind) 5) (eqb (ty .count) 1) → r .kind ≡ 7
+  pub constructor-tests : (ty : TypeRecord) (tipo : ℕ) (one : Bool) → tipo ≡ typeOf s p → ty ≡ typeOfRecord s tipo → one ≡ both (eqb (ty .kind) dataType) (eqb (ty .count) 1) → r .kind ≡ constructorPattern
       → not one ≡ isTest s p
   unfolding oneConstructor
   constructor-tests ty tipo one et er eo k =
-      let same : one ≡ oneConstructor s (typeOf s p) = eo ∙ ap (λ (x : TypeRecord). both (eqb (x .kind) 5) (eqb (x .count) 1)) (er ∙ ap (typeOfRecord s) et) in
+      let same : one ≡ oneConstructor s (typeOf s p) = eo ∙ ap (λ (x : TypeRecord). both (eqb (x .kind) dataType) (eqb (x .count) 1)) (er ∙ ap (typeOfRecord s) et) in
       ap not same ∙ sym (test-of-constructor s p (sym (kind-is s p r is-pattern) ∙ k))
 
-  pub plain-tests-not : r .kind < 3 → false ≡ isTest s p
+  pub plain-tests-not : r .kind < integerPattern → false ≡ isTest s p
   plain-tests-not l = sym (no-test-of-plain s p (omega (arith, kind-is s p r is-pattern)))
 
-  pub text-or-list-tests : 3 ≤ r .kind → r .kind ≤ 6 → true ≡ isTest s p
+  pub text-or-list-tests : integerPattern ≤ r .kind → r .kind ≤ listWithTailPattern → true ≡ isTest s p
   text-or-list-tests low high = sym (test-of-text-or-list s p (omega (arith, kind-is s p r is-pattern)) (omega (arith, kind-is s p r is-pattern)))
 
-  pub pair-tests-not : 6 < r .kind → (r .kind ≡ 7 → ⊥) → false ≡ isTest s p
+  pub pair-tests-not : listWithTailPattern < r .kind → (r .kind ≡ constructorPattern → ⊥) → false ≡ isTest s p
   pair-tests-not l other = sym (no-test-of-pair s p (omega (arith, kind-is s p r is-pattern)))
 
 module _ (t : List ℕ) (p : ℕ) (test : Bool) where
   pub tested-yes : (r : Bool) (clause class : ℕ) → r ≡ test → r ≡ true → clause ≡ getD t (clauseAt + p) 0 → class ≡ getD t (classAt + p) 0
-      → set t (cellsAt + 192 * clause + class) (p + 1) ≡ tested t test p
+      → set t (cellsAt + patternsMost * clause + class) (p + 1) ≡ tested t test p
   unfolding tested
   tested-yes r clause class e y ec ek = rw (ec, ek) (sym (pick-true test _ t (sym e ∙ y)))
 
   pub tested-no : (r : Bool) → r ≡ test → r ≡ false → t ≡ tested t test p
   unfolding tested
-  tested-no r e n = sym (pick-false test (set t (cellsAt + 192 * getD t (clauseAt + p) 0 + getD t (classAt + p) 0) (p + 1)) t (sym e ∙ n))
+  tested-no r e n = sym (pick-false test (set t (cellsAt + patternsMost * getD t (clauseAt + p) 0 + getD t (classAt + p) 0) (p + 1)) t (sym e ∙ n))
 
 -- the cell is in the table
 pub cell-inside : {s t : List ℕ} {m : Map} {p : ℕ} → Checked s m → p < patterns s → Placed s t p → Classed s t p → (clause class : ℕ) → clause ≡ getD t (clauseAt + p) 0 → class ≡ getD t (classAt + p) 0
-    → cellsAt + 192 * clause + class < tableSize
+    → cellsAt + patternsMost * clause + class < tableSize
 cell-inside {s} {t} {m} {p} ch h pl cl clause class ec ek =
     let ok = ch .ok in
     omega (arith, pl .clause, cl .class, clause-known (ok .is-shaped) (ok .is-counted) p h, ok .is-counted .clauses-most, class-below s p h, ok .is-counted .patterns-most)

@@ -7,6 +7,7 @@ use Prim.Native.Nat.{ℕ, zero, suc, _+_, _*_, _≤_, _<_}
 use native.Mathlib.Omega.{arith}
 use lib.ListN.{length, getD, set, length-set}
 use lib.Seq.{getD-set-same, getD-set-other}
+use Rattle.spec_rules.specs.Limits.{patternsMost}
 use Rattle.spec_rules.specs.SearchingLaws.{first-or-rest}
 use Rattle.spec_rules.specs.SheetFile.{patternFirst, child, entry}
 use Rattle.build_table.specs.Table.{ownerAt, aboveAt, typeAt, stepAt, indexAt, clauseAt, tableSize, placed, placedEach}
@@ -18,9 +19,9 @@ pub record FieldAt (q k : ℕ) : Type 0 where
   pub low : 1 ≤ field
   pub high : field ≤ 7
   pub other : field ≡ 6 → ⊥
-  pub here : k ≡ 192 * field + q
+  pub here : k ≡ patternsMost * field + q
 
-pub one-field : (q r k : ℕ) → q < 192 → r < 192 → FieldAt q k → FieldAt r k → q ≡ r
+pub one-field : (q r k : ℕ) → q < patternsMost → r < patternsMost → FieldAt q k → FieldAt r k → q ≡ r
 one-field q r k a b f g = omega (arith, f .here, g .here)
 
 -- what stands in the fields of q
@@ -44,7 +45,7 @@ kept-fields t u q above step index type owner clause same f = record {
   is-clause = same (clauseAt + q) (at-field 7 (omega arith) (omega arith) (λ e. omega arith) (omega arith)) ∙ f .is-clause;
 }
   where
-    at-field : {k : ℕ} (n : ℕ) → 1 ≤ n → n ≤ 7 → (n ≡ 6 → ⊥) → k ≡ 192 * n + q → FieldAt q k
+    at-field : {k : ℕ} (n : ℕ) → 1 ≤ n → n ≤ 7 → (n ≡ 6 → ⊥) → k ≡ patternsMost * n + q → FieldAt q k
     at-field n low high other here = record { field = n; low = low; high = high; other = other; here = here }
 
 -- fields by other names
@@ -101,7 +102,7 @@ module _ (t : List ℕ) (p q step index type owner : ℕ) where
       ∙ skip after-above (stepAt + q) step k (λ e. free (record { field = 4; low = omega arith; high = omega arith; other = λ x. omega arith; here = omega arith }))
       ∙ skip t (aboveAt + q) p k (λ e. free (record { field = 2; low = omega arith; high = omega arith; other = λ x. omega arith; here = omega arith }))
 
-  module _ (long : length t ≡ tableSize) (known : q < 192) where
+  module _ (long : length t ≡ tableSize) (known : q < patternsMost) where
     in-above : getD after-owner (aboveAt + q) 0 ≡ p
     in-above =
         skip after-type (ownerAt + q) owner (aboveAt + q) (λ e. omega arith)
@@ -152,7 +153,7 @@ module _ (s : List ℕ) (p : ℕ) where
 
   -- the children are patterns, none of them p, and all different
   pub record Apart (i n : ℕ) : Type 0 where
-    pub known : (j : ℕ) → i ≤ j → j < i + n → part j < 192
+    pub known : (j : ℕ) → i ≤ j → j < i + n → part j < patternsMost
     pub not-parent : (j : ℕ) → i ≤ j → j < i + n → part j ≡ p → ⊥
     pub different : (j k : ℕ) → i ≤ j → j < i + n → i ≤ k → k < i + n → part j ≡ part k → j ≡ k
 
@@ -171,7 +172,7 @@ module _ (s : List ℕ) (p : ℕ) where
         each-other (placed t p (part i) step i (entry s (e + stride * i)) owner) (i + 1) n k (λ j low high. free j (omega arith) (omega arith))
         ∙ placed-other t p (part i) step i (entry s (e + stride * i)) owner k (free i (omega arith) (omega arith))
 
-    pub each-fields : (t : List ℕ) (i n : ℕ) → length t ≡ tableSize → p < 192 → Apart i n → (j : ℕ) → i ≤ j → j < i + n
+    pub each-fields : (t : List ℕ) (i n : ℕ) → length t ≡ tableSize → p < patternsMost → Apart i n → (j : ℕ) → i ≤ j → j < i + n
         → Fields (placedEach s t p step e stride owner i n) (part j) p step j (entry s (e + stride * j)) owner (getD t (clauseAt + p) 0)
     unfolding placedEach
     each-fields t i zero long parent a j low high = absurd (omega arith)

@@ -87,10 +87,10 @@ kept-placed s t u q same h =
 pub kept-classed : (s t u : List ℕ) (q : ℕ) → getD u (classAt + q) 0 ≡ getD t (classAt + q) 0 → getD u (depthAt + q) 0 ≡ getD t (depthAt + q) 0 → Classed s t q → Classed s u q
 kept-classed s t u q class depth h = record { class = class ∙ h .class; depth = depth ∙ h .depth }
 
-pub kept-indexed : (s t u : List ℕ) (q : ℕ) → length u ≡ length t → Agrees t u (indicesAt + 12 * q) (indicesAt + 12 * q + depthMost) → length (pathOf s q) < depthMost
+pub kept-indexed : (s t u : List ℕ) (q : ℕ) → length u ≡ length t → Agrees t u (indicesAt + depthMost * q) (indicesAt + depthMost * q + depthMost) → length (pathOf s q) < depthMost
     → Indexed s t q → Indexed s u q
 kept-indexed s t u q long same short h =
-    texts-agree-at u t (indicesAt + 12 * q) (length (pathOf s q)) long (λ k l. same (indicesAt + 12 * q + k) (omega arith) (omega arith)) ∙ h
+    texts-agree-at u t (indicesAt + depthMost * q) (length (pathOf s q)) long (λ k l. same (indicesAt + depthMost * q + k) (omega arith) (omega arith)) ∙ h
 
 module _ {s : List ℕ} (ok : Accepted s) {p : ℕ} (h : p < patterns s) where
   above-lower : (q : ℕ) → q < patterns s → 0 < q → aboveOf s q < q
@@ -168,7 +168,7 @@ module _ {s : List ℕ} (ok : Accepted s) {p : ℕ} (h : p < patterns s) where
     pub row-below : RowBelow t p
     row-below = record { ranged = ranged; lower = go p refl }
       where
-        go : (k : ℕ) → p ≡ k → 12 * aboveIn t p + getD t (depthAt + aboveIn t p) 0 ≤ 12 * p
+        go : (k : ℕ) → p ≡ k → depthMost * aboveIn t p + getD t (depthAt + aboveIn t p) 0 ≤ depthMost * p
         go zero e =
             let none-above : aboveOf s p ≡ 0 = omega (arith, above-below (ok .is-shaped) p h) in
             let none-deep : getD t (depthAt + aboveIn t p) 0 ≡ 0 =
@@ -250,7 +250,7 @@ module _ {s : List ℕ} (ok : Accepted s) {p : ℕ} (h : p < patterns s) where
       placed = λ q l k. kept-placed s t with-class q (λ x f. class-other x (λ e. omega (arith, f .here, f .low, small)) (λ e. f .other (omega (arith, f .here, small, ok .is-counted .patterns-most)))) (filled .placed q l k);
       classed = λ q l k. class-any q (omega (arith, ok .is-counted .patterns-most)) (⊎-elim (λ e. inr e) (λ x. inl (filled .classed q l x)) (eq-or-lt-of-le {n = q} {m = p} (omega arith)));
       indexed = λ q l k. kept-indexed s t with-class q (simp length-set refl) (λ x low high. class-other x (λ e. omega (arith, small)) (λ e. omega (arith, small))) (short q l) (filled .indexed q l k);
-      cell = λ c class l k. class-other (cellsAt + 192 * c + class) (λ e. omega (arith, small)) (λ e. omega (arith, small)) ∙ filled .cell c class l k;
+      cell = λ c class l k. class-other (cellsAt + patternsMost * c + class) (λ e. omega (arith, small)) (λ e. omega (arith, small)) ∙ filled .cell c class l k;
     }
 
     pub class-filled : Filled s (classed t p) p (p + 1) p p
@@ -292,43 +292,43 @@ module _ {s : List ℕ} (ok : Accepted s) {p : ℕ} (h : p < patterns s) where
           rw (path-is (some step) e) (ap (textAt own-indices 0) long ∙ textAt-whole own-indices ∙ sym all)
 
   module _ {t : List ℕ} (filled : Filled s t p (p + 1) p p) where
-    above-indices : textAt t (indicesAt + 12 * aboveIn t p) (getD t (depthAt + aboveIn t p) 0) ≡ map stepIndex (pathOf s (aboveOf s p))
+    above-indices : textAt t (indicesAt + depthMost * aboveIn t p) (getD t (depthAt + aboveIn t p) 0) ≡ map stepIndex (pathOf s (aboveOf s p))
     above-indices = go p refl
       where
         up : aboveIn t p ≡ aboveOf s p
         up = above-is filled (omega arith) p (omega arith)
 
-        go : (k : ℕ) → p ≡ k → textAt t (indicesAt + 12 * aboveIn t p) (getD t (depthAt + aboveIn t p) 0) ≡ map stepIndex (pathOf s (aboveOf s p))
+        go : (k : ℕ) → p ≡ k → textAt t (indicesAt + depthMost * aboveIn t p) (getD t (depthAt + aboveIn t p) 0) ≡ map stepIndex (pathOf s (aboveOf s p))
         go zero e =
             let none-above : aboveOf s p ≡ 0 = omega (arith, above-below (ok .is-shaped) p h) in
             let none-there : pathOf s (aboveOf s p) ≡ [] = ap (pathOf s) none-above ∙ first-path (ok .is-shaped) (omega arith) in
-            ap (textAt t (indicesAt + 12 * aboveIn t p)) (above-depth filled (omega arith) ∙ ap length none-there) ∙ rw none-there refl
+            ap (textAt t (indicesAt + depthMost * aboveIn t p)) (above-depth filled (omega arith) ∙ ap length none-there) ∙ rw none-there refl
         go (suc k) e =
-            ap₂ (λ (x n : ℕ). textAt t (indicesAt + 12 * x) n) up (above-depth filled (omega arith))
+            ap₂ (λ (x n : ℕ). textAt t (indicesAt + depthMost * x) n) up (above-depth filled (omega arith))
             ∙ filled .indexed (aboveOf s p) (omega (arith, above-lower p h (omega arith))) (above-lower p h (omega arith))
 
     with-indices : List ℕ
-    with-indices = stored t (indicesAt + 12 * p) own-indices
+    with-indices = stored t (indicesAt + depthMost * p) own-indices
 
     indexed-are : indexed t p ≡ with-indices
     unfolding indexed with-indices own-indices
     indexed-are =
-        ap₂ (λ (xs : List ℕ) (k : ℕ). stored t (indicesAt + 12 * p) (xs ++ k ∷ [])) above-indices (placed-here filled (omega arith) .index)
+        ap₂ (λ (xs : List ℕ) (k : ℕ). stored t (indicesAt + depthMost * p) (xs ++ k ∷ [])) above-indices (placed-here filled (omega arith) .index)
 
-    indices-below : (k : ℕ) → k < indicesAt + 12 * p → getD with-indices k 0 ≡ getD t k 0
+    indices-below : (k : ℕ) → k < indicesAt + depthMost * p → getD with-indices k 0 ≡ getD t k 0
     unfolding with-indices
-    indices-below k l = getD-stored-below t (indicesAt + 12 * p) own-indices k 0 l
+    indices-below k l = getD-stored-below t (indicesAt + depthMost * p) own-indices k 0 l
 
     indices-above : (k : ℕ) → cellsAt ≤ k → getD with-indices k 0 ≡ getD t k 0
     unfolding with-indices
-    indices-above k l = getD-stored-above t (indicesAt + 12 * p) own-indices k 0 (omega (arith, own-short, small))
+    indices-above k l = getD-stored-above t (indicesAt + depthMost * p) own-indices k 0 (omega (arith, own-short, small))
 
     indices-here : Indexed s with-indices p
     unfolding with-indices
     indices-here =
         let room = own-short in
         let few = small in
-        rw (add-zero (indicesAt + 12 * p)) at (textAt-stored-inside t (indicesAt + 12 * p) own-indices 0 (length (pathOf s p)) (omega (arith, length-own, steps-most)) (omega (arith, filled .long, short p h)))
+        rw (add-zero (indicesAt + depthMost * p)) at (textAt-stored-inside t (indicesAt + depthMost * p) own-indices 0 (length (pathOf s p)) (omega (arith, length-own, steps-most)) (omega (arith, filled .long, short p h)))
         ∙ own-are
       where
         steps-most : length (pathOf s p) ≤ length (pathOf s (aboveOf s p)) + 1
@@ -337,7 +337,7 @@ module _ {s : List ℕ} (ok : Accepted s) {p : ℕ} (h : p < patterns s) where
     with-indices-filled : Filled s with-indices p (p + 1) (p + 1) p
     unfolding with-indices
     with-indices-filled = record {
-      long = length-stored t (indicesAt + 12 * p) own-indices ∙ filled .long;
+      long = length-stored t (indicesAt + depthMost * p) own-indices ∙ filled .long;
       first = kept-classed s t with-indices 0 (indices-below (classAt + 0) (omega arith)) (indices-below (depthAt + 0) (omega arith)) (filled .first);
       placed = λ q l k. kept-placed s t with-indices q (λ x f. indices-below x (omega (arith, f .here, f .high, ok .is-counted .patterns-most))) (filled .placed q l k);
       classed = λ q l k.
@@ -345,9 +345,9 @@ module _ {s : List ℕ} (ok : Accepted s) {p : ℕ} (h : p < patterns s) where
           (filled .classed q l k);
       indexed = λ q l k.
           ⊎-elim (λ e. rw e indices-here)
-          (λ x. kept-indexed s t with-indices q (length-stored t (indicesAt + 12 * p) own-indices) (λ y low high. indices-below y (omega arith)) (short q l) (filled .indexed q l x))
+          (λ x. kept-indexed s t with-indices q (length-stored t (indicesAt + depthMost * p) own-indices) (λ y low high. indices-below y (omega arith)) (short q l) (filled .indexed q l x))
           (eq-or-lt-of-le {n = q} {m = p} (omega arith));
-      cell = λ c class l k. indices-above (cellsAt + 192 * c + class) (omega arith) ∙ filled .cell c class l k;
+      cell = λ c class l k. indices-above (cellsAt + patternsMost * c + class) (omega arith) ∙ filled .cell c class l k;
     }
 
     pub indices-filled : Filled s (indexed t p) p (p + 1) (p + 1) p
@@ -356,7 +356,7 @@ module _ {s : List ℕ} (ok : Accepted s) {p : ℕ} (h : p < patterns s) where
   -- ---- its cell
   module _ {t : List ℕ} (filled : Filled s t p (p + 1) (p + 1) p) where
     place-of : ℕ
-    place-of = cellsAt + 192 * clauseOf s p + classOf s p
+    place-of = cellsAt + patternsMost * clauseOf s p + classOf s p
 
     with-test : List ℕ
     with-test = set t place-of (p + 1)
@@ -367,11 +367,11 @@ module _ {s : List ℕ} (ok : Accepted s) {p : ℕ} (h : p < patterns s) where
     tested-are : isTest s p ≡ true → tested t (isTest s p) p ≡ with-test
     unfolding tested with-test place-of
     tested-are e =
-        pick-true (isTest s p) _ t e ∙ ap₂ (λ (c k : ℕ). set t (cellsAt + 192 * c + k) (p + 1)) in-place (filled .classed p h (omega arith) .class)
+        pick-true (isTest s p) _ t e ∙ ap₂ (λ (c k : ℕ). set t (cellsAt + patternsMost * c + k) (p + 1)) in-place (filled .classed p h (omega arith) .class)
 
     test-below : (k : ℕ) → k < cellsAt → getD with-test k 0 ≡ getD t k 0
     unfolding with-test place-of
-    test-below k l = getD-set-other t (cellsAt + 192 * clauseOf s p + classOf s p) k (p + 1) 0 (λ e. omega arith)
+    test-below k l = getD-set-other t (cellsAt + patternsMost * clauseOf s p + classOf s p) k (p + 1) 0 (λ e. omega arith)
 
     -- one number more is looked at
     one-more-is : (c class : ℕ) → isCell s c class p ≡ false → oneMore (lowest (isCell s c class) 0 p) ≡ oneMore (lowest (isCell s c class) 0 (p + 1))
@@ -389,19 +389,19 @@ module _ {s : List ℕ} (ok : Accepted s) {p : ℕ} (h : p < patterns s) where
         same-test (ok .is-shaped) (ok .is-counted) j p (omega arith) h (y .0) (x .0) (y .1 ∙ sym (x .1)) (y .2 ∙ sym (x .2))))
 
     with-test-cell : isTest s p ≡ true → (c class : ℕ) → c < clauses s → class < patternsMost
-        → getD with-test (cellsAt + 192 * c + class) 0 ≡ oneMore (lowest (isCell s c class) 0 (p + 1))
+        → getD with-test (cellsAt + patternsMost * c + class) 0 ≡ oneMore (lowest (isCell s c class) 0 (p + 1))
     unfolding with-test place-of
     with-test-cell test c class l k = go (isCell s c class p) refl
       where
-        go : (b : Bool) → isCell s c class p ≡ b → getD with-test (cellsAt + 192 * c + class) 0 ≡ oneMore (lowest (isCell s c class) 0 (p + 1))
+        go : (b : Bool) → isCell s c class p ≡ b → getD with-test (cellsAt + patternsMost * c + class) 0 ≡ oneMore (lowest (isCell s c class) 0 (p + 1))
         go true e =
             let x = cell-says s c class p e in
-            let here : cellsAt + 192 * c + class ≡ cellsAt + 192 * clauseOf s p + classOf s p = omega (arith, x .1, x .2) in
+            let here : cellsAt + patternsMost * c + class ≡ cellsAt + patternsMost * clauseOf s p + classOf s p = omega (arith, x .1, x .2) in
             rw here
-            (getD-set-same t (cellsAt + 192 * clauseOf s p + classOf s p) (p + 1) 0 (omega (arith, x .1, x .2, filled .long, ok .is-counted .clauses-most)))
+            (getD-set-same t (cellsAt + patternsMost * clauseOf s p + classOf s p) (p + 1) 0 (omega (arith, x .1, x .2, filled .long, ok .is-counted .clauses-most)))
             ∙ sym (own-found c class e)
         go false e =
-            getD-set-other t (cellsAt + 192 * clauseOf s p + classOf s p) (cellsAt + 192 * c + class) (p + 1) 0
+            getD-set-other t (cellsAt + patternsMost * clauseOf s p + classOf s p) (cellsAt + patternsMost * c + class) (p + 1) 0
             (λ here.
             let same-clause : clauseOf s p ≡ c = omega (arith, class-below s p h, small) in
             let same-class : classOf s p ≡ class = omega (arith, class-below s p h, small) in
@@ -440,5 +440,5 @@ module _ {s : List ℕ} (ok : Accepted s) {p : ℕ} (h : p < patterns s) where
         go : (b : Bool) → isTest s p ≡ b → Filled s (tested t (isTest s p) p) p (p + 1) (p + 1) (p + 1)
         go true e = rw (tested-are e) (with-test-filled e)
         go false e =
-            let same : tested t (isTest s p) p ≡ t = pick-false (isTest s p) (set t (cellsAt + 192 * getD t (clauseAt + p) 0 + getD t (classAt + p) 0) (p + 1)) t e in
+            let same : tested t (isTest s p) p ≡ t = pick-false (isTest s p) (set t (cellsAt + patternsMost * getD t (clauseAt + p) 0 + getD t (classAt + p) 0) (p + 1)) t e in
             rw same (no-test-filled e)

@@ -12,6 +12,7 @@ use borrow.Author.Tests.{not-true, ne-eqb, eq-eqb}
 use lib.Dec.{eqb}
 use Rattle.base_words.specs.Words.{both}
 use Rattle.base_words.specs.WordsLaws.{pick-false}
+use Rattle.spec_rules.specs.Kinds.{tuplePattern}
 use Rattle.spec_rules.specs.SheetFile.{patterns, clauses, typeFirst, constructorFirst, entry, patternKind, patternA, patternFirst, patternCount, child, root}
 use Rattle.spec_rules.specs.Patterns.{PatternKind, Discard, Variable, Assign, Integer, ByteString, ListOfAll, ListWithRest, Constructor, Pair, Tuple, Unknown, pairs, tuples, Pat, Pats, pnil, pcons, many, oneConstructor, decorated, constructorOf, along, ofConstructor, ofKind, pattern, clausePattern}
 use Rattle.spec_rules.specs.SheetRefusals.{hasChildren}
@@ -230,7 +231,7 @@ module _ {s : List ℕ} (sh : Shaped s) (few : Counted s) (p : ℕ) (h : p < pat
       record { parent = ap hasChildren e; from = omega arith; to = omega arith }
 
   -- the kind byte of a known kind
-  byte : (kind : PatternKind) → kindOf s p ≡ kind → patternNumber kind < 10 → patternKind s p ≡ patternNumber kind
+  byte : (kind : PatternKind) → kindOf s p ≡ kind → patternNumber kind < suc tuplePattern → patternKind s p ≡ patternNumber kind
   unfolding kindOf
   byte kind e l = pattern-byte (patternKind s p) kind e l
 

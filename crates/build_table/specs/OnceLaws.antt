@@ -9,6 +9,7 @@ use native.Mathlib.Omega.{arith}
 use borrow.Author.Tests.{eqb-true, eqb-false}
 use lib.Dec.{eqb}
 use Rattle.base_words.specs.WordsLaws.{either-false, either-make-false}
+use Rattle.spec_rules.specs.Kinds.{assignPattern}
 use Rattle.spec_rules.specs.SheetFile.{patterns, patternKind, patternFirst, patternCount, child}
 use Rattle.spec_rules.specs.SheetRefusals.{hasChildren, isIn, repeats}
 use Rattle.spec_rules.specs.Rows.{Step, Path, into}
@@ -71,9 +72,9 @@ module _ {s : List ℕ} (sh : Shaped s) (few : Counted s) where
       at-parent p h ih q i = go (isTest s p) refl
         where
           below : (j : ℕ) × Owns s p j × (isIn q (seen s (child s j)) ≡ true) → (x : Path) × (pathOf s q ≡ pathOf s p ++ x)
-          below (j, o, k) = by-kind (eqb (patternKind s p) 2) refl (ih j o q k)
+          below (j, o, k) = by-kind (eqb (patternKind s p) assignPattern) refl (ih j o q k)
             where
-              by-kind : (b : Bool) → eqb (patternKind s p) 2 ≡ b → (x : Path) × (pathOf s q ≡ pathOf s (child s j) ++ x) → (x : Path) × (pathOf s q ≡ pathOf s p ++ x)
+              by-kind : (b : Bool) → eqb (patternKind s p) assignPattern ≡ b → (x : Path) × (pathOf s q ≡ pathOf s (child s j) ++ x) → (x : Path) × (pathOf s q ≡ pathOf s p ++ x)
               by-kind true e (x, path) = (x, path ∙ ap (λ (z : Path). z ++ x) (inside-assign sh few p j h o (eqb-true _ _ e)))
               by-kind false e (x, path) =
                   let w = inside-other sh few p j h o (eqb-false _ _ e) in
@@ -87,9 +88,9 @@ module _ {s : List ℕ} (sh : Shaped s) (few : Counted s) where
 
   -- nothing is seen at two children of one pattern
   children-apart : (p i j q : ℕ) → p < patterns s → Owns s p i → Owns s p j → isIn q (seen s (child s i)) ≡ true → isIn q (seen s (child s j)) ≡ true → i ≡ j
-  children-apart p i j q h o v a b = go (eqb (patternKind s p) 2) refl
+  children-apart p i j q h o v a b = go (eqb (patternKind s p) assignPattern) refl
     where
-      go : (test : Bool) → eqb (patternKind s p) 2 ≡ test → i ≡ j
+      go : (test : Bool) → eqb (patternKind s p) assignPattern ≡ test → i ≡ j
       go true e = assign-child sh few p i h o (eqb-true _ _ e) ∙ sym (assign-child sh few p j h v (eqb-true _ _ e))
       go false e =
           let x = inside-other sh few p i h o (eqb-false _ _ e) in

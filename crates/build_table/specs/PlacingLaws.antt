@@ -11,6 +11,7 @@ use lib.Dec.{eqb}
 use lib.ListN.{length, length-set}
 use Rattle.base_words.specs.Words.{both, pick}
 use Rattle.spec_rules.specs.Limits.{patternsMost}
+use Rattle.spec_rules.specs.Kinds.{dataType, assignPattern, listPattern, listWithTailPattern, constructorPattern, pairPattern, tuplePattern, pairStep, tupleStep, constrStep, listStep, listtailStep}
 use Rattle.spec_rules.specs.SheetFile.{constructors, entries, children, typeFirst, constructorFirst, entry, patternKind, patternA, patternFirst, patternCount, child}
 use Rattle.spec_rules.specs.Patterns.{PatternKind, Discard, Variable, Assign, Integer, ByteString, ListOfAll, ListWithRest, Constructor, Pair, Tuple, Unknown, oneConstructor, constructorOf, pattern, fits}
 use Rattle.spec_rules.specs.SheetRefusals.{hasChildren}
@@ -23,7 +24,7 @@ use Rattle.format_sheet.specs.declared.records.Run.{Run}
 use Rattle.format_sheet.specs.Records.{patternOf, constructorOf as runOf}
 use Rattle.build_table.specs.Standing.{kindOf, typeOf, ownerOf}
 use Rattle.build_table.specs.TypesLaws.{pattern-fits, type-known, list-entry, tailed-entry, pair-entry, tuple-entry, constructor-inside, constructor-entry}
-use Rattle.build_table.specs.Table.{placed, placedEach, placedBelow}
+use Rattle.build_table.specs.Table.{sameNumber, placed, placedEach, placedBelow}
 use Rattle.build_table.specs.Tabled.{Checked, Parts, Reading}
 
 -- ---- a record's fields, as numbers of the sheet
@@ -83,7 +84,7 @@ module _ {s : List ℕ} {m : Map} (ch : Checked s m) {p n e stride : ℕ} (parts
   pub parts-type : (i : ℕ) → i < n → e + stride * i < entries s
   parts-type i l = ⊎-elim (λ w. rw (w .0) (omega (arith, w .1))) (λ w. rw (w .0) (omega (arith, w .1))) (parts .enough)
 
-  pub parts-few : n ≤ 192
+  pub parts-few : n ≤ patternsMost
   parts-few = omega (arith, parts .most, ch .ok .is-shaped .children-run p (parts .known) (parts .has) .inside, ch .ok .is-counted .children-most)
 
   -- of one child
@@ -98,11 +99,11 @@ module _ {s : List ℕ} {m : Map} (ch : Checked s m) {p n e stride : ℕ} (parts
       (omega (arith, parts .known), omega arith, omega (arith, parts-few), omega (arith, ch .ok .is-counted .types-most))
 
 -- ---- a type of one constructor
-pub other-kind : (kind count : ℕ) → (kind ≡ 5 → ⊥) → false ≡ both (eqb kind 5) (eqb count 1)
-other-kind kind count e = rw (ne-eqb kind 5 e)
+pub other-kind : (kind count : ℕ) → (kind ≡ dataType → ⊥) → false ≡ both (eqb kind dataType) (eqb count 1)
+other-kind kind count e = rw (ne-eqb kind dataType e)
 
-pub data-kind : (kind count : ℕ) → kind ≡ 5 → eqb count 1 ≡ both (eqb kind 5) (eqb count 1)
-data-kind kind count e = rw (eq-eqb kind 5 e)
+pub data-kind : (kind count : ℕ) → kind ≡ dataType → eqb count 1 ≡ both (eqb kind dataType) (eqb count 1)
+data-kind kind count e = rw (eq-eqb kind dataType e)
 
 -- ---- what the record of a pattern and of its type say, as the code has read them
 module _ {s : List ℕ} {m : Map} {t : List ℕ} {p : ℕ} {r : PatternRecord} {ty : TypeRecord} {owner : ℕ} (rd : Reading s m t p r ty owner) where
@@ -130,7 +131,7 @@ module _ {s : List ℕ} {m : Map} {t : List ℕ} {p : ℕ} {r : PatternRecord} {
   reading-owned = record { checked = rd .checked; long = rd .long; known = rd .known; is-pattern = rd .is-pattern; is-type = rd .is-type; is-owner = refl }
 
   -- ---- which children are placed, by the kind byte
-  pub list-of-parts : r .kind ≡ 5 → Parts s p (r .count) (ty .first) 0
+  pub list-of-parts : r .kind ≡ listPattern → Parts s p (r .count) (ty .first) 0
   unfolding hasChildren
   list-of-parts e =
       let ok = rd .checked .ok in
@@ -142,7 +143,7 @@ module _ {s : List ℕ} {m : Map} {t : List ℕ} {p : ℕ} {r : PatternRecord} {
         enough = inl (refl, rw type-first (list-entry (ok .is-shaped) (ok .is-counted) p (typeOf s p) (rd .known) reading-fits (ok .is-typed) (type-known ok p (rd .known)) kind));
       }
 
-  pub elements : r .kind ≡ 6 → Parts s p (r .count - 1) (ty .first) 0
+  pub elements : r .kind ≡ listWithTailPattern → Parts s p (r .count - 1) (ty .first) 0
   unfolding hasChildren
   elements e =
       let ok = rd .checked .ok in
@@ -154,7 +155,7 @@ module _ {s : List ℕ} {m : Map} {t : List ℕ} {p : ℕ} {r : PatternRecord} {
         enough = inl (refl, rw type-first (tailed-entry (ok .is-shaped) (ok .is-counted) p (typeOf s p) (rd .known) reading-fits (ok .is-typed) (type-known ok p (rd .known)) kind));
       }
 
-  pub pair-of-parts : r .kind ≡ 8 → Parts s p (r .count) (ty .first) 1
+  pub pair-of-parts : r .kind ≡ pairPattern → Parts s p (r .count) (ty .first) 1
   unfolding hasChildren
   pair-of-parts e =
       let ok = rd .checked .ok in
@@ -167,7 +168,7 @@ module _ {s : List ℕ} {m : Map} {t : List ℕ} {p : ℕ} {r : PatternRecord} {
         enough = inr (refl, omega (arith, type-first, count-is s p r (rd .is-pattern)));
       }
 
-  pub tuple-of-parts : r .kind ≡ 9 → Parts s p (r .count) (ty .first) 1
+  pub tuple-of-parts : r .kind ≡ tuplePattern → Parts s p (r .count) (ty .first) 1
   unfolding hasChildren
   tuple-of-parts e =
       let ok = rd .checked .ok in
@@ -185,7 +186,7 @@ module _ {s : List ℕ} {m : Map} {t : List ℕ} {p : ℕ} {r : PatternRecord} {
   unfolding constructorOf
   constructor-is = ap₂ _+_ type-first (a-is s p r (rd .is-pattern))
 
-  pub constructor-known : r .kind ≡ 7 → ty .first + r .a < constructors s
+  pub constructor-known : r .kind ≡ constructorPattern → ty .first + r .a < constructors s
   constructor-known e =
       let ok = rd .checked .ok in
       rw constructor-is
@@ -195,7 +196,7 @@ module _ {s : List ℕ} {m : Map} {t : List ℕ} {p : ℕ} {r : PatternRecord} {
     fields-first : run .first ≡ constructorFirst s (constructorOf s (typeOf s p) (patternA s p))
     fields-first = ap (λ (x : Run). x .first) is-run ∙ ap (constructorFirst s) constructor-is
 
-    pub fields-of-parts : r .kind ≡ 7 → Parts s p (r .count) (run .first) 1
+    pub fields-of-parts : r .kind ≡ constructorPattern → Parts s p (r .count) (run .first) 1
     unfolding hasChildren
     fields-of-parts e =
         let ok = rd .checked .ok in
@@ -208,11 +209,11 @@ module _ {s : List ℕ} {m : Map} {t : List ℕ} {p : ℕ} {r : PatternRecord} {
           enough = inr (refl, omega (arith, fields-first, count-is s p r (rd .is-pattern)));
         }
 
-    pub fields-placed : (one : Bool) (u : List ℕ) (own : ℕ) → one ≡ both (eqb (ty .kind) 5) (eqb (ty .count) 1) → own ≡ pick one owner (p + 1)
-        → u ≡ placedEach s t p 2 (run .first) 1 own 0 (r .count) → u ≡ placedBelow s t p Constructor
+    pub fields-placed : (one : Bool) (u : List ℕ) (own : ℕ) → one ≡ both (eqb (ty .kind) dataType) (eqb (ty .count) 1) → own ≡ pick one owner (p + 1)
+        → u ≡ placedEach s t p constrStep (run .first) 1 own 0 (r .count) → u ≡ placedBelow s t p Constructor
     unfolding placedBelow oneConstructor
     fields-placed one u own eo ew e =
-        let same : one ≡ oneConstructor s (typeOf s p) = eo ∙ ap (λ (x : TypeRecord). both (eqb (x .kind) 5) (eqb (x .count) 1)) (rd .is-type) in
+        let same : one ≡ oneConstructor s (typeOf s p) = eo ∙ ap (λ (x : TypeRecord). both (eqb (x .kind) dataType) (eqb (x .count) 1)) (rd .is-type) in
         let owns : own ≡ pick (oneConstructor s (typeOf s p)) (ownerOf s p) (p + 1) = ew ∙ ap₂ (λ (b : Bool) (k : ℕ). pick b k (p + 1)) same (rd .is-owner) in
         e ∙ rw (fields-first, owns, count-is s p r (rd .is-pattern))
 
@@ -221,26 +222,26 @@ module _ {s : List ℕ} {m : Map} {t : List ℕ} {p : ℕ} {r : PatternRecord} {
     of-kind : (kind : PatternKind) → r .kind ≡ patternNumber kind → u ≡ placedBelow s t p kind → u ≡ placedBelow s t p (kindOf s p)
     of-kind kind e x = x ∙ ap (placedBelow s t p) (sym (reading-kind kind e))
 
-    pub list-placed : r .kind ≡ 5 → u ≡ placedEach s t p 3 (ty .first) 0 (p + 1) 0 (r .count) → u ≡ placedBelow s t p (kindOf s p)
+    pub list-placed : r .kind ≡ listPattern → u ≡ placedEach s t p listStep (ty .first) 0 (p + 1) 0 (r .count) → u ≡ placedBelow s t p (kindOf s p)
     unfolding placedBelow
     list-placed e x = of-kind ListOfAll e (x ∙ rw (type-first, count-is s p r (rd .is-pattern)))
 
-    pub pair-placed : r .kind ≡ 8 → u ≡ placedEach s t p 0 (ty .first) 1 owner 0 (r .count) → u ≡ placedBelow s t p (kindOf s p)
+    pub pair-placed : r .kind ≡ pairPattern → u ≡ placedEach s t p pairStep (ty .first) 1 owner 0 (r .count) → u ≡ placedBelow s t p (kindOf s p)
     unfolding placedBelow
     pair-placed e x = of-kind Pair e (x ∙ rw (type-first, rd .is-owner, count-is s p r (rd .is-pattern)))
 
-    pub tuple-placed : r .kind ≡ 9 → u ≡ placedEach s t p 1 (ty .first) 1 owner 0 (r .count) → u ≡ placedBelow s t p (kindOf s p)
+    pub tuple-placed : r .kind ≡ tuplePattern → u ≡ placedEach s t p tupleStep (ty .first) 1 owner 0 (r .count) → u ≡ placedBelow s t p (kindOf s p)
     unfolding placedBelow
     tuple-placed e x = of-kind Tuple e (x ∙ rw (type-first, rd .is-owner, count-is s p r (rd .is-pattern)))
 
-    pub constructor-placed : r .kind ≡ 7 → u ≡ placedBelow s t p Constructor → u ≡ placedBelow s t p (kindOf s p)
+    pub constructor-placed : r .kind ≡ constructorPattern → u ≡ placedBelow s t p Constructor → u ≡ placedBelow s t p (kindOf s p)
     constructor-placed e x = of-kind Constructor e x
 
-    pub tailed-placed : r .kind ≡ 6 → u ≡ placedBelow s t p ListWithRest → u ≡ placedBelow s t p (kindOf s p)
+    pub tailed-placed : r .kind ≡ listWithTailPattern → u ≡ placedBelow s t p ListWithRest → u ≡ placedBelow s t p (kindOf s p)
     tailed-placed e x = of-kind ListWithRest e x
 
   -- ---- a list with tail
-  module _ (e : r .kind ≡ 6) where
+  module _ (e : r .kind ≡ listWithTailPattern) where
     pub tail-some : 2 ≤ r .count
     tail-some =
         omega (arith, count-is s p r (rd .is-pattern), rd .checked .ok .is-shaped .tail-after-some p (rd .known) (sym (kind-is s p r (rd .is-pattern)) ∙ e))
@@ -264,12 +265,12 @@ module _ {s : List ℕ} {m : Map} {t : List ℕ} {p : ℕ} {r : PatternRecord} {
         (omega (arith, rd .known), omega arith, omega (arith, tail-entry, rd .checked .ok .is-counted .children-most))
 
     pub with-tail : (mid u : List ℕ) (q : ℕ) (tipo : ℕ) → q ≡ child s (r .first + (r .count - 1)) → tipo ≡ typeOf s p
-        → mid ≡ placedEach s t p 3 (ty .first) 0 (p + 1) 0 (r .count - 1) → u ≡ placed mid p q 4 (r .count - 1) tipo (p + 1) → u ≡ placedBelow s t p ListWithRest
+        → mid ≡ placedEach s t p listStep (ty .first) 0 (p + 1) 0 (r .count - 1) → u ≡ placed mid p q listtailStep (r .count - 1) tipo (p + 1) → u ≡ placedBelow s t p ListWithRest
     unfolding placedBelow
     with-tail mid u q tipo eq et em e = e ∙ rw (em, eq, et, type-first, first-is s p r (rd .is-pattern), count-is s p r (rd .is-pattern))
 
   -- ---- an assign
-  module _ (e : r .kind ≡ 2) where
+  module _ (e : r .kind ≡ assignPattern) where
     assign-owns : Owns s p (r .first)
     unfolding hasChildren
     assign-owns =
@@ -289,17 +290,17 @@ module _ {s : List ℕ} {m : Map} {t : List ℕ} {p : ℕ} {r : PatternRecord} {
         let most = rd .checked .ok .is-counted .patterns-most in
         (omega (arith, rd .known), omega arith)
 
-    pub assign-placed : (u : List ℕ) (q tipo : ℕ) → q ≡ child s (r .first) → tipo ≡ typeOf s p → u ≡ placed t p q 5 0 tipo owner → u ≡ placedBelow s t p (kindOf s p)
+    pub assign-placed : (u : List ℕ) (q tipo : ℕ) → q ≡ child s (r .first) → tipo ≡ typeOf s p → u ≡ placed t p q sameNumber 0 tipo owner → u ≡ placedBelow s t p (kindOf s p)
     unfolding placedBelow
     assign-placed u q tipo eq et x = of-kind u Assign e (x ∙ rw (eq, et, rd .is-owner, first-is s p r (rd .is-pattern)))
 
   -- ---- any other
-  pub none-placed : (r .kind ≡ 2 → ⊥) → (r .kind ≡ 5 → ⊥) → (r .kind ≡ 6 → ⊥) → (r .kind ≡ 7 → ⊥) → (r .kind ≡ 8 → ⊥) → (r .kind ≡ 9 → ⊥)
+  pub none-placed : (r .kind ≡ assignPattern → ⊥) → (r .kind ≡ listPattern → ⊥) → (r .kind ≡ listWithTailPattern → ⊥) → (r .kind ≡ constructorPattern → ⊥) → (r .kind ≡ pairPattern → ⊥) → (r .kind ≡ tuplePattern → ⊥)
       → t ≡ placedBelow s t p (kindOf s p)
   unfolding kindOf
   none-placed a b c d e f = go (kindOf s p) refl
     where
-      is : (kind : PatternKind) → kindOf s p ≡ kind → patternNumber kind < 10 → r .kind ≡ patternNumber kind
+      is : (kind : PatternKind) → kindOf s p ≡ kind → patternNumber kind < suc tuplePattern → r .kind ≡ patternNumber kind
       is kind x l = kind-is s p r (rd .is-pattern) ∙ pattern-byte (patternKind s p) kind x l
 
       go : (kind : PatternKind) → kindOf s p ≡ kind → t ≡ placedBelow s t p kind

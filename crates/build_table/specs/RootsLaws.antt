@@ -137,7 +137,7 @@ module _ {s : List ℕ} (ok : Accepted s) where
     placed = λ q l below. root-only q below (place (ok .is-shaped) q l);
     classed = λ q l none-below. absurd (omega arith);
     indexed = λ q l none-below. absurd (omega arith);
-    cell = λ c class l k. still-zero (cellsAt + 192 * c + class) (omega (arith, ok .is-counted .clauses-most)) (λ r x. (λ e. omega arith, λ e. omega arith, λ e. omega arith));
+    cell = λ c class l k. still-zero (cellsAt + patternsMost * c + class) (omega (arith, ok .is-counted .clauses-most)) (λ r x. (λ e. omega arith, λ e. omega arith, λ e. omega arith));
   }
     where
       root-only : (q : ℕ) → parentOf s q ≤ 0 → Place s q → Placed s with-roots q

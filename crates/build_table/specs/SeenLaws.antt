@@ -12,6 +12,7 @@ use native.Mathlib.Numerals.{add-one}
 use borrow.Author.Tests.{leb-true, leb-false}
 use lib.Dec.{leb}
 use Rattle.spec_rules.specs.Limits.{patternsMost}
+use Rattle.spec_rules.specs.Kinds.{discardPattern, variablePattern, assignPattern, integerPattern, byteStringPattern, listWithTailPattern, constructorPattern, pairPattern, tuplePattern}
 use Rattle.spec_rules.specs.SheetFile.{patterns, patternKind, patternFirst, patternCount, child}
 use Rattle.spec_rules.specs.Patterns.{PatternKind, Discard, Variable, Assign, Integer, ByteString, ListOfAll, ListWithRest, Constructor, Pair, Tuple, Unknown, oneConstructor}
 use Rattle.spec_rules.specs.SheetRefusals.{hasChildren}
@@ -151,7 +152,7 @@ module _ (f : ℕ → Bool) where
       go false = refl
 
 -- ---- which kinds test, and which bind
-tests-number : (s : List ℕ) (t : ℕ) (kind : PatternKind) → 3 ≤ patternNumber kind → patternNumber kind ≤ 6 → testOfKind s t kind ≡ true
+tests-number : (s : List ℕ) (t : ℕ) (kind : PatternKind) → integerPattern ≤ patternNumber kind → patternNumber kind ≤ listWithTailPattern → testOfKind s t kind ≡ true
 unfolding testOfKind
 tests-number s t Discard low high = absurd (omega arith)
 tests-number s t Variable low high = absurd (omega arith)
@@ -165,7 +166,7 @@ tests-number s t Pair low high = absurd (omega arith)
 tests-number s t Tuple low high = absurd (omega arith)
 tests-number s t Unknown low high = absurd (omega arith)
 
-opens-number : (s : List ℕ) (t : ℕ) (kind : PatternKind) → (patternNumber kind ≤ 2) ⊎ (8 ≤ patternNumber kind) → testOfKind s t kind ≡ false
+opens-number : (s : List ℕ) (t : ℕ) (kind : PatternKind) → (patternNumber kind ≤ assignPattern) ⊎ (pairPattern ≤ patternNumber kind) → testOfKind s t kind ≡ false
 unfolding testOfKind
 opens-number s t Discard h = refl
 opens-number s t Variable h = refl
@@ -179,7 +180,7 @@ opens-number s t Pair h = refl
 opens-number s t Tuple h = refl
 opens-number s t Unknown h = refl
 
-binds-number : (kind : PatternKind) → 1 ≤ patternNumber kind → patternNumber kind ≤ 2 → bindsKind kind ≡ true
+binds-number : (kind : PatternKind) → variablePattern ≤ patternNumber kind → patternNumber kind ≤ assignPattern → bindsKind kind ≡ true
 unfolding bindsKind
 binds-number Discard low high = absurd (omega arith)
 binds-number Variable low high = refl
@@ -193,7 +194,7 @@ binds-number Pair low high = absurd (omega arith)
 binds-number Tuple low high = absurd (omega arith)
 binds-number Unknown low high = absurd (omega arith)
 
-silent-number : (kind : PatternKind) → (patternNumber kind ≡ 0) ⊎ (3 ≤ patternNumber kind) → bindsKind kind ≡ false
+silent-number : (kind : PatternKind) → (patternNumber kind ≡ discardPattern) ⊎ (integerPattern ≤ patternNumber kind) → bindsKind kind ≡ false
 unfolding bindsKind
 silent-number Discard h = refl
 silent-number Variable h = absurd (⊎-elim (λ l. omega arith) (λ l. omega arith) h)
@@ -209,51 +210,51 @@ silent-number Unknown h = refl
 
 -- by the kind byte, as a match over it has it
 module _ (s : List ℕ) (p : ℕ) where
-  the-number : patternNumber (kindOf s p) ≡ min (patternKind s p) 10
+  the-number : patternNumber (kindOf s p) ≡ min (patternKind s p) (suc tuplePattern)
   unfolding kindOf
   the-number = pattern-number (patternKind s p)
 
-  pub test-of-text-or-list : 3 ≤ patternKind s p → patternKind s p ≤ 6 → isTest s p ≡ true
+  pub test-of-text-or-list : integerPattern ≤ patternKind s p → patternKind s p ≤ listWithTailPattern → isTest s p ≡ true
   unfolding isTest
   test-of-text-or-list low high = let e = the-number in tests-number s (typeOf s p) (kindOf s p) (omega arith) (omega arith)
 
-  pub no-test-of-plain : patternKind s p ≤ 2 → isTest s p ≡ false
+  pub no-test-of-plain : patternKind s p ≤ assignPattern → isTest s p ≡ false
   unfolding isTest
   no-test-of-plain h = let e = the-number in opens-number s (typeOf s p) (kindOf s p) (inl (omega arith))
 
-  pub no-test-of-pair : 8 ≤ patternKind s p → isTest s p ≡ false
+  pub no-test-of-pair : pairPattern ≤ patternKind s p → isTest s p ≡ false
   unfolding isTest
   no-test-of-pair h = let e = the-number in opens-number s (typeOf s p) (kindOf s p) (inr (omega arith))
 
-  pub test-of-constructor : patternKind s p ≡ 7 → isTest s p ≡ not (oneConstructor s (typeOf s p))
+  pub test-of-constructor : patternKind s p ≡ constructorPattern → isTest s p ≡ not (oneConstructor s (typeOf s p))
   unfolding isTest kindOf testOfKind
   test-of-constructor e = ap (testOfKind s (typeOf s p)) (byte-pattern (patternKind s p) Constructor e)
 
-  pub binds-a-name : 1 ≤ patternKind s p → patternKind s p ≤ 2 → binds s p ≡ true
+  pub binds-a-name : variablePattern ≤ patternKind s p → patternKind s p ≤ assignPattern → binds s p ≡ true
   unfolding binds
   binds-a-name low high = let e = the-number in binds-number (kindOf s p) (omega arith) (omega arith)
 
-  pub binds-no-name : (patternKind s p ≡ 0) ⊎ (3 ≤ patternKind s p) → binds s p ≡ false
+  pub binds-no-name : (patternKind s p ≡ discardPattern) ⊎ (integerPattern ≤ patternKind s p) → binds s p ≡ false
   unfolding binds
   binds-no-name h =
       let e = the-number in
       silent-number (kindOf s p) (⊎-elim (λ l. inl (omega arith)) (λ l. inr (omega arith)) h)
 
-  pub test-kind : isTest s p ≡ true → 3 ≤ patternKind s p
-  test-kind e = go (leb (patternKind s p) 2) refl
+  pub test-kind : isTest s p ≡ true → integerPattern ≤ patternKind s p
+  test-kind e = go (leb (patternKind s p) assignPattern) refl
     where
-      go : (b : Bool) → leb (patternKind s p) 2 ≡ b → 3 ≤ patternKind s p
+      go : (b : Bool) → leb (patternKind s p) assignPattern ≡ b → integerPattern ≤ patternKind s p
       go true x = absurd (true≢false (sym e ∙ no-test-of-plain (leb-true _ _ x)))
       go false x = leb-false _ _ x
 
-  pub test-kind-most : isTest s p ≡ true → patternKind s p ≤ 7
-  test-kind-most e = go (leb (patternKind s p) 7) refl
+  pub test-kind-most : isTest s p ≡ true → patternKind s p ≤ constructorPattern
+  test-kind-most e = go (leb (patternKind s p) constructorPattern) refl
     where
-      go : (b : Bool) → leb (patternKind s p) 7 ≡ b → patternKind s p ≤ 7
+      go : (b : Bool) → leb (patternKind s p) constructorPattern ≡ b → patternKind s p ≤ constructorPattern
       go true x = leb-true _ _ x
       go false x = absurd (true≢false (sym e ∙ no-test-of-pair (leb-false _ _ x)))
 
-  childless : (patternKind s p ≤ 1) ⊎ ((3 ≤ patternKind s p) × (patternKind s p ≤ 4)) → hasChildren (kindOf s p) ≡ false
+  childless : (patternKind s p ≤ variablePattern) ⊎ ((integerPattern ≤ patternKind s p) × (patternKind s p ≤ byteStringPattern)) → hasChildren (kindOf s p) ≡ false
   unfolding kindOf
   childless h = go (hasChildren (kindOf s p)) refl
     where
@@ -293,10 +294,10 @@ module _ {s : List ℕ} (sh : Shaped s) (few : Counted s) (p : ℕ) (h : p < pat
       ∙ those-insideOf (binds s) (seen s) s p
 
   -- ---- the same by the kind byte
-  pub opened-tests-none : (patternKind s p ≤ 1) ⊎ ((3 ≤ patternKind s p) × (patternKind s p ≤ 4)) → openedTests s p ≡ []
+  pub opened-tests-none : (patternKind s p ≤ variablePattern) ⊎ ((integerPattern ≤ patternKind s p) × (patternKind s p ≤ byteStringPattern)) → openedTests s p ≡ []
   opened-tests-none k = insideOf-childless (testsOf s) s p (childless s p k)
 
-  pub opened-binds-none : (patternKind s p ≤ 1) ⊎ ((3 ≤ patternKind s p) × (patternKind s p ≤ 4)) → openedBinds s p ≡ []
+  pub opened-binds-none : (patternKind s p ≤ variablePattern) ⊎ ((integerPattern ≤ patternKind s p) × (patternKind s p ≤ byteStringPattern)) → openedBinds s p ≡ []
   opened-binds-none k = insideOf-childless (bindsOf s) s p (childless s p k)
 
   pub opened-tests-each : Parent s p → openedTests s p ≡ testsOfEach s (patternFirst s p) (patternCount s p)
@@ -305,52 +306,52 @@ module _ {s : List ℕ} (sh : Shaped s) (few : Counted s) (p : ℕ) (h : p < pat
   pub opened-binds-each : Parent s p → openedBinds s p ≡ bindsOfEach s (patternFirst s p) (patternCount s p)
   opened-binds-each k = insideOf-parent (bindsOf s) s p k
 
-  opened-assign : (f : ℕ → List ℕ) → patternKind s p ≡ 2 → insideOf f s p ≡ f (child s (patternFirst s p))
+  opened-assign : (f : ℕ → List ℕ) → patternKind s p ≡ assignPattern → insideOf f s p ≡ f (child s (patternFirst s p))
   opened-assign f k =
       insideOf-parent f s p (assign-parent s p k)
       ∙ ap (eachOf f s (patternFirst s p)) (sh .assign-one p h k)
       ∙ eachOf-one f s (patternFirst s p)
 
-  pub tests-plain : patternKind s p ≤ 1 → testsOf s p ≡ []
+  pub tests-plain : patternKind s p ≤ variablePattern → testsOf s p ≡ []
   tests-plain k = tests-of-parts (no-test-of-plain s p (omega arith)) ∙ opened-tests-none (inl k)
 
-  pub tests-assign : patternKind s p ≡ 2 → testsOf s p ≡ testsOf s (child s (patternFirst s p))
+  pub tests-assign : patternKind s p ≡ assignPattern → testsOf s p ≡ testsOf s (child s (patternFirst s p))
   tests-assign k = tests-of-parts (no-test-of-plain s p (omega arith)) ∙ opened-assign (testsOf s) k
 
-  pub tests-text-or-list : 3 ≤ patternKind s p → patternKind s p ≤ 6 → testsOf s p ≡ p ∷ []
+  pub tests-text-or-list : integerPattern ≤ patternKind s p → patternKind s p ≤ listWithTailPattern → testsOf s p ≡ p ∷ []
   tests-text-or-list low high = tests-of-test (test-of-text-or-list s p low high)
 
-  pub tests-several : patternKind s p ≡ 7 → oneConstructor s (typeOf s p) ≡ false → testsOf s p ≡ p ∷ []
+  pub tests-several : patternKind s p ≡ constructorPattern → oneConstructor s (typeOf s p) ≡ false → testsOf s p ≡ p ∷ []
   tests-several k one = tests-of-test (test-of-constructor s p k ∙ ap not one)
 
-  pub tests-only : patternKind s p ≡ 7 → oneConstructor s (typeOf s p) ≡ true → testsOf s p ≡ testsOfEach s (patternFirst s p) (patternCount s p)
+  pub tests-only : patternKind s p ≡ constructorPattern → oneConstructor s (typeOf s p) ≡ true → testsOf s p ≡ testsOfEach s (patternFirst s p) (patternCount s p)
   tests-only k one = tests-of-parts (test-of-constructor s p k ∙ ap not one) ∙ opened-tests-each (many-parent s p (omega arith) (omega arith))
 
-  pub tests-pair : 8 ≤ patternKind s p → patternKind s p ≤ 9 → testsOf s p ≡ testsOfEach s (patternFirst s p) (patternCount s p)
+  pub tests-pair : pairPattern ≤ patternKind s p → patternKind s p ≤ tuplePattern → testsOf s p ≡ testsOfEach s (patternFirst s p) (patternCount s p)
   tests-pair low high = tests-of-parts (no-test-of-pair s p low) ∙ opened-tests-each (many-parent s p (omega arith) high)
 
-  pub binds-discard : patternKind s p ≡ 0 → bindsOf s p ≡ []
+  pub binds-discard : patternKind s p ≡ discardPattern → bindsOf s p ≡ []
   binds-discard k = binds-of-parts (no-test-of-plain s p (omega arith)) (binds-no-name s p (inl k)) ∙ opened-binds-none (inl (omega arith))
 
-  pub binds-variable : patternKind s p ≡ 1 → bindsOf s p ≡ p ∷ []
+  pub binds-variable : patternKind s p ≡ variablePattern → bindsOf s p ≡ p ∷ []
   binds-variable k =
       binds-of-name (no-test-of-plain s p (omega arith)) (binds-a-name s p (omega arith) (omega arith)) ∙ ap (λ (l : List ℕ). p ∷ l) (opened-binds-none (inl (omega arith)))
 
-  pub binds-assign : patternKind s p ≡ 2 → bindsOf s p ≡ p ∷ bindsOf s (child s (patternFirst s p))
+  pub binds-assign : patternKind s p ≡ assignPattern → bindsOf s p ≡ p ∷ bindsOf s (child s (patternFirst s p))
   binds-assign k =
       binds-of-name (no-test-of-plain s p (omega arith)) (binds-a-name s p (omega arith) (omega arith)) ∙ ap (λ (l : List ℕ). p ∷ l) (opened-assign (bindsOf s) k)
 
-  pub binds-text-or-list : 3 ≤ patternKind s p → patternKind s p ≤ 6 → bindsOf s p ≡ []
+  pub binds-text-or-list : integerPattern ≤ patternKind s p → patternKind s p ≤ listWithTailPattern → bindsOf s p ≡ []
   binds-text-or-list low high = binds-of-test (test-of-text-or-list s p low high)
 
-  pub binds-several : patternKind s p ≡ 7 → oneConstructor s (typeOf s p) ≡ false → bindsOf s p ≡ []
+  pub binds-several : patternKind s p ≡ constructorPattern → oneConstructor s (typeOf s p) ≡ false → bindsOf s p ≡ []
   binds-several k one = binds-of-test (test-of-constructor s p k ∙ ap not one)
 
-  pub binds-only : patternKind s p ≡ 7 → oneConstructor s (typeOf s p) ≡ true → bindsOf s p ≡ bindsOfEach s (patternFirst s p) (patternCount s p)
+  pub binds-only : patternKind s p ≡ constructorPattern → oneConstructor s (typeOf s p) ≡ true → bindsOf s p ≡ bindsOfEach s (patternFirst s p) (patternCount s p)
   binds-only k one =
       binds-of-parts (test-of-constructor s p k ∙ ap not one) (binds-no-name s p (inr (omega arith))) ∙ opened-binds-each (many-parent s p (omega arith) (omega arith))
 
-  pub binds-pair : 8 ≤ patternKind s p → patternKind s p ≤ 9 → bindsOf s p ≡ bindsOfEach s (patternFirst s p) (patternCount s p)
+  pub binds-pair : pairPattern ≤ patternKind s p → patternKind s p ≤ tuplePattern → bindsOf s p ≡ bindsOfEach s (patternFirst s p) (patternCount s p)
   binds-pair low high =
       binds-of-parts (no-test-of-pair s p low) (binds-no-name s p (inr (omega arith))) ∙ opened-binds-each (many-parent s p (omega arith) high)
 

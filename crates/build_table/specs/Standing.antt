@@ -7,6 +7,7 @@ use mathlib.Core.Option.{Option, none, some}
 use lib.Dec.{eqb}
 use Rattle.base_words.specs.Words.{both, pick}
 use Rattle.spec_rules.specs.Limits.{patternsMost}
+use Rattle.spec_rules.specs.Kinds.{pairStep, tupleStep, constrStep, listStep, listtailStep}
 use Rattle.spec_rules.specs.Searching.{lowest}
 use Rattle.spec_rules.specs.SheetFile.{subject, patterns, children, clauses, typeFirst, constructorFirst, entry, patternKind, patternA, patternFirst, patternCount}
 use Rattle.spec_rules.specs.Patterns.{PatternKind, Discard, Variable, Assign, Integer, ByteString, ListOfAll, ListWithRest, Constructor, Pair, Tuple, Unknown, patternKindOf, Pat, oneConstructor, decorated, constructorOf, pattern}
@@ -174,14 +175,18 @@ stepOf s p =
       | none ↦ stepTo s (aboveOf s p) (typeOf s (aboveOf s p)) (kindOf s (aboveOf s p)) (indexOf s p)
     ]
 
--- a step's number in the tree file, or 5 for none
+-- the number of no step
+abbrev pub sameNumber : ℕ
+sameNumber = suc listtailStep
+
+-- a step's number in the tree file, or that of none
 unfoldable pub stepNumber : Option Step → ℕ
-stepNumber none = 5
-stepNumber (some (pair i t)) = 0
-stepNumber (some (tuple i t)) = 1
-stepNumber (some (constr i b t)) = 2
-stepNumber (some (list i t)) = 3
-stepNumber (some (listtail i t)) = 4
+stepNumber none = sameNumber
+stepNumber (some (pair i t)) = pairStep
+stepNumber (some (tuple i t)) = tupleStep
+stepNumber (some (constr i b t)) = constrStep
+stepNumber (some (list i t)) = listStep
+stepNumber (some (listtail i t)) = listtailStep
 
 -- the type of the part stepped from
 unfoldable pub stepType : Step → ℕ

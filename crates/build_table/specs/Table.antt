@@ -8,50 +8,49 @@ use lib.ListN.{getD, set}
 use lib.Dec.{eqb, ltb}
 use Rattle.base_words.specs.Words.{both, pick, textAt}
 use Rattle.base_words.specs.Stored.{stored}
+use Rattle.spec_rules.specs.Limits.{patternsMost, clausesMost, depthMost}
+use Rattle.spec_rules.specs.Kinds.{pairStep, tupleStep, constrStep, listStep, listtailStep}
 use Rattle.spec_rules.specs.Searching.{lowest}
 use Rattle.spec_rules.specs.SheetFile.{subject, typeFirst, constructorFirst, entry, patternA, patternFirst, patternCount, child, root}
 use Rattle.spec_rules.specs.Patterns.{PatternKind, Discard, Variable, Assign, Integer, ByteString, ListOfAll, ListWithRest, Constructor, Pair, Tuple, Unknown, oneConstructor, constructorOf}
 use Rattle.build_table.specs.Standing.{orSelf, standing, typeOf, ownerOf}
+pub use Rattle.build_table.specs.Standing.{sameNumber}
 
--- ---- where the fields are; each of the first eight has a byte for each of 192 patterns
+-- ---- where the fields are; each of the first eight has a byte for each pattern there may be
 abbrev pub classAt : ℕ
 classAt = 0
 
 abbrev pub ownerAt : ℕ
-ownerAt = 192
+ownerAt = patternsMost
 
 abbrev pub aboveAt : ℕ
-aboveAt = 384
+aboveAt = 2 * patternsMost
 
 abbrev pub typeAt : ℕ
-typeAt = 576
+typeAt = 3 * patternsMost
 
 abbrev pub stepAt : ℕ
-stepAt = 768
+stepAt = 4 * patternsMost
 
 abbrev pub indexAt : ℕ
-indexAt = 960
+indexAt = 5 * patternsMost
 
 abbrev pub depthAt : ℕ
-depthAt = 1152
+depthAt = 6 * patternsMost
 
 abbrev pub clauseAt : ℕ
-clauseAt = 1344
+clauseAt = 7 * patternsMost
 
--- twelve bytes for each pattern
+-- as many bytes for each pattern as a path may have steps, and one more
 abbrev pub indicesAt : ℕ
-indicesAt = 1536
+indicesAt = 8 * patternsMost
 
--- a byte for each of 192 classes, for each of 32 clauses
+-- for each clause a byte for each class, of which there are at most as many as patterns
 abbrev pub cellsAt : ℕ
-cellsAt = 3840
+cellsAt = indicesAt + depthMost * patternsMost
 
 abbrev pub tableSize : ℕ
-tableSize = 9984
-
--- the number of no step
-abbrev pub sameNumber : ℕ
-sameNumber = 5
+tableSize = cellsAt + patternsMost * clausesMost
 
 -- ---- what is stored
 -- of child q of p
@@ -74,15 +73,15 @@ placedBelow s t p Variable = t
 placedBelow s t p Assign = placed t p (child s (patternFirst s p)) sameNumber 0 (typeOf s p) (ownerOf s p)
 placedBelow s t p Integer = t
 placedBelow s t p ByteString = t
-placedBelow s t p ListOfAll = placedEach s t p 3 (typeFirst s (typeOf s p)) 0 (p + 1) 0 (patternCount s p)
+placedBelow s t p ListOfAll = placedEach s t p listStep (typeFirst s (typeOf s p)) 0 (p + 1) 0 (patternCount s p)
 placedBelow s t p ListWithRest =
-    placed (placedEach s t p 3 (typeFirst s (typeOf s p)) 0 (p + 1) 0 (patternCount s p - 1))
-    p (child s (patternFirst s p + (patternCount s p - 1))) 4 (patternCount s p - 1) (typeOf s p) (p + 1)
+    placed (placedEach s t p listStep (typeFirst s (typeOf s p)) 0 (p + 1) 0 (patternCount s p - 1))
+    p (child s (patternFirst s p + (patternCount s p - 1))) listtailStep (patternCount s p - 1) (typeOf s p) (p + 1)
 placedBelow s t p Constructor =
-    placedEach s t p 2 (constructorFirst s (constructorOf s (typeOf s p) (patternA s p))) 1
+    placedEach s t p constrStep (constructorFirst s (constructorOf s (typeOf s p) (patternA s p))) 1
     (pick (oneConstructor s (typeOf s p)) (ownerOf s p) (p + 1)) 0 (patternCount s p)
-placedBelow s t p Pair = placedEach s t p 0 (typeFirst s (typeOf s p)) 1 (ownerOf s p) 0 (patternCount s p)
-placedBelow s t p Tuple = placedEach s t p 1 (typeFirst s (typeOf s p)) 1 (ownerOf s p) 0 (patternCount s p)
+placedBelow s t p Pair = placedEach s t p pairStep (typeFirst s (typeOf s p)) 1 (ownerOf s p) 0 (patternCount s p)
+placedBelow s t p Tuple = placedEach s t p tupleStep (typeFirst s (typeOf s p)) 1 (ownerOf s p) 0 (patternCount s p)
 placedBelow s t p Unknown = t
 
 -- of root r of clause c, and of those of the n clauses from c on
@@ -123,12 +122,12 @@ classed t p =
 unfoldable pub indexed : List ℕ → ℕ → List ℕ
 unfolding stored
 indexed t p =
-    stored t (indicesAt + 12 * p)
-    (textAt t (indicesAt + 12 * aboveIn t p) (getD t (depthAt + aboveIn t p) 0) ++ getD t (indexAt + p) 0 ∷ [])
+    stored t (indicesAt + depthMost * p)
+    (textAt t (indicesAt + depthMost * aboveIn t p) (getD t (depthAt + aboveIn t p) 0) ++ getD t (indexAt + p) 0 ∷ [])
 
 -- p in its clause's column, if it is a test
 unfoldable pub tested : List ℕ → Bool → ℕ → List ℕ
-tested t test p = pick test (set t (cellsAt + 192 * getD t (clauseAt + p) 0 + getD t (classAt + p) 0) (p + 1)) t
+tested t test p = pick test (set t (cellsAt + patternsMost * getD t (clauseAt + p) 0 + getD t (classAt + p) 0) (p + 1)) t
 
 -- ---- the order of paths, by their indices
 unfoldable pub firstBefore : List ℕ → List ℕ → Bool
@@ -138,4 +137,4 @@ firstBefore (x ∷ xs) [] = false
 firstBefore (x ∷ xs) (y ∷ ys) = elim (ltb x y) [ true ↦ true | false ↦ both (eqb x y) (firstBefore xs ys) ]
 
 abbrev pub indicesIn : List ℕ → ℕ → List ℕ
-indicesIn t p = textAt t (indicesAt + 12 * p) (getD t (depthAt + p) 0)
+indicesIn t p = textAt t (indicesAt + depthMost * p) (getD t (depthAt + p) 0)

@@ -41,14 +41,14 @@ pub record Classed (s t : List ℕ) (q : ℕ) : Type 0 where
 
 -- the indices of its steps
 abbrev pub Indexed : List ℕ → List ℕ → ℕ → Type 0
-Indexed s t q = textAt t (indicesAt + 12 * q) (length (pathOf s q)) ≡ map stepIndex (pathOf s q)
+Indexed s t q = textAt t (indicesAt + depthMost * q) (length (pathOf s q)) ≡ map stepIndex (pathOf s q)
 
 pub record Tabled (s t : List ℕ) : Type 0 where
   pub long : length t ≡ tableSize
   pub placed : (q : ℕ) → q < patterns s → Placed s t q
   pub classed : (q : ℕ) → q < patterns s → Classed s t q
   pub indexed : (q : ℕ) → q < patterns s → Indexed s t q
-  pub cell : (c class : ℕ) → c < clauses s → class < patternsMost → getD t (cellsAt + 192 * c + class) 0 ≡ cellOf s c class
+  pub cell : (c class : ℕ) → c < clauses s → class < patternsMost → getD t (cellsAt + patternsMost * c + class) 0 ≡ cellOf s c class
 
 -- the patterns below a have placed their children; those below b are classed, below i indexed, below d in their cells;
 -- pattern 0, from which each root goes on, is classed from the start
@@ -58,7 +58,7 @@ pub record Filled (s t : List ℕ) (a b i d : ℕ) : Type 0 where
   pub placed : (q : ℕ) → q < patterns s → parentOf s q ≤ a → Placed s t q
   pub classed : (q : ℕ) → q < patterns s → q < b → Classed s t q
   pub indexed : (q : ℕ) → q < patterns s → q < i → Indexed s t q
-  pub cell : (c class : ℕ) → c < clauses s → class < patternsMost → getD t (cellsAt + 192 * c + class) 0 ≡ oneMore (lowest (isCell s c class) 0 d)
+  pub cell : (c class : ℕ) → c < clauses s → class < patternsMost → getD t (cellsAt + patternsMost * c + class) 0 ≡ oneMore (lowest (isCell s c class) 0 d)
 
 -- ---- what the parts of filling ask
 -- n children of p, with a type entry for each: the same at e for all, or one after the other from e on
@@ -90,4 +90,4 @@ pub record Ranged (t : List ℕ) (p : ℕ) : Type 0 where
 -- the pattern above p has a lower row of indices
 pub record RowBelow (t : List ℕ) (p : ℕ) : Type 0 where
   pub ranged : Ranged t p
-  pub lower : 12 * aboveIn t p + getD t (depthAt + aboveIn t p) 0 ≤ 12 * p
+  pub lower : depthMost * aboveIn t p + getD t (depthAt + aboveIn t p) 0 ≤ depthMost * p

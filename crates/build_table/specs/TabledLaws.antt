@@ -52,17 +52,17 @@ module _ {s t : List ℕ} (ok : Accepted s) (table : Tabled s t) where
     depth-inside = omega (arith, table .classed q h .depth, path-short (ok .is-shaped) (ok .is-counted) (ok .root-depth) q h)
 
     pub indices-of : indicesIn t q ≡ map stepIndex (pathOf s q)
-    indices-of = ap (textAt t (indicesAt + 12 * q)) (table .classed q h .depth) ∙ table .indexed q h
+    indices-of = ap (textAt t (indicesAt + depthMost * q)) (table .classed q h .depth) ∙ table .indexed q h
 
   -- ---- the limits of a cell; with no test in it, pattern 0 is read
   module _ (c class : ℕ) (h : c < clauses s) (known : class < patternsMost) where
-    pub cell-inside : getD t (cellsAt + 192 * c + class) 0 ≤ patterns s
+    pub cell-inside : getD t (cellsAt + patternsMost * c + class) 0 ≤ patterns s
     cell-inside = omega (arith, table .cell c class h known, cell-most s c class)
 
-    pub cell-owner-inside : getD t (ownerAt + (getD t (cellsAt + 192 * c + class) 0 - 1)) 0 ≤ patternsMost
+    pub cell-owner-inside : getD t (ownerAt + (getD t (cellsAt + patternsMost * c + class) 0 - 1)) 0 ≤ patternsMost
     cell-owner-inside =
         let some-pattern = ok .is-shaped .root-pattern c h in
-        owner-inside (getD t (cellsAt + 192 * c + class) 0 - 1) (omega (arith, cell-inside))
+        owner-inside (getD t (cellsAt + patternsMost * c + class) 0 - 1) (omega (arith, cell-inside))
 
   -- ---- the order of paths
   pub before-paths : (a b : ℕ) → a < patterns s → b < patterns s → firstBefore (indicesIn t a) (indicesIn t b) ≡ before (pathOf s a) (pathOf s b)

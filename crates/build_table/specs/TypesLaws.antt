@@ -10,6 +10,7 @@ use borrow.Author.Tests.{eqb-true, leb-true, eqb-false}
 use lib.Dec.{eqb, leb}
 use Rattle.base_words.specs.Words.{both, pick}
 use Rattle.base_words.specs.WordsLaws.{both-true}
+use Rattle.spec_rules.specs.Kinds.{listType, pairType, tupleType, dataType}
 use Rattle.spec_rules.specs.SheetFile.{types, constructors, entries, patterns, clauses, typeKind, typeFirst, typeCount, constructorFirst, constructorCount, entry, patternKind, patternA, patternFirst, patternCount, child, root}
 use Rattle.spec_rules.specs.Patterns.{PatternKind, Discard, Variable, Assign, Integer, ByteString, ListOfAll, ListWithRest, Constructor, Pair, Tuple, Unknown, Pat, Pats, many, oneConstructor, decorated, constructorOf, along, ofConstructor, ofKind, pattern, clausePattern, takesArguments, opensInto, fits, fitAll}
 use Rattle.spec_rules.specs.SheetRefusals.{hasChildren}
@@ -46,32 +47,32 @@ module _ {s : List ℕ} (sh : Shaped s) (few : Counted s) (p t : ℕ) (known : p
   unfolding ofKind fits
   assign-part e = of-kind Assign e
 
-  pub list-parts : kindOf s p ≡ ListOfAll → (typeKind s t ≡ 2) × PartsFit (patternCount s p) (typeFirst s t) 0
+  pub list-parts : kindOf s p ≡ ListOfAll → (typeKind s t ≡ listType) × PartsFit (patternCount s p) (typeFirst s t) 0
   unfolding ofKind fits
   list-parts e =
-      let f = both-true (eqb (typeKind s t) 2) (fitAll (along (pattern s) s (patternFirst s p) (patternCount s p) (typeFirst s t) 0) s) (of-kind ListOfAll e) in
+      let f = both-true (eqb (typeKind s t) listType) (fitAll (along (pattern s) s (patternFirst s p) (patternCount s p) (typeFirst s t) 0) s) (of-kind ListOfAll e) in
       (eqb-true _ _ (f .0), fitAll-along (pattern s) s (patternFirst s p) (patternCount s p) (typeFirst s t) 0 (f .1))
 
   pub tailed-parts : kindOf s p ≡ ListWithRest
-      → (typeKind s t ≡ 2) × PartsFit (patternCount s p - 1) (typeFirst s t) 0 × (fits (pattern s (child s (patternFirst s p + (patternCount s p - 1))) t) s ≡ true)
+      → (typeKind s t ≡ listType) × PartsFit (patternCount s p - 1) (typeFirst s t) 0 × (fits (pattern s (child s (patternFirst s p + (patternCount s p - 1))) t) s ≡ true)
   unfolding ofKind fits
   tailed-parts e =
-      let f = both-true (eqb (typeKind s t) 2) _ (of-kind ListWithRest e) in
+      let f = both-true (eqb (typeKind s t) listType) _ (of-kind ListWithRest e) in
       let g = both-true (fitAll (along (pattern s) s (patternFirst s p) (patternCount s p - 1) (typeFirst s t) 0) s) _ (f .1) in
       (eqb-true _ _ (f .0), fitAll-along (pattern s) s (patternFirst s p) (patternCount s p - 1) (typeFirst s t) 0 (g .0), g .1)
 
-  pub pair-parts : kindOf s p ≡ Pair → (typeKind s t ≡ 3) × (typeCount s t ≡ patternCount s p) × PartsFit (patternCount s p) (typeFirst s t) 1
+  pub pair-parts : kindOf s p ≡ Pair → (typeKind s t ≡ pairType) × (typeCount s t ≡ patternCount s p) × PartsFit (patternCount s p) (typeFirst s t) 1
   unfolding ofKind fits opensInto
   pair-parts e =
-      let f = both-true (both (eqb (typeKind s t) 3) (eqb (typeCount s t) (many (along (pattern s) s (patternFirst s p) (patternCount s p) (typeFirst s t) 1)))) _ (of-kind Pair e) in
-      let g = both-true (eqb (typeKind s t) 3) _ (f .0) in
+      let f = both-true (both (eqb (typeKind s t) pairType) (eqb (typeCount s t) (many (along (pattern s) s (patternFirst s p) (patternCount s p) (typeFirst s t) 1)))) _ (of-kind Pair e) in
+      let g = both-true (eqb (typeKind s t) pairType) _ (f .0) in
       (eqb-true _ _ (g .0), eqb-true _ _ (g .1) ∙ many-along (pattern s) s (patternFirst s p) (patternCount s p) (typeFirst s t) 1, fitAll-along (pattern s) s (patternFirst s p) (patternCount s p) (typeFirst s t) 1 (f .1))
 
-  pub tuple-parts : kindOf s p ≡ Tuple → (typeKind s t ≡ 4) × (typeCount s t ≡ patternCount s p) × PartsFit (patternCount s p) (typeFirst s t) 1
+  pub tuple-parts : kindOf s p ≡ Tuple → (typeKind s t ≡ tupleType) × (typeCount s t ≡ patternCount s p) × PartsFit (patternCount s p) (typeFirst s t) 1
   unfolding ofKind fits opensInto
   tuple-parts e =
-      let f = both-true (both (eqb (typeKind s t) 4) (eqb (typeCount s t) (many (along (pattern s) s (patternFirst s p) (patternCount s p) (typeFirst s t) 1)))) _ (of-kind Tuple e) in
-      let g = both-true (eqb (typeKind s t) 4) _ (f .0) in
+      let f = both-true (both (eqb (typeKind s t) tupleType) (eqb (typeCount s t) (many (along (pattern s) s (patternFirst s p) (patternCount s p) (typeFirst s t) 1)))) _ (of-kind Tuple e) in
+      let g = both-true (eqb (typeKind s t) tupleType) _ (f .0) in
       (eqb-true _ _ (g .0), eqb-true _ _ (g .1) ∙ many-along (pattern s) s (patternFirst s p) (patternCount s p) (typeFirst s t) 1, fitAll-along (pattern s) s (patternFirst s p) (patternCount s p) (typeFirst s t) 1 (f .1))
 
   constructor-both : (one : Bool) (qs : Pats) → fits (ofConstructor (record { number = p; type = t }) (patternA s p) (decorated s t) qs one) s ≡ true
@@ -81,14 +82,14 @@ module _ {s : List ℕ} (sh : Shaped s) (few : Counted s) (p t : ℕ) (known : p
   constructor-both false qs h = h
 
   pub constructor-parts : kindOf s p ≡ Constructor
-      → (typeKind s t ≡ 5) × (patternA s p < typeCount s t) × (constructorCount s (constructorOf s t (patternA s p)) ≡ patternCount s p)
+      → (typeKind s t ≡ dataType) × (patternA s p < typeCount s t) × (constructorCount s (constructorOf s t (patternA s p)) ≡ patternCount s p)
       × PartsFit (patternCount s p) (constructorFirst s (constructorOf s t (patternA s p))) 1
   unfolding ofKind takesArguments
   constructor-parts e =
       let c = constructorFirst s (constructorOf s t (patternA s p)) in
       let qs = along (pattern s) s (patternFirst s p) (patternCount s p) c 1 in
       let f = both-true (takesArguments s t (patternA s p) (many qs)) (fitAll qs s) (constructor-both (oneConstructor s t) qs (of-kind Constructor e)) in
-      let g = both-true (eqb (typeKind s t) 5) _ (f .0) in
+      let g = both-true (eqb (typeKind s t) dataType) _ (f .0) in
       let h = both-true (leb (patternA s p + 1) (typeCount s t)) _ (g .1) in
       let least = leb-true (patternA s p + 1) (typeCount s t) (h .0) in
       (eqb-true _ _ (g .0), omega arith, eqb-true _ _ (h .1) ∙ many-along (pattern s) s (patternFirst s p) (patternCount s p) c 1, fitAll-along (pattern s) s (patternFirst s p) (patternCount s p) c 1 (f .1))

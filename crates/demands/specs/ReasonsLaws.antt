@@ -11,12 +11,12 @@ use lib.Dec.{leb}
 use Rattle.base_words.specs.Words.{both}
 use Rattle.spec_rules.specs.Limits.{treeRoom, workRoom, boundRoom}
 use Rattle.spec_rules.specs.SheetFile.{clauses}
-use Rattle.spec_rules.specs.SheetRefusals.{Verdict, accepted, refused, require, verdict}
+use Rattle.spec_rules.specs.SheetRefusals.{Verdict, accepted, refused, require, andThen, verdict}
 use Rattle.spec_rules.specs.PanelFile.{panelVerdict}
 use Rattle.spec_rules.specs.TreeReader.{treeFits, treeOf}
 use Rattle.spec_rules.specs.Fitting.{panelFits}
 use Rattle.spec_rules.specs.Walking.{Walked, reached, noLeaf, stuck, walk}
-use Rattle.spec_rules.specs.Calls.{Answer, answers, refuses, unless, andThen, sheetTree, sheetTreeFile, treeVerdict, Built, builtOf, buildRoom, buildAnswer, fitCall, walkRoom, treeFileVerdict, WalkEnd, walkEnd, walkAnswer, Span, hasText, textCall}
+use Rattle.spec_rules.specs.Calls.{Answer, answers, refuses, unless, sheetTree, sheetTreeFile, treeVerdict, Built, builtOf, buildRoom, buildAnswer, fitCall, walkRoom, treeFileVerdict, WalkEnd, walkEnd, walkAnswer, Span, hasText, textCall}
 use Rattle.spec_theorems.specs.CallsLaws.{build-room, build-sheet, build-tree, fit-sheet, fit-panel, fit-type, walk-room, walk-tree, walk-panel, walk-stuck, text-panel, text-none}
 use Rattle.demands.specs.Reasons.{BuildRefuses, FitRefuses, WalkRefuses, TextRefuses}
 

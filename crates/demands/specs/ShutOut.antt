@@ -6,6 +6,7 @@ use native.Mathlib.Omega.{arith}
 use lib.ListN.{getD}
 use Rattle.base_words.specs.Words.{textAt}
 use Rattle.spec_rules.specs.Limits.{treeRoom, workRoom, boundRoom}
+use Rattle.spec_rules.specs.Sections.{sheetFileOf}
 use Rattle.spec_rules.specs.Calls.{Answer, answers, refuses, Built as BuiltTree, BuildCall, buildAnswer, buildCall, WalkEnd, leafOf, withoutLeaf, WalkCall, walkAnswer, walkCall, sheetTreeFile}
 use Rattle.spec_rules.specs.Samples.{sheet1, sheet6, sheet11, file1, panel2}
 use Rattle.walk.specs.declared.Walked.the-variants.{NoLeaf}
@@ -42,7 +43,7 @@ no-buffer-stays-zero r tree work fits z =
 
 -- ---- "one fixed tree for all sheets": byte 2, the low byte of node 0's clause, tells two trees apart
 clause-of-6 : getD ((buildCall sheet6 treeRoom workRoom) .tree) 2 0 ≡ 1
-unfolding buildCall
+unfolding buildCall sheetFileOf
 clause-of-6 = refl
 
 clause-of-1 : getD ((buildCall sheet1 treeRoom workRoom) .tree) 2 0 ≡ 0
@@ -57,7 +58,7 @@ no-tree-is-for-all-sheets r q tree work work' a b =
 
 -- ---- "one that specializes only the root": of (1,2), (3,4) node 3 is a switch below the root's, where such a builder has clause 0's leaf
 second-switch : getD ((buildCall sheet11 treeRoom workRoom) .tree) 36 9 ≡ 0
-unfolding buildCall
+unfolding buildCall sheetFileOf
 second-switch = refl
 
 pub no-builder-specializes-only-the-root : (r : Built) (tree work : List ℕ) → BuildFits sheet11 treeRoom workRoom r tree work → getD tree 36 9 ≡ 2 → ⊥

@@ -7,6 +7,7 @@ use Prim.Native.Nat.{ℕ, _+_, _<_}
 use native.Mathlib.Omega.{arith}
 use borrow.Author.Tests.{ltb-true, leb-true}
 use Rattle.base_words.specs.WordsLaws.{both-true}
+use Rattle.spec_rules.specs.RefusalNumbers.{noTextRefusal}
 use Rattle.spec_rules.specs.PanelFile.{recordFirst, recordCount, panelPoolAt}
 use Rattle.spec_rules.specs.SheetRefusals.{Verdict, accepted, refused, require}
 use Rattle.spec_rules.specs.PanelFile.{panelVerdict}
@@ -116,11 +117,11 @@ text-within v place dropped x e = verdict-first (panelVerdict v) refl e
         let room = panel-text-inside (ok .is-laid) (recordFirst v place) (recordCount v place) (run .inside) in
         record { start-word = omega (arith, ok .is-laid .length-most, room); count-word = omega (arith, ok .is-laid .length-most, room) }
 
-    has-text : PanelAccepted v → (b : Bool) → hasText v place dropped ≡ b → unless (require b 33 accepted) (answers span) ≡ answers x → Within x
+    has-text : PanelAccepted v → (b : Bool) → hasText v place dropped ≡ b → unless (require b noTextRefusal accepted) (answers span) ≡ answers x → Within x
     has-text ok true h d = let s : span ≡ x = cc in rw⁻¹ s (inside ok h)
     has-text ok false h d = let z : _≡_ {A = ℕ} 0 1 = cc in absurd (omega arith)
 
-    verdict-first : (w : Verdict) → panelVerdict v ≡ w → unless w (unless (require (hasText v place dropped) 33 accepted) (answers span)) ≡ answers x → Within x
+    verdict-first : (w : Verdict) → panelVerdict v ≡ w → unless w (unless (require (hasText v place dropped) noTextRefusal accepted) (answers span)) ≡ answers x → Within x
     verdict-first accepted h d = has-text (accepted-panel v h) (hasText v place dropped) refl d
     verdict-first (refused number p) h d = let z : _≡_ {A = ℕ} 0 1 = cc in absurd (omega arith)
 

@@ -10,6 +10,8 @@ use lib.Dec.{leb, ltb}
 use lib.ListN.{length}
 use Rattle.base_words.specs.Words.{textAt}
 use Rattle.base_words.specs.WordsLaws.{both-true, both-first-false, both-second-false}
+use Rattle.spec_rules.specs.Kinds.{bytesRecord}
+use Rattle.spec_rules.specs.RefusalNumbers.{panelLengthRefusal, panelLayoutRefusal, panelShapeRefusal, panelTextRefusal, panelMisfitRefusal, noTextRefusal}
 use Rattle.spec_rules.specs.SheetRefusals.{Verdict, accepted, refused, require, verdict}
 use Rattle.spec_rules.specs.Fitting.{panelFits}
 use Rattle.spec_rules.specs.PanelFile.{records, recordKind, panelPoolAt, recordFirst, recordCount, panelLengthFits, panelLayoutFits, panelShapeFits, panelTextsFit, panelVerdict}
@@ -34,19 +36,19 @@ use Rattle.format_panel.specs.TextsLaws.{text-inside}
 
 -- ---- the check of a panel
 module _ (v : List ℕ) where
-  pub refused-21 : panelLengthFits v ≡ false → Refused 21 0 ≡ checked v
+  pub refused-21 : panelLengthFits v ≡ false → Refused panelLengthRefusal 0 ≡ checked v
   unfolding checked panelVerdict checkedBy
   refused-21 a = rw a
 
-  pub refused-22 : panelLengthFits v ≡ true → panelLayoutFits v ≡ false → Refused 22 0 ≡ checked v
+  pub refused-22 : panelLengthFits v ≡ true → panelLayoutFits v ≡ false → Refused panelLayoutRefusal 0 ≡ checked v
   unfolding checked panelVerdict checkedBy
   refused-22 a b = rw (a, b)
 
-  pub refused-23 : panelLengthFits v ≡ true → panelLayoutFits v ≡ true → panelShapeFits v ≡ false → Refused 23 0 ≡ checked v
+  pub refused-23 : panelLengthFits v ≡ true → panelLayoutFits v ≡ true → panelShapeFits v ≡ false → Refused panelShapeRefusal 0 ≡ checked v
   unfolding checked panelVerdict checkedBy
   refused-23 a b c = rw (a, b, c)
 
-  pub refused-24 : panelLengthFits v ≡ true → panelLayoutFits v ≡ true → panelShapeFits v ≡ true → panelTextsFit v ≡ false → Refused 24 0 ≡ checked v
+  pub refused-24 : panelLengthFits v ≡ true → panelLayoutFits v ≡ true → panelShapeFits v ≡ true → panelTextsFit v ≡ false → Refused panelTextRefusal 0 ≡ checked v
   unfolding checked panelVerdict checkedBy
   refused-24 a b c d = rw (a, b, c, d)
 
@@ -83,29 +85,29 @@ module _ (v : List ℕ) (r dropped : ℕ) where
   text-refused number place h = rw h
 
   module _ (ok : panelVerdict v ≡ accepted) where
-    has-not : (y : Located) → hasText v r dropped ≡ false → y ≡ NotLocated 33 0 → y ≡ located v r dropped
+    has-not : (y : Located) → hasText v r dropped ≡ false → y ≡ NotLocated noTextRefusal 0 → y ≡ located v r dropped
     unfolding located locatedBy textCall
     has-not y h e = rw (ok, h) e
 
-    pub no-record : (y : Located) → records v ≤ r → y ≡ NotLocated 33 0 → y ≡ located v r dropped
+    pub no-record : (y : Located) → records v ≤ r → y ≡ NotLocated noTextRefusal 0 → y ≡ located v r dropped
     unfolding hasText
     no-record y h e = has-not y (both-first-false (ltb r (records v)) _ (le-ltb _ _ h)) e
 
-    pub some-dropped : (y : Located) → (dropped ≡ 0 → ⊥) → y ≡ NotLocated 33 0 → y ≡ located v r dropped
+    pub some-dropped : (y : Located) → (dropped ≡ 0 → ⊥) → y ≡ NotLocated noTextRefusal 0 → y ≡ located v r dropped
     unfolding hasText
     some-dropped y h e =
-        has-not y (both-second-false (ltb r (records v)) _ (both-second-false (leb (recordKind v r) 1) _ (ne-eqb _ _ h))) e
+        has-not y (both-second-false (ltb r (records v)) _ (both-second-false (leb (recordKind v r) bytesRecord) _ (ne-eqb _ _ h))) e
 
     module _ (x : Record) (read : x ≡ recordOf v r) where
       kind-read : x .kind ≡ recordKind v r
       kind-read = ap (λ (y : Record). y .kind) read
 
-      pub other-kind : (y : Located) → 1 < x .kind → y ≡ NotLocated 33 0 → y ≡ located v r dropped
+      pub other-kind : (y : Located) → bytesRecord < x .kind → y ≡ NotLocated noTextRefusal 0 → y ≡ located v r dropped
       unfolding hasText
       other-kind y h e =
-          has-not y (both-second-false (ltb r (records v)) _ (both-first-false (leb (recordKind v r) 1) _ (lt-leb _ _ (rw read at h)))) e
+          has-not y (both-second-false (ltb r (records v)) _ (both-first-false (leb (recordKind v r) bytesRecord) _ (lt-leb _ _ (rw read at h)))) e
 
-      module _ (m : Map) (map : m ≡ mapOf v) (l : r < records v) (short : x .kind ≤ 1) where
+      module _ (m : Map) (map : m ≡ mapOf v) (l : r < records v) (short : x .kind ≤ bytesRecord) where
         pub text-start : m .«pool_at» + x .first + x .count ≤ length v
         text-start =
             let a = accepted-panel v ok in
@@ -113,7 +115,7 @@ module _ (v : List ℕ) (r dropped : ℕ) where
 
         pub text-at : dropped ≡ 0 → At (m .«pool_at» + x .first) (x .count) ≡ located v r dropped
         unfolding located locatedBy textCall hasText
-        text-at none = rw (map, read, ok, lt-ltb _ _ l, le-leb (recordKind v r) 1 (omega (arith, kind-read)), none)
+        text-at none = rw (map, read, ok, lt-ltb _ _ l, le-leb (recordKind v r) bytesRecord (omega (arith, kind-read)), none)
 
   -- the part that was located lies in the panel, and is the twin's answer
   pub part-none : (number place : ℕ) → located v r dropped ≡ NotLocated number place → [] ≡ textPart v r dropped
@@ -142,11 +144,11 @@ module _ (v : List ℕ) (r dropped : ℕ) where
       inside : panelVerdict v ≡ accepted → hasText v r dropped ≡ true → panelPoolAt v + recordFirst v r + recordCount v r ≤ length v
       inside ok has =
           let a = both-true (ltb r (records v)) _ has in
-          let b = both-true (leb (recordKind v r) 1) _ (a .1) in
+          let b = both-true (leb (recordKind v r) bytesRecord) _ (a .1) in
           text-start ok (recordOf v r) refl (mapOf v) refl (ltb-true _ _ (a .0)) (leb-true _ _ (b .0))
 
       go : (w : Verdict) → panelVerdict v ≡ w → (b : Bool) → hasText v r dropped ≡ b
-          → locatedBy (unless w (unless (require b 33 accepted) (answers (record { start = panelPoolAt v + recordFirst v r; count = recordCount v r })))) ≡ At start count
+          → locatedBy (unless w (unless (require b noTextRefusal accepted) (answers (record { start = panelPoolAt v + recordFirst v r; count = recordCount v r })))) ≡ At start count
           → start + count ≤ length v
       go accepted e true f x =
           let s : start ≡ panelPoolAt v + recordFirst v r = cc in
@@ -187,7 +189,7 @@ module _ (s v : List ℕ) where
       unfolding fitted fittedBy fitCall
       fit-yes h = rw (sheet .verdict, panel .verdict, h)
 
-      pub fit-no : panelFits s v ≡ false → NotFitted 25 0 ≡ fitted s v
+      pub fit-no : panelFits s v ≡ false → NotFitted panelMisfitRefusal 0 ≡ fitted s v
       unfolding fitted fittedBy fitCall
       fit-no h = rw (sheet .verdict, panel .verdict, h)
 

@@ -7,6 +7,7 @@ use mathlib.Core.List.{List}
 use Prim.Native.Nat.{ℕ, _+_, _≤_, _<_}
 use lib.Dec.{eqb, leb}
 use Rattle.base_words.specs.Words.{both, pick}
+use Rattle.spec_rules.specs.Kinds.{intType, bytesType, listType, pairType, tupleType, dataType}
 use Rattle.spec_rules.specs.SheetFile.{constructors, entries, constructorFirst, constructorCount}
 use Rattle.spec_rules.specs.PanelFile.{records, recordKind, RecordKind, Integer-record, Bytes-record, List-record, Pair-record, Tuple-record, Constructor-record, Unknown-record, recordKindOf}
 use Rattle.spec_rules.specs.Fitting.{partsFit}
@@ -24,7 +25,7 @@ use Rattle.format_panel.specs.Opened.{Opened, recordOf}
 
 -- the elements of a list are all of the type at its one entry
 abbrev pub listBelow : Record → TypeRecord → Below
-listBelow x y = pick (eqb (y .kind) 2) (Parts (x .first) (x .count) (y .first) 0) (Alone false)
+listBelow x y = pick (eqb (y .kind) listType) (Parts (x .first) (x .count) (y .first) 0) (Alone false)
 
 -- a pair and a tuple have as many parts as their type has entries
 abbrev pub partsBelow : Record → TypeRecord → ℕ → Below
@@ -33,16 +34,16 @@ partsBelow x y kind = pick (both (eqb (y .kind) kind) (eqb (y .count) (x .count)
 -- a constructor is one of its type's, and has as many parts as that has fields
 abbrev pub fieldsBelow : List ℕ → Record → TypeRecord → Below
 fieldsBelow s x y =
-    pick (both (eqb (y .kind) 5) (both (leb (x .a + 1) (y .count)) (eqb (constructorCount s (y .first + x .a)) (x .count))))
+    pick (both (eqb (y .kind) dataType) (both (leb (x .a + 1) (y .count)) (eqb (constructorCount s (y .first + x .a)) (x .count))))
     (Parts (x .first) (x .count) (constructorFirst s (y .first + x .a)) 1)
     (Alone false)
 
 unfoldable pub belowOfKind : List ℕ → Record → TypeRecord → RecordKind → Below
-belowOfKind s x y Integer-record = Alone (eqb (y .kind) 0)
-belowOfKind s x y Bytes-record = Alone (eqb (y .kind) 1)
+belowOfKind s x y Integer-record = Alone (eqb (y .kind) intType)
+belowOfKind s x y Bytes-record = Alone (eqb (y .kind) bytesType)
 belowOfKind s x y List-record = listBelow x y
-belowOfKind s x y Pair-record = partsBelow x y 3
-belowOfKind s x y Tuple-record = partsBelow x y 4
+belowOfKind s x y Pair-record = partsBelow x y pairType
+belowOfKind s x y Tuple-record = partsBelow x y tupleType
 belowOfKind s x y Constructor-record = fieldsBelow s x y
 belowOfKind s x y Unknown-record = Alone false
 
@@ -68,7 +69,7 @@ pub record Ready (s : List ℕ) (sm : SheetMap) (v : List ℕ) (vm : Map) : Type
 pub record Typing (s : List ℕ) (sm : SheetMap) (y : TypeRecord) : Type 0 where
   pub sheet-laid : Laid s
   pub sheet-map : sm ≡ sheetMapOf s
-  pub own : y .kind ≡ 5 → y .first + y .count ≤ constructors s
+  pub own : y .kind ≡ dataType → y .first + y .count ≤ constructors s
 
 -- n parts have each its type entry, from e on: all the same one, or one each
 abbrev pub EachTyped : List ℕ → ℕ → ℕ → ℕ → Type 0

@@ -11,6 +11,7 @@ use lib.Dec.{eqb, leb}
 use Rattle.base_words.specs.Words.{both, pick}
 use Rattle.base_words.specs.WordsLaws.{both-true, both-assoc}
 use Rattle.spec_rules.specs.Limits.{recordsMost}
+use Rattle.spec_rules.specs.Kinds.{listType, pairType, tupleType, dataType}
 use Rattle.spec_rules.specs.SheetFile.{subject, types, entries, entry, typeKind, typeFirst, typeCount, constructorFirst, constructorCount}
 use Rattle.spec_rules.specs.Patterns.{constructorOf, takesArguments}
 use Rattle.spec_rules.specs.PanelFile.{records, parts, recordKind, recordA, recordFirst, recordCount, part, RecordKind, Integer-record, Bytes-record, List-record, Pair-record, Tuple-record, Constructor-record, Unknown-record, recordKindOf, hasParts}
@@ -41,16 +42,16 @@ below-of-kind : (f : ℕ → ℕ → Bool) (s v : List ℕ) (r t : ℕ) (kind : 
 unfolding recordFits fitsBelow belowOfKind takesArguments constructorOf
 below-of-kind f s v r t Integer-record = refl
 below-of-kind f s v r t Bytes-record = refl
-below-of-kind f s v r t List-record = picked f s v (recordFirst v r) (recordCount v r) (typeFirst s t) 0 (eqb (typeKind s t) 2)
+below-of-kind f s v r t List-record = picked f s v (recordFirst v r) (recordCount v r) (typeFirst s t) 0 (eqb (typeKind s t) listType)
 below-of-kind f s v r t Pair-record =
-    sym (both-assoc (eqb (typeKind s t) 3) (eqb (typeCount s t) (recordCount v r)) _)
-    ∙ picked f s v (recordFirst v r) (recordCount v r) (typeFirst s t) 1 (both (eqb (typeKind s t) 3) (eqb (typeCount s t) (recordCount v r)))
+    sym (both-assoc (eqb (typeKind s t) pairType) (eqb (typeCount s t) (recordCount v r)) _)
+    ∙ picked f s v (recordFirst v r) (recordCount v r) (typeFirst s t) 1 (both (eqb (typeKind s t) pairType) (eqb (typeCount s t) (recordCount v r)))
 below-of-kind f s v r t Tuple-record =
-    sym (both-assoc (eqb (typeKind s t) 4) (eqb (typeCount s t) (recordCount v r)) _)
-    ∙ picked f s v (recordFirst v r) (recordCount v r) (typeFirst s t) 1 (both (eqb (typeKind s t) 4) (eqb (typeCount s t) (recordCount v r)))
+    sym (both-assoc (eqb (typeKind s t) tupleType) (eqb (typeCount s t) (recordCount v r)) _)
+    ∙ picked f s v (recordFirst v r) (recordCount v r) (typeFirst s t) 1 (both (eqb (typeKind s t) tupleType) (eqb (typeCount s t) (recordCount v r)))
 below-of-kind f s v r t Constructor-record =
     picked f s v (recordFirst v r) (recordCount v r) (constructorFirst s (typeFirst s t + recordA v r)) 1
-    (both (eqb (typeKind s t) 5) (both (leb (recordA v r + 1) (typeCount s t)) (eqb (constructorCount s (typeFirst s t + recordA v r)) (recordCount v r))))
+    (both (eqb (typeKind s t) dataType) (both (leb (recordA v r + 1) (typeCount s t)) (eqb (constructorCount s (typeFirst s t + recordA v r)) (recordCount v r))))
 below-of-kind f s v r t Unknown-record = refl
 
 module _ (s : List ℕ) (sm : SheetMap) (v : List ℕ) (vm : Map) (ready : Ready s sm v vm) where
@@ -106,13 +107,13 @@ module _ (s : List ℕ) (sm : SheetMap) (v : List ℕ) (vm : Map) (ready : Ready
     picks true f g has types x = run f g has (types refl) x
     picks false f g has types x = let z : _≡_ {A = ℕ} 0 1 = cc in absurd (omega arith)
 
-    list-entry : eqb (typeKind s t) 2 ≡ true → EachTyped s (typeFirst s t) (recordCount v r) 0
+    list-entry : eqb (typeKind s t) listType ≡ true → EachTyped s (typeFirst s t) (recordCount v r) 0
     list-entry h =
-        let k = eqb-true (typeKind s t) 2 h in
+        let k = eqb-true (typeKind s t) listType h in
         let ty = ready .is-typed in
         inl (refl, omega (arith, ty .list-one t l k, ty .type-entries t l (omega arith)))
 
-    part-entries : (k : ℕ) → k ≤ 4 → both (eqb (typeKind s t) k) (eqb (typeCount s t) (recordCount v r)) ≡ true
+    part-entries : (k : ℕ) → k ≤ tupleType → both (eqb (typeKind s t) k) (eqb (typeCount s t) (recordCount v r)) ≡ true
         → EachTyped s (typeFirst s t) (recordCount v r) 1
     part-entries k small h =
         let a = both-true (eqb (typeKind s t) k) _ h in
@@ -120,12 +121,12 @@ module _ (s : List ℕ) (sm : SheetMap) (v : List ℕ) (vm : Map) (ready : Ready
         let count = eqb-true (typeCount s t) (recordCount v r) (a .1) in
         inr (refl, omega (arith, ready .is-typed .type-entries t l (omega arith)))
 
-    field-entries : both (eqb (typeKind s t) 5) (both (leb (recordA v r + 1) (typeCount s t)) (eqb (constructorCount s (typeFirst s t + recordA v r)) (recordCount v r))) ≡ true
+    field-entries : both (eqb (typeKind s t) dataType) (both (leb (recordA v r + 1) (typeCount s t)) (eqb (constructorCount s (typeFirst s t + recordA v r)) (recordCount v r))) ≡ true
         → EachTyped s (constructorFirst s (typeFirst s t + recordA v r)) (recordCount v r) 1
     field-entries h =
-        let a = both-true (eqb (typeKind s t) 5) _ h in
+        let a = both-true (eqb (typeKind s t) dataType) _ h in
         let b = both-true (leb (recordA v r + 1) (typeCount s t)) _ (a .1) in
-        let data' = eqb-true (typeKind s t) 5 (a .0) in
+        let data' = eqb-true (typeKind s t) dataType (a .0) in
         let small = leb-true (recordA v r + 1) (typeCount s t) (b .0) in
         let count = eqb-true (constructorCount s (typeFirst s t + recordA v r)) (recordCount v r) (b .1) in
         let inside = ready .is-typed .type-constructors t l data' in
@@ -139,11 +140,11 @@ module _ (s : List ℕ) (sm : SheetMap) (v : List ℕ) (vm : Map) (ready : Ready
         go : (kind : RecordKind) → recordKindOf (recordKind v r) ≡ kind → belowOfKind s (recordOf v r) (typeOf s t) kind ≡ Parts j n e step → Run s v r j n e step
         go Integer-record k x = let z : _≡_ {A = ℕ} 0 1 = cc in absurd (omega arith)
         go Bytes-record k x = let z : _≡_ {A = ℕ} 0 1 = cc in absurd (omega arith)
-        go List-record k x = picks (eqb (typeKind s t) 2) (typeFirst s t) 0 (ap hasParts k) list-entry x
-        go Pair-record k x = picks (both (eqb (typeKind s t) 3) (eqb (typeCount s t) (recordCount v r))) (typeFirst s t) 1 (ap hasParts k) (part-entries 3 (omega arith)) x
-        go Tuple-record k x = picks (both (eqb (typeKind s t) 4) (eqb (typeCount s t) (recordCount v r))) (typeFirst s t) 1 (ap hasParts k) (part-entries 4 (omega arith)) x
+        go List-record k x = picks (eqb (typeKind s t) listType) (typeFirst s t) 0 (ap hasParts k) list-entry x
+        go Pair-record k x = picks (both (eqb (typeKind s t) pairType) (eqb (typeCount s t) (recordCount v r))) (typeFirst s t) 1 (ap hasParts k) (part-entries pairType (omega arith)) x
+        go Tuple-record k x = picks (both (eqb (typeKind s t) tupleType) (eqb (typeCount s t) (recordCount v r))) (typeFirst s t) 1 (ap hasParts k) (part-entries tupleType (omega arith)) x
         go Constructor-record k x =
-            picks (both (eqb (typeKind s t) 5) (both (leb (recordA v r + 1) (typeCount s t)) (eqb (constructorCount s (typeFirst s t + recordA v r)) (recordCount v r))))
+            picks (both (eqb (typeKind s t) dataType) (both (leb (recordA v r + 1) (typeCount s t)) (eqb (constructorCount s (typeFirst s t + recordA v r)) (recordCount v r))))
             (constructorFirst s (typeFirst s t + recordA v r)) 1 (ap hasParts k) field-entries x
         go Unknown-record k x = let z : _≡_ {A = ℕ} 0 1 = cc in absurd (omega arith)
 
@@ -203,7 +204,7 @@ module _ (s : List ℕ) (sm : SheetMap) (v : List ℕ) (vm : Map) (ready : Ready
     part-fits rest h e' = e' ∙ sym (first-fits ∙ rw h)
 
 -- ---- a constructor that has as many parts as fields
-pub fields-left : (s : List ℕ) (x : Record) (y : TypeRecord) (c : Fields) → y .kind ≡ 5 → x .a < y .count → c ≡ constructorAt s (y .first + x .a)
+pub fields-left : (s : List ℕ) (x : Record) (y : TypeRecord) (c : Fields) → y .kind ≡ dataType → x .a < y .count → c ≡ constructorAt s (y .first + x .a)
     → c .count ≡ x .count → Parts (x .first) (x .count) (c .first) 1 ≡ fieldsBelow s x y
 fields-left s x y c kind small read count =
     rw (eq-eqb _ _ kind, le-leb (x .a + 1) (y .count) (omega arith), eq-eqb _ _ (ap (λ (z : Fields). z .count) (sym read) ∙ count), read)

@@ -2,15 +2,15 @@
 -- Rests on the definitions of the crate spec_rules alone.
 use mathlib.Core.Path.{_≡_}
 use mathlib.Core.Bool.{Bool}
-use mathlib.Core.List.{List}
+use mathlib.Core.List.{List, [], _∷_}
 use Prim.Native.Nat.{ℕ, _+_, _-_, _*_, _/_}
 use native.Mathlib.Nat.{sub-zero, zero-add}
 use lib.Dec.{eqb, leb}
 use lib.ListN.{length, getD}
 use Rattle.base_words.specs.Words.{wordAt, both}
 use Rattle.spec_rules.specs.Limits.{recordSize, partSize, panelTrailer, recordsMost}
-use Rattle.spec_rules.specs.SheetRefusals.{wholeRecords}
-use Rattle.spec_rules.specs.PanelFile.{panelStart, recordsAt, partsAt, panelPoolAt, panelPoolEnd, records, parts, recordKind, recordZero, recordA, recordFirst, recordCount, panelLayoutFits}
+use Rattle.spec_rules.specs.SheetRefusals.{wholeBetween}
+use Rattle.spec_rules.specs.PanelFile.{panelStart, recordsAt, partsAt, panelPoolAt, panelPoolEnd, panelSizes, records, parts, recordKind, recordZero, recordA, recordFirst, recordCount, panelLayoutFits}
 use Rattle.spec_accepted.specs.PanelFacts.{PanelLaid}
 use Rattle.format_panel.specs.declared.Map.{Map}
 use Rattle.format_panel.specs.declared.records.Record.{Record}
@@ -20,10 +20,8 @@ use Rattle.format_panel.specs.Opened.{mapOf, recordOf}
 abbrev pub startsFit : ℕ → ℕ → ℕ → ℕ → Bool
 startsFit a b c e =
     both (eqb a 0)
-    (both (wholeRecords recordSize a b)
-    (both (wholeRecords partSize b c)
-    (both (wholeRecords 1 c e)
-    (both (leb 1 ((b - a) / recordSize)) (leb ((b - a) / recordSize) recordsMost)))))
+    (both (wholeBetween panelSizes (a ∷ b ∷ c ∷ e ∷ []))
+    (both (leb 1 ((b - a) / recordSize)) (leb ((b - a) / recordSize) recordsMost)))
 
 module _ (v : List ℕ) where
   pub layout-read : (a b c : ℕ) → a ≡ panelStart v 0 → b ≡ panelStart v 1 → c ≡ panelStart v 2

@@ -10,6 +10,7 @@ use lib.Dec.{eqb, ltb}
 use Rattle.base_words.specs.Words.{pick}
 use Rattle.base_words.specs.WordsLaws.{both-true, both-make}
 use Rattle.spec_rules.specs.Limits.{panelDepthMost}
+use Rattle.spec_rules.specs.Kinds.{constructorRecord}
 use Rattle.spec_rules.specs.Searching.{every, times}
 use Rattle.spec_rules.specs.SearchingLaws.{every-true, every-make}
 use Rattle.spec_rules.specs.PanelFile.{records, parts, recordKind, recordZero, recordFirst, recordCount, part, recordKindOf, hasParts, recordFieldsFit, isHigher, partsHigher, recordKeepsRules, isPart, isOnePart, holds, partKeepsRules, recordWithin, panelShapeFits}
@@ -54,7 +55,7 @@ module _ (v : List ℕ) where
   list-inside r f h =
       fields-run v r (both-true (eqb (recordZero v r) 0) (recordFieldsFit v r (recordKindOf (recordKind v r))) f .1) (holder-kind v r h .0) .inside
 
-  pub fit-kind : (r : ℕ) → fieldsFit v r ≡ true → recordKind v r ≤ 5
+  pub fit-kind : (r : ℕ) → fieldsFit v r ≡ true → recordKind v r ≤ constructorRecord
   unfolding fieldsFit
   fit-kind r f = fields-kind v r (both-true (eqb (recordZero v r) 0) (recordFieldsFit v r (recordKindOf (recordKind v r))) f .1)
 

@@ -12,6 +12,7 @@ use lib.ListN.{getD, set}
 use Rattle.base_words.specs.Words.{wordAt, both}
 use Rattle.base_words.specs.WordsLaws.{both-make, both-first-false, both-second-false}
 use Rattle.spec_rules.specs.Limits.{partSize, panelDepthMost}
+use Rattle.spec_rules.specs.Kinds.{bytesRecord, listRecord, pairRecord, tupleRecord, constructorRecord}
 use Rattle.spec_rules.specs.SheetFile.{runIn}
 use Rattle.spec_rules.specs.PanelFile.{records, parts, panelPoolSize, recordKind, recordZero, recordA, recordFirst, recordCount, part, RecordKind, Integer-record, Bytes-record, List-record, Pair-record, Tuple-record, Constructor-record, Unknown-record, recordKindOf, hasParts, recordFieldsFit, isHigher}
 use Rattle.spec_accepted.specs.KindsLaws.{record-unknown}
@@ -24,10 +25,10 @@ use Rattle.format_panel.specs.Shape.{Seen, seen, met, fieldsFit, broken,
 use Rattle.format_panel.specs.ShapeLaws.{listed, parts-on, parts-stop, records-on, records-stop, higher-make, list-inside, fit-kind}
 
 -- ---- the fields of a record, by its kind byte
-pub past-kinds : (k : ℕ) → 2 ≤ k → ((k ≡ 2) ⊎ (k ≡ 4) → ⊥) → (k ≡ 3 → ⊥) → (k ≡ 5 → ⊥) → 6 ≤ k
+pub past-kinds : (k : ℕ) → listRecord ≤ k → ((k ≡ listRecord) ⊎ (k ≡ tupleRecord) → ⊥) → (k ≡ pairRecord → ⊥) → (k ≡ constructorRecord → ⊥) → constructorRecord < k
 past-kinds k low h three five =
-    let two : k ≡ 2 → ⊥ = λ e. h (inl e) in
-    let four : k ≡ 4 → ⊥ = λ e. h (inr e) in
+    let two : k ≡ listRecord → ⊥ = λ e. h (inl e) in
+    let four : k ≡ tupleRecord → ⊥ = λ e. h (inr e) in
     omega arith
 
 module _ (v : List ℕ) (r : ℕ) where
@@ -41,47 +42,47 @@ module _ (v : List ℕ) (r : ℕ) where
     of-kind kind k = rw (eq-eqb _ _ zero, k)
 
     -- an integer or a byte string
-    text-fields : recordKind v r < 2 → fieldsFit v r ≡ both (eqb (recordA v r) 0) (runIn (recordFirst v r) (recordCount v r) (panelPoolSize v))
+    text-fields : recordKind v r < listRecord → fieldsFit v r ≡ both (eqb (recordA v r) 0) (runIn (recordFirst v r) (recordCount v r) (panelPoolSize v))
     unfolding recordKindOf recordFieldsFit
     text-fields h =
-        ⊎-elim (λ e. of-kind Integer-record (rw e)) (λ d. let e : recordKind v r ≡ 1 = omega arith in of-kind Bytes-record (rw e))
+        ⊎-elim (λ e. of-kind Integer-record (rw e)) (λ d. let e : recordKind v r ≡ bytesRecord = omega arith in of-kind Bytes-record (rw e))
         (same-or-not (recordKind v r) 0)
 
-    pub text-a : recordKind v r < 2 → (recordA v r ≡ 0 → ⊥) → false ≡ fieldsFit v r
+    pub text-a : recordKind v r < listRecord → (recordA v r ≡ 0 → ⊥) → false ≡ fieldsFit v r
     text-a h a = rw (text-fields h, ne-eqb _ _ a)
 
-    pub text-run : (b : Bool) → recordKind v r < 2 → recordA v r ≡ 0 → b ≡ runIn (recordFirst v r) (recordCount v r) (panelPoolSize v) → b ≡ fieldsFit v r
+    pub text-run : (b : Bool) → recordKind v r < listRecord → recordA v r ≡ 0 → b ≡ runIn (recordFirst v r) (recordCount v r) (panelPoolSize v) → b ≡ fieldsFit v r
     text-run b h a e = rw (text-fields h, eq-eqb _ _ a) e
 
     -- a list or a tuple
-    list-fields : (recordKind v r ≡ 2) ⊎ (recordKind v r ≡ 4) → fieldsFit v r ≡ both (eqb (recordA v r) 0) (runIn (recordFirst v r) (recordCount v r) (parts v))
+    list-fields : (recordKind v r ≡ listRecord) ⊎ (recordKind v r ≡ tupleRecord) → fieldsFit v r ≡ both (eqb (recordA v r) 0) (runIn (recordFirst v r) (recordCount v r) (parts v))
     unfolding recordKindOf recordFieldsFit
     list-fields h = ⊎-elim (λ e. of-kind List-record (rw e)) (λ e. of-kind Tuple-record (rw e)) h
 
-    pub list-a : (recordKind v r ≡ 2) ⊎ (recordKind v r ≡ 4) → (recordA v r ≡ 0 → ⊥) → false ≡ fieldsFit v r
+    pub list-a : (recordKind v r ≡ listRecord) ⊎ (recordKind v r ≡ tupleRecord) → (recordA v r ≡ 0 → ⊥) → false ≡ fieldsFit v r
     list-a h a = rw (list-fields h, ne-eqb _ _ a)
 
-    pub list-run : (b : Bool) → (recordKind v r ≡ 2) ⊎ (recordKind v r ≡ 4) → recordA v r ≡ 0 → b ≡ runIn (recordFirst v r) (recordCount v r) (parts v) → b ≡ fieldsFit v r
+    pub list-run : (b : Bool) → (recordKind v r ≡ listRecord) ⊎ (recordKind v r ≡ tupleRecord) → recordA v r ≡ 0 → b ≡ runIn (recordFirst v r) (recordCount v r) (parts v) → b ≡ fieldsFit v r
     list-run b h a e = rw (list-fields h, eq-eqb _ _ a) e
 
-    pair-fields : recordKind v r ≡ 3 → fieldsFit v r ≡ both (eqb (recordA v r) 0) (both (eqb (recordCount v r) 2) (runIn (recordFirst v r) (recordCount v r) (parts v)))
+    pair-fields : recordKind v r ≡ pairRecord → fieldsFit v r ≡ both (eqb (recordA v r) 0) (both (eqb (recordCount v r) 2) (runIn (recordFirst v r) (recordCount v r) (parts v)))
     unfolding recordKindOf recordFieldsFit
     pair-fields h = of-kind Pair-record (rw h)
 
-    pub pair-a : recordKind v r ≡ 3 → (recordA v r ≡ 0 → ⊥) → false ≡ fieldsFit v r
+    pub pair-a : recordKind v r ≡ pairRecord → (recordA v r ≡ 0 → ⊥) → false ≡ fieldsFit v r
     pair-a h a = rw (pair-fields h, ne-eqb _ _ a)
 
-    pub pair-count : recordKind v r ≡ 3 → recordA v r ≡ 0 → (recordCount v r ≡ 2 → ⊥) → false ≡ fieldsFit v r
+    pub pair-count : recordKind v r ≡ pairRecord → recordA v r ≡ 0 → (recordCount v r ≡ 2 → ⊥) → false ≡ fieldsFit v r
     pair-count h a n = rw (pair-fields h, eq-eqb _ _ a, ne-eqb _ _ n)
 
-    pub pair-run : (b : Bool) → recordKind v r ≡ 3 → recordA v r ≡ 0 → recordCount v r ≡ 2 → b ≡ runIn (recordFirst v r) (recordCount v r) (parts v) → b ≡ fieldsFit v r
+    pub pair-run : (b : Bool) → recordKind v r ≡ pairRecord → recordA v r ≡ 0 → recordCount v r ≡ 2 → b ≡ runIn (recordFirst v r) (recordCount v r) (parts v) → b ≡ fieldsFit v r
     pair-run b h a n e = rw (pair-fields h, eq-eqb _ _ a, eq-eqb _ _ n) e
 
-    pub constructor-run : (b : Bool) → recordKind v r ≡ 5 → b ≡ runIn (recordFirst v r) (recordCount v r) (parts v) → b ≡ fieldsFit v r
+    pub constructor-run : (b : Bool) → recordKind v r ≡ constructorRecord → b ≡ runIn (recordFirst v r) (recordCount v r) (parts v) → b ≡ fieldsFit v r
     unfolding recordKindOf recordFieldsFit
     constructor-run b h e = rw (of-kind Constructor-record (rw h)) e
 
-    pub no-kind : 6 ≤ recordKind v r → false ≡ fieldsFit v r
+    pub no-kind : constructorRecord < recordKind v r → false ≡ fieldsFit v r
     unfolding recordFieldsFit
     no-kind h = rw (of-kind Unknown-record (record-unknown (recordKind v r) h))
 
@@ -135,27 +136,27 @@ module _ (v : List ℕ) (s : Seen) (r : ℕ) where
   unfolding recordMet
   met-fit d f = both-make (ltb 0 (getD (s .depths) r 0)) _ (lt-ltb 0 (getD (s .depths) r 0) (omega arith)) f
 
-  text-unlisted : recordKind v r < 2 → listed v r ≡ false
+  text-unlisted : recordKind v r < listRecord → listed v r ≡ false
   unfolding hasParts recordKindOf
   text-unlisted h =
-      ⊎-elim (λ e. rw e) (λ n. let e : recordKind v r ≡ 1 = omega arith in rw e) (same-or-not (recordKind v r) 0)
+      ⊎-elim (λ e. rw e) (λ n. let e : recordKind v r ≡ bytesRecord = omega arith in rw e) (same-or-not (recordKind v r) 0)
 
   -- x is record r as it was read
   module _ (x : Record) (read : x ≡ recordOf v r) (fit : fieldsFit v r ≡ true) where
     kind-read : x .kind ≡ recordKind v r
     kind-read = ap (λ (y : Record). y .kind) read
 
-    pub record-text : (getD (s .depths) r 0 ≡ 0 → ⊥) → x .kind < 2 → s ≡ enterRecord v s r
+    pub record-text : (getD (s .depths) r 0 ≡ 0 → ⊥) → x .kind < listRecord → s ≡ enterRecord v s r
     unfolding enterRecord
     record-text d h = rw (enterRecord, met-fit d fit, text-unlisted (omega (arith, kind-read)))
 
-    holds-parts : 2 ≤ x .kind → listed v r ≡ true
+    holds-parts : listRecord ≤ x .kind → listed v r ≡ true
     holds-parts h = kind-holder v r (omega (arith, kind-read)) (fit-kind v r fit)
 
-    pub parts-inside : 2 ≤ x .kind → x .first + x .count ≤ parts v
+    pub parts-inside : listRecord ≤ x .kind → x .first + x .count ≤ parts v
     parts-inside h = rw read (list-inside v r fit (holds-parts h))
 
-    pub record-parts : (y : Seen) → (getD (s .depths) r 0 ≡ 0 → ⊥) → 2 ≤ x .kind → y ≡ enterParts v s r (x .first) (x .count) → y ≡ enterRecord v s r
+    pub record-parts : (y : Seen) → (getD (s .depths) r 0 ≡ 0 → ⊥) → listRecord ≤ x .kind → y ≡ enterParts v s r (x .first) (x .count) → y ≡ enterRecord v s r
     unfolding enterRecord
     record-parts y d h e = rw (enterRecord, met-fit d fit, holds-parts h) (rw read at e)
 

@@ -11,6 +11,7 @@ use lib.Dec.{leb}
 use lib.ListN.{length}
 use Rattle.base_words.specs.Words.{both, textAt}
 use Rattle.spec_rules.specs.Limits.{panelTrailer, textMost}
+use Rattle.spec_rules.specs.Kinds.{integerRecord, bytesRecord}
 use Rattle.spec_rules.specs.Texts.{canonical, shortText}
 use Rattle.spec_rules.specs.PanelFile.{records, recordKind, recordFirst, recordCount, recordText, RecordKind, Integer-record, Bytes-record, List-record, Pair-record, Tuple-record, Constructor-record, Unknown-record, recordKindOf, recordTextOfKind, recordTextFits}
 use Rattle.spec_accepted.specs.KindsLaws.{record-byte}
@@ -28,7 +29,7 @@ module _ (v : List ℕ) (r : ℕ) (x : Record) (read : x ≡ recordOf v r) where
   count-read : x .count ≡ recordCount v r
   count-read = ap (λ (y : Record). y .count) read
 
-  pub no-text : 1 < x .kind → true ≡ recordTextFits v r
+  pub no-text : bytesRecord < x .kind → true ≡ recordTextFits v r
   unfolding recordTextFits recordTextOfKind
   no-text h = go (recordKindOf (recordKind v r)) refl
     where
@@ -41,30 +42,30 @@ module _ (v : List ℕ) (r : ℕ) (x : Record) (read : x ≡ recordOf v r) where
       go Constructor-record e = refl
       go Unknown-record e = refl
 
-  bytes-text : x .kind ≡ 1 → recordTextFits v r ≡ leb (x .count) textMost
+  bytes-text : x .kind ≡ bytesRecord → recordTextFits v r ≡ leb (x .count) textMost
   unfolding recordTextFits recordTextOfKind recordKindOf shortText
-  bytes-text h = let e : recordKind v r ≡ 1 = sym kind-read ∙ h in rw (recordTextFits, e, count-read)
+  bytes-text h = let e : recordKind v r ≡ bytesRecord = sym kind-read ∙ h in rw (recordTextFits, e, count-read)
 
-  integer-text : x .kind ≡ 0 → recordTextFits v r ≡ both (leb (x .count) textMost) (canonical (recordText v r))
+  integer-text : x .kind ≡ integerRecord → recordTextFits v r ≡ both (leb (x .count) textMost) (canonical (recordText v r))
   unfolding recordTextFits recordTextOfKind recordKindOf shortText
-  integer-text h = let e : recordKind v r ≡ 0 = sym kind-read ∙ h in rw (recordTextFits, e, count-read)
+  integer-text h = let e : recordKind v r ≡ integerRecord = sym kind-read ∙ h in rw (recordTextFits, e, count-read)
 
-  pub long-text : x .kind ≤ 1 → textMost < x .count → false ≡ recordTextFits v r
+  pub long-text : x .kind ≤ bytesRecord → textMost < x .count → false ≡ recordTextFits v r
   long-text h long =
-      ⊎-elim (λ e. rw (bytes-text e, lt-leb _ _ long)) (λ d. let e : x .kind ≡ 0 = omega arith in rw (integer-text e, lt-leb _ _ long))
+      ⊎-elim (λ e. rw (bytes-text e, lt-leb _ _ long)) (λ d. let e : x .kind ≡ integerRecord = omega arith in rw (integer-text e, lt-leb _ _ long))
       (same-or-not (x .kind) 1)
 
-  pub short-bytes : x .kind ≡ 1 → x .count ≤ textMost → true ≡ recordTextFits v r
+  pub short-bytes : x .kind ≡ bytesRecord → x .count ≤ textMost → true ≡ recordTextFits v r
   short-bytes h short = rw (bytes-text h, le-leb _ _ short)
 
   module _ (m : Map) (o : Opened v m) where
-    pub short-integer : (b : Bool) → x .kind ≤ 1 → (x .kind ≡ 1 → ⊥) → x .count ≤ textMost → b ≡ canonical (textAt v (m .«pool_at» + x .first) (x .count)) → b ≡ recordTextFits v r
+    pub short-integer : (b : Bool) → x .kind ≤ bytesRecord → (x .kind ≡ bytesRecord → ⊥) → x .count ≤ textMost → b ≡ canonical (textAt v (m .«pool_at» + x .first) (x .count)) → b ≡ recordTextFits v r
     unfolding recordText
     short-integer b h d short e =
-        let zero : x .kind ≡ 0 = omega arith in
+        let zero : x .kind ≡ integerRecord = omega arith in
         rw (integer-text zero, le-leb _ _ short) (rw (o .pool-at, read) at e)
 
-    pub text-inside : PanelShaped v → r < records v → x .kind ≤ 1 → m .«pool_at» + x .first + x .count + panelTrailer ≤ length v
+    pub text-inside : PanelShaped v → r < records v → x .kind ≤ bytesRecord → m .«pool_at» + x .first + x .count + panelTrailer ≤ length v
     text-inside sh l h =
         let run = sh .text-run r l (omega (arith, kind-read)) in
         rw (o .pool-at, read) (panel-text-inside (o .laid) (recordFirst v r) (recordCount v r) (run .inside))

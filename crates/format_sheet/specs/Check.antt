@@ -1,6 +1,7 @@
 -- The answer of the check of a sheet: 01's number and place, or where the sections are. `verdict` of spec_rules decides.
 use Prim.Native.Nat.{ℕ}
 use mathlib.Core.List.{List}
+use Rattle.spec_rules.specs.RefusalNumbers.{typesRefusal, transparentRefusal, shapeRefusal, textRefusal, misfitRefusal, nameTwiceRefusal}
 use Rattle.spec_rules.specs.SheetRefusals.{Verdict, accepted, refused, require, requireNone, typesFit, lowestTransparent, shapeFits, lowestBadText, lowestMisfit, lowestNameTwice, verdict}
 use Rattle.format_sheet.specs.declared.Checked.{Checked}
 use Rattle.format_sheet.specs.declared.Checked.the-variants.{Accepted, Refused}
@@ -17,12 +18,12 @@ checked s = answer s (verdict s)
 
 -- ---- the verdict from its later stages on
 unfoldable pub fromClauses : List ℕ → Verdict
-fromClauses s = requireNone (lowestMisfit s) 10 (requireNone (lowestNameTwice s) 11 accepted)
+fromClauses s = requireNone (lowestMisfit s) misfitRefusal (requireNone (lowestNameTwice s) nameTwiceRefusal accepted)
 
 unfoldable pub fromPatterns : List ℕ → Verdict
 unfolding fromClauses
-fromPatterns s = require (shapeFits s) 8 (requireNone (lowestBadText s) 9 (fromClauses s))
+fromPatterns s = require (shapeFits s) shapeRefusal (requireNone (lowestBadText s) textRefusal (fromClauses s))
 
 unfoldable pub fromTypes : List ℕ → Verdict
 unfolding fromPatterns
-fromTypes s = require (typesFit s) 6 (requireNone (lowestTransparent s) 7 (fromPatterns s))
+fromTypes s = require (typesFit s) typesRefusal (requireNone (lowestTransparent s) transparentRefusal (fromPatterns s))

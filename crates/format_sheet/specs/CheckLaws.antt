@@ -10,8 +10,10 @@ use lib.Dec.{leb}
 use lib.ListN.{length}
 use Rattle.base_words.specs.WordsLaws.{both-true}
 use Rattle.spec_rules.specs.Limits.{sheetTrailer}
+use Rattle.spec_rules.specs.RefusalNumbers.{lengthRefusal, layoutRefusal, noClauseRefusal, countRefusal}
 use Rattle.spec_rules.specs.SheetFile.{clauses}
 use Rattle.spec_rules.specs.SheetRefusals.{Verdict, require, requireNone, lengthFits, layoutFits, hasClause, countsFit}
+use Rattle.spec_rules.specs.SheetRefusalsLaws.{verdict-in-order}
 use Rattle.format_sheet.specs.declared.Starts.{Starts}
 use Rattle.format_sheet.specs.declared.Counts.{Counts}
 use Rattle.format_sheet.specs.declared.Map.{Map}
@@ -23,7 +25,7 @@ use Rattle.format_sheet.specs.Sections.{startsOf, countsOf, mapOf, start
 use Rattle.format_sheet.specs.SectionsLaws.{startsFit-is, countsBetween-is, fewEnough-is}
 use Rattle.format_sheet.specs.Found.{foundOf}
 use Rattle.format_sheet.specs.TestsLaws.{passed, stopped}
-use Rattle.format_sheet.specs.Check.{answer, checked, fromTypes}
+use Rattle.format_sheet.specs.Check.{answer, checked, fromTypes, fromPatterns, fromClauses}
 
 -- ---- a test, and a search
 module _ (s : List ℕ) (number : ℕ) (rest : Verdict) where
@@ -50,9 +52,9 @@ module _ (s : List ℕ) (number : ℕ) (rest : Verdict) where
     search-passes y g = let f : o ≡ none = found-nothing o (sym y ∙ e) in rw f g
 
 -- ---- the first stages
-pub checked-is : (s : List ℕ) → checked s ≡ answer s (require (lengthFits s) 2 (require (layoutFits s) 3 (require (hasClause s) 4 (require (countsFit s) 5 (fromTypes s)))))
-unfolding checked fromTypes
-checked-is s = refl
+pub checked-is : (s : List ℕ) → checked s ≡ answer s (require (lengthFits s) lengthRefusal (require (layoutFits s) layoutRefusal (require (hasClause s) noClauseRefusal (require (countsFit s) countRefusal (fromTypes s)))))
+unfolding checked fromTypes fromPatterns fromClauses
+checked-is s = ap (answer s) (verdict-in-order s)
 
 pub long-enough : (s : List ℕ) → lengthFits s ≡ true → sheetTrailer ≤ length s
 unfolding lengthFits
@@ -80,8 +82,8 @@ module _ (s : List ℕ) (at : Starts) (e : at ≡ startsOf s) where
     pub map-is : (subject : ℕ) → subject ≡ mapOf s .subject → _≡_ {A = Map} (record { at = at; counts = n; subject = subject }) (mapOf s)
     map-is subject g = rw (e, counts-are, g)
 
-pub clause-refused : (s : List ℕ) (rest : Verdict) → hasClause s ≡ false → _≡_ {A = Checked} (Refused 4 0) (answer s (require (hasClause s) 4 rest))
+pub clause-refused : (s : List ℕ) (rest : Verdict) → hasClause s ≡ false → _≡_ {A = Checked} (Refused noClauseRefusal 0) (answer s (require (hasClause s) noClauseRefusal rest))
 clause-refused s rest e = rw e
 
-pub clause-there : (s : List ℕ) (rest : Verdict) {x : Checked} → hasClause s ≡ true → x ≡ answer s rest → x ≡ answer s (require (hasClause s) 4 rest)
+pub clause-there : (s : List ℕ) (rest : Verdict) {x : Checked} → hasClause s ≡ true → x ≡ answer s rest → x ≡ answer s (require (hasClause s) noClauseRefusal rest)
 clause-there s rest e g = rw e g

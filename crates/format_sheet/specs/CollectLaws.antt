@@ -6,6 +6,7 @@ use Prim.Native.Nat.{ℕ, _+_, _-_, _≤_, _<_}
 use native.Mathlib.Omega.{arith}
 use lib.ListN.{length, length-append}
 use Rattle.base_words.specs.Words.{pick}
+use Rattle.spec_rules.specs.Limits.{patternsMost}
 use Rattle.spec_rules.specs.SheetFile.{patterns, clauses, patternKind, patternFirst, patternCount, child, root}
 use Rattle.spec_rules.specs.Patterns.{patternKindOf}
 use Rattle.spec_rules.specs.SheetRefusals.{hasChildren, repeats, nameTwice}
@@ -42,7 +43,7 @@ adds-both a b c xs ys f g = record {
 }
 
 module _ (s : List ℕ) (m : Map) (ready : Ready s m) (p : ℕ) (h : p < patterns s) where
-  pub own-room : (n : ℕ) → n + length (namesIn s p) ≤ 192 → n + length (ownName s p) ≤ 192
+  pub own-room : (n : ℕ) → n + length (namesIn s p) ≤ patternsMost → n + length (ownName s p) ≤ patternsMost
   own-room n few =
       omega (arith, ap length (names-open s (ready .is-shaped) (ready .is-counted) p h) ∙ length-append (ownName s p) (joined (λ j. namesIn s (child s j)) (childrenFirst s p) (childrenCount s p)))
 
@@ -70,8 +71,8 @@ module _ (s : List ℕ) (m : Map) (ready : Ready s m) (p : ℕ) (h : p < pattern
           let o = run-owned s p r e k l in
           (omega (arith, f, ready .is-shaped .child-above p (r .first + k) h o), omega (arith, f, owned-pattern (ready .is-shaped) p (r .first + k) h o))
 
-      pub collect-room : length (names .found) ≡ 192 → names .count + length (namesIn s p) ≤ 192 → Adds names (ownName s p) start
-          → (length (next .found) ≡ 192) × (next .count + length (namesIn s q) ≤ 192)
+      pub collect-room : length (names .found) ≡ patternsMost → names .count + length (namesIn s p) ≤ patternsMost → Adds names (ownName s p) start
+          → (length (next .found) ≡ patternsMost) × (next .count + length (namesIn s q) ≤ patternsMost)
       collect-room long few own = (
         lacks .kept ∙ own .kept ∙ long,
         omega (arith, few, own .counted, lacks .counted, ap length names-are ∙ length-append (ownName s p) inside, ap length rest-is ∙ length-append (namesIn s q) (insideFrom (k + 1))),
@@ -85,11 +86,11 @@ module _ (s : List ℕ) (m : Map) (ready : Ready s m) (p : ℕ) (h : p < pattern
         rw names-are (adds-both names start next (ownName s p) inside own (lacks-nothing start next inside (insideFrom k) lacks (joined-end s (λ j. namesIn s (child s j)) (r .first) (r .count) k l)))
 
 -- ---- the names of a clause, from none in a buffer of whatever it holds
-pub clause-room : (s : List ℕ) (m : Map) → Ready s m → (c q : ℕ) → c < clauses s → q ≡ root s c → 0 + length (namesIn s q) ≤ 192
+pub clause-room : (s : List ℕ) (m : Map) → Ready s m → (c q : ℕ) → c < clauses s → q ≡ root s c → 0 + length (namesIn s q) ≤ patternsMost
 clause-room s m ready c q h e = omega (arith, names-few s (ready .is-shaped) (ready .is-counted) c h, ap (λ (x : ℕ). length (namesIn s x)) e)
 
-pub clause-held : (s : List ℕ) (m : Map) → Ready s m → (c q : ℕ) → c < clauses s → q ≡ root s c → (l : List ℕ) → length l ≡ 192 → (r : Names)
-    → Adds (inBuffer l 0) (namesIn s q) r → (length (r .found) ≡ 192) × (r .count ≤ 192) × (repeats (held r) ≡ nameTwice s c)
+pub clause-held : (s : List ℕ) (m : Map) → Ready s m → (c q : ℕ) → c < clauses s → q ≡ root s c → (l : List ℕ) → length l ≡ patternsMost → (r : Names)
+    → Adds (inBuffer l 0) (namesIn s q) r → (length (r .found) ≡ patternsMost) × (r .count ≤ patternsMost) × (repeats (held r) ≡ nameTwice s c)
 unfolding nameTwice
 clause-held s m ready c q h e l long r a = (
   a .kept ∙ long,

@@ -6,6 +6,7 @@ use mathlib.Core.Bool.{Bool, true, false}
 use mathlib.Core.List.{List}
 use lib.Dec.{eqb, leb}
 use Rattle.base_words.specs.Words.{both}
+use Rattle.spec_rules.specs.Kinds.{intType, bytesType, listType, pairType, tupleType, dataType}
 use Rattle.spec_rules.specs.SheetFile.{patterns, entries, typeKind, typeFirst, typeCount, constructorFirst, constructorCount, patternA, patternFirst, patternCount, child}
 use Rattle.spec_rules.specs.Patterns.{PatternKind, Discard, Variable, Assign, Integer, ByteString, ListOfAll, ListWithRest, Constructor, Pair, Tuple, Unknown, pattern, along, constructorOf, takesArguments, fits, fitAll}
 use Rattle.spec_accepted.specs.SheetFacts.{Laid, Counted, Typed, Shaped, Parent}
@@ -40,7 +41,7 @@ asksFor false first count entry step = Settled false
 -- a constructor pattern held against a type
 unfoldable pub argumentsFit : List ℕ → PatternRecord → TypeRecord → Question
 argumentsFit s r ty =
-    asksFor (both (eqb (ty .kind) 5) (both (leb (r .a + 1) (ty .count)) (eqb (constructorCount s (ty .first + r .a)) (r .count))))
+    asksFor (both (eqb (ty .kind) dataType) (both (leb (r .a + 1) (ty .count)) (eqb (constructorCount s (ty .first + r .a)) (r .count))))
     (r .first) (r .count) (constructorFirst s (ty .first + r .a)) 1
 
 -- pattern p, of a kind, held against type t
@@ -48,14 +49,14 @@ unfoldable pub asked : List ℕ → ℕ → ℕ → PatternKind → Question
 asked s p t Discard = Settled true
 asked s p t Variable = Settled true
 asked s p t Assign = Inside (child s (patternFirst s p))
-asked s p t Integer = Settled (eqb (typeKind s t) 0)
-asked s p t ByteString = Settled (eqb (typeKind s t) 1)
-asked s p t ListOfAll = asksFor (eqb (typeKind s t) 2) (patternFirst s p) (patternCount s p) (typeFirst s t) 0
-asked s p t ListWithRest = asksFor (eqb (typeKind s t) 2) (patternFirst s p) (patternCount s p - 1) (typeFirst s t) 0
+asked s p t Integer = Settled (eqb (typeKind s t) intType)
+asked s p t ByteString = Settled (eqb (typeKind s t) bytesType)
+asked s p t ListOfAll = asksFor (eqb (typeKind s t) listType) (patternFirst s p) (patternCount s p) (typeFirst s t) 0
+asked s p t ListWithRest = asksFor (eqb (typeKind s t) listType) (patternFirst s p) (patternCount s p - 1) (typeFirst s t) 0
 asked s p t Constructor =
     asksFor (takesArguments s t (patternA s p) (patternCount s p)) (patternFirst s p) (patternCount s p) (constructorFirst s (constructorOf s t (patternA s p))) 1
-asked s p t Pair = asksFor (both (eqb (typeKind s t) 3) (eqb (typeCount s t) (patternCount s p))) (patternFirst s p) (patternCount s p) (typeFirst s t) 1
-asked s p t Tuple = asksFor (both (eqb (typeKind s t) 4) (eqb (typeCount s t) (patternCount s p))) (patternFirst s p) (patternCount s p) (typeFirst s t) 1
+asked s p t Pair = asksFor (both (eqb (typeKind s t) pairType) (eqb (typeCount s t) (patternCount s p))) (patternFirst s p) (patternCount s p) (typeFirst s t) 1
+asked s p t Tuple = asksFor (both (eqb (typeKind s t) tupleType) (eqb (typeCount s t) (patternCount s p))) (patternFirst s p) (patternCount s p) (typeFirst s t) 1
 asked s p t Unknown = Settled true
 
 -- the answer of what is left to ask

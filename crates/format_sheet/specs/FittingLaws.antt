@@ -10,6 +10,7 @@ use lib.Dec.{eqb, leb}
 use Rattle.base_words.specs.Words.{both}
 use Rattle.base_words.specs.WordsLaws.{both-true}
 use Rattle.spec_rules.specs.Limits.{childrenMost, entriesMost}
+use Rattle.spec_rules.specs.Kinds.{listType, pairType, tupleType, dataType, variablePattern}
 use Rattle.spec_rules.specs.SheetFile.{types, entries, patterns, children, typeKind, typeFirst, typeCount, constructorFirst, constructorCount, entry, patternKind, patternA, patternFirst, patternCount, child, root}
 use Rattle.spec_rules.specs.Patterns.{PatternKind, Discard, Variable, Assign, Integer, ByteString, ListOfAll, ListWithRest, Constructor, Pair, Tuple, Unknown, patternKindOf, Pat, Pats, many, decorated, oneConstructor, constructorOf, along, ofConstructor, ofKind, pattern, clausePattern, takesArguments, opensInto, fits, fitAll}
 use Rattle.spec_rules.specs.SheetRefusals.{hasChildren, misfit}
@@ -35,7 +36,7 @@ module _ (s : List ℕ) (m : Map) (ready : Ready s m) (p t : ℕ) (h : p < patte
   opens-as = pattern-of-kind s (ready .is-shaped) (ready .is-counted) p t h
 
   -- a variable or discard fits any type
-  plain-fits : patternKind s p ≤ 1 → fits (pattern s p t) s ≡ true
+  plain-fits : patternKind s p ≤ variablePattern → fits (pattern s p t) s ≡ true
   unfolding fits ofKind patternKindOf
   plain-fits l = go (patternKind s p) refl l
     where
@@ -67,20 +68,20 @@ module _ (s : List ℕ) (m : Map) (ready : Ready s m) (p t : ℕ) (h : p < patte
   by-kind Assign e = refl
   by-kind Integer e = refl
   by-kind ByteString e = refl
-  by-kind ListOfAll e = sym (answered-for s t (eqb (typeKind s t) 2) (patternFirst s p) (patternCount s p) (typeFirst s t) 0)
+  by-kind ListOfAll e = sym (answered-for s t (eqb (typeKind s t) listType) (patternFirst s p) (patternCount s p) (typeFirst s t) 0)
   by-kind ListWithRest e =
       rw (tail-fits e, both-end (fitAll (along (pattern s) s (patternFirst s p) (patternCount s p - 1) (typeFirst s t) 0) s))
-      (sym (answered-for s t (eqb (typeKind s t) 2) (patternFirst s p) (patternCount s p - 1) (typeFirst s t) 0))
+      (sym (answered-for s t (eqb (typeKind s t) listType) (patternFirst s p) (patternCount s p - 1) (typeFirst s t) 0))
   by-kind Constructor e =
       by-constructor (oneConstructor s t) (along (pattern s) s (patternFirst s p) (patternCount s p) (constructorFirst s (constructorOf s t (patternA s p))) 1)
       (many-along (pattern s) s (patternFirst s p) (patternCount s p) (constructorFirst s (constructorOf s t (patternA s p))) 1)
       ∙ sym (answered-for s t (takesArguments s t (patternA s p) (patternCount s p)) (patternFirst s p) (patternCount s p) (constructorFirst s (constructorOf s t (patternA s p))) 1)
   by-kind Pair e =
       rw (many-along (pattern s) s (patternFirst s p) (patternCount s p) (typeFirst s t) 1)
-      (sym (answered-for s t (both (eqb (typeKind s t) 3) (eqb (typeCount s t) (patternCount s p))) (patternFirst s p) (patternCount s p) (typeFirst s t) 1))
+      (sym (answered-for s t (both (eqb (typeKind s t) pairType) (eqb (typeCount s t) (patternCount s p))) (patternFirst s p) (patternCount s p) (typeFirst s t) 1))
   by-kind Tuple e =
       rw (many-along (pattern s) s (patternFirst s p) (patternCount s p) (typeFirst s t) 1)
-      (sym (answered-for s t (both (eqb (typeKind s t) 4) (eqb (typeCount s t) (patternCount s p))) (patternFirst s p) (patternCount s p) (typeFirst s t) 1))
+      (sym (answered-for s t (both (eqb (typeKind s t) tupleType) (eqb (typeCount s t) (patternCount s p))) (patternFirst s p) (patternCount s p) (typeFirst s t) 1))
   by-kind Unknown e = refl
 
   pub fits-answered : fits (pattern s p t) s ≡ answered s t (asked s p t (patternKindOf (patternKind s p)))
@@ -97,9 +98,9 @@ never-inside false x y z w q f = let o : _≡_ {A = ℕ} 0 1 = cc in omega arith
 
 module _ (s : List ℕ) (m : Map) (ready : Ready s m) (p t : ℕ) (h : p < patterns s) (k : t < types s) where
   -- a list's elements are all of the one type that its type has an entry for
-  element-entry : eqb (typeKind s t) 2 ≡ true → typeFirst s t < entries s
+  element-entry : eqb (typeKind s t) listType ≡ true → typeFirst s t < entries s
   element-entry b =
-      let two = eqb-true (typeKind s t) 2 b in
+      let two = eqb-true (typeKind s t) listType b in
       let one = ready .is-typed .list-one t k two in
       omega (arith, ready .is-typed .type-entries t k (omega arith))
 
@@ -107,16 +108,16 @@ module _ (s : List ℕ) (m : Map) (ready : Ready s m) (p t : ℕ) (h : p < patte
   field-entries : (n : ℕ) → takesArguments s t (patternA s p) n ≡ true → constructorFirst s (constructorOf s t (patternA s p)) + n ≤ entries s
   unfolding takesArguments constructorOf
   field-entries n b =
-      let b1 = both-true (eqb (typeKind s t) 5) _ b in
+      let b1 = both-true (eqb (typeKind s t) dataType) _ b in
       let b2 = both-true (leb (patternA s p + 1) (typeCount s t)) (eqb (constructorCount s (constructorOf s t (patternA s p))) n) (b1 .1) in
-      let five = eqb-true (typeKind s t) 5 (b1 .0) in
+      let five = eqb-true (typeKind s t) dataType (b1 .0) in
       let below = leb-true (patternA s p + 1) (typeCount s t) (b2 .0) in
       let as-many = eqb-true (constructorCount s (constructorOf s t (patternA s p))) n (b2 .1) in
       let inside = ready .is-typed .type-constructors t k five in
       omega (arith, ready .is-typed .constructor-entries (typeFirst s t + patternA s p) (omega arith) .inside)
 
   -- a pair's or a tuple's parts have their entries
-  part-entries : (kind n : ℕ) → kind ≤ 4 → both (eqb (typeKind s t) kind) (eqb (typeCount s t) n) ≡ true → typeFirst s t + n ≤ entries s
+  part-entries : (kind n : ℕ) → kind ≤ tupleType → both (eqb (typeKind s t) kind) (eqb (typeCount s t) n) ≡ true → typeFirst s t + n ≤ entries s
   part-entries kind n l b =
       let b1 = both-true (eqb (typeKind s t) kind) (eqb (typeCount s t) n) b in
       let e = eqb-true (typeKind s t) kind (b1 .0) in
@@ -131,20 +132,20 @@ module _ (s : List ℕ) (m : Map) (ready : Ready s m) (p t : ℕ) (h : p < patte
   room Integer x j n e step f = let o : _≡_ {A = ℕ} 0 1 = cc in absurd (omega arith)
   room ByteString x j n e step f = let o : _≡_ {A = ℕ} 0 1 = cc in absurd (omega arith)
   room ListOfAll x j n e step f =
-      let w = for-each (eqb (typeKind s t) 2) (patternFirst s p) (patternCount s p) (typeFirst s t) 0 j n e step f in
+      let w = for-each (eqb (typeKind s t) listType) (patternFirst s p) (patternCount s p) (typeFirst s t) 0 j n e step f in
       record { known = h; has = ap hasChildren x; from = omega (arith, w .1); to = omega (arith, w .1, w .2); enough = inl (sym (w .4), omega (arith, w .3, element-entry (w .0))) }
   room ListWithRest x j n e step f =
-      let w = for-each (eqb (typeKind s t) 2) (patternFirst s p) (patternCount s p - 1) (typeFirst s t) 0 j n e step f in
+      let w = for-each (eqb (typeKind s t) listType) (patternFirst s p) (patternCount s p - 1) (typeFirst s t) 0 j n e step f in
       record { known = h; has = ap hasChildren x; from = omega (arith, w .1); to = omega (arith, w .1, w .2); enough = inl (sym (w .4), omega (arith, w .3, element-entry (w .0))) }
   room Constructor x j n e step f =
       let w = for-each (takesArguments s t (patternA s p) (patternCount s p)) (patternFirst s p) (patternCount s p) (constructorFirst s (constructorOf s t (patternA s p))) 1 j n e step f in
       record { known = h; has = ap hasChildren x; from = omega (arith, w .1); to = omega (arith, w .1, w .2); enough = inr (sym (w .4), omega (arith, w .2, w .3, field-entries (patternCount s p) (w .0))) }
   room Pair x j n e step f =
-      let w = for-each (both (eqb (typeKind s t) 3) (eqb (typeCount s t) (patternCount s p))) (patternFirst s p) (patternCount s p) (typeFirst s t) 1 j n e step f in
-      record { known = h; has = ap hasChildren x; from = omega (arith, w .1); to = omega (arith, w .1, w .2); enough = inr (sym (w .4), omega (arith, w .2, w .3, part-entries 3 (patternCount s p) (omega arith) (w .0))) }
+      let w = for-each (both (eqb (typeKind s t) pairType) (eqb (typeCount s t) (patternCount s p))) (patternFirst s p) (patternCount s p) (typeFirst s t) 1 j n e step f in
+      record { known = h; has = ap hasChildren x; from = omega (arith, w .1); to = omega (arith, w .1, w .2); enough = inr (sym (w .4), omega (arith, w .2, w .3, part-entries pairType (patternCount s p) (omega arith) (w .0))) }
   room Tuple x j n e step f =
-      let w = for-each (both (eqb (typeKind s t) 4) (eqb (typeCount s t) (patternCount s p))) (patternFirst s p) (patternCount s p) (typeFirst s t) 1 j n e step f in
-      record { known = h; has = ap hasChildren x; from = omega (arith, w .1); to = omega (arith, w .1, w .2); enough = inr (sym (w .4), omega (arith, w .2, w .3, part-entries 4 (patternCount s p) (omega arith) (w .0))) }
+      let w = for-each (both (eqb (typeKind s t) tupleType) (eqb (typeCount s t) (patternCount s p))) (patternFirst s p) (patternCount s p) (typeFirst s t) 1 j n e step f in
+      record { known = h; has = ap hasChildren x; from = omega (arith, w .1); to = omega (arith, w .1, w .2); enough = inr (sym (w .4), omega (arith, w .2, w .3, part-entries tupleType (patternCount s p) (omega arith) (w .0))) }
   room Unknown x j n e step f = let o : _≡_ {A = ℕ} 0 1 = cc in absurd (omega arith)
 
   inside : (kind : PatternKind) → patternKindOf (patternKind s p) ≡ kind → (q : ℕ) → asked s p t kind ≡ Inside q → (p < q) × (q < patterns s)
@@ -158,11 +159,11 @@ module _ (s : List ℕ) (m : Map) (ready : Ready s m) (p t : ℕ) (h : p < patte
       (omega (arith, ready .is-shaped .child-above p (patternFirst s p) h owned), omega (arith, owned-pattern (ready .is-shaped) p (patternFirst s p) h owned))
   inside Integer x q f = let o : _≡_ {A = ℕ} 0 1 = cc in absurd (omega arith)
   inside ByteString x q f = let o : _≡_ {A = ℕ} 0 1 = cc in absurd (omega arith)
-  inside ListOfAll x q f = absurd (never-inside (eqb (typeKind s t) 2) (patternFirst s p) (patternCount s p) (typeFirst s t) 0 q f)
-  inside ListWithRest x q f = absurd (never-inside (eqb (typeKind s t) 2) (patternFirst s p) (patternCount s p - 1) (typeFirst s t) 0 q f)
+  inside ListOfAll x q f = absurd (never-inside (eqb (typeKind s t) listType) (patternFirst s p) (patternCount s p) (typeFirst s t) 0 q f)
+  inside ListWithRest x q f = absurd (never-inside (eqb (typeKind s t) listType) (patternFirst s p) (patternCount s p - 1) (typeFirst s t) 0 q f)
   inside Constructor x q f = absurd (never-inside (takesArguments s t (patternA s p) (patternCount s p)) (patternFirst s p) (patternCount s p) (constructorFirst s (constructorOf s t (patternA s p))) 1 q f)
-  inside Pair x q f = absurd (never-inside (both (eqb (typeKind s t) 3) (eqb (typeCount s t) (patternCount s p))) (patternFirst s p) (patternCount s p) (typeFirst s t) 1 q f)
-  inside Tuple x q f = absurd (never-inside (both (eqb (typeKind s t) 4) (eqb (typeCount s t) (patternCount s p))) (patternFirst s p) (patternCount s p) (typeFirst s t) 1 q f)
+  inside Pair x q f = absurd (never-inside (both (eqb (typeKind s t) pairType) (eqb (typeCount s t) (patternCount s p))) (patternFirst s p) (patternCount s p) (typeFirst s t) 1 q f)
+  inside Tuple x q f = absurd (never-inside (both (eqb (typeKind s t) tupleType) (eqb (typeCount s t) (patternCount s p))) (patternFirst s p) (patternCount s p) (typeFirst s t) 1 q f)
   inside Unknown x q f = let o : _≡_ {A = ℕ} 0 1 = cc in absurd (omega arith)
 
   -- ---- the ways through fitting a pattern, by what is left to ask

@@ -6,6 +6,7 @@ use mathlib.Core.List.{List}
 use lib.Dec.{eqb, leb, ltb}
 use lib.ListN.{length, getD}
 use Rattle.base_words.specs.Words.{both, pick}
+use Rattle.spec_rules.specs.Limits.{patternsMost}
 use Rattle.spec_rules.specs.Searching.{every, times}
 use Rattle.spec_rules.specs.SheetFile.{children, clauses}
 use Rattle.spec_rules.specs.SheetRefusals.{isRoot, isEntry}
@@ -27,21 +28,21 @@ pub record Meets (i n : ℕ) (l l' : List ℕ) : Type 0 where
   pub kept : length l' ≡ length l
   pub met : (k : ℕ) → getD l' k 0 ≡ getD l k 0 + among i n k
 
--- nothing was met
+-- nothing was met; a buffer for patterns, or for child entries, of which there may be as many
 pub record NoneMet (l : List ℕ) : Type 0 where
-  pub long : length l ≡ 192
+  pub long : length l ≡ patternsMost
   pub none-met : (k : ℕ) → getD l k 0 ≡ 0
 
 -- each pattern was met as often as it is a root; as often as it is a root or an entry
 pub record RootsMet (s l : List ℕ) : Type 0 where
-  pub long : length l ≡ 192
+  pub long : length l ≡ patternsMost
   pub roots-met : (p : ℕ) → getD l p 0 ≡ times (isRoot s p) 0 (clauses s)
 
 pub record AllMet (s l : List ℕ) : Type 0 where
-  pub long : length l ≡ 192
+  pub long : length l ≡ patternsMost
   pub all-met : (p : ℕ) → getD l p 0 ≡ times (isRoot s p) 0 (clauses s) + times (isEntry s p) 0 (children s)
 
 -- a loop of n turns met thing k in each turn of which `meets k` holds, after `base k` times before; c turns are done
 pub record Tally (meets : ℕ → ℕ → Bool) (base : ℕ → ℕ) (n c : ℕ) (l : List ℕ) : Type 0 where
-  pub long : length l ≡ 192
+  pub long : length l ≡ patternsMost
   pub tally : (k : ℕ) → getD l k 0 + times (meets k) c (n - c) ≡ base k + times (meets k) 0 n

@@ -11,6 +11,7 @@ use lib.Dec.{eqb, leb, ltb}
 use lib.ListN.{length, getD, set, length-set, replicate, length-replicate, getD-replicate, List·getD-eq-default}
 use lib.Seq.{getD-set-same, getD-set-other}
 use Rattle.base_words.specs.Words.{both, pick}
+use Rattle.spec_rules.specs.Limits.{patternsMost}
 use Rattle.spec_rules.specs.Searching.{times}
 use Rattle.spec_rules.specs.SearchingLaws.{every-true, times-yes, times-no, times-end, times-most}
 use Rattle.format_sheet.specs.Meeting.{noneMet, among, Meets, NoneMet, Tally}
@@ -93,16 +94,16 @@ room-to-meet i n j {a} {b} none h f =
     let z = among-past i j (i + j) (omega arith) in
     omega arith
 
-pub none-of-zeros : NoneMet (replicate 192 0)
-none-of-zeros = record { long = length-replicate {A = ℕ} 192 0; none-met = λ k. go k (ltb k 192) refl }
+pub none-of-zeros : NoneMet (replicate patternsMost 0)
+none-of-zeros = record { long = length-replicate {A = ℕ} patternsMost 0; none-met = λ k. go k (ltb k patternsMost) refl }
   where
-    go : (k : ℕ) (b : Bool) → ltb k 192 ≡ b → _≡_ {A = ℕ} (getD (replicate 192 0) k 0) 0
-    go k true x = getD-replicate 192 k 0 0 (ltb-true k 192 x)
-    go k false x = List·getD-eq-default (replicate 192 0) 0 (ltb-false k 192 x)
+    go : (k : ℕ) (b : Bool) → ltb k patternsMost ≡ b → _≡_ {A = ℕ} (getD (replicate patternsMost 0) k 0) 0
+    go k true x = getD-replicate patternsMost k 0 0 (ltb-true k patternsMost x)
+    go k false x = List·getD-eq-default (replicate patternsMost 0) 0 (ltb-false k patternsMost x)
 
 -- ---- the tally of a loop
 module _ (meets : ℕ → ℕ → Bool) (base : ℕ → ℕ) (n : ℕ) where
-  pub tally-begins : {l : List ℕ} → length l ≡ 192 → ((k : ℕ) → getD l k 0 ≡ base k) → Tally meets base n 0 l
+  pub tally-begins : {l : List ℕ} → length l ≡ patternsMost → ((k : ℕ) → getD l k 0 ≡ base k) → Tally meets base n 0 l
   tally-begins {l} long h = record { long = long; tally = λ k. rw (sub-zero n) (omega (arith, h k)) }
 
   -- one turn of `times`

@@ -13,6 +13,7 @@ use lib.Seq.{take-suc-set}
 use Rattle.base_words.specs.Words.{Bytes, either, textAt}
 use Rattle.base_words.specs.WordsLaws.{wordAt-small}
 use Rattle.spec_rules.specs.Limits.{patternsMost}
+use Rattle.spec_rules.specs.Kinds.{variablePattern, assignPattern}
 use Rattle.spec_rules.specs.SheetFile.{patterns, clauses, typeFirst, constructorFirst, patternKind, patternA, patternFirst, patternCount, child, root}
 use Rattle.spec_rules.specs.Patterns.{PatternKind, Discard, Variable, Assign, Integer, ByteString, ListOfAll, ListWithRest, Constructor, Pair, Tuple, Unknown, patternKindOf, Pat, Pats, Mark, decorated, oneConstructor, constructorOf, along, ofConstructor, ofKind, patternTo, pattern, clausePattern, names, namesOf}
 use Rattle.spec_rules.specs.SheetRefusals.{hasChildren, isIn, repeats}
@@ -103,7 +104,7 @@ module _ (s : List ℕ) (sh : Shaped s) where
   clause-names c h = names-in (root s c) _ (sh .root-pattern c h)
 
 -- ---- a buffer of names that grows
-pub adds-one : (h : Names) (x : ℕ) → length (h .found) ≡ 192 → h .count < 192
+pub adds-one : (h : Names) (x : ℕ) → length (h .found) ≡ patternsMost → h .count < patternsMost
     → Adds h (x ∷ []) (inBuffer (set (h .found) (h .count) x) (h .count + 1))
 adds-one h x long few = record {
   kept = length-set (h .found) (h .count) x;
@@ -143,15 +144,15 @@ module _ (s : List ℕ) (p : ℕ) (r : PatternRecord) (f : r ≡ patternOf s p) 
   unfolding patternA
   name-small bytes = rw a-is (wordAt-small bytes _)
 
-  pub variable-name : r .kind ≡ 1 → r .a ∷ [] ≡ ownName s p
+  pub variable-name : r .kind ≡ variablePattern → r .a ∷ [] ≡ ownName s p
   unfolding ownName nameOfKind patternKindOf
   variable-name e = rw (sym kind-is ∙ e, a-is)
 
-  pub assign-name : r .kind ≡ 2 → r .a ∷ [] ≡ ownName s p
+  pub assign-name : r .kind ≡ assignPattern → r .a ∷ [] ≡ ownName s p
   unfolding ownName nameOfKind patternKindOf
   assign-name e = rw (sym kind-is ∙ e, a-is)
 
-  pub no-name : (r .kind ≡ 1 → ⊥) → (r .kind ≡ 2 → ⊥) → [] ≡ ownName s p
+  pub no-name : (r .kind ≡ variablePattern → ⊥) → (r .kind ≡ assignPattern → ⊥) → [] ≡ ownName s p
   unfolding ownName nameOfKind
   no-name v a = sym (other (patternKindOf (patternKind s p)) (λ e. v (kind-is ∙ pattern-byte (patternKind s p) Variable e (omega arith))) (λ e. a (kind-is ∙ pattern-byte (patternKind s p) Assign e (omega arith))))
     where

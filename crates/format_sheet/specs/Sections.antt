@@ -2,12 +2,12 @@
 -- Rests on the definitions of spec_rules; SectionsLaws has that they agree.
 use Prim.Native.Nat.{ℕ, _-_, _/_}
 use mathlib.Core.Bool.{Bool}
-use mathlib.Core.List.{List}
+use mathlib.Core.List.{List, [], _∷_}
 use lib.Dec.{eqb, leb}
 use Rattle.base_words.specs.Words.{both}
 use Rattle.spec_rules.specs.Limits.{typeSize, constructorSize, entrySize, patternSize, childSize, clauseSize, typesMost, constructorsMost, entriesMost, patternsMost, childrenMost, clausesMost}
-use Rattle.spec_rules.specs.SheetFile.{subject, typesAt, constructorsAt, entriesAt, patternsAt, childrenAt, clausesAt, poolAt, poolEnd, types, constructors, entries, patterns, children, clauses, poolSize}
-use Rattle.spec_rules.specs.SheetRefusals.{wholeRecords}
+use Rattle.spec_rules.specs.SheetFile.{subject, typesAt, constructorsAt, entriesAt, patternsAt, childrenAt, clausesAt, poolAt, poolEnd, sheetSizes, types, constructors, entries, patterns, children, clauses, poolSize}
+use Rattle.spec_rules.specs.SheetRefusals.{wholeRecords, wholeBetween}
 use Rattle.format_sheet.specs.declared.Starts.{Starts}
 use Rattle.format_sheet.specs.declared.Counts.{Counts}
 use Rattle.format_sheet.specs.declared.Map.{Map}
@@ -39,17 +39,12 @@ abbrev pub mapOf : List ℕ → Map
 mapOf s = record { at = startsOf s; counts = countsOf s; subject = subject s }
 
 -- 3, of starts
+abbrev pub placesOf : Starts → List ℕ
+placesOf at = at .types ∷ at .constructors ∷ at .entries ∷ at .patterns ∷ at .children ∷ at .clauses ∷ at .pool ∷ at .end ∷ []
+
 unfoldable pub startsFit : Starts → Bool
 unfolding wholeRecords
-startsFit at =
-    both (eqb (at .types) 0)
-    (both (wholeRecords typeSize (at .types) (at .constructors))
-    (both (wholeRecords constructorSize (at .constructors) (at .entries))
-    (both (wholeRecords entrySize (at .entries) (at .patterns))
-    (both (wholeRecords patternSize (at .patterns) (at .children))
-    (both (wholeRecords childSize (at .children) (at .clauses))
-    (both (wholeRecords clauseSize (at .clauses) (at .pool))
-    (wholeRecords 1 (at .pool) (at .end))))))))
+startsFit at = both (eqb (at .types) 0) (wholeBetween sheetSizes (placesOf at))
 
 -- how many records lie between starts
 abbrev pub countsBetween : Starts → Counts

@@ -3,15 +3,15 @@ use mathlib.Core.Path.{_≡_, refl, ap}
 use mathlib.Core.Bool.{true}
 use mathlib.Core.List.{List}
 use Prim.Native.Nat.{ℕ, _≤_}
+use native.Mathlib.Omega.{arith}
 use lib.Dec.{eqb}
 use Rattle.base_words.specs.WordsLaws.{both-true}
-use Rattle.spec_rules.specs.Limits.{typeSize, constructorSize, entrySize, patternSize, childSize, clauseSize}
-use Rattle.spec_rules.specs.SheetFile.{subject, typesAt, constructorsAt, entriesAt, patternsAt, childrenAt, clausesAt, poolAt, poolEnd, types, constructors, entries, patterns, children, clauses, poolSize}
-use Rattle.spec_rules.specs.SheetRefusals.{layoutFits, countsFit}
-use Rattle.spec_accepted.specs.RunsLaws.{whole-rises}
+use Rattle.spec_rules.specs.SheetFile.{subject, typesAt, constructorsAt, entriesAt, patternsAt, childrenAt, clausesAt, poolAt, poolEnd, sheetSizes, types, constructors, entries, patterns, children, clauses, poolSize}
+use Rattle.spec_rules.specs.SheetRefusals.{wholeBetween, layoutFits, countsFit}
+use Rattle.spec_accepted.specs.RunsLaws.{section-rises}
 use Rattle.format_sheet.specs.declared.Starts.{Starts}
 use Rattle.format_sheet.specs.declared.Map.{Map}
-use Rattle.format_sheet.specs.Sections.{startsOf, countsOf, mapOf, startsFit, countsBetween, fewEnough}
+use Rattle.format_sheet.specs.Sections.{startsOf, countsOf, mapOf, placesOf, startsFit, countsBetween, fewEnough}
 
 pub startsFit-is : (s : List ℕ) → startsFit (startsOf s) ≡ layoutFits s
 unfolding startsFit layoutFits
@@ -38,21 +38,15 @@ pub record Rising (at : Starts) : Type 0 where
 pub rising : (at : Starts) → startsFit at ≡ true → Rising at
 unfolding startsFit
 rising at h =
-    let r0 = both-true (eqb (at .types) 0) _ h in
-    let r1 = both-true _ _ (r0 .1) in
-    let r2 = both-true _ _ (r1 .1) in
-    let r3 = both-true _ _ (r2 .1) in
-    let r4 = both-true _ _ (r3 .1) in
-    let r5 = both-true _ _ (r4 .1) in
-    let r6 = both-true _ _ (r5 .1) in
+    let rises = section-rises sheetSizes (placesOf at) (both-true (eqb (at .types) 0) (wholeBetween sheetSizes (placesOf at)) h .1) in
     record {
-      to-constructors = whole-rises typeSize _ _ (r1 .0);
-      to-entries = whole-rises constructorSize _ _ (r2 .0);
-      to-patterns = whole-rises entrySize _ _ (r3 .0);
-      to-children = whole-rises patternSize _ _ (r4 .0);
-      to-clauses = whole-rises childSize _ _ (r5 .0);
-      to-pool = whole-rises clauseSize _ _ (r6 .0);
-      to-end = whole-rises 1 _ _ (r6 .1);
+      to-constructors = rises 0 (omega arith);
+      to-entries = rises 1 (omega arith);
+      to-patterns = rises 2 (omega arith);
+      to-children = rises 3 (omega arith);
+      to-clauses = rises 4 (omega arith);
+      to-pool = rises 5 (omega arith);
+      to-end = rises 6 (omega arith);
     }
 
 -- the fields of a map, as numbers of the sheet

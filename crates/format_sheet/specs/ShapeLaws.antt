@@ -8,6 +8,7 @@ use borrow.Author.Tests.{leb-true, leb-false, ltb-true, eq-eqb, ne-eqb, le-leb, 
 use lib.Dec.{eqb, leb, ltb}
 use Rattle.base_words.specs.Words.{both, either, pick}
 use Rattle.base_words.specs.WordsLaws.{both-true, both-assoc}
+use Rattle.spec_rules.specs.Kinds.{variablePattern, assignPattern, listPattern, listWithTailPattern, tuplePattern}
 use Rattle.spec_rules.specs.Searching.{every}
 use Rattle.spec_rules.specs.SplittingLaws.{both-end}
 use Rattle.spec_rules.specs.SheetFile.{patterns, children, clauses, poolSize, patternKind, patternZero, patternA, patternFirst, patternCount, child, runIn}
@@ -42,7 +43,7 @@ both-rest false true c t = refl
 both-rest false false c t = refl
 
 -- ---- which kinds have children
-children-by-number : (kind : PatternKind) → hasChildren kind ≡ either (eqb (patternNumber kind) 2) (both (leb 5 (patternNumber kind)) (leb (patternNumber kind) 9))
+children-by-number : (kind : PatternKind) → hasChildren kind ≡ either (eqb (patternNumber kind) assignPattern) (both (leb listPattern (patternNumber kind)) (leb (patternNumber kind) tuplePattern))
 unfolding hasChildren
 children-by-number Discard = refl
 children-by-number Variable = refl
@@ -57,26 +58,26 @@ children-by-number Tuple = refl
 children-by-number Unknown = refl
 
 module _ (k : ℕ) where
-  pub assign-has-children : k ≡ 2 → true ≡ hasChildren (patternKindOf k)
+  pub assign-has-children : k ≡ assignPattern → true ≡ hasChildren (patternKindOf k)
   unfolding hasChildren patternKindOf
   assign-has-children e = rw e
 
-  pub low-has-none : (k ≡ 2 → ⊥) → k < 5 → false ≡ hasChildren (patternKindOf k)
+  pub low-has-none : (k ≡ assignPattern → ⊥) → k < listPattern → false ≡ hasChildren (patternKindOf k)
   low-has-none h l =
       let e : patternNumber (patternKindOf k) ≡ k = pattern-number k ∙ omega arith in
-      sym (children-by-number (patternKindOf k) ∙ rw (e, ne-eqb k 2 h, lt-leb 5 k l))
+      sym (children-by-number (patternKindOf k) ∙ rw (e, ne-eqb k assignPattern h, lt-leb listPattern k l))
 
-  pub high-has-children : 5 ≤ k → leb k 9 ≡ hasChildren (patternKindOf k)
-  high-has-children l = go (leb k 9) refl
+  pub high-has-children : listPattern ≤ k → leb k tuplePattern ≡ hasChildren (patternKindOf k)
+  high-has-children l = go (leb k tuplePattern) refl
     where
-      go : (b : Bool) → leb k 9 ≡ b → leb k 9 ≡ hasChildren (patternKindOf k)
+      go : (b : Bool) → leb k tuplePattern ≡ b → leb k tuplePattern ≡ hasChildren (patternKindOf k)
       go true x =
-          let h = leb-true k 9 x in
+          let h = leb-true k tuplePattern x in
           let e : patternNumber (patternKindOf k) ≡ k = pattern-number k ∙ omega arith in
-          sym (children-by-number (patternKindOf k) ∙ rw (e, ne-eqb k 2 (λ (q : k ≡ 2). omega arith), le-leb 5 k l))
+          sym (children-by-number (patternKindOf k) ∙ rw (e, ne-eqb k assignPattern (λ (q : k ≡ assignPattern). omega arith), le-leb listPattern k l))
       go false x =
-          let h = leb-false k 9 x in
-          let e : patternNumber (patternKindOf k) ≡ 10 = pattern-number k ∙ omega arith in
+          let h = leb-false k tuplePattern x in
+          let e : patternNumber (patternKindOf k) ≡ suc tuplePattern = pattern-number k ∙ omega arith in
           x ∙ sym (children-by-number (patternKindOf k) ∙ rw e)
 
 -- ---- the children of a pattern
@@ -164,12 +165,12 @@ module _ (s : List ℕ) (m : Map) (e : m ≡ mapOf s) (p : ℕ) (r : PatternReco
     pub own-stops : not own ≡ true → false ≡ recordFits s p
     own-stops n = sym (record-is (stopped refl n))
 
-    pub without-tail : not own ≡ false → (r .kind ≡ 6 → ⊥) → true ≡ recordFits s p
+    pub without-tail : not own ≡ false → (r .kind ≡ listWithTailPattern → ⊥) → true ≡ recordFits s p
     without-tail y h =
         sym (record-is (passed refl y)
         ∙ no-tail s p (patternKindOf (patternKind s p)) (λ k. h (kind-is ∙ pattern-byte (patternKind s p) ListWithRest k (omega arith))))
 
-    pub tail-room : not own ≡ false → r .kind ≡ 6 → (2 ≤ r .count) × (r .first + r .count ≤ children s)
+    pub tail-room : not own ≡ false → r .kind ≡ listWithTailPattern → (2 ≤ r .count) × (r .first + r .count ≤ children s)
     unfolding ownFields patternKindOf
     tail-room y k =
         let own-yes : both (leb 2 (r .count)) (plainRun (r .a) (r .first) (r .count) (m .counts .children)) ≡ true = rw k at (sym q ∙ passed refl y) in
@@ -177,7 +178,7 @@ module _ (s : List ℕ) (m : Map) (e : m ≡ mapOf s) (p : ℕ) (r : PatternReco
         let b = both-true (eqb (r .a) 0) (runIn (r .first) (r .count) (m .counts .children)) (a .1) in
         (leb-true _ _ (a .0), omega (arith, mapped s m e .of-children, run-in _ _ _ (b .1) .inside))
 
-    pub with-tail : {tail : Bool} → not own ≡ false → r .kind ≡ 6 → tail ≡ leb (patternKind s (child s (r .first + (r .count - 1)))) 1 → tail ≡ recordFits s p
+    pub with-tail : {tail : Bool} → not own ≡ false → r .kind ≡ listWithTailPattern → tail ≡ leb (patternKind s (child s (r .first + (r .count - 1)))) variablePattern → tail ≡ recordFits s p
     unfolding tailRule tailFits patternKindOf
     with-tail y k g = sym (record-is (passed refl y) ∙ rw (sym kind-is ∙ k) (sym (g ∙ rw f)))
 
@@ -296,7 +297,7 @@ pub tail-known : (s : List ℕ) → ChildrenKnown s → (first count : ℕ) {las
 tail-known s known first count h inside e = omega (arith, e, known .child-known (first + (count - 1)) (omega arith))
 
 pub tail-kind : (s : List ℕ) (j last : ℕ) (tail : PatternRecord) → last ≡ child s j → tail ≡ patternOf s last
-    → leb (tail .kind) 1 ≡ leb (patternKind s (child s j)) 1
+    → leb (tail .kind) 1 ≡ leb (patternKind s (child s j)) variablePattern
 tail-kind s j last tail e f = rw (f, e)
 
 pub above-known : (s : List ℕ) → ChildrenKnown s → (p j : ℕ) {q : ℕ} → j < children s → q ≡ child s j → ltb p q ≡ isAbove s p j

@@ -9,6 +9,7 @@ use borrow.Author.Tests.{eqb-false, ne-eqb}
 use lib.Dec.{eqb, leb, ltb}
 use lib.ListN.{length, getD}
 use Rattle.base_words.specs.Words.{both, pick}
+use Rattle.spec_rules.specs.Limits.{patternsMost}
 use Rattle.spec_rules.specs.Searching.{every, times}
 use Rattle.spec_rules.specs.SearchingLaws.{every-false, times-some, times-most}
 use Rattle.spec_rules.specs.SheetFile.{patterns, children, clauses, patternKind, patternFirst, patternCount, child, root}
@@ -104,7 +105,7 @@ module _ (s : List ℕ) where
     count-is : r .count ≡ childrenCount s p
     count-is = ap (λ (x : Run). x .count) e
 
-    pub list-room : Counted s → RunsInside s → r .first + r .count ≤ 192
+    pub list-room : Counted s → RunsInside s → r .first + r .count ≤ patternsMost
     list-room few inside = omega (arith, first-is, count-is, inside .run-inside p h, few .children-most)
 
     pub lists-go-on : {l l' : List ℕ} → ListTally s p l → Meets (r .first) (r .count) l l' → ListTally s (p + 1) l'

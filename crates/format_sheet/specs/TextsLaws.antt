@@ -11,6 +11,7 @@ use lib.ListN.{length, getD, take, drop}
 use lib.Seq.{drop-cons}
 use Rattle.base_words.specs.Words.{both, either, textAt, sameText}
 use Rattle.spec_rules.specs.Limits.{textMost}
+use Rattle.spec_rules.specs.Kinds.{integerPattern, byteStringPattern}
 use Rattle.spec_rules.specs.Texts.{digits, natural, afterSign, canonical, shortText}
 use Rattle.spec_rules.specs.SheetFile.{patterns, patternKind, patternFirst, patternCount, poolText}
 use Rattle.spec_rules.specs.Patterns.{PatternKind, Discard, Variable, Assign, Integer, ByteString, ListOfAll, ListWithRest, Constructor, Pair, Tuple, Unknown, patternKindOf}
@@ -134,11 +135,11 @@ module _ (s : List ℕ) (p : ℕ) (r : PatternRecord) (f : r ≡ patternOf s p) 
   count-is : r .count ≡ patternCount s p
   count-is = ap (λ (x : PatternRecord). x .count) f
 
-  pub integer-long : r .kind ≡ 3 → textMost < r .count → true ≡ badText s p
+  pub integer-long : r .kind ≡ integerPattern → textMost < r .count → true ≡ badText s p
   unfolding badText textOfKind patternKindOf shortText
   integer-long k l = rw (sym kind-is ∙ k, lt-leb (patternCount s p) textMost (omega (arith, count-is)))
 
-  pub bytes-long : r .kind ≡ 4 → ltb textMost (r .count) ≡ badText s p
+  pub bytes-long : r .kind ≡ byteStringPattern → ltb textMost (r .count) ≡ badText s p
   unfolding badText textOfKind patternKindOf shortText
   bytes-long k = rw (sym kind-is ∙ k, count-is) (go (leb (patternCount s p) textMost) refl)
     where
@@ -146,18 +147,18 @@ module _ (s : List ℕ) (p : ℕ) (r : PatternRecord) (f : r ≡ patternOf s p) 
       go true x = le-ltb textMost (patternCount s p) (leb-true _ _ x)
       go false x = lt-ltb textMost (patternCount s p) (leb-false _ _ x)
 
-  pub no-text : (r .kind ≡ 3 → ⊥) → (r .kind ≡ 4 → ⊥) → false ≡ badText s p
+  pub no-text : (r .kind ≡ integerPattern → ⊥) → (r .kind ≡ byteStringPattern → ⊥) → false ≡ badText s p
   unfolding badText
   no-text i b =
       rw (other-kind s p (patternKindOf (patternKind s p)) (λ e. i (kind-is ∙ pattern-byte (patternKind s p) Integer e (omega arith)))
       (λ e. b (kind-is ∙ pattern-byte (patternKind s p) ByteString e (omega arith))))
 
   module _ (m : Map) (e : m ≡ mapOf s) where
-    pub text-room : Laid s → Shaped s → p < patterns s → r .kind ≡ 3 → m .at .pool + r .first + r .count ≤ length s
+    pub text-room : Laid s → Shaped s → p < patterns s → r .kind ≡ integerPattern → m .at .pool + r .first + r .count ≤ length s
     text-room l sh h k =
         omega (arith, mapped s m e .at-pool, first-is, count-is, text-inside l (patternFirst s p) (patternCount s p) (sh .text-run p h (omega (arith, kind-is, k)) (omega (arith, kind-is, k)) .inside))
 
-    pub integer-asked : {b : Bool} → r .kind ≡ 3 → r .count ≤ textMost → b ≡ canonical (textAt s (m .at .pool + r .first) (r .count)) → not b ≡ badText s p
+    pub integer-asked : {b : Bool} → r .kind ≡ integerPattern → r .count ≤ textMost → b ≡ canonical (textAt s (m .at .pool + r .first) (r .count)) → not b ≡ badText s p
     unfolding badText textOfKind patternKindOf shortText poolText
     integer-asked k l g =
         rw (sym kind-is ∙ k, le-leb (patternCount s p) textMost (omega (arith, count-is)))

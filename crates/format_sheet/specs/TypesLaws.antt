@@ -6,6 +6,7 @@ use Prim.Native.Nat.{ℕ, _<_}
 use native.Mathlib.Omega.{arith}
 use borrow.Author.Tests.{eq-eqb, ne-eqb}
 use lib.Dec.{eqb, ltb}
+use Rattle.spec_rules.specs.Kinds.{dataType, opaqueFlag}
 use Rattle.spec_rules.specs.SheetFile.{subject, types, constructors, entries, typeKind, typeFlag, typeFirst, typeCount, entry, runIn}
 use Rattle.spec_rules.specs.SheetRefusals.{typeParts, typeFlags, typeKeepsRules, constructorKeepsRules, entryKeepsRules, transparent}
 use Rattle.spec_accepted.specs.SheetFacts.{Typed}
@@ -64,25 +65,25 @@ module _ (s : List ℕ) (t : ℕ) (r : TypeRecord) (f : r ≡ typeOf s t) where
   count-is : r .count ≡ typeCount s t
   count-is = ap (λ (x : TypeRecord). x .count) f
 
-  pub not-data : (r .kind ≡ 5 → ⊥) → false ≡ transparent s t
+  pub not-data : (r .kind ≡ dataType → ⊥) → false ≡ transparent s t
   unfolding transparent
-  not-data h = rw (ne-eqb (typeKind s t) 5 (λ k. h (kind-is ∙ k)))
+  not-data h = rw (ne-eqb (typeKind s t) dataType (λ k. h (kind-is ∙ k)))
 
-  pub not-opaque-only : r .kind ≡ 5 → (r .flag ≡ 1 → ⊥) → false ≡ transparent s t
+  pub not-opaque-only : r .kind ≡ dataType → (r .flag ≡ opaqueFlag → ⊥) → false ≡ transparent s t
   unfolding transparent
-  not-opaque-only k h = rw (eq-eqb (typeKind s t) 5 (sym kind-is ∙ k), ne-eqb (typeFlag s t) 1 (λ g. h (flag-is ∙ g)))
+  not-opaque-only k h = rw (eq-eqb (typeKind s t) dataType (sym kind-is ∙ k), ne-eqb (typeFlag s t) opaqueFlag (λ g. h (flag-is ∙ g)))
 
-  pub not-one : r .kind ≡ 5 → r .flag ≡ 1 → (r .count ≡ 1 → ⊥) → false ≡ transparent s t
+  pub not-one : r .kind ≡ dataType → r .flag ≡ opaqueFlag → (r .count ≡ 1 → ⊥) → false ≡ transparent s t
   unfolding transparent
   not-one k g h =
-      rw (eq-eqb (typeKind s t) 5 (sym kind-is ∙ k), eq-eqb (typeFlag s t) 1 (sym flag-is ∙ g), ne-eqb (typeCount s t) 1 (λ n. h (count-is ∙ n)))
+      rw (eq-eqb (typeKind s t) dataType (sym kind-is ∙ k), eq-eqb (typeFlag s t) opaqueFlag (sym flag-is ∙ g), ne-eqb (typeCount s t) 1 (λ n. h (count-is ∙ n)))
 
-  pub only-constructor : Typed s → t < types s → r .kind ≡ 5 → r .count ≡ 1 → r .first < constructors s
+  pub only-constructor : Typed s → t < types s → r .kind ≡ dataType → r .count ≡ 1 → r .first < constructors s
   only-constructor ty h k n = omega (arith, ty .type-constructors t h (sym kind-is ∙ k), first-is, count-is)
 
-  pub transparent-field : r .kind ≡ 5 → r .flag ≡ 1 → r .count ≡ 1 → (only : Run) → only ≡ constructorOf s (r .first)
+  pub transparent-field : r .kind ≡ dataType → r .flag ≡ opaqueFlag → r .count ≡ 1 → (only : Run) → only ≡ constructorOf s (r .first)
       → eqb (only .count) 1 ≡ transparent s t
   unfolding transparent
   transparent-field k g n only q =
-      rw (eq-eqb (typeKind s t) 5 (sym kind-is ∙ k), eq-eqb (typeFlag s t) 1 (sym flag-is ∙ g), eq-eqb (typeCount s t) 1 (sym count-is ∙ n), ← first-is)
+      rw (eq-eqb (typeKind s t) dataType (sym kind-is ∙ k), eq-eqb (typeFlag s t) opaqueFlag (sym flag-is ∙ g), eq-eqb (typeCount s t) 1 (sym count-is ∙ n), ← first-is)
       (ap (λ (x : Run). eqb (x .count) 1) q)

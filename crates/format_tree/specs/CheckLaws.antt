@@ -10,6 +10,7 @@ use lib.Dec.{leb, eqb}
 use lib.ListN.{length}
 use Rattle.base_words.specs.Words.{Bytes, both}
 use Rattle.base_words.specs.WordsLaws.{both-true, both-assoc}
+use Rattle.spec_rules.specs.Limits.{treeTrailer}
 use Rattle.spec_rules.specs.TreeReader.{treeLength, lengthTrue, startsRise, nodesInPreOrder, treeFits}
 use Rattle.spec_accepted.specs.TreeFacts.{TreeRuled, TreeSound, tree-laid, tree-ruled, tree-sound}
 use Rattle.format_tree.specs.declared.layout.Map.{Map}
@@ -21,9 +22,9 @@ fits-by-stages : (t : List ℕ) → treeFits t ≡ both (lengthTrue t) (both (st
 unfolding treeFits recordsKeepRules
 fits-by-stages t = simp both-assoc
 
-pub long-enough : (t : List ℕ) → lengthTrue t ≡ true → 14 ≤ length t
+pub long-enough : (t : List ℕ) → lengthTrue t ≡ true → treeTrailer ≤ length t
 unfolding lengthTrue
-long-enough t h = leb-true 14 (length t) (both-true (leb 14 (length t)) (eqb (treeLength t) (length t)) h .0)
+long-enough t h = leb-true treeTrailer (length t) (both-true (leb treeTrailer (length t)) (eqb (treeLength t) (length t)) h .0)
 
 pub rules-kept : (t : List ℕ) → recordsKeepRules t ≡ true → TreeRuled t
 unfolding recordsKeepRules

@@ -5,6 +5,7 @@ use mathlib.Core.Logic.{_⊎_, inl, inr, ⊎-elim}
 use mathlib.Core.List.{List, [], _∷_, _++_}
 use Prim.Native.Nat.{ℕ, zero, suc, _+_, _-_, _≤_, _<_}
 use native.Mathlib.Omega.{arith}
+use Rattle.spec_rules.specs.Kinds.{switchNode, listSwitchNode, leafNode, hoistNode, firstCaseWord, bytesCase, listCase, listWithTailCase}
 use Rattle.spec_rules.specs.TreeReader.{nodes, cases, paths, nodeKind, nodeWord, caseKind, nodePath, nodeFirstCase, nodeCases, nodeTailCases, nodeDefault, nodeClause, nodeFirstBinding, nodeBindings, nodeChild, NodeKind, Switch, List-switch, Leaf, Hoist-node, Unknown-node, nodeKindOf, caseChildren, defaultChild, childrenOfKind, nodeChildren}
 use Rattle.spec_accepted.specs.KindsLaws.{node-byte, unknown-node}
 use Rattle.spec_accepted.specs.TreeFacts.{TreeRuled, switch-children, hoist-children}
@@ -15,7 +16,7 @@ use Rattle.format_tree.specs.PreOrder.{AllBelow}
 
 -- ---- what was read
 pub record SwitchNode (t : List ℕ) (k path first cases default : ℕ) (test : Test) : Type 0 where
-  pub kind : nodeKind t k ≡ 0
+  pub kind : nodeKind t k ≡ switchNode
   pub path-is : path ≡ nodePath t k
   pub first-is : first ≡ nodeFirstCase t k
   pub cases-is : cases ≡ nodeCases t k
@@ -23,7 +24,7 @@ pub record SwitchNode (t : List ℕ) (k path first cases default : ℕ) (test : 
   pub test-is : test ≡ testOf t first
 
 pub record ListSwitchNode (t : List ℕ) (k path first cases tails default : ℕ) : Type 0 where
-  pub kind : nodeKind t k ≡ 1
+  pub kind : nodeKind t k ≡ listSwitchNode
   pub path-is : path ≡ nodePath t k
   pub first-is : first ≡ nodeFirstCase t k
   pub cases-is : cases ≡ nodeCases t k
@@ -31,13 +32,13 @@ pub record ListSwitchNode (t : List ℕ) (k path first cases tails default : ℕ
   pub default-is : default ≡ nodeDefault t k
 
 pub record LeafNode (t : List ℕ) (k clause first count : ℕ) : Type 0 where
-  pub kind : nodeKind t k ≡ 2
+  pub kind : nodeKind t k ≡ leafNode
   pub clause-is : clause ≡ nodeClause t k
   pub first-is : first ≡ nodeFirstBinding t k
   pub count-is : count ≡ nodeBindings t k
 
 pub record HoistNode (t : List ℕ) (k child : ℕ) : Type 0 where
-  pub kind : nodeKind t k ≡ 3
+  pub kind : nodeKind t k ≡ hoistNode
   pub child-is : child ≡ nodeChild t k
 
 module _ (t : List ℕ) (k : ℕ) where
@@ -84,7 +85,7 @@ module _ (t : List ℕ) (k : ℕ) where
       go Hoist-node q = let x = of-kind Hoist-node (Node.Leaf a f n) q e in let z : _≡_ {A = ℕ} 0 1 = cc in absurd (omega arith)
       go Unknown-node q = let x = of-kind Unknown-node (Node.Leaf a f n) q e in let z : _≡_ {A = ℕ} 0 1 = cc in absurd (omega arith)
 
-  pub hoist-node : (a f n c : ℕ) → nodeKind t k ≤ 3 → nodeOf t k ≡ Node.Hoist a f n c → HoistNode t k c
+  pub hoist-node : (a f n c : ℕ) → nodeKind t k ≤ hoistNode → nodeOf t k ≡ Node.Hoist a f n c → HoistNode t k c
   unfolding nodeOfFields
   hoist-node a f n c h e = go (nodeKindOf (nodeKind t k)) refl
     where
@@ -103,7 +104,7 @@ module _ {t : List ℕ} (rules : TreeRuled t) (k : ℕ) (h : k < nodes t) where
       let run = rules .switch-run k h (omega arith) in
       (omega (arith, rules .switch-some k h kind), omega (arith, run .inside))
 
-  pub switch-node-kind : (p f n d : ℕ) (x : Test) → SwitchNode t k p f n d x → caseKind t f ≤ 2
+  pub switch-node-kind : (p f n d : ℕ) (x : Test) → SwitchNode t k p f n d x → caseKind t f ≤ bytesCase
   switch-node-kind p f n d x w = rw (w .first-is) (rules .switch-kinds k h (w .kind))
 
   pub switch-node-alike : (p f n d : ℕ) (x : Test) → SwitchNode t k p f n d x → (j : ℕ) → f ≤ j → j < f + n → caseKind t j ≡ caseKind t f
@@ -112,7 +113,7 @@ module _ {t : List ℕ} (rules : TreeRuled t) (k : ℕ) (h : k < nodes t) where
       let n-is = w .cases-is in
       rules .switch-alike k j h (w .kind) (omega arith) (omega arith) ∙ ap (caseKind t) (sym f-is)
 
-  pub switch-first-case : (f : ℕ) → nodeKind t k ≡ 0 → f ≡ nodeWord t k 1 → (f < cases t) × (caseKind t f ≤ 4)
+  pub switch-first-case : (f : ℕ) → nodeKind t k ≡ switchNode → f ≡ nodeWord t k firstCaseWord → (f < cases t) × (caseKind t f ≤ listWithTailCase)
   unfolding nodeFirstCase
   switch-first-case f e x =
       let kind = rules .switch-kinds k h e in
@@ -140,13 +141,13 @@ module _ {t : List ℕ} (rules : TreeRuled t) (k : ℕ) (h : k < nodes t) where
       let run = rules .switch-run k h (omega arith) in
       (omega (arith, rules .list-switch-some k h kind), omega (arith, run .inside))
 
-  pub list-switch-node-cases : (p f n u d : ℕ) → ListSwitchNode t k p f n u d → (j : ℕ) → f ≤ j → j < f + n → caseKind t j ≡ 3
+  pub list-switch-node-cases : (p f n u d : ℕ) → ListSwitchNode t k p f n u d → (j : ℕ) → f ≤ j → j < f + n → caseKind t j ≡ listCase
   list-switch-node-cases p f n u d w j low high =
       let f-is = w .first-is in
       let n-is = w .cases-is in
       rules .list-switch-cases k j h (w .kind) (omega arith) (omega arith)
 
-  pub list-switch-node-tails : (p f n u d : ℕ) → ListSwitchNode t k p f n u d → (j : ℕ) → f + n ≤ j → j < f + n + u → caseKind t j ≡ 4
+  pub list-switch-node-tails : (p f n u d : ℕ) → ListSwitchNode t k p f n u d → (j : ℕ) → f + n ≤ j → j < f + n + u → caseKind t j ≡ listWithTailCase
   list-switch-node-tails p f n u d w j low high =
       let f-is = w .first-is in
       let n-is = w .cases-is in
@@ -168,7 +169,7 @@ module _ {t : List ℕ} (rules : TreeRuled t) (k : ℕ) (h : k < nodes t) where
       let d-is = w .default-is in
       switch-children t k (omega arith) ∙ rw (← f-is, ← n-is, ← u-is, ← d-is)
 
-  pub leaf-children : nodeKind t k ≡ 2 → nodeChildren t k ≡ []
+  pub leaf-children : nodeKind t k ≡ leafNode → nodeChildren t k ≡ []
   unfolding nodeChildren childrenOfKind nodeKindOf
   leaf-children e = rw e
 
@@ -206,14 +207,14 @@ module _ {t : List ℕ} (rules : TreeRuled t) where
           go zero e = inl (omega arith)
           go (suc d) e = inr (omega arith)
 
-      switches : nodeKind t k ≤ 1 → AllBelow (nodes t) (nodeChildren t k)
+      switches : nodeKind t k ≤ listSwitchNode → AllBelow (nodes t) (nodeChildren t k)
       switches l =
           rw (switch-children t k l)
           (all-below-append (nodes t) (caseChildren t (nodeFirstCase t k) (nodeCases t k + nodeTailCases t k)) (defaultChild (nodeDefault t k))
           (case-children-in (nodeFirstCase t k) (nodeCases t k + nodeTailCases t k) (rules .switch-run k h l .inside))
           (default-in (nodes t) (nodeDefault t k) (rules .switch-default k h l)))
 
-      others : 2 ≤ nodeKind t k → AllBelow (nodes t) (nodeChildren t k)
+      others : leafNode ≤ nodeKind t k → AllBelow (nodes t) (nodeChildren t k)
       others l =
           ⊎-elim (λ e. rw (leaf-children rules k h e) tt) (λ e. rw (hoist-children t k e) (rules .hoist-child k h e, tt))
           (two-or-three (nodeKind t k) l (rules .node-kind k h))

@@ -10,6 +10,7 @@ use native.Mathlib.Nat.{add-zero, eq-or-lt-of-le}
 use lib.Dec.{eqb}
 use borrow.Author.Tests.{eq-eqb, ne-eqb, lt-ltb, le-ltb}
 use Rattle.base_words.specs.Words.{both}
+use Rattle.spec_rules.specs.Kinds.{listSwitchNode, leafNode, hoistNode, firstCaseWord, casesWord, tailCasesWord, defaultWord, childWord}
 use Rattle.spec_rules.specs.Searching.{every}
 use Rattle.spec_rules.specs.SplittingLaws.{both-end}
 use Rattle.spec_rules.specs.TreeReader.{nodes, nodeKind, nodeWord, nodeFirstCase, nodeCases, nodeTailCases, nodeDefault, nodeChild, caseChild, caseChildren, defaultChild, nodeChildren, nodesInPreOrder}
@@ -146,7 +147,7 @@ module _ {t : List ℕ} {m : Map} (w : Ruled t m) where
   pub in-nodes : (k : ℕ) → k < m .nodes .count → k < nodes t
   in-nodes k h = omega (arith, nodes-count (w .mapped))
 
-  pub node-kind-known : (k : ℕ) → k < m .nodes .count → nodeKind t k ≤ 3
+  pub node-kind-known : (k : ℕ) → k < m .nodes .count → nodeKind t k ≤ hoistNode
   node-kind-known k h = w .rules .node-kind k (in-nodes k h)
 
   pub case-child-in : (i : ℕ) → i < m .cases .count → caseChild t i < m .nodes .count
@@ -182,23 +183,23 @@ module _ {t : List ℕ} {m : Map} (w : Ruled t m) where
 
 -- ---- where the children of a node stand
 module _ {t : List ℕ} {m : Map} (w : Ruled t m) (k : ℕ) (h : k < m .nodes .count) where
-  pub children-leaf : nodeKind t k ≡ 2 → ChildrenAre t m k Children.Nothing
+  pub children-leaf : nodeKind t k ≡ leafNode → ChildrenAre t m k Children.Nothing
   children-leaf e = leaf-children (w .rules) k (in-nodes w k h) e
 
-  pub children-hoist : (c : ℕ) → nodeKind t k ≡ 3 → c ≡ nodeWord t k 3 → ChildrenAre t m k (Children.One c)
+  pub children-hoist : (c : ℕ) → nodeKind t k ≡ hoistNode → c ≡ nodeWord t k childWord → ChildrenAre t m k (Children.One c)
   unfolding nodeChild
   children-hoist c e x = hoist-children t k e ∙ ap (λ (y : ℕ). y ∷ []) (sym x)
 
-  some-case : nodeKind t k ≤ 1 → 1 ≤ nodeCases t k + nodeTailCases t k
+  some-case : nodeKind t k ≤ listSwitchNode → 1 ≤ nodeCases t k + nodeTailCases t k
   some-case l =
       ⊎-elim (λ e. w .rules .list-switch-some k (in-nodes w k h) e)
       (λ z. omega (arith, w .rules .switch-some k (in-nodes w k h) (omega arith))) (eq-or-lt-of-le l)
 
-  pub children-cases : (first cases tails default : ℕ) → (nodeKind t k ≡ 2 → ⊥) → (nodeKind t k ≡ 3 → ⊥) → first ≡ nodeWord t k 1 → cases ≡ nodeWord t k 2
-      → tails ≡ nodeWord t k 3 → default ≡ nodeWord t k 4 → ChildrenAre t m k (Children.Cases first (cases + tails) default)
+  pub children-cases : (first cases tails default : ℕ) → (nodeKind t k ≡ leafNode → ⊥) → (nodeKind t k ≡ hoistNode → ⊥) → first ≡ nodeWord t k firstCaseWord → cases ≡ nodeWord t k casesWord
+      → tails ≡ nodeWord t k tailCasesWord → default ≡ nodeWord t k defaultWord → ChildrenAre t m k (Children.Cases first (cases + tails) default)
   unfolding nodeFirstCase nodeCases nodeTailCases nodeDefault
   children-cases first cases tails default two three f-is c-is t-is d-is =
-      let l : nodeKind t k ≤ 1 = omega (arith, two, three, node-kind-known w k h) in
+      let l : nodeKind t k ≤ listSwitchNode = omega (arith, two, three, node-kind-known w k h) in
       let run = w .rules .switch-run k (in-nodes w k h) l in (
         switch-children t k l ∙ rw (f-is, c-is, t-is, d-is),
         omega (arith, some-case l),

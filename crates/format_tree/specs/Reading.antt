@@ -6,6 +6,7 @@ use mathlib.Core.Bool.{Bool, true, false}
 use mathlib.Core.List.{List}
 use lib.ListN.{length}
 use Rattle.base_words.specs.Words.{both}
+use Rattle.spec_rules.specs.Limits.{nodeSize, caseSize, bindingSize, pathSize, stepSize, treeTrailer}
 use Rattle.spec_rules.specs.Searching.{every}
 use Rattle.spec_rules.specs.TreeReader.{nodesAt, casesAt, bindingsAt, pathsAt, stepsAt, treePoolAt, nodes, cases, bindings, paths, steps, treePoolSize, nodeKind, nodePath, nodeFirstCase, nodeCases, nodeTailCases, nodeDefault, nodeClause, nodeFirstBinding, nodeBindings, nodeChild, NodeKind, Switch, List-switch, Leaf, Hoist-node, Unknown-node, nodeKindOf, caseKind, caseNumber, caseLength, caseChild, CaseKind, Constr-case, Int-case, Bytes-case, List-case, List-with-tail-case, Unknown-case, caseKindOf, bindingName, bindingPath, pathFirst, pathCount, stepKind, stepFlag, stepIndexAt, stepType, nodeKeepsRules, caseKeepsRules, bindingKeepsRules, pathKeepsRules, stepKeepsRules, treeFits}
 use Rattle.spec_accepted.specs.TreeFacts.{TreeRuled}
@@ -37,12 +38,12 @@ mapOf t = record {
 pub record Mapped (t : List ℕ) (m : Map) : Type 0 where
   pub is : m ≡ mapOf t
   pub from-zero : m .nodes .start ≡ 0
-  pub nodes-end : 12 * m .nodes .count ≡ m .cases .start
-  pub cases-end : m .cases .start + 8 * m .cases .count ≡ m .bindings .start
-  pub bindings-end : m .bindings .start + 4 * m .bindings .count ≡ m .paths .start
-  pub paths-end : m .paths .start + 4 * m .paths .count ≡ m .steps .start
-  pub steps-end : m .steps .start + 6 * m .steps .count ≡ m .pool .start
-  pub pool-end : m .pool .start + m .pool .count + 14 ≡ length t
+  pub nodes-end : nodeSize * m .nodes .count ≡ m .cases .start
+  pub cases-end : m .cases .start + caseSize * m .cases .count ≡ m .bindings .start
+  pub bindings-end : m .bindings .start + bindingSize * m .bindings .count ≡ m .paths .start
+  pub paths-end : m .paths .start + pathSize * m .paths .count ≡ m .steps .start
+  pub steps-end : m .steps .start + stepSize * m .steps .count ≡ m .pool .start
+  pub pool-end : m .pool .start + m .pool .count + treeTrailer ≡ length t
   pub short : length t ≤ 65535
 
 -- a mapped file whose records keep the rules

@@ -8,6 +8,7 @@ use mathlib.Core.List.{List}
 use lib.Dec.{ltb, leb}
 use Rattle.base_words.specs.Words.{both}
 use Rattle.base_words.specs.WordsLaws.{both-true}
+use Rattle.spec_rules.specs.Kinds.{firstCaseWord, casesWord, tailCasesWord}
 use Rattle.spec_rules.specs.Searching.{every}
 use Rattle.spec_rules.specs.SheetFile.{runIn}
 use Rattle.spec_rules.specs.TreeReader.{nodes, cases, paths, nodeWord, nodePath, nodeFirstCase, nodeCases, nodeTailCases, nodeDefault, switchParts}
@@ -38,11 +39,11 @@ module _ (f : ℕ → Bool) where
   every-rest-end i j n h = let a : n - j ≡ 0 = omega arith in rw a
 
 -- the run of cases of a switch whose parts are in their sections, as its words were read
-pub switch-run-in : {t : List ℕ} {m : Map} → Mapped t m → (k f n u : ℕ) → switchParts t k ≡ true → f ≡ nodeWord t k 1 → n ≡ nodeWord t k 2 → u ≡ nodeWord t k 3
+pub switch-run-in : {t : List ℕ} {m : Map} → Mapped t m → (k f n u : ℕ) → switchParts t k ≡ true → f ≡ nodeWord t k firstCaseWord → n ≡ nodeWord t k casesWord → u ≡ nodeWord t k tailCasesWord
     → f + (n + u) ≤ m .cases .count
 unfolding switchParts nodeFirstCase nodeCases nodeTailCases
 switch-run-in {t} w k f n u h ef en eu =
-    let p = both-true (ltb (nodePath t k) (paths t)) (both (runIn (nodeWord t k 1) (nodeWord t k 2 + nodeWord t k 3) (cases t)) (leb (nodeDefault t k) (nodes t))) h in
-    let q = both-true (runIn (nodeWord t k 1) (nodeWord t k 2 + nodeWord t k 3) (cases t)) (leb (nodeDefault t k) (nodes t)) (p .1) in
-    let r = run-in (nodeWord t k 1) (nodeWord t k 2 + nodeWord t k 3) (cases t) (q .0) in
+    let p = both-true (ltb (nodePath t k) (paths t)) (both (runIn (nodeWord t k firstCaseWord) (nodeWord t k casesWord + nodeWord t k tailCasesWord) (cases t)) (leb (nodeDefault t k) (nodes t))) h in
+    let q = both-true (runIn (nodeWord t k firstCaseWord) (nodeWord t k casesWord + nodeWord t k tailCasesWord) (cases t)) (leb (nodeDefault t k) (nodes t)) (p .1) in
+    let r = run-in (nodeWord t k firstCaseWord) (nodeWord t k casesWord + nodeWord t k tailCasesWord) (cases t) (q .0) in
     omega (arith, r .inside, cases-count w)

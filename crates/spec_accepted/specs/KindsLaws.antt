@@ -9,6 +9,7 @@ use borrow.Author.Tests.{eqb-true, eqb-false, ne-eqb}
 use lib.Dec.{eqb}
 use lib.ListN.{length}
 use Rattle.base_words.specs.Words.{pick}
+use Rattle.spec_rules.specs.Kinds.{discardPattern, variablePattern, assignPattern, integerPattern, byteStringPattern, listPattern, listWithTailPattern, constructorPattern, pairPattern, tuplePattern, integerRecord, bytesRecord, listRecord, pairRecord, tupleRecord, constructorRecord, switchNode, listSwitchNode, leafNode, hoistNode, constrCase, intCase, bytesCase, listCase, listWithTailCase}
 use Rattle.spec_rules.specs.Patterns.{PatternKind, Discard, Variable, Assign, Integer, ByteString, ListOfAll, ListWithRest, Constructor, Pair, Tuple, Unknown, patternKindOf}
 use Rattle.spec_rules.specs.PanelFile.{RecordKind, Integer-record, Bytes-record, List-record, Pair-record, Tuple-record, Constructor-record, Unknown-record, recordKindOf}
 use Rattle.spec_rules.specs.TreeReader.{NodeKind, Switch, List-switch, Leaf, Hoist-node, Unknown-node, nodeKindOf, CaseKind, Constr-case, Int-case, Bytes-case, List-case, List-with-tail-case, Unknown-case, caseKindOf}
@@ -50,31 +51,31 @@ module _ {A : Type 0} where
 
 -- ---- patterns
 abbrev pub patternNumber : PatternKind → ℕ
-patternNumber Discard = 0
-patternNumber Variable = 1
-patternNumber Assign = 2
-patternNumber Integer = 3
-patternNumber ByteString = 4
-patternNumber ListOfAll = 5
-patternNumber ListWithRest = 6
-patternNumber Constructor = 7
-patternNumber Pair = 8
-patternNumber Tuple = 9
-patternNumber Unknown = 10
+patternNumber Discard = discardPattern
+patternNumber Variable = variablePattern
+patternNumber Assign = assignPattern
+patternNumber Integer = integerPattern
+patternNumber ByteString = byteStringPattern
+patternNumber ListOfAll = listPattern
+patternNumber ListWithRest = listWithTailPattern
+patternNumber Constructor = constructorPattern
+patternNumber Pair = pairPattern
+patternNumber Tuple = tuplePattern
+patternNumber Unknown = suc tuplePattern
 
 abbrev patternKinds : List PatternKind
 patternKinds = Discard ∷ Variable ∷ Assign ∷ Integer ∷ ByteString ∷ ListOfAll ∷ ListWithRest ∷ Constructor ∷ Pair ∷ Tuple ∷ []
 
 -- the number of a byte's kind is the byte, or 10 for every byte from 10 on
-pub pattern-number : (k : ℕ) → patternNumber (patternKindOf k) ≡ min k 10
+pub pattern-number : (k : ℕ) → patternNumber (patternKindOf k) ≡ min k (suc tuplePattern)
 unfolding patternKindOf chain
 pattern-number k =
     chain-number patternNumber 0 patternKinds Unknown k
     (refl, (refl, (refl, (refl, (refl, (refl, (refl, (refl, (refl, (refl, tt)))))))))) refl (omega arith)
 
 -- from a known kind, the byte: `pattern-byte k Integer e (omega arith) : k ≡ 3`
-pub pattern-byte : (k : ℕ) (kind : PatternKind) → patternKindOf k ≡ kind → patternNumber kind < 10 → k ≡ patternNumber kind
-pattern-byte k kind = chain-byte patternNumber 10 patternKindOf k kind (pattern-number k)
+pub pattern-byte : (k : ℕ) (kind : PatternKind) → patternKindOf k ≡ kind → patternNumber kind < suc tuplePattern → k ≡ patternNumber kind
+pattern-byte k kind = chain-byte patternNumber (suc tuplePattern) patternKindOf k kind (pattern-number k)
 
 -- from the byte, the kind: `byte-pattern k Integer e`, where e : k ≡ 3
 pub byte-pattern : (k : ℕ) (kind : PatternKind) → k ≡ patternNumber kind → patternKindOf k ≡ kind
@@ -91,33 +92,33 @@ byte-pattern k Pair e = rw e
 byte-pattern k Tuple e = rw e
 byte-pattern k Unknown e = rw e
 
-pub pattern-unknown : (k : ℕ) → 10 ≤ k → patternKindOf k ≡ Unknown
+pub pattern-unknown : (k : ℕ) → tuplePattern < k → patternKindOf k ≡ Unknown
 unfolding patternKindOf chain
 pattern-unknown k h = chain-past 0 patternKinds Unknown k h
 
-pub unknown-pattern : (k : ℕ) → patternKindOf k ≡ Unknown → 10 ≤ k
-unknown-pattern k e = chain-unknown patternNumber 10 patternKindOf k Unknown (pattern-number k) e refl
+pub unknown-pattern : (k : ℕ) → patternKindOf k ≡ Unknown → tuplePattern < k
+unknown-pattern k e = chain-unknown patternNumber (suc tuplePattern) patternKindOf k Unknown (pattern-number k) e refl
 
 -- ---- panel records
 abbrev pub recordNumber : RecordKind → ℕ
-recordNumber Integer-record = 0
-recordNumber Bytes-record = 1
-recordNumber List-record = 2
-recordNumber Pair-record = 3
-recordNumber Tuple-record = 4
-recordNumber Constructor-record = 5
-recordNumber Unknown-record = 6
+recordNumber Integer-record = integerRecord
+recordNumber Bytes-record = bytesRecord
+recordNumber List-record = listRecord
+recordNumber Pair-record = pairRecord
+recordNumber Tuple-record = tupleRecord
+recordNumber Constructor-record = constructorRecord
+recordNumber Unknown-record = suc constructorRecord
 
 abbrev recordKinds : List RecordKind
 recordKinds = Integer-record ∷ Bytes-record ∷ List-record ∷ Pair-record ∷ Tuple-record ∷ Constructor-record ∷ []
 
-pub record-number : (k : ℕ) → recordNumber (recordKindOf k) ≡ min k 6
+pub record-number : (k : ℕ) → recordNumber (recordKindOf k) ≡ min k (suc constructorRecord)
 unfolding recordKindOf chain
 record-number k =
     chain-number recordNumber 0 recordKinds Unknown-record k (refl, (refl, (refl, (refl, (refl, (refl, tt)))))) refl (omega arith)
 
-pub record-byte : (k : ℕ) (kind : RecordKind) → recordKindOf k ≡ kind → recordNumber kind < 6 → k ≡ recordNumber kind
-record-byte k kind = chain-byte recordNumber 6 recordKindOf k kind (record-number k)
+pub record-byte : (k : ℕ) (kind : RecordKind) → recordKindOf k ≡ kind → recordNumber kind < suc constructorRecord → k ≡ recordNumber kind
+record-byte k kind = chain-byte recordNumber (suc constructorRecord) recordKindOf k kind (record-number k)
 
 pub byte-record : (k : ℕ) (kind : RecordKind) → k ≡ recordNumber kind → recordKindOf k ≡ kind
 unfolding recordKindOf
@@ -129,27 +130,27 @@ byte-record k Tuple-record e = rw e
 byte-record k Constructor-record e = rw e
 byte-record k Unknown-record e = rw e
 
-pub record-unknown : (k : ℕ) → 6 ≤ k → recordKindOf k ≡ Unknown-record
+pub record-unknown : (k : ℕ) → constructorRecord < k → recordKindOf k ≡ Unknown-record
 unfolding recordKindOf chain
 record-unknown k h = chain-past 0 recordKinds Unknown-record k h
 
 -- ---- tree nodes
 abbrev pub nodeNumber : NodeKind → ℕ
-nodeNumber Switch = 0
-nodeNumber List-switch = 1
-nodeNumber Leaf = 2
-nodeNumber Hoist-node = 3
-nodeNumber Unknown-node = 4
+nodeNumber Switch = switchNode
+nodeNumber List-switch = listSwitchNode
+nodeNumber Leaf = leafNode
+nodeNumber Hoist-node = hoistNode
+nodeNumber Unknown-node = suc hoistNode
 
 abbrev nodeKinds : List NodeKind
 nodeKinds = Switch ∷ List-switch ∷ Leaf ∷ Hoist-node ∷ []
 
-pub node-number : (k : ℕ) → nodeNumber (nodeKindOf k) ≡ min k 4
+pub node-number : (k : ℕ) → nodeNumber (nodeKindOf k) ≡ min k (suc hoistNode)
 unfolding nodeKindOf chain
 node-number k = chain-number nodeNumber 0 nodeKinds Unknown-node k (refl, (refl, (refl, (refl, tt)))) refl (omega arith)
 
-pub node-byte : (k : ℕ) (kind : NodeKind) → nodeKindOf k ≡ kind → nodeNumber kind < 4 → k ≡ nodeNumber kind
-node-byte k kind = chain-byte nodeNumber 4 nodeKindOf k kind (node-number k)
+pub node-byte : (k : ℕ) (kind : NodeKind) → nodeKindOf k ≡ kind → nodeNumber kind < suc hoistNode → k ≡ nodeNumber kind
+node-byte k kind = chain-byte nodeNumber (suc hoistNode) nodeKindOf k kind (node-number k)
 
 pub byte-node : (k : ℕ) (kind : NodeKind) → k ≡ nodeNumber kind → nodeKindOf k ≡ kind
 unfolding nodeKindOf
@@ -159,31 +160,31 @@ byte-node k Leaf e = rw e
 byte-node k Hoist-node e = rw e
 byte-node k Unknown-node e = rw e
 
-pub node-unknown : (k : ℕ) → 4 ≤ k → nodeKindOf k ≡ Unknown-node
+pub node-unknown : (k : ℕ) → hoistNode < k → nodeKindOf k ≡ Unknown-node
 unfolding nodeKindOf chain
 node-unknown k h = chain-past 0 nodeKinds Unknown-node k h
 
-pub unknown-node : (k : ℕ) → nodeKindOf k ≡ Unknown-node → 4 ≤ k
-unknown-node k e = chain-unknown nodeNumber 4 nodeKindOf k Unknown-node (node-number k) e refl
+pub unknown-node : (k : ℕ) → nodeKindOf k ≡ Unknown-node → hoistNode < k
+unknown-node k e = chain-unknown nodeNumber (suc hoistNode) nodeKindOf k Unknown-node (node-number k) e refl
 
 -- ---- tree cases
 abbrev pub caseKindNumber : CaseKind → ℕ
-caseKindNumber Constr-case = 0
-caseKindNumber Int-case = 1
-caseKindNumber Bytes-case = 2
-caseKindNumber List-case = 3
-caseKindNumber List-with-tail-case = 4
-caseKindNumber Unknown-case = 5
+caseKindNumber Constr-case = constrCase
+caseKindNumber Int-case = intCase
+caseKindNumber Bytes-case = bytesCase
+caseKindNumber List-case = listCase
+caseKindNumber List-with-tail-case = listWithTailCase
+caseKindNumber Unknown-case = suc listWithTailCase
 
 abbrev caseKinds : List CaseKind
 caseKinds = Constr-case ∷ Int-case ∷ Bytes-case ∷ List-case ∷ List-with-tail-case ∷ []
 
-pub case-number : (k : ℕ) → caseKindNumber (caseKindOf k) ≡ min k 5
+pub case-number : (k : ℕ) → caseKindNumber (caseKindOf k) ≡ min k (suc listWithTailCase)
 unfolding caseKindOf chain
 case-number k = chain-number caseKindNumber 0 caseKinds Unknown-case k (refl, (refl, (refl, (refl, (refl, tt))))) refl (omega arith)
 
-pub case-byte : (k : ℕ) (kind : CaseKind) → caseKindOf k ≡ kind → caseKindNumber kind < 5 → k ≡ caseKindNumber kind
-case-byte k kind = chain-byte caseKindNumber 5 caseKindOf k kind (case-number k)
+pub case-byte : (k : ℕ) (kind : CaseKind) → caseKindOf k ≡ kind → caseKindNumber kind < suc listWithTailCase → k ≡ caseKindNumber kind
+case-byte k kind = chain-byte caseKindNumber (suc listWithTailCase) caseKindOf k kind (case-number k)
 
 pub byte-case : (k : ℕ) (kind : CaseKind) → k ≡ caseKindNumber kind → caseKindOf k ≡ kind
 unfolding caseKindOf
@@ -194,9 +195,9 @@ byte-case k List-case e = rw e
 byte-case k List-with-tail-case e = rw e
 byte-case k Unknown-case e = rw e
 
-pub case-unknown : (k : ℕ) → 5 ≤ k → caseKindOf k ≡ Unknown-case
+pub case-unknown : (k : ℕ) → listWithTailCase < k → caseKindOf k ≡ Unknown-case
 unfolding caseKindOf chain
 case-unknown k h = chain-past 0 caseKinds Unknown-case k h
 
-pub unknown-case : (k : ℕ) → caseKindOf k ≡ Unknown-case → 5 ≤ k
-unknown-case k e = chain-unknown caseKindNumber 5 caseKindOf k Unknown-case (case-number k) e refl
+pub unknown-case : (k : ℕ) → caseKindOf k ≡ Unknown-case → listWithTailCase < k
+unknown-case k e = chain-unknown caseKindNumber (suc listWithTailCase) caseKindOf k Unknown-case (case-number k) e refl

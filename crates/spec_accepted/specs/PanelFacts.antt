@@ -14,16 +14,19 @@ use lib.ListN.{length}
 use Rattle.base_words.specs.Words.{both}
 use Rattle.base_words.specs.WordsLaws.{both-true}
 use Rattle.spec_rules.specs.Limits.{recordSize, partSize, panelTrailer, panelMost, recordsMost, panelDepthMost, textMost}
+use Rattle.spec_rules.specs.Kinds.{listType, pairType, tupleType, integerRecord, bytesRecord, listRecord, pairRecord, constructorRecord}
+use Rattle.spec_rules.specs.RefusalNumbers.{panelLengthRefusal, panelLayoutRefusal, panelShapeRefusal, panelTextRefusal}
 use Rattle.spec_rules.specs.Searching.{every, times}
 use Rattle.spec_rules.specs.SearchingLaws.{every-true, times-found, times-one}
 use Rattle.spec_rules.specs.SheetFile.{typeKind, typeCount, entry, runIn}
 use Rattle.spec_rules.specs.Patterns.{takesArguments}
 use Rattle.spec_rules.specs.Texts.{canonical, shortText}
 use Rattle.spec_rules.specs.SheetRefusals.{accepted}
-use Rattle.spec_rules.specs.PanelFile.{panelLength, recordsAt, partsAt, panelPoolAt, panelPoolEnd, records, parts, panelPoolSize, recordKind, recordZero, recordA, recordFirst, recordCount, part, recordText, RecordKind, Integer-record, Bytes-record, List-record, Pair-record, Tuple-record, Constructor-record, Unknown-record, recordKindOf, panelLengthFits, panelLayoutFits, hasParts, recordFieldsFit, isHigher, partsHigher, recordKeepsRules, isPart, isOnePart, holds, partKeepsRules, recordWithin, panelShapeFits, recordTextOfKind, recordTextFits, panelTextsFit, panelVerdict}
+use Rattle.spec_rules.specs.SheetRefusalsLaws.{require-accepted}
+use Rattle.spec_rules.specs.PanelFile.{panelLength, recordsAt, partsAt, panelPoolAt, panelPoolEnd, panelSizes, panelPlaces, records, parts, panelPoolSize, recordKind, recordZero, recordA, recordFirst, recordCount, part, recordText, RecordKind, Integer-record, Bytes-record, List-record, Pair-record, Tuple-record, Constructor-record, Unknown-record, recordKindOf, panelLengthFits, panelLayoutFits, hasParts, recordFieldsFit, isHigher, partsHigher, recordKeepsRules, isPart, isOnePart, holds, partKeepsRules, recordWithin, panelShapeFits, recordTextOfKind, recordTextFits, panelTextsFit, panelVerdict}
 use Rattle.spec_rules.specs.Fitting.{partsFit, recordFits, hasTypeTo}
 use Rattle.spec_accepted.specs.KindsLaws.{recordNumber, record-number, record-byte, record-unknown}
-use Rattle.spec_accepted.specs.RunsLaws.{Run, run-in, whole-rises, whole-fills, pool-fills, trailer-fills, require-accepted, every-below}
+use Rattle.spec_accepted.specs.RunsLaws.{Run, run-in, section-rises, section-fills, pool-fills, trailer-fills, every-below}
 
 -- ---- 21 and 22: the sections stand back to back, each of whole records, and the trailer ends the file
 pub record PanelLaid (v : List ℕ) : Type 0 where
@@ -46,21 +49,19 @@ panel-laid v long out =
     let s1 = both-true _ _ out in
     let s2 = both-true _ _ (s1 .1) in
     let s3 = both-true _ _ (s2 .1) in
-    let s4 = both-true _ _ (s3 .1) in
-    let s5 = both-true _ _ (s4 .1) in
+    let fills = section-fills panelSizes (panelPlaces v) (s2 .0) in
     let least : panelTrailer ≤ length v = leb-true _ _ (l1 .0) in
-    let rises : panelPoolAt v ≤ panelPoolEnd v = whole-rises 1 _ _ (s4 .0) in
     record {
       length-least = least;
       length-most = leb-true _ _ (l2 .0);
       length-told = eqb-true _ _ (l2 .1);
       records-start = eqb-true _ _ (s1 .0);
-      records-end = whole-fills recordSize _ _ (s2 .0);
-      parts-end = whole-fills partSize _ _ (s3 .0);
-      pool-end = pool-fills (panelPoolAt v) (panelPoolEnd v) rises;
+      records-end = fills 0 (omega arith);
+      parts-end = fills 1 (omega arith);
+      pool-end = pool-fills (panelPoolAt v) (panelPoolEnd v) (section-rises panelSizes (panelPlaces v) (s2 .0) 2 (omega arith));
       trailer-end = trailer-fills panelTrailer (length v) least;
-      some-record = leb-true _ _ (s5 .0);
-      records-most = leb-true _ _ (s5 .1);
+      some-record = leb-true _ _ (s3 .0);
+      records-most = leb-true _ _ (s3 .1);
     }
 
 -- a text's bytes lie before the trailer
@@ -81,11 +82,11 @@ pub record Holds (v : List ℕ) (r j : ℕ) : Type 0 where
 
 pub record PanelShaped (v : List ℕ) : Type 0 where
   pub zero-byte : (r : ℕ) → r < records v → recordZero v r ≡ 0
-  pub record-kind : (r : ℕ) → r < records v → recordKind v r ≤ 5
-  pub a-unused : (r : ℕ) → r < records v → (recordKind v r ≡ 5 → ⊥) → recordA v r ≡ 0
-  pub pair-two : (r : ℕ) → r < records v → recordKind v r ≡ 3 → recordCount v r ≡ 2
-  pub text-run : (r : ℕ) → r < records v → recordKind v r ≤ 1 → Run (recordFirst v r) (recordCount v r) (panelPoolSize v)
-  pub parts-run : (r : ℕ) → r < records v → 2 ≤ recordKind v r → Run (recordFirst v r) (recordCount v r) (parts v)
+  pub record-kind : (r : ℕ) → r < records v → recordKind v r ≤ constructorRecord
+  pub a-unused : (r : ℕ) → r < records v → (recordKind v r ≡ constructorRecord → ⊥) → recordA v r ≡ 0
+  pub pair-two : (r : ℕ) → r < records v → recordKind v r ≡ pairRecord → recordCount v r ≡ 2
+  pub text-run : (r : ℕ) → r < records v → recordKind v r ≤ bytesRecord → Run (recordFirst v r) (recordCount v r) (panelPoolSize v)
+  pub parts-run : (r : ℕ) → r < records v → listRecord ≤ recordKind v r → Run (recordFirst v r) (recordCount v r) (parts v)
   pub part-above : (r j : ℕ) → r < records v → Holds v r j → r < part v j
   pub part-record : (j : ℕ) → j < parts v → part v j < records v
   pub its-holder : (j : ℕ) → j < parts v → (r : ℕ) × (r < records v) × Holds v r j
@@ -93,7 +94,7 @@ pub record PanelShaped (v : List ℕ) : Type 0 where
   pub is-part-once : (r : ℕ) → 1 ≤ r → r < records v → times (isPart v r) 0 (parts v) ≡ 1
 
 -- which kinds have parts: list to constructor
-numbers-with-parts : (kind : RecordKind) → 2 ≤ recordNumber kind → recordNumber kind ≤ 5 → hasParts kind ≡ true
+numbers-with-parts : (kind : RecordKind) → listRecord ≤ recordNumber kind → recordNumber kind ≤ constructorRecord → hasParts kind ≡ true
 unfolding hasParts
 numbers-with-parts Integer-record low high = absurd (omega arith)
 numbers-with-parts Bytes-record low high = absurd (omega arith)
@@ -103,7 +104,7 @@ numbers-with-parts Tuple-record low high = refl
 numbers-with-parts Constructor-record low high = refl
 numbers-with-parts Unknown-record low high = absurd (omega arith)
 
-parts-number : (kind : RecordKind) → hasParts kind ≡ true → (2 ≤ recordNumber kind) × (recordNumber kind ≤ 5)
+parts-number : (kind : RecordKind) → hasParts kind ≡ true → (listRecord ≤ recordNumber kind) × (recordNumber kind ≤ constructorRecord)
 unfolding hasParts
 parts-number Integer-record h = absurd (true≢false (sym h))
 parts-number Bytes-record h = absurd (true≢false (sym h))
@@ -113,12 +114,12 @@ parts-number Tuple-record h = (omega arith, omega arith)
 parts-number Constructor-record h = (omega arith, omega arith)
 parts-number Unknown-record h = absurd (true≢false (sym h))
 
-pub kind-holder : (v : List ℕ) (r : ℕ) → 2 ≤ recordKind v r → recordKind v r ≤ 5 → Holder v r
+pub kind-holder : (v : List ℕ) (r : ℕ) → listRecord ≤ recordKind v r → recordKind v r ≤ constructorRecord → Holder v r
 kind-holder v r low high =
     let e = record-number (recordKind v r) in
     numbers-with-parts (recordKindOf (recordKind v r)) (omega arith) (omega arith)
 
-pub holder-kind : (v : List ℕ) (r : ℕ) → Holder v r → (2 ≤ recordKind v r) × (recordKind v r ≤ 5)
+pub holder-kind : (v : List ℕ) (r : ℕ) → Holder v r → (listRecord ≤ recordKind v r) × (recordKind v r ≤ constructorRecord)
 holder-kind v r has =
     let e = record-number (recordKind v r) in
     let n = parts-number (recordKindOf (recordKind v r)) has in
@@ -150,31 +151,31 @@ module _ (v : List ℕ) (r : ℕ) (fit : recordFieldsFit v r (recordKindOf (reco
   of-kind : (kind : RecordKind) → recordKindOf (recordKind v r) ≡ kind → recordFieldsFit v r kind ≡ true
   of-kind kind e = rw e at fit
 
-  pub fields-kind : recordKind v r ≤ 5
+  pub fields-kind : recordKind v r ≤ constructorRecord
   unfolding recordFieldsFit
-  fields-kind = go (leb (recordKind v r) 5) refl
+  fields-kind = go (leb (recordKind v r) constructorRecord) refl
     where
-      go : (b : Bool) → leb (recordKind v r) 5 ≡ b → recordKind v r ≤ 5
+      go : (b : Bool) → leb (recordKind v r) constructorRecord ≡ b → recordKind v r ≤ constructorRecord
       go true e = leb-true _ _ e
       go false e = absurd (true≢false (sym (of-kind Unknown-record (record-unknown _ (leb-false _ _ e)))))
 
-  pub fields-a-unused : (recordKind v r ≡ 5 → ⊥) → recordA v r ≡ 0
+  pub fields-a-unused : (recordKind v r ≡ constructorRecord → ⊥) → recordA v r ≡ 0
   fields-a-unused c = fields-a v r (recordKindOf (recordKind v r)) fit (λ e. c (record-byte _ Constructor-record e (omega arith)))
 
-  pub fields-pair : recordKind v r ≡ 3 → recordCount v r ≡ 2
+  pub fields-pair : recordKind v r ≡ pairRecord → recordCount v r ≡ 2
   unfolding recordFieldsFit recordKindOf
   fields-pair e =
       let f = both-true (eqb (recordA v r) 0) _ (of-kind Pair-record (rw e)) in
       eqb-true _ _ (both-true (eqb (recordCount v r) 2) (runIn (recordFirst v r) (recordCount v r) (parts v)) (f .1) .0)
 
-  pub fields-text : recordKind v r ≤ 1 → Run (recordFirst v r) (recordCount v r) (panelPoolSize v)
+  pub fields-text : recordKind v r ≤ bytesRecord → Run (recordFirst v r) (recordCount v r) (panelPoolSize v)
   unfolding recordFieldsFit recordKindOf
   fields-text h =
       ⊎-elim (λ e. run-in _ _ _ (both-true (eqb (recordA v r) 0) _ (of-kind Bytes-record (rw e)) .1))
-      (λ l. let e : recordKind v r ≡ 0 = omega arith in run-in _ _ _ (both-true (eqb (recordA v r) 0) _ (of-kind Integer-record (rw e)) .1))
+      (λ l. let e : recordKind v r ≡ integerRecord = omega arith in run-in _ _ _ (both-true (eqb (recordA v r) 0) _ (of-kind Integer-record (rw e)) .1))
       (eq-or-lt-of-le h)
 
-  pub fields-run : 2 ≤ recordKind v r → Run (recordFirst v r) (recordCount v r) (parts v)
+  pub fields-run : listRecord ≤ recordKind v r → Run (recordFirst v r) (recordCount v r) (parts v)
   fields-run low = fields-parts v r (recordKindOf (recordKind v r)) fit (kind-holder v r low fields-kind)
 
 pub holds-listed : (v : List ℕ) (r j : ℕ) → holds v j r ≡ true → Holds v r j
@@ -302,19 +303,19 @@ pub record PanelAccepted (v : List ℕ) : Type 0 where
   pub is-laid : PanelLaid v
   pub is-shaped : PanelShaped v
   pub root-depth : recordWithin panelDepthMost v 0 ≡ true
-  pub integer-canonical : (r : ℕ) → r < records v → recordKind v r ≡ 0 → canonical (recordText v r) ≡ true
-  pub text-short : (r : ℕ) → r < records v → recordKind v r ≤ 1 → recordCount v r ≤ textMost
+  pub integer-canonical : (r : ℕ) → r < records v → recordKind v r ≡ integerRecord → canonical (recordText v r) ≡ true
+  pub text-short : (r : ℕ) → r < records v → recordKind v r ≤ bytesRecord → recordCount v r ≤ textMost
 
 module _ (v : List ℕ) (r : ℕ) (good : recordTextFits v r ≡ true) where
   good-of-kind : (kind : RecordKind) → recordKindOf (recordKind v r) ≡ kind → recordTextOfKind v r kind ≡ true
   unfolding recordTextFits
   good-of-kind kind e = rw e at good
 
-  good-integer : recordKind v r ≡ 0 → (shortText (recordCount v r) ≡ true) × (canonical (recordText v r) ≡ true)
+  good-integer : recordKind v r ≡ integerRecord → (shortText (recordCount v r) ≡ true) × (canonical (recordText v r) ≡ true)
   unfolding recordTextOfKind recordKindOf
   good-integer e = both-true _ _ (good-of-kind Integer-record (rw e))
 
-  good-short : recordKind v r ≤ 1 → recordCount v r ≤ textMost
+  good-short : recordKind v r ≤ bytesRecord → recordCount v r ≤ textMost
   unfolding recordTextOfKind recordKindOf shortText
   good-short h =
       ⊎-elim (λ e. leb-true _ _ (good-of-kind Bytes-record (rw e))) (λ l. leb-true _ _ (good-integer (omega arith) .0)) (eq-or-lt-of-le h)
@@ -322,10 +323,10 @@ module _ (v : List ℕ) (r : ℕ) (good : recordTextFits v r ≡ true) where
 pub accepted-panel : (v : List ℕ) → panelVerdict v ≡ accepted → PanelAccepted v
 unfolding panelVerdict panelTextsFit
 accepted-panel v h =
-    let v21 = require-accepted (panelLengthFits v) 21 _ h in
-    let v22 = require-accepted (panelLayoutFits v) 22 _ (v21 .1) in
-    let v23 = require-accepted (panelShapeFits v) 23 _ (v22 .1) in
-    let v24 = require-accepted (panelTextsFit v) 24 accepted (v23 .1) in
+    let v21 = require-accepted (panelLengthFits v) panelLengthRefusal _ h in
+    let v22 = require-accepted (panelLayoutFits v) panelLayoutRefusal _ (v21 .1) in
+    let v23 = require-accepted (panelShapeFits v) panelShapeRefusal _ (v22 .1) in
+    let v24 = require-accepted (panelTextsFit v) panelTextRefusal accepted (v23 .1) in
     let texts = every-below (recordTextFits v) (records v) (v24 .0) in
     record {
       is-laid = panel-laid v (v21 .0) (v22 .0);
@@ -365,9 +366,9 @@ module _ (s v : List ℕ) (r t : ℕ) (f g : ℕ → ℕ → Bool) (agree : (j u
   unfolding recordFits hasParts
   recordFits-same Integer-record e = refl
   recordFits-same Bytes-record e = refl
-  recordFits-same List-record e = ap (both (eqb (typeKind s t) 2)) (parts-held (ap hasParts e) _ _)
-  recordFits-same Pair-record e = ap (λ (b : Bool). both (eqb (typeKind s t) 3) (both (eqb (typeCount s t) (recordCount v r)) b)) (parts-held (ap hasParts e) _ _)
-  recordFits-same Tuple-record e = ap (λ (b : Bool). both (eqb (typeKind s t) 4) (both (eqb (typeCount s t) (recordCount v r)) b)) (parts-held (ap hasParts e) _ _)
+  recordFits-same List-record e = ap (both (eqb (typeKind s t) listType)) (parts-held (ap hasParts e) _ _)
+  recordFits-same Pair-record e = ap (λ (b : Bool). both (eqb (typeKind s t) pairType) (both (eqb (typeCount s t) (recordCount v r)) b)) (parts-held (ap hasParts e) _ _)
+  recordFits-same Tuple-record e = ap (λ (b : Bool). both (eqb (typeKind s t) tupleType) (both (eqb (typeCount s t) (recordCount v r)) b)) (parts-held (ap hasParts e) _ _)
   recordFits-same Constructor-record e = ap (both (takesArguments s t (recordA v r) (recordCount v r))) (parts-held (ap hasParts e) _ _)
   recordFits-same Unknown-record e = refl
 

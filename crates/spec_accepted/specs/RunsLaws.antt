@@ -1,20 +1,22 @@
--- What the tests shared by the three files say: a run inside a section, whole records between two starts, and a verdict that accepts.
+-- What the tests shared by the three files say: a run inside a section, whole records between two starts, and what was asked of every record.
 -- Rests on the definitions of spec_rules and on arithmetic.
-use mathlib.Core.Path.{_≡_, refl}
+use mathlib.Core.Path.{_≡_, sym}
 use mathlib.Core.Logic.{⊎-elim}
-use mathlib.Core.Bool.{Bool, true, false}
-use mathlib.Core.Option.{Option, none, some}
-use Prim.Native.Nat.{ℕ, _+_, _-_, _*_, _/_, _%_, _≤_, _<_}
+use mathlib.Core.Bool.{Bool, true, false, true≢false}
+use mathlib.Core.List.{List, [], _∷_}
+use mathlib.Core.Option.{none}
+use Prim.Native.Nat.{ℕ, zero, suc, _+_, _-_, _*_, _/_, _%_, _≤_, _<_}
 use native.Mathlib.Omega.{arith}
 use native.Mathlib.Nat.{div-add-mod}
 use borrow.Author.Tests.{leb-true, ltb-true, eqb-true}
 use lib.Dec.{eqb, leb, ltb}
+use lib.ListN.{length, getD}
 use Rattle.base_words.specs.Words.{either}
 use Rattle.base_words.specs.WordsLaws.{both-true, either-true}
 use Rattle.spec_rules.specs.Searching.{every, lowest}
 use Rattle.spec_rules.specs.SearchingLaws.{every-true, lowest-none}
 use Rattle.spec_rules.specs.SheetFile.{runIn}
-use Rattle.spec_rules.specs.SheetRefusals.{wholeRecords, Verdict, accepted, require, requireNone}
+use Rattle.spec_rules.specs.SheetRefusals.{wholeRecords, wholeBetween}
 
 -- "first, count": the run from first on lies in a section of n records, and first is 0 where count is 0
 pub record Run (first count n : ℕ) : Type 0 where
@@ -42,21 +44,33 @@ whole-fills size from to h =
     let even = eqb-true ((to - from) % size) 0 (both-true (leb from to) (eqb ((to - from) % size) 0) h .1) in
     omega (arith, div-add-mod (to - from) size)
 
+-- ---- the sections of a file, by the sizes of their records and where they start: section k reaches from its start to the next one's
+module _ (sizes places : List ℕ) where
+  section-whole : wholeBetween sizes places ≡ true → (k : ℕ) → k < length sizes → wholeRecords (getD sizes k 0) (getD places k 0) (getD places (suc k) 0) ≡ true
+  section-whole = go sizes places
+    where
+      go : (xs ys : List ℕ) → wholeBetween xs ys ≡ true → (k : ℕ) → k < length xs → wholeRecords (getD xs k 0) (getD ys k 0) (getD ys (suc k) 0) ≡ true
+      go [] ys h k l = absurd (omega arith)
+      go (x ∷ xs) [] h k l = absurd (true≢false (sym h))
+      go (x ∷ xs) (y ∷ []) h k l = absurd (true≢false (sym h))
+      go (x ∷ []) (y ∷ z ∷ zs) h zero l = h
+      go (x ∷ []) (y ∷ z ∷ zs) h (suc k) l = absurd (omega arith)
+      go (x ∷ w ∷ xs) (y ∷ z ∷ zs) h zero l = both-true (wholeRecords x y z) (wholeBetween (w ∷ xs) (z ∷ zs)) h .0
+      go (x ∷ w ∷ xs) (y ∷ z ∷ zs) h (suc k) l = go (w ∷ xs) (z ∷ zs) (both-true (wholeRecords x y z) (wholeBetween (w ∷ xs) (z ∷ zs)) h .1) k (omega arith)
+
+  module _ (h : wholeBetween sizes places ≡ true) (k : ℕ) (l : k < length sizes) where
+    pub section-rises : getD places k 0 ≤ getD places (suc k) 0
+    section-rises = whole-rises (getD sizes k 0) (getD places k 0) (getD places (suc k) 0) (section-whole h k l)
+
+    pub section-fills : getD places k 0 + getD sizes k 0 * ((getD places (suc k) 0 - getD places k 0) / getD sizes k 0) ≡ getD places (suc k) 0
+    section-fills = whole-fills (getD sizes k 0) (getD places k 0) (getD places (suc k) 0) (section-whole h k l)
+
 -- a pool reaches from its start to the trailer, and the trailer to the end
 pub pool-fills : (from to : ℕ) → from ≤ to → from + (to - from) ≡ to
 pool-fills from to h = omega arith
 
 pub trailer-fills : (trailer long : ℕ) → trailer ≤ long → long - trailer + trailer ≡ long
 trailer-fills trailer long h = omega arith
-
--- a verdict that accepts passed its first test, and the rest accepts
-pub require-accepted : (test : Bool) (number : ℕ) (rest : Verdict) → require test number rest ≡ accepted → (test ≡ true) × (rest ≡ accepted)
-require-accepted true number rest h = (refl, h)
-require-accepted false number rest h = (cc, cc)
-
-pub requireNone-accepted : (found : Option ℕ) (number : ℕ) (rest : Verdict) → requireNone found number rest ≡ accepted → (found ≡ none) × (rest ≡ accepted)
-requireNone-accepted none number rest h = (refl, h)
-requireNone-accepted (some place) number rest h = (cc, cc)
 
 -- what was asked of every record of a section, and what was found in none
 module _ (f : ℕ → Bool) (n : ℕ) where

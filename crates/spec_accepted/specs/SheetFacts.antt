@@ -13,14 +13,17 @@ use lib.ListN.{length}
 use Rattle.base_words.specs.Words.{both}
 use Rattle.base_words.specs.WordsLaws.{both-true, either-true}
 use Rattle.spec_rules.specs.Limits.{typeSize, constructorSize, entrySize, patternSize, childSize, clauseSize, sheetTrailer, sheetMost, typesMost, constructorsMost, entriesMost, patternsMost, childrenMost, clausesMost, depthMost, textMost}
+use Rattle.spec_rules.specs.Kinds.{bytesType, listType, pairType, tupleType, dataType, noFlag, bothFlags, discardPattern, variablePattern, assignPattern, integerPattern, byteStringPattern, listPattern, listWithTailPattern, constructorPattern, pairPattern, tuplePattern}
+use Rattle.spec_rules.specs.RefusalNumbers.{lengthRefusal, layoutRefusal, noClauseRefusal, countRefusal, typesRefusal, transparentRefusal, shapeRefusal, textRefusal, misfitRefusal, nameTwiceRefusal}
 use Rattle.spec_rules.specs.Searching.{every, times}
 use Rattle.spec_rules.specs.SearchingLaws.{every-true, times-some, times-found, times-one}
-use Rattle.spec_rules.specs.SheetFile.{subject, sheetLength, typesAt, constructorsAt, entriesAt, patternsAt, childrenAt, clausesAt, poolAt, poolEnd, types, constructors, entries, patterns, children, clauses, poolSize, typeKind, typeFlag, typeFirst, typeCount, constructorFirst, constructorCount, entry, patternKind, patternZero, patternA, patternFirst, patternCount, child, root, poolText, runIn}
+use Rattle.spec_rules.specs.SheetFile.{subject, sheetLength, typesAt, constructorsAt, entriesAt, patternsAt, childrenAt, clausesAt, poolAt, poolEnd, sheetSizes, sheetPlaces, types, constructors, entries, patterns, children, clauses, poolSize, typeKind, typeFlag, typeFirst, typeCount, constructorFirst, constructorCount, entry, patternKind, patternZero, patternA, patternFirst, patternCount, child, root, poolText, runIn}
 use Rattle.spec_rules.specs.Patterns.{PatternKind, Discard, Variable, Assign, Integer, ByteString, ListOfAll, ListWithRest, Constructor, Pair, Tuple, Unknown, patternKindOf, constructorOf, clausePattern, fits, names}
 use Rattle.spec_rules.specs.Texts.{canonical, shortText}
-use Rattle.spec_rules.specs.SheetRefusals.{lengthFits, layoutFits, hasClause, countsFit, typeParts, typeFlags, typeKeepsRules, constructorKeepsRules, entryKeepsRules, typesFit, hasChildren, tailFits, fieldsFit, isAbove, childrenAbove, isRoot, isEntry, standsOnce, patternKeepsRules, lists, childKeepsRules, rootKeepsRules, within, depthFits, shapeFits, transparent, lowestTransparent, textOfKind, badText, lowestBadText, misfit, lowestMisfit, repeats, nameTwice, lowestNameTwice, verdict, accepted}
+use Rattle.spec_rules.specs.SheetRefusals.{lengthFits, layoutFits, hasClause, countsFit, typeParts, typeFlags, typeKeepsRules, constructorKeepsRules, entryKeepsRules, typesFit, hasChildren, tailFits, fieldsFit, isAbove, childrenAbove, isRoot, isEntry, standsOnce, patternKeepsRules, lists, childKeepsRules, rootKeepsRules, within, depthFits, shapeFits, transparent, lowestTransparent, textOfKind, badText, lowestBadText, misfit, lowestMisfit, repeats, nameTwice, lowestNameTwice, accepted, readableVerdict, transparentVerdict, shapeVerdict, clausesVerdict, verdict}
+use Rattle.spec_rules.specs.SheetRefusalsLaws.{require-accepted, requireNone-accepted, andThen-accepted}
 use Rattle.spec_accepted.specs.KindsLaws.{patternNumber, pattern-number, pattern-byte, pattern-unknown}
-use Rattle.spec_accepted.specs.RunsLaws.{Run, run-in, whole-rises, whole-fills, pool-fills, trailer-fills, require-accepted, requireNone-accepted, every-below, none-below}
+use Rattle.spec_accepted.specs.RunsLaws.{Run, run-in, section-rises, section-fills, pool-fills, trailer-fills, every-below, none-below}
 
 -- ---- 2 and 3: the sections stand back to back, each of whole records, and the trailer ends the file
 pub record Laid (s : List ℕ) : Type 0 where
@@ -43,26 +46,20 @@ laid s long out =
     let l1 = both-true _ _ long in
     let l2 = both-true _ _ (l1 .1) in
     let s1 = both-true _ _ out in
-    let s2 = both-true _ _ (s1 .1) in
-    let s3 = both-true _ _ (s2 .1) in
-    let s4 = both-true _ _ (s3 .1) in
-    let s5 = both-true _ _ (s4 .1) in
-    let s6 = both-true _ _ (s5 .1) in
-    let s7 = both-true _ _ (s6 .1) in
+    let fills = section-fills sheetSizes (sheetPlaces s) (s1 .1) in
     let least : sheetTrailer ≤ length s = leb-true _ _ (l1 .0) in
-    let rises : poolAt s ≤ poolEnd s = whole-rises 1 _ _ (s7 .1) in
     record {
       length-least = least;
       length-most = leb-true _ _ (l2 .0);
       length-told = eqb-true _ _ (l2 .1);
       types-start = eqb-true _ _ (s1 .0);
-      types-end = whole-fills typeSize _ _ (s2 .0);
-      constructors-end = whole-fills constructorSize _ _ (s3 .0);
-      entries-end = whole-fills entrySize _ _ (s4 .0);
-      patterns-end = whole-fills patternSize _ _ (s5 .0);
-      children-end = whole-fills childSize _ _ (s6 .0);
-      clauses-end = whole-fills clauseSize _ _ (s7 .0);
-      pool-end = pool-fills (poolAt s) (poolEnd s) rises;
+      types-end = fills 0 (omega arith);
+      constructors-end = fills 1 (omega arith);
+      entries-end = fills 2 (omega arith);
+      patterns-end = fills 3 (omega arith);
+      children-end = fills 4 (omega arith);
+      clauses-end = fills 5 (omega arith);
+      pool-end = pool-fills (poolAt s) (poolEnd s) (section-rises sheetSizes (sheetPlaces s) (s1 .1) 6 (omega arith));
       trailer-end = trailer-fills sheetTrailer (length s) least;
     }
 
@@ -113,75 +110,75 @@ counted s there few =
 
 -- ---- 6: types, constructors, type entries and the subject
 pub record Typed (s : List ℕ) : Type 0 where
-  pub type-kind : (t : ℕ) → t < types s → typeKind s t ≤ 5
-  pub plain-empty : (t : ℕ) → t < types s → typeKind s t ≤ 1 → (typeFirst s t ≡ 0) × (typeCount s t ≡ 0)
-  pub list-one : (t : ℕ) → t < types s → typeKind s t ≡ 2 → typeCount s t ≡ 1
-  pub pair-two : (t : ℕ) → t < types s → typeKind s t ≡ 3 → typeCount s t ≡ 2
-  pub tuple-more : (t : ℕ) → t < types s → typeKind s t ≡ 4 → 2 ≤ typeCount s t
-  pub data-some : (t : ℕ) → t < types s → typeKind s t ≡ 5 → 1 ≤ typeCount s t
-  pub type-entries : (t : ℕ) → t < types s → typeKind s t ≤ 4 → typeFirst s t + typeCount s t ≤ entries s
-  pub type-constructors : (t : ℕ) → t < types s → typeKind s t ≡ 5 → typeFirst s t + typeCount s t ≤ constructors s
-  pub flag-most : (t : ℕ) → t < types s → typeFlag s t ≤ 3
-  pub flag-data : (t : ℕ) → t < types s → (typeKind s t ≡ 5 → ⊥) → typeFlag s t ≡ 0
+  pub type-kind : (t : ℕ) → t < types s → typeKind s t ≤ dataType
+  pub plain-empty : (t : ℕ) → t < types s → typeKind s t ≤ bytesType → (typeFirst s t ≡ 0) × (typeCount s t ≡ 0)
+  pub list-one : (t : ℕ) → t < types s → typeKind s t ≡ listType → typeCount s t ≡ 1
+  pub pair-two : (t : ℕ) → t < types s → typeKind s t ≡ pairType → typeCount s t ≡ 2
+  pub tuple-more : (t : ℕ) → t < types s → typeKind s t ≡ tupleType → 2 ≤ typeCount s t
+  pub data-some : (t : ℕ) → t < types s → typeKind s t ≡ dataType → 1 ≤ typeCount s t
+  pub type-entries : (t : ℕ) → t < types s → typeKind s t ≤ tupleType → typeFirst s t + typeCount s t ≤ entries s
+  pub type-constructors : (t : ℕ) → t < types s → typeKind s t ≡ dataType → typeFirst s t + typeCount s t ≤ constructors s
+  pub flag-most : (t : ℕ) → t < types s → typeFlag s t ≤ bothFlags
+  pub flag-data : (t : ℕ) → t < types s → (typeKind s t ≡ dataType → ⊥) → typeFlag s t ≡ noFlag
   pub constructor-entries : (c : ℕ) → c < constructors s → Run (constructorFirst s c) (constructorCount s c) (entries s)
   pub entry-type : (e : ℕ) → e < entries s → entry s e < types s
   pub subject-type : subject s < types s
 
 -- what the parts of one type say, kind by kind
 module _ (s : List ℕ) (t : ℕ) (keeps : typeParts s t ≡ true) where
-  parts-plain : typeKind s t ≤ 1 → (typeFirst s t ≡ 0) × (typeCount s t ≡ 0)
+  parts-plain : typeKind s t ≤ bytesType → (typeFirst s t ≡ 0) × (typeCount s t ≡ 0)
   unfolding typeParts
-  parts-plain h = let p = both-true _ _ (rw (le-leb (typeKind s t) 1 h) at keeps) in (eqb-true _ _ (p .0), eqb-true _ _ (p .1))
+  parts-plain h = let p = both-true _ _ (rw (le-leb (typeKind s t) bytesType h) at keeps) in (eqb-true _ _ (p .0), eqb-true _ _ (p .1))
 
-  parts-list : typeKind s t ≡ 2 → (typeCount s t ≡ 1) × Run (typeFirst s t) (typeCount s t) (entries s)
+  parts-list : typeKind s t ≡ listType → (typeCount s t ≡ 1) × Run (typeFirst s t) (typeCount s t) (entries s)
   unfolding typeParts
   parts-list e = let p = both-true _ _ (rw e at keeps) in (eqb-true _ _ (p .0), run-in _ _ _ (p .1))
 
-  parts-pair : typeKind s t ≡ 3 → (typeCount s t ≡ 2) × Run (typeFirst s t) (typeCount s t) (entries s)
+  parts-pair : typeKind s t ≡ pairType → (typeCount s t ≡ 2) × Run (typeFirst s t) (typeCount s t) (entries s)
   unfolding typeParts
   parts-pair e = let p = both-true _ _ (rw e at keeps) in (eqb-true _ _ (p .0), run-in _ _ _ (p .1))
 
-  parts-tuple : typeKind s t ≡ 4 → (2 ≤ typeCount s t) × Run (typeFirst s t) (typeCount s t) (entries s)
+  parts-tuple : typeKind s t ≡ tupleType → (2 ≤ typeCount s t) × Run (typeFirst s t) (typeCount s t) (entries s)
   unfolding typeParts
   parts-tuple e = let p = both-true _ _ (rw e at keeps) in (leb-true _ _ (p .0), run-in _ _ _ (p .1))
 
-  parts-data : typeKind s t ≡ 5 → (1 ≤ typeCount s t) × Run (typeFirst s t) (typeCount s t) (constructors s)
+  parts-data : typeKind s t ≡ dataType → (1 ≤ typeCount s t) × Run (typeFirst s t) (typeCount s t) (constructors s)
   unfolding typeParts
   parts-data e = let p = both-true _ _ (rw e at keeps) in (leb-true _ _ (p .0), run-in _ _ _ (p .1))
 
-  parts-none : 6 ≤ typeKind s t → false ≡ true
+  parts-none : dataType < typeKind s t → false ≡ true
   unfolding typeParts
   parts-none h =
-      rw (lt-leb (typeKind s t) 1 (omega arith), ne-eqb (typeKind s t) 2 (λ e. omega arith), ne-eqb (typeKind s t) 3 (λ e. omega arith), ne-eqb (typeKind s t) 4 (λ e. omega arith), ne-eqb (typeKind s t) 5 (λ e. omega arith)) at keeps
+      rw (lt-leb (typeKind s t) bytesType (omega arith), ne-eqb (typeKind s t) listType (λ e. omega arith), ne-eqb (typeKind s t) pairType (λ e. omega arith), ne-eqb (typeKind s t) tupleType (λ e. omega arith), ne-eqb (typeKind s t) dataType (λ e. omega arith)) at keeps
 
-  parts-kind : typeKind s t ≤ 5
-  parts-kind = go (leb (typeKind s t) 5) refl
+  parts-kind : typeKind s t ≤ dataType
+  parts-kind = go (leb (typeKind s t) dataType) refl
     where
-      go : (b : Bool) → leb (typeKind s t) 5 ≡ b → typeKind s t ≤ 5
+      go : (b : Bool) → leb (typeKind s t) dataType ≡ b → typeKind s t ≤ dataType
       go true e = leb-true _ _ e
       go false e = absurd (true≢false (sym (parts-none (leb-false _ _ e))))
 
-  parts-entries : typeKind s t ≤ 4 → typeFirst s t + typeCount s t ≤ entries s
+  parts-entries : typeKind s t ≤ tupleType → typeFirst s t + typeCount s t ≤ entries s
   parts-entries h = ⊎-elim (λ e. parts-tuple e .1 .inside) below-tuple (eq-or-lt-of-le h)
     where
-      below-list : typeKind s t < 2 → typeFirst s t + typeCount s t ≤ entries s
+      below-list : typeKind s t < listType → typeFirst s t + typeCount s t ≤ entries s
       below-list l = let p = parts-plain (omega arith) in omega arith
 
-      below-pair : typeKind s t < 3 → typeFirst s t + typeCount s t ≤ entries s
+      below-pair : typeKind s t < pairType → typeFirst s t + typeCount s t ≤ entries s
       below-pair l = ⊎-elim (λ e. parts-list e .1 .inside) below-list (eq-or-lt-of-le {m = 2} (omega arith))
 
-      below-tuple : typeKind s t < 4 → typeFirst s t + typeCount s t ≤ entries s
+      below-tuple : typeKind s t < tupleType → typeFirst s t + typeCount s t ≤ entries s
       below-tuple l = ⊎-elim (λ e. parts-pair e .1 .inside) below-pair (eq-or-lt-of-le {m = 3} (omega arith))
 
 module _ (s : List ℕ) (t : ℕ) (keeps : typeFlags s t ≡ true) where
-  flags-most : typeFlag s t ≤ 3
+  flags-most : typeFlag s t ≤ bothFlags
   unfolding typeFlags
   flags-most =
-      ⊎-elim (λ e. let none = eqb-true (typeFlag s t) 0 e in omega arith) (λ e. leb-true (typeFlag s t) 3 (both-true (eqb (typeKind s t) 5) (leb (typeFlag s t) 3) e .1)) (either-true _ _ keeps)
+      ⊎-elim (λ e. let none = eqb-true (typeFlag s t) noFlag e in omega arith) (λ e. leb-true (typeFlag s t) bothFlags (both-true (eqb (typeKind s t) dataType) (leb (typeFlag s t) bothFlags) e .1)) (either-true _ _ keeps)
 
-  flags-data : (typeKind s t ≡ 5 → ⊥) → typeFlag s t ≡ 0
+  flags-data : (typeKind s t ≡ dataType → ⊥) → typeFlag s t ≡ noFlag
   unfolding typeFlags
-  flags-data other = ⊎-elim (λ e. eqb-true (typeFlag s t) 0 e) (λ e. absurd (other (eqb-true (typeKind s t) 5 (both-true (eqb (typeKind s t) 5) (leb (typeFlag s t) 3) e .0)))) (either-true _ _ keeps)
+  flags-data other = ⊎-elim (λ e. eqb-true (typeFlag s t) noFlag e) (λ e. absurd (other (eqb-true (typeKind s t) dataType (both-true (eqb (typeKind s t) dataType) (leb (typeFlag s t) bothFlags) e .0)))) (either-true _ _ keeps)
 
 pub typed : (s : List ℕ) → typesFit s ≡ true → Typed s
 unfolding typesFit typeKeepsRules constructorKeepsRules entryKeepsRules
@@ -213,7 +210,7 @@ typed s keeps =
 
 -- the type numbers that a type's or a constructor's own run of entries holds, and the constructors of a Data type
 module _ {s : List ℕ} (ty : Typed s) where
-  pub its-constructor : (t a : ℕ) → t < types s → typeKind s t ≡ 5 → a < typeCount s t → constructorOf s t a < constructors s
+  pub its-constructor : (t a : ℕ) → t < types s → typeKind s t ≡ dataType → a < typeCount s t → constructorOf s t a < constructors s
   unfolding constructorOf
   its-constructor t a h k l = omega (arith, ty .type-constructors t h k)
 
@@ -230,14 +227,14 @@ pub record Owns (s : List ℕ) (p j : ℕ) : Type 0 where
 
 pub record Shaped (s : List ℕ) : Type 0 where
   pub zero-byte : (p : ℕ) → p < patterns s → patternZero s p ≡ 0
-  pub pattern-kind : (p : ℕ) → p < patterns s → patternKind s p ≤ 9
-  pub a-unused : (p : ℕ) → p < patterns s → (patternKind s p ≡ 1 → ⊥) → (patternKind s p ≡ 2 → ⊥) → (patternKind s p ≡ 7 → ⊥) → patternA s p ≡ 0
-  pub plain-empty : (p : ℕ) → p < patterns s → patternKind s p ≤ 1 → (patternFirst s p ≡ 0) × (patternCount s p ≡ 0)
-  pub assign-one : (p : ℕ) → p < patterns s → patternKind s p ≡ 2 → patternCount s p ≡ 1
-  pub tail-after-some : (p : ℕ) → p < patterns s → patternKind s p ≡ 6 → 2 ≤ patternCount s p
-  pub tail-plain : (p : ℕ) → p < patterns s → patternKind s p ≡ 6 → patternKind s (child s (patternFirst s p + (patternCount s p - 1))) ≤ 1
-  pub pair-two : (p : ℕ) → p < patterns s → patternKind s p ≡ 8 → patternCount s p ≡ 2
-  pub text-run : (p : ℕ) → p < patterns s → 3 ≤ patternKind s p → patternKind s p ≤ 4 → Run (patternFirst s p) (patternCount s p) (poolSize s)
+  pub pattern-kind : (p : ℕ) → p < patterns s → patternKind s p ≤ tuplePattern
+  pub a-unused : (p : ℕ) → p < patterns s → (patternKind s p ≡ variablePattern → ⊥) → (patternKind s p ≡ assignPattern → ⊥) → (patternKind s p ≡ constructorPattern → ⊥) → patternA s p ≡ 0
+  pub plain-empty : (p : ℕ) → p < patterns s → patternKind s p ≤ variablePattern → (patternFirst s p ≡ 0) × (patternCount s p ≡ 0)
+  pub assign-one : (p : ℕ) → p < patterns s → patternKind s p ≡ assignPattern → patternCount s p ≡ 1
+  pub tail-after-some : (p : ℕ) → p < patterns s → patternKind s p ≡ listWithTailPattern → 2 ≤ patternCount s p
+  pub tail-plain : (p : ℕ) → p < patterns s → patternKind s p ≡ listWithTailPattern → patternKind s (child s (patternFirst s p + (patternCount s p - 1))) ≤ variablePattern
+  pub pair-two : (p : ℕ) → p < patterns s → patternKind s p ≡ pairPattern → patternCount s p ≡ 2
+  pub text-run : (p : ℕ) → p < patterns s → integerPattern ≤ patternKind s p → patternKind s p ≤ byteStringPattern → Run (patternFirst s p) (patternCount s p) (poolSize s)
   pub children-run : (p : ℕ) → p < patterns s → Parent s p → Run (patternFirst s p) (patternCount s p) (children s)
   pub child-above : (p j : ℕ) → p < patterns s → Owns s p j → p < child s j
   pub child-pattern : (j : ℕ) → j < children s → child s j < patterns s
@@ -281,49 +278,49 @@ module _ (s : List ℕ) (p : ℕ) (fit : fieldsFit s p (patternKindOf (patternKi
   of-kind : (kind : PatternKind) → patternKindOf (patternKind s p) ≡ kind → fieldsFit s p kind ≡ true
   of-kind kind e = rw e at fit
 
-  pub fields-kind : patternKind s p ≤ 9
+  pub fields-kind : patternKind s p ≤ tuplePattern
   unfolding fieldsFit
-  fields-kind = go (leb (patternKind s p) 9) refl
+  fields-kind = go (leb (patternKind s p) tuplePattern) refl
     where
-      go : (b : Bool) → leb (patternKind s p) 9 ≡ b → patternKind s p ≤ 9
+      go : (b : Bool) → leb (patternKind s p) tuplePattern ≡ b → patternKind s p ≤ tuplePattern
       go true e = leb-true _ _ e
       go false e = absurd (true≢false (sym (of-kind Unknown (pattern-unknown _ (leb-false _ _ e)))))
 
-  pub fields-a-unused : (patternKind s p ≡ 1 → ⊥) → (patternKind s p ≡ 2 → ⊥) → (patternKind s p ≡ 7 → ⊥) → patternA s p ≡ 0
+  pub fields-a-unused : (patternKind s p ≡ variablePattern → ⊥) → (patternKind s p ≡ assignPattern → ⊥) → (patternKind s p ≡ constructorPattern → ⊥) → patternA s p ≡ 0
   fields-a-unused v a c =
       fields-a s p (patternKindOf (patternKind s p)) fit
       (λ e. v (pattern-byte _ Variable e (omega arith)))
       (λ e. a (pattern-byte _ Assign e (omega arith)))
       (λ e. c (pattern-byte _ Constructor e (omega arith)))
 
-  pub fields-plain : patternKind s p ≤ 1 → (patternFirst s p ≡ 0) × (patternCount s p ≡ 0)
+  pub fields-plain : patternKind s p ≤ variablePattern → (patternFirst s p ≡ 0) × (patternCount s p ≡ 0)
   unfolding fieldsFit patternKindOf
   fields-plain h = ⊎-elim variable discard (eq-or-lt-of-le h)
     where
-      variable : patternKind s p ≡ 1 → (patternFirst s p ≡ 0) × (patternCount s p ≡ 0)
+      variable : patternKind s p ≡ variablePattern → (patternFirst s p ≡ 0) × (patternCount s p ≡ 0)
       variable e =
           let f = both-true (eqb (patternFirst s p) 0) (eqb (patternCount s p) 0) (of-kind Variable (rw e)) in
           (eqb-true _ _ (f .0), eqb-true _ _ (f .1))
 
-      discard : patternKind s p < 1 → (patternFirst s p ≡ 0) × (patternCount s p ≡ 0)
+      discard : patternKind s p < variablePattern → (patternFirst s p ≡ 0) × (patternCount s p ≡ 0)
       discard l =
-          let e : patternKind s p ≡ 0 = omega arith in
+          let e : patternKind s p ≡ discardPattern = omega arith in
           let f = both-true (eqb (patternA s p) 0) _ (of-kind Discard (rw e)) in
           let g = both-true (eqb (patternFirst s p) 0) (eqb (patternCount s p) 0) (f .1) in
           (eqb-true _ _ (g .0), eqb-true _ _ (g .1))
 
-  pub fields-assign : patternKind s p ≡ 2 → patternCount s p ≡ 1
+  pub fields-assign : patternKind s p ≡ assignPattern → patternCount s p ≡ 1
   unfolding fieldsFit patternKindOf
   fields-assign e = eqb-true _ _ (both-true (eqb (patternCount s p) 1) (runIn (patternFirst s p) (patternCount s p) (children s)) (of-kind Assign (rw e)) .0)
 
-  pub fields-text : 3 ≤ patternKind s p → patternKind s p ≤ 4 → Run (patternFirst s p) (patternCount s p) (poolSize s)
+  pub fields-text : integerPattern ≤ patternKind s p → patternKind s p ≤ byteStringPattern → Run (patternFirst s p) (patternCount s p) (poolSize s)
   unfolding fieldsFit patternKindOf
   fields-text low high =
       ⊎-elim (λ e. run-in _ _ _ (both-true (eqb (patternA s p) 0) _ (of-kind ByteString (rw e)) .1))
-      (λ l. let e : patternKind s p ≡ 3 = omega arith in run-in _ _ _ (both-true (eqb (patternA s p) 0) _ (of-kind Integer (rw e)) .1))
+      (λ l. let e : patternKind s p ≡ integerPattern = omega arith in run-in _ _ _ (both-true (eqb (patternA s p) 0) _ (of-kind Integer (rw e)) .1))
       (eq-or-lt-of-le high)
 
-  pub fields-tail : patternKind s p ≡ 6 → (2 ≤ patternCount s p) × (patternKind s (child s (patternFirst s p + (patternCount s p - 1))) ≤ 1)
+  pub fields-tail : patternKind s p ≡ listWithTailPattern → (2 ≤ patternCount s p) × (patternKind s (child s (patternFirst s p + (patternCount s p - 1))) ≤ variablePattern)
   unfolding fieldsFit patternKindOf tailFits
   fields-tail e =
       let f = both-true (eqb (patternA s p) 0) _ (of-kind ListWithRest (rw e)) in
@@ -331,7 +328,7 @@ module _ (s : List ℕ) (p : ℕ) (fit : fieldsFit s p (patternKindOf (patternKi
       let h = both-true (runIn (patternFirst s p) (patternCount s p) (children s)) (tailFits s p) (g .1) in
       (leb-true _ _ (g .0), leb-true _ _ (h .1))
 
-  pub fields-pair : patternKind s p ≡ 8 → patternCount s p ≡ 2
+  pub fields-pair : patternKind s p ≡ pairPattern → patternCount s p ≡ 2
   unfolding fieldsFit patternKindOf
   fields-pair e =
       let f = both-true (eqb (patternA s p) 0) _ (of-kind Pair (rw e)) in
@@ -438,11 +435,11 @@ shape-depth s keeps =
     every-below (depthFits s) (clauses s) (k3 .1)
 
 -- which kinds have children: assign, and list to tuple
-pub assign-parent : (s : List ℕ) (p : ℕ) → patternKind s p ≡ 2 → Parent s p
+pub assign-parent : (s : List ℕ) (p : ℕ) → patternKind s p ≡ assignPattern → Parent s p
 unfolding hasChildren patternKindOf
 assign-parent s p e = rw e
 
-numbers-with-children : (kind : PatternKind) → 5 ≤ patternNumber kind → patternNumber kind ≤ 9 → hasChildren kind ≡ true
+numbers-with-children : (kind : PatternKind) → listPattern ≤ patternNumber kind → patternNumber kind ≤ tuplePattern → hasChildren kind ≡ true
 unfolding hasChildren
 numbers-with-children Discard low high = absurd (omega arith)
 numbers-with-children Variable low high = absurd (omega arith)
@@ -456,7 +453,7 @@ numbers-with-children Pair low high = refl
 numbers-with-children Tuple low high = refl
 numbers-with-children Unknown low high = absurd (omega arith)
 
-children-number : (kind : PatternKind) → hasChildren kind ≡ true → (patternNumber kind ≡ 2) ⊎ ((5 ≤ patternNumber kind) × (patternNumber kind ≤ 9))
+children-number : (kind : PatternKind) → hasChildren kind ≡ true → (patternNumber kind ≡ assignPattern) ⊎ ((listPattern ≤ patternNumber kind) × (patternNumber kind ≤ tuplePattern))
 unfolding hasChildren
 children-number Discard h = absurd (true≢false (sym h))
 children-number Variable h = absurd (true≢false (sym h))
@@ -470,12 +467,12 @@ children-number Pair h = inr (omega arith, omega arith)
 children-number Tuple h = inr (omega arith, omega arith)
 children-number Unknown h = absurd (true≢false (sym h))
 
-pub many-parent : (s : List ℕ) (p : ℕ) → 5 ≤ patternKind s p → patternKind s p ≤ 9 → Parent s p
+pub many-parent : (s : List ℕ) (p : ℕ) → listPattern ≤ patternKind s p → patternKind s p ≤ tuplePattern → Parent s p
 many-parent s p low high =
     let e = pattern-number (patternKind s p) in
     numbers-with-children (patternKindOf (patternKind s p)) (omega arith) (omega arith)
 
-pub parent-kind : (s : List ℕ) (p : ℕ) → Parent s p → (patternKind s p ≡ 2) ⊎ ((5 ≤ patternKind s p) × (patternKind s p ≤ 9))
+pub parent-kind : (s : List ℕ) (p : ℕ) → Parent s p → (patternKind s p ≡ assignPattern) ⊎ ((listPattern ≤ patternKind s p) × (patternKind s p ≤ tuplePattern))
 parent-kind s p has =
     let e = pattern-number (patternKind s p) in
     ⊎-elim (λ n. inl (omega arith)) (λ n. inr (omega arith, omega arith)) (children-number (patternKindOf (patternKind s p)) has)
@@ -540,8 +537,8 @@ pub record Accepted (s : List ℕ) : Type 0 where
   pub none-transparent : (t : ℕ) → t < types s → transparent s t ≡ false
   pub is-shaped : Shaped s
   pub root-depth : (c : ℕ) → c < clauses s → within depthMost s (root s c) ≡ true
-  pub integer-canonical : (p : ℕ) → p < patterns s → patternKind s p ≡ 3 → canonical (poolText s (patternFirst s p) (patternCount s p)) ≡ true
-  pub text-short : (p : ℕ) → p < patterns s → 3 ≤ patternKind s p → patternKind s p ≤ 4 → patternCount s p ≤ textMost
+  pub integer-canonical : (p : ℕ) → p < patterns s → patternKind s p ≡ integerPattern → canonical (poolText s (patternFirst s p) (patternCount s p)) ≡ true
+  pub text-short : (p : ℕ) → p < patterns s → integerPattern ≤ patternKind s p → patternKind s p ≤ byteStringPattern → patternCount s p ≤ textMost
   pub clause-fits : (c : ℕ) → c < clauses s → fits (clausePattern s c) s ≡ true
   pub names-once : (c : ℕ) → c < clauses s → repeats (names (clausePattern s c)) ≡ false
 
@@ -550,37 +547,78 @@ module _ (s : List ℕ) (p : ℕ) (good : badText s p ≡ false) where
   unfolding badText
   good-of-kind kind e = rw e at (not-false (textOfKind s p (patternKindOf (patternKind s p))) good)
 
-  good-integer : patternKind s p ≡ 3 → (shortText (patternCount s p) ≡ true) × (canonical (poolText s (patternFirst s p) (patternCount s p)) ≡ true)
+  good-integer : patternKind s p ≡ integerPattern → (shortText (patternCount s p) ≡ true) × (canonical (poolText s (patternFirst s p) (patternCount s p)) ≡ true)
   unfolding textOfKind patternKindOf
   good-integer e = both-true _ _ (good-of-kind Integer (rw e))
 
-  good-short : 3 ≤ patternKind s p → patternKind s p ≤ 4 → patternCount s p ≤ textMost
+  good-short : integerPattern ≤ patternKind s p → patternKind s p ≤ byteStringPattern → patternCount s p ≤ textMost
   unfolding textOfKind patternKindOf shortText
   good-short low high =
       ⊎-elim (λ e. leb-true _ _ (good-of-kind ByteString (rw e))) (λ l. leb-true _ _ (good-integer (omega arith) .0)) (eq-or-lt-of-le high)
 
-pub accepted-sheet : (s : List ℕ) → verdict s ≡ accepted → Accepted s
-unfolding verdict lowestTransparent lowestBadText lowestMisfit misfit lowestNameTwice nameTwice
-accepted-sheet s h =
-    let v2 = require-accepted (lengthFits s) 2 _ h in
-    let v3 = require-accepted (layoutFits s) 3 _ (v2 .1) in
-    let v4 = require-accepted (hasClause s) 4 _ (v3 .1) in
-    let v5 = require-accepted (countsFit s) 5 _ (v4 .1) in
-    let v6 = require-accepted (typesFit s) 6 _ (v5 .1) in
-    let v7 = requireNone-accepted (lowestTransparent s) 7 _ (v6 .1) in
-    let v8 = require-accepted (shapeFits s) 8 _ (v7 .1) in
-    let v9 = requireNone-accepted (lowestBadText s) 9 _ (v8 .1) in
-    let v10 = requireNone-accepted (lowestMisfit s) 10 _ (v9 .1) in
-    let v11 = requireNone-accepted (lowestNameTwice s) 11 accepted (v10 .1) in
+-- ---- what each stage of the verdict gives
+-- 2 to 6: the sections read, and the types keep their rules
+pub record Readable (s : List ℕ) : Type 0 where
+  pub is-laid : Laid s
+  pub is-counted : Counted s
+  pub is-typed : Typed s
+
+pub readable : (s : List ℕ) → readableVerdict s ≡ accepted → Readable s
+unfolding readableVerdict
+readable s h =
+    let v2 = require-accepted (lengthFits s) lengthRefusal _ h in
+    let v3 = require-accepted (layoutFits s) layoutRefusal _ (v2 .1) in
+    let v4 = require-accepted (hasClause s) noClauseRefusal _ (v3 .1) in
+    let v5 = require-accepted (countsFit s) countRefusal _ (v4 .1) in
+    let v6 = require-accepted (typesFit s) typesRefusal accepted (v5 .1) in
+    record { is-laid = laid s (v2 .0) (v3 .0); is-counted = counted s (v4 .0) (v5 .0); is-typed = typed s (v6 .0) }
+
+-- 7
+pub no-transparent : (s : List ℕ) → transparentVerdict s ≡ accepted → (t : ℕ) → t < types s → transparent s t ≡ false
+unfolding transparentVerdict lowestTransparent
+no-transparent s h = none-below (transparent s) (types s) (requireNone-accepted (lowestTransparent s) transparentRefusal accepted h .0)
+
+-- 8
+pub in-shape : (s : List ℕ) → shapeVerdict s ≡ accepted → shapeFits s ≡ true
+unfolding shapeVerdict
+in-shape s h = require-accepted (shapeFits s) shapeRefusal accepted h .0
+
+-- 9 to 11
+pub record ClausesFit (s : List ℕ) : Type 0 where
+  pub good-texts : (p : ℕ) → p < patterns s → badText s p ≡ false
+  pub no-misfit : (c : ℕ) → c < clauses s → misfit s c ≡ false
+  pub no-name-twice : (c : ℕ) → c < clauses s → nameTwice s c ≡ false
+
+pub clauses-fit : (s : List ℕ) → clausesVerdict s ≡ accepted → ClausesFit s
+unfolding clausesVerdict lowestBadText lowestMisfit lowestNameTwice
+clauses-fit s h =
+    let v9 = requireNone-accepted (lowestBadText s) textRefusal _ h in
+    let v10 = requireNone-accepted (lowestMisfit s) misfitRefusal _ (v9 .1) in
+    let v11 = requireNone-accepted (lowestNameTwice s) nameTwiceRefusal accepted (v10 .1) in
     record {
-      is-laid = laid s (v2 .0) (v3 .0);
-      is-counted = counted s (v4 .0) (v5 .0);
-      is-typed = typed s (v6 .0);
-      none-transparent = none-below (transparent s) (types s) (v7 .0);
-      is-shaped = shaped s (v8 .0);
-      root-depth = shape-depth s (v8 .0);
-      integer-canonical = λ p l e. good-integer s p (none-below (badText s) (patterns s) (v9 .0) p l) e .1;
-      text-short = λ p l. good-short s p (none-below (badText s) (patterns s) (v9 .0) p l);
-      clause-fits = λ c l. not-false _ (none-below (misfit s) (clauses s) (v10 .0) c l);
-      names-once = none-below (nameTwice s) (clauses s) (v11 .0);
+      good-texts = none-below (badText s) (patterns s) (v9 .0);
+      no-misfit = none-below (misfit s) (clauses s) (v10 .0);
+      no-name-twice = none-below (nameTwice s) (clauses s) (v11 .0);
+    }
+
+pub accepted-sheet : (s : List ℕ) → verdict s ≡ accepted → Accepted s
+unfolding verdict misfit nameTwice
+accepted-sheet s h =
+    let (v6, after6) = andThen-accepted (readableVerdict s) _ h in
+    let (v7, after7) = andThen-accepted (transparentVerdict s) _ after6 in
+    let (v8, v11) = andThen-accepted (shapeVerdict s) (clausesVerdict s) after7 in
+    let reads = readable s v6 in
+    let fit = in-shape s v8 in
+    let each = clauses-fit s v11 in
+    record {
+      is-laid = reads .is-laid;
+      is-counted = reads .is-counted;
+      is-typed = reads .is-typed;
+      none-transparent = no-transparent s v7;
+      is-shaped = shaped s fit;
+      root-depth = shape-depth s fit;
+      integer-canonical = λ p l e. good-integer s p (each .good-texts p l) e .1;
+      text-short = λ p l. good-short s p (each .good-texts p l);
+      clause-fits = λ c l. not-false _ (each .no-misfit c l);
+      names-once = each .no-name-twice;
     }

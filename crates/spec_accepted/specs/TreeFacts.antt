@@ -14,13 +14,14 @@ use lib.ListN.{length}
 use Rattle.base_words.specs.Words.{Bytes, both}
 use Rattle.base_words.specs.WordsLaws.{both-true, either-true, either-first-true, either-second-true, wordAt-small}
 use Rattle.spec_rules.specs.Limits.{nodeSize, caseSize, bindingSize, pathSize, stepSize, treeTrailer, nodeBindingsMost}
+use Rattle.spec_rules.specs.Kinds.{switchNode, listSwitchNode, leafNode, hoistNode, defaultWord, childWord, intCase, bytesCase, listCase, listWithTailCase, constrStep, listtailStep}
 use Rattle.spec_rules.specs.Searching.{every}
 use Rattle.spec_rules.specs.SearchingLaws.{every-true, first-or-rest}
 use Rattle.spec_rules.specs.SheetRefusals.{isIn}
 use Rattle.spec_rules.specs.Building.{Tree, Cases, hoist, switch, listswitch, ccons}
-use Rattle.spec_rules.specs.TreeReader.{treeLength, nodesAt, casesAt, bindingsAt, pathsAt, stepsAt, treePoolAt, treePoolEnd, nodes, cases, bindings, paths, steps, treePoolSize, nodeKind, nodeZero, nodeWord, nodePath, nodeFirstCase, nodeCases, nodeTailCases, nodeDefault, nodeClause, nodeFirstBinding, nodeBindings, nodeChild, caseKind, caseZero, caseNumber, caseLength, caseChild, bindingPath, pathFirst, pathCount, stepKind, stepFlag, lengthTrue, startsRise, switchParts, isKind, switchCases, listSwitchCases, bindingParts, NodeKind, Switch, List-switch, Leaf, Hoist-node, Unknown-node, nodeKindOf, nodeOfKind, nodeKeepsRules, CaseKind, Constr-case, Int-case, Bytes-case, List-case, List-with-tail-case, Unknown-case, caseKindOf, caseOfKind, caseKeepsRules, bindingKeepsRules, pathKeepsRules, stepKeepsRules, caseChildren, defaultChild, childrenOfKind, nodeChildren, inPreOrder, nodesInPreOrder, treeFits, stepAt, stepsFrom, pathAt, bindingName, bindingsFrom, caseTest, startOfTest, casesFor, defaultFor, nodeFor, treeBelow}
+use Rattle.spec_rules.specs.TreeReader.{treeLength, nodesAt, casesAt, bindingsAt, pathsAt, stepsAt, treePoolAt, treePoolEnd, treeSizes, treePlaces, nodes, cases, bindings, paths, steps, treePoolSize, nodeKind, nodeZero, nodeWord, nodePath, nodeFirstCase, nodeCases, nodeTailCases, nodeDefault, nodeClause, nodeFirstBinding, nodeBindings, nodeChild, caseKind, caseZero, caseNumber, caseLength, caseChild, bindingPath, pathFirst, pathCount, stepKind, stepFlag, lengthTrue, startsRise, switchParts, isKind, switchCases, listSwitchCases, bindingParts, NodeKind, Switch, List-switch, Leaf, Hoist-node, Unknown-node, nodeKindOf, nodeOfKind, nodeKeepsRules, CaseKind, Constr-case, Int-case, Bytes-case, List-case, List-with-tail-case, Unknown-case, caseKindOf, caseOfKind, caseKeepsRules, bindingKeepsRules, pathKeepsRules, stepKeepsRules, caseChildren, defaultChild, childrenOfKind, nodeChildren, inPreOrder, nodesInPreOrder, treeFits, stepAt, stepsFrom, pathAt, bindingName, bindingsFrom, caseTest, startOfTest, casesFor, defaultFor, nodeFor, treeBelow}
 use Rattle.spec_accepted.specs.KindsLaws.{node-unknown, case-unknown, case-byte}
-use Rattle.spec_accepted.specs.RunsLaws.{Run, run-in, whole-rises, whole-fills, pool-fills, trailer-fills, every-below}
+use Rattle.spec_accepted.specs.RunsLaws.{Run, run-in, section-rises, section-fills, pool-fills, trailer-fills, every-below}
 
 -- ---- the length and the starts: the sections stand back to back, each of whole records, and the trailer ends the file
 pub record TreeLaid (t : List ℕ) : Type 0 where
@@ -40,21 +41,17 @@ unfolding lengthTrue startsRise nodes cases bindings paths steps treePoolSize tr
 tree-laid t long out =
     let l1 = both-true _ _ long in
     let s1 = both-true _ _ out in
-    let s2 = both-true _ _ (s1 .1) in
-    let s3 = both-true _ _ (s2 .1) in
-    let s4 = both-true _ _ (s3 .1) in
-    let s5 = both-true _ _ (s4 .1) in
-    let s6 = both-true _ _ (s5 .1) in
+    let fills = section-fills treeSizes (treePlaces t) (s1 .1) in
     record {
       length-least = leb-true _ _ (l1 .0);
       length-told = eqb-true _ _ (l1 .1);
       nodes-start = eqb-true _ _ (s1 .0);
-      nodes-end = whole-fills nodeSize _ _ (s2 .0);
-      cases-end = whole-fills caseSize _ _ (s3 .0);
-      bindings-end = whole-fills bindingSize _ _ (s4 .0);
-      paths-end = whole-fills pathSize _ _ (s5 .0);
-      steps-end = whole-fills stepSize _ _ (s6 .0);
-      pool-end = pool-fills (treePoolAt t) (treePoolEnd t) (whole-rises 1 _ _ (s6 .1));
+      nodes-end = fills 0 (omega arith);
+      cases-end = fills 1 (omega arith);
+      bindings-end = fills 2 (omega arith);
+      paths-end = fills 3 (omega arith);
+      steps-end = fills 4 (omega arith);
+      pool-end = pool-fills (treePoolAt t) (treePoolEnd t) (section-rises treeSizes (treePlaces t) (s1 .1) 5 (omega arith));
       trailer-end = trailer-fills treeTrailer (length t) (leb-true _ _ (l1 .0));
     }
 
@@ -69,40 +66,40 @@ module _ {t : List ℕ} (l : TreeLaid t) where
 pub record TreeRuled (t : List ℕ) : Type 0 where
   -- nodes
   pub node-zero : (k : ℕ) → k < nodes t → nodeZero t k ≡ 0
-  pub node-kind : (k : ℕ) → k < nodes t → nodeKind t k ≤ 3
+  pub node-kind : (k : ℕ) → k < nodes t → nodeKind t k ≤ hoistNode
   -- a switch and a list switch
-  pub switch-path : (k : ℕ) → k < nodes t → nodeKind t k ≤ 1 → nodePath t k < paths t
-  pub switch-run : (k : ℕ) → k < nodes t → nodeKind t k ≤ 1 → Run (nodeFirstCase t k) (nodeCases t k + nodeTailCases t k) (cases t)
-  pub switch-default : (k : ℕ) → k < nodes t → nodeKind t k ≤ 1 → nodeDefault t k ≤ nodes t
+  pub switch-path : (k : ℕ) → k < nodes t → nodeKind t k ≤ listSwitchNode → nodePath t k < paths t
+  pub switch-run : (k : ℕ) → k < nodes t → nodeKind t k ≤ listSwitchNode → Run (nodeFirstCase t k) (nodeCases t k + nodeTailCases t k) (cases t)
+  pub switch-default : (k : ℕ) → k < nodes t → nodeKind t k ≤ listSwitchNode → nodeDefault t k ≤ nodes t
   -- a switch
-  pub switch-some : (k : ℕ) → k < nodes t → nodeKind t k ≡ 0 → 1 ≤ nodeCases t k
-  pub switch-no-tails : (k : ℕ) → k < nodes t → nodeKind t k ≡ 0 → nodeTailCases t k ≡ 0
-  pub switch-kinds : (k : ℕ) → k < nodes t → nodeKind t k ≡ 0 → caseKind t (nodeFirstCase t k) ≤ 2
-  pub switch-alike : (k i : ℕ) → k < nodes t → nodeKind t k ≡ 0 → nodeFirstCase t k ≤ i → i < nodeFirstCase t k + nodeCases t k
+  pub switch-some : (k : ℕ) → k < nodes t → nodeKind t k ≡ switchNode → 1 ≤ nodeCases t k
+  pub switch-no-tails : (k : ℕ) → k < nodes t → nodeKind t k ≡ switchNode → nodeTailCases t k ≡ 0
+  pub switch-kinds : (k : ℕ) → k < nodes t → nodeKind t k ≡ switchNode → caseKind t (nodeFirstCase t k) ≤ bytesCase
+  pub switch-alike : (k i : ℕ) → k < nodes t → nodeKind t k ≡ switchNode → nodeFirstCase t k ≤ i → i < nodeFirstCase t k + nodeCases t k
       → caseKind t i ≡ caseKind t (nodeFirstCase t k)
   -- a list switch
-  pub list-switch-some : (k : ℕ) → k < nodes t → nodeKind t k ≡ 1 → 1 ≤ nodeCases t k + nodeTailCases t k
-  pub list-switch-cases : (k i : ℕ) → k < nodes t → nodeKind t k ≡ 1 → nodeFirstCase t k ≤ i → i < nodeFirstCase t k + nodeCases t k → caseKind t i ≡ 3
-  pub list-switch-tails : (k i : ℕ) → k < nodes t → nodeKind t k ≡ 1 → nodeFirstCase t k + nodeCases t k ≤ i
-      → i < nodeFirstCase t k + nodeCases t k + nodeTailCases t k → caseKind t i ≡ 4
+  pub list-switch-some : (k : ℕ) → k < nodes t → nodeKind t k ≡ listSwitchNode → 1 ≤ nodeCases t k + nodeTailCases t k
+  pub list-switch-cases : (k i : ℕ) → k < nodes t → nodeKind t k ≡ listSwitchNode → nodeFirstCase t k ≤ i → i < nodeFirstCase t k + nodeCases t k → caseKind t i ≡ listCase
+  pub list-switch-tails : (k i : ℕ) → k < nodes t → nodeKind t k ≡ listSwitchNode → nodeFirstCase t k + nodeCases t k ≤ i
+      → i < nodeFirstCase t k + nodeCases t k + nodeTailCases t k → caseKind t i ≡ listWithTailCase
   -- a leaf and a hoist
-  pub bindings-run : (k : ℕ) → k < nodes t → 2 ≤ nodeKind t k → Run (nodeFirstBinding t k) (nodeBindings t k) (bindings t)
-  pub bindings-most : (k : ℕ) → k < nodes t → 2 ≤ nodeKind t k → nodeBindings t k ≤ nodeBindingsMost
-  pub leaf-unused : (k : ℕ) → k < nodes t → nodeKind t k ≡ 2 → (nodeWord t k 3 ≡ 0) × (nodeWord t k 4 ≡ 0)
-  pub hoist-child : (k : ℕ) → k < nodes t → nodeKind t k ≡ 3 → nodeChild t k < nodes t
-  pub hoist-unused : (k : ℕ) → k < nodes t → nodeKind t k ≡ 3 → nodeWord t k 4 ≡ 0
+  pub bindings-run : (k : ℕ) → k < nodes t → leafNode ≤ nodeKind t k → Run (nodeFirstBinding t k) (nodeBindings t k) (bindings t)
+  pub bindings-most : (k : ℕ) → k < nodes t → leafNode ≤ nodeKind t k → nodeBindings t k ≤ nodeBindingsMost
+  pub leaf-unused : (k : ℕ) → k < nodes t → nodeKind t k ≡ leafNode → (nodeWord t k childWord ≡ 0) × (nodeWord t k defaultWord ≡ 0)
+  pub hoist-child : (k : ℕ) → k < nodes t → nodeKind t k ≡ hoistNode → nodeChild t k < nodes t
+  pub hoist-unused : (k : ℕ) → k < nodes t → nodeKind t k ≡ hoistNode → nodeWord t k defaultWord ≡ 0
   -- cases
   pub case-zero : (i : ℕ) → i < cases t → caseZero t i ≡ 0
-  pub case-kind : (i : ℕ) → i < cases t → caseKind t i ≤ 4
-  pub case-text : (i : ℕ) → i < cases t → 1 ≤ caseKind t i → caseKind t i ≤ 2 → Run (caseNumber t i) (caseLength t i) (treePoolSize t)
-  pub case-no-text : (i : ℕ) → i < cases t → (caseKind t i ≡ 1 → ⊥) → (caseKind t i ≡ 2 → ⊥) → caseLength t i ≡ 0
+  pub case-kind : (i : ℕ) → i < cases t → caseKind t i ≤ listWithTailCase
+  pub case-text : (i : ℕ) → i < cases t → intCase ≤ caseKind t i → caseKind t i ≤ bytesCase → Run (caseNumber t i) (caseLength t i) (treePoolSize t)
+  pub case-no-text : (i : ℕ) → i < cases t → (caseKind t i ≡ intCase → ⊥) → (caseKind t i ≡ bytesCase → ⊥) → caseLength t i ≡ 0
   pub case-child : (i : ℕ) → i < cases t → caseChild t i < nodes t
   -- bindings, paths and steps
   pub binding-path : (b : ℕ) → b < bindings t → bindingPath t b < paths t
   pub path-steps : (p : ℕ) → p < paths t → Run (pathFirst t p) (pathCount t p) (steps t)
-  pub step-kind : (i : ℕ) → i < steps t → stepKind t i ≤ 4
+  pub step-kind : (i : ℕ) → i < steps t → stepKind t i ≤ listtailStep
   pub step-flag : (i : ℕ) → i < steps t → stepFlag t i ≤ 1
-  pub step-flag-constr : (i : ℕ) → i < steps t → (stepKind t i ≡ 2 → ⊥) → stepFlag t i ≡ 0
+  pub step-flag-constr : (i : ℕ) → i < steps t → (stepKind t i ≡ constrStep → ⊥) → stepFlag t i ≡ 0
 
 -- ---- all that the reader asks
 pub record TreeSound (t : List ℕ) : Type 0 where
@@ -129,42 +126,42 @@ module _ (t : List ℕ) (k : ℕ) (fit : nodeOfKind t k (nodeKindOf (nodeKind t 
   of-kind : (kind : NodeKind) → nodeKindOf (nodeKind t k) ≡ kind → nodeOfKind t k kind ≡ true
   of-kind kind e = rw e at fit
 
-  known-kind : nodeKind t k ≤ 3
+  known-kind : nodeKind t k ≤ hoistNode
   unfolding nodeOfKind
-  known-kind = go (leb (nodeKind t k) 3) refl
+  known-kind = go (leb (nodeKind t k) hoistNode) refl
     where
-      go : (b : Bool) → leb (nodeKind t k) 3 ≡ b → nodeKind t k ≤ 3
+      go : (b : Bool) → leb (nodeKind t k) hoistNode ≡ b → nodeKind t k ≤ hoistNode
       go true e = leb-true _ _ e
       go false e = absurd (true≢false (sym (of-kind Unknown-node (node-unknown _ (leb-false _ _ e)))))
 
-  of-switch : nodeKind t k ≡ 0 → (switchParts t k ≡ true) × (switchCases t k ≡ true)
+  of-switch : nodeKind t k ≡ switchNode → (switchParts t k ≡ true) × (switchCases t k ≡ true)
   unfolding nodeOfKind nodeKindOf
   of-switch e = both-true _ _ (of-kind Switch (rw e))
 
-  of-list-switch : nodeKind t k ≡ 1 → (switchParts t k ≡ true) × (listSwitchCases t k ≡ true)
+  of-list-switch : nodeKind t k ≡ listSwitchNode → (switchParts t k ≡ true) × (listSwitchCases t k ≡ true)
   unfolding nodeOfKind nodeKindOf
   of-list-switch e = both-true _ _ (of-kind List-switch (rw e))
 
-  of-leaf : nodeKind t k ≡ 2 → (bindingParts t k ≡ true) × (both (eqb (nodeWord t k 3) 0) (eqb (nodeWord t k 4) 0) ≡ true)
+  of-leaf : nodeKind t k ≡ leafNode → (bindingParts t k ≡ true) × (both (eqb (nodeWord t k childWord) 0) (eqb (nodeWord t k defaultWord) 0) ≡ true)
   unfolding nodeOfKind nodeKindOf
   of-leaf e = both-true _ _ (of-kind Leaf (rw e))
 
-  of-hoist : nodeKind t k ≡ 3 → (bindingParts t k ≡ true) × (both (ltb (nodeChild t k) (nodes t)) (eqb (nodeWord t k 4) 0) ≡ true)
+  of-hoist : nodeKind t k ≡ hoistNode → (bindingParts t k ≡ true) × (both (ltb (nodeChild t k) (nodes t)) (eqb (nodeWord t k defaultWord) 0) ≡ true)
   unfolding nodeOfKind nodeKindOf
   of-hoist e = both-true _ _ (of-kind Hoist-node (rw e))
 
-  of-either-switch : nodeKind t k ≤ 1 → SwitchParts t k
+  of-either-switch : nodeKind t k ≤ listSwitchNode → SwitchParts t k
   of-either-switch h =
       switch-parts t k (⊎-elim (λ e. of-list-switch e .0) (λ l. of-switch (omega arith) .0) (eq-or-lt-of-le h))
 
-  of-either-bound : 2 ≤ nodeKind t k → bindingParts t k ≡ true
+  of-either-bound : leafNode ≤ nodeKind t k → bindingParts t k ≡ true
   of-either-bound h = ⊎-elim (λ e. of-hoist e .0) (λ l. of-leaf (omega arith) .0) (eq-or-lt-of-le known-kind)
 
 -- the cases of a switch, and of a list switch
 record SwitchCases (t : List ℕ) (k : ℕ) : Type 0 where
   some : 1 ≤ nodeCases t k
   no-tails : nodeTailCases t k ≡ 0
-  kinds : caseKind t (nodeFirstCase t k) ≤ 2
+  kinds : caseKind t (nodeFirstCase t k) ≤ bytesCase
   alike : (i : ℕ) → nodeFirstCase t k ≤ i → i < nodeFirstCase t k + nodeCases t k → caseKind t i ≡ caseKind t (nodeFirstCase t k)
 
 switch-cases : (t : List ℕ) (k : ℕ) → switchCases t k ≡ true → SwitchCases t k
@@ -182,8 +179,8 @@ switch-cases t k h =
 
 record ListSwitchCases (t : List ℕ) (k : ℕ) : Type 0 where
   some : 1 ≤ nodeCases t k + nodeTailCases t k
-  lists : (i : ℕ) → nodeFirstCase t k ≤ i → i < nodeFirstCase t k + nodeCases t k → caseKind t i ≡ 3
-  tails : (i : ℕ) → nodeFirstCase t k + nodeCases t k ≤ i → i < nodeFirstCase t k + nodeCases t k + nodeTailCases t k → caseKind t i ≡ 4
+  lists : (i : ℕ) → nodeFirstCase t k ≤ i → i < nodeFirstCase t k + nodeCases t k → caseKind t i ≡ listCase
+  tails : (i : ℕ) → nodeFirstCase t k + nodeCases t k ≤ i → i < nodeFirstCase t k + nodeCases t k + nodeTailCases t k → caseKind t i ≡ listWithTailCase
 
 list-switch-cases-of : (t : List ℕ) (k : ℕ) → listSwitchCases t k ≡ true → ListSwitchCases t k
 unfolding listSwitchCases isKind
@@ -192,8 +189,8 @@ list-switch-cases-of t k h =
     let q = both-true _ _ (p .1) in
     record {
       some = leb-true _ _ (p .0);
-      lists = λ i low high. eqb-true _ _ (every-true (isKind t 3) (nodeFirstCase t k) (nodeCases t k) (q .0) i low high);
-      tails = λ i low high. eqb-true _ _ (every-true (isKind t 4) (nodeFirstCase t k + nodeCases t k) (nodeTailCases t k) (q .1) i low high);
+      lists = λ i low high. eqb-true _ _ (every-true (isKind t listCase) (nodeFirstCase t k) (nodeCases t k) (q .0) i low high);
+      tails = λ i low high. eqb-true _ _ (every-true (isKind t listWithTailCase) (nodeFirstCase t k + nodeCases t k) (nodeTailCases t k) (q .1) i low high);
     }
 
 binding-parts : (t : List ℕ) (k : ℕ) → bindingParts t k ≡ true → (nodeBindings t k ≤ nodeBindingsMost) × Run (nodeFirstBinding t k) (nodeBindings t k) (bindings t)
@@ -205,19 +202,19 @@ module _ (t : List ℕ) (i : ℕ) (fit : caseOfKind t i (caseKindOf (caseKind t 
   of-case : (kind : CaseKind) → caseKindOf (caseKind t i) ≡ kind → caseOfKind t i kind ≡ true
   of-case kind e = rw e at fit
 
-  known-case : caseKind t i ≤ 4
+  known-case : caseKind t i ≤ listWithTailCase
   unfolding caseOfKind
-  known-case = go (leb (caseKind t i) 4) refl
+  known-case = go (leb (caseKind t i) listWithTailCase) refl
     where
-      go : (b : Bool) → leb (caseKind t i) 4 ≡ b → caseKind t i ≤ 4
+      go : (b : Bool) → leb (caseKind t i) listWithTailCase ≡ b → caseKind t i ≤ listWithTailCase
       go true e = leb-true _ _ e
       go false e = absurd (true≢false (sym (of-case Unknown-case (case-unknown _ (leb-false _ _ e)))))
 
-  text-case : 1 ≤ caseKind t i → caseKind t i ≤ 2 → Run (caseNumber t i) (caseLength t i) (treePoolSize t)
+  text-case : intCase ≤ caseKind t i → caseKind t i ≤ bytesCase → Run (caseNumber t i) (caseLength t i) (treePoolSize t)
   unfolding caseOfKind caseKindOf
   text-case low high =
       ⊎-elim (λ e. run-in _ _ _ (of-case Bytes-case (rw e)))
-      (λ l. let e : caseKind t i ≡ 1 = omega arith in run-in _ _ _ (of-case Int-case (rw e)))
+      (λ l. let e : caseKind t i ≡ intCase = omega arith in run-in _ _ _ (of-case Int-case (rw e)))
       (eq-or-lt-of-le high)
 
 no-text-case : (t : List ℕ) (i : ℕ) (kind : CaseKind) → caseOfKind t i kind ≡ true → (kind ≡ Int-case → ⊥) → (kind ≡ Bytes-case → ⊥) → caseLength t i ≡ 0
@@ -229,34 +226,34 @@ no-text-case t i List-case fit a b = eqb-true _ _ fit
 no-text-case t i List-with-tail-case fit a b = eqb-true _ _ fit
 no-text-case t i Unknown-case fit a b = absurd (true≢false (sym fit))
 
-plain-case : (t : List ℕ) (i : ℕ) → caseOfKind t i (caseKindOf (caseKind t i)) ≡ true → (caseKind t i ≡ 1 → ⊥) → (caseKind t i ≡ 2 → ⊥) → caseLength t i ≡ 0
+plain-case : (t : List ℕ) (i : ℕ) → caseOfKind t i (caseKindOf (caseKind t i)) ≡ true → (caseKind t i ≡ intCase → ⊥) → (caseKind t i ≡ bytesCase → ⊥) → caseLength t i ≡ 0
 plain-case t i fit a b =
     no-text-case t i (caseKindOf (caseKind t i)) fit (λ e. a (case-byte _ Int-case e (omega arith))) (λ e. b (case-byte _ Bytes-case e (omega arith)))
 
-leaf-words : (t : List ℕ) (k : ℕ) → both (eqb (nodeWord t k 3) 0) (eqb (nodeWord t k 4) 0) ≡ true → (nodeWord t k 3 ≡ 0) × (nodeWord t k 4 ≡ 0)
+leaf-words : (t : List ℕ) (k : ℕ) → both (eqb (nodeWord t k childWord) 0) (eqb (nodeWord t k defaultWord) 0) ≡ true → (nodeWord t k childWord ≡ 0) × (nodeWord t k defaultWord ≡ 0)
 leaf-words t k h = let p = both-true _ _ h in (eqb-true _ _ (p .0), eqb-true _ _ (p .1))
 
-hoist-words : (t : List ℕ) (k : ℕ) → both (ltb (nodeChild t k) (nodes t)) (eqb (nodeWord t k 4) 0) ≡ true → (nodeChild t k < nodes t) × (nodeWord t k 4 ≡ 0)
+hoist-words : (t : List ℕ) (k : ℕ) → both (ltb (nodeChild t k) (nodes t)) (eqb (nodeWord t k defaultWord) 0) ≡ true → (nodeChild t k < nodes t) × (nodeWord t k defaultWord ≡ 0)
 hoist-words t k h = let p = both-true _ _ h in (ltb-true _ _ (p .0), eqb-true _ _ (p .1))
 
 -- what one step says
 module _ (t : List ℕ) (i : ℕ) (keeps : stepKeepsRules t i ≡ true) where
-  known-step : stepKind t i ≤ 4
+  known-step : stepKind t i ≤ listtailStep
   unfolding stepKeepsRules
   known-step = let p = both-true _ _ keeps in leb-true _ _ (p .0)
 
-  flag-step : (stepFlag t i ≡ 0) ⊎ ((stepFlag t i ≡ 1) × (stepKind t i ≡ 2))
+  flag-step : (stepFlag t i ≡ 0) ⊎ ((stepFlag t i ≡ 1) × (stepKind t i ≡ constrStep))
   unfolding stepKeepsRules
   flag-step =
-      let p = both-true (leb (stepKind t i) 4) _ keeps in
+      let p = both-true (leb (stepKind t i) listtailStep) _ keeps in
       ⊎-elim (λ e. inl (eqb-true (stepFlag t i) 0 e))
-      (λ e. let q = both-true (eqb (stepFlag t i) 1) (eqb (stepKind t i) 2) e in inr (eqb-true _ _ (q .0), eqb-true _ _ (q .1)))
-      (either-true (eqb (stepFlag t i) 0) (both (eqb (stepFlag t i) 1) (eqb (stepKind t i) 2)) (p .1))
+      (λ e. let q = both-true (eqb (stepFlag t i) 1) (eqb (stepKind t i) constrStep) e in inr (eqb-true _ _ (q .0), eqb-true _ _ (q .1)))
+      (either-true (eqb (stepFlag t i) 0) (both (eqb (stepFlag t i) 1) (eqb (stepKind t i) constrStep)) (p .1))
 
   small-flag : stepFlag t i ≤ 1
   small-flag = ⊎-elim (λ e. omega arith) (λ e. omega arith) flag-step
 
-  no-flag : (stepKind t i ≡ 2 → ⊥) → stepFlag t i ≡ 0
+  no-flag : (stepKind t i ≡ constrStep → ⊥) → stepFlag t i ≡ 0
   no-flag other = ⊎-elim (λ e. e) (λ e. absurd (other (e .1))) flag-step
 
 -- ---- pre-order
@@ -407,12 +404,12 @@ pub default-listed : (d : ℕ) → isIn d (defaultChild (suc d)) ≡ true
 unfolding defaultChild
 default-listed d = only-listed d
 
-pub switch-children : (t : List ℕ) (k : ℕ) → nodeKind t k ≤ 1
+pub switch-children : (t : List ℕ) (k : ℕ) → nodeKind t k ≤ listSwitchNode
     → nodeChildren t k ≡ caseChildren t (nodeFirstCase t k) (nodeCases t k + nodeTailCases t k) ++ defaultChild (nodeDefault t k)
 unfolding nodeChildren childrenOfKind nodeKindOf
-switch-children t k h = ⊎-elim (λ e. rw e) (λ l. let e : nodeKind t k ≡ 0 = omega arith in rw e) (eq-or-lt-of-le h)
+switch-children t k h = ⊎-elim (λ e. rw e) (λ l. let e : nodeKind t k ≡ switchNode = omega arith in rw e) (eq-or-lt-of-le h)
 
-pub hoist-children : (t : List ℕ) (k : ℕ) → nodeKind t k ≡ 3 → nodeChildren t k ≡ nodeChild t k ∷ []
+pub hoist-children : (t : List ℕ) (k : ℕ) → nodeKind t k ≡ hoistNode → nodeChildren t k ≡ nodeChild t k ∷ []
 unfolding nodeChildren childrenOfKind nodeKindOf
 hoist-children t k e = rw e
 

@@ -4,12 +4,12 @@ use mathlib.Core.Path.{_≡_, refl, sym, ap, _∙_}
 use mathlib.Core.Logic.{_⊎_, inl, inr, ⊎-elim}
 use mathlib.Core.Bool.{Bool, true, false, true≢false}
 use mathlib.Core.List.{List, [], _∷_, _++_}
-use Prim.Native.Nat.{ℕ, suc, _+_, _*_, _≤_, _<_}
+use Prim.Native.Nat.{ℕ, suc, _+_, _-_, _*_, _≤_, _<_}
 use native.Mathlib.Omega.{arith}
 use lib.ListN.{length}
 use Rattle.base_words.specs.Words.{either}
 use Rattle.base_words.specs.WordsLaws.{either-true, either-false, either-make-false}
-use Rattle.spec_rules.specs.Limits.{treeRoom}
+use Rattle.spec_rules.specs.Limits.{patternsMost, depthMost, sheetMost, nodesMost, bindingsMost, treeRoom, nodeSize, caseSize, bindingSize, pathSize, stepSize, treeTrailer}
 use Rattle.spec_rules.specs.Rows.{Path, samePath}
 use Rattle.spec_rules.specs.Building.{Tree, Cases, absent, leaf, hoist, switch, listswitch, cnil, ccons}
 use Rattle.spec_rules.specs.Hoisting.{howMany, nodesIn, nodesInOf}
@@ -149,7 +149,7 @@ table-size a all v =
     distinct-fewer (pathTable a) all (table-distinct a) (record { among = λ p h. v .among p (table-used a .among p h) })
 
 -- ---- the steps of short paths
-steps-most : (ps : List Path) → Short ps → stepsIn ps ≤ 11 * length ps
+steps-most : (ps : List Path) → Short ps → stepsIn ps ≤ (depthMost - 1) * length ps
 unfolding stepsIn
 steps-most [] s = omega arith
 steps-most (p ∷ ps) s =
@@ -159,8 +159,14 @@ steps-most (p ∷ ps) s =
 pub table-short : (a : Tree) → Short (pathsUsed a) → Short (pathTable a)
 table-short a s = record { short = λ p h. s .short p (table-used a .among p h) }
 
--- ---- the bound: 1,024 nodes, 1,023 cases, 4,096 bindings, 192 paths of at most 11 steps, a pool of at most 8,192 bytes
-pub file-most : (pool : List ℕ) (a : Tree) → present a ≡ true → Writable pool a → Bounded pool a → length (treeFile pool a) ≤ 58502
+-- ---- the bound: 1,024 nodes, 1,023 cases, 4,096 bindings, 192 paths of at most 11 steps, a pool of at most 8,192 bytes; 58,502 in all
+abbrev pub fileMost : ℕ
+fileMost =
+    nodeSize * nodesMost + caseSize * (nodesMost - 1) + bindingSize * bindingsMost + pathSize * patternsMost + stepSize * ((depthMost - 1) * patternsMost)
+    + sheetMost
+    + treeTrailer
+
+pub file-most : (pool : List ℕ) (a : Tree) → present a ≡ true → Writable pool a → Bounded pool a → length (treeFile pool a) ≤ fileMost
 file-most pool a r w m =
     let n = m .nodes-most in
     let b = m .bindings-most in

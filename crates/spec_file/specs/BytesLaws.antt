@@ -7,13 +7,15 @@ use Prim.Native.Nat.{ℕ, zero, suc, _+_, _*_, _/_, _%_, _≤_, _<_}
 use native.Mathlib.Omega.{arith}
 use lib.ListN.{length, getD, length-append}
 use Rattle.base_words.specs.Words.{wordBytes, Bytes as AllBytes}
-use Rattle.spec_rules.specs.Limits.{treeTrailer}
+use Rattle.spec_rules.specs.Kinds.{switchNode, listSwitchNode, leafNode, hoistNode, constrCase, intCase, bytesCase, listCase, listWithTailCase, pairStep, tupleStep, constrStep, listStep, listtailStep}
+use Rattle.spec_rules.specs.Sections.{backToBack, startsFrom, wordsOf, trailerOf, fileWith, fileOf}
 use Rattle.spec_rules.specs.Rows.{Step, pair, tuple, constr, list, listtail, Path, bit, samePath, Binding}
 use Rattle.spec_rules.specs.Splitting.{Test, Constr, Int, Bytes, ListOf, ListWithTail}
 use Rattle.spec_rules.specs.Building.{Tree, Cases, absent, leaf, hoist, switch, listswitch, cnil, ccons}
 use Rattle.spec_rules.specs.Hoisting.{howMany, nodesIn, nodesInOf, bindingsIn, bindingsInOf}
-use Rattle.spec_rules.specs.TreeFile.{isAmong, pathNumber, pathTable, firstOf, nodeBytes, casesIn, casesInOf, defaultField, nodesFrom, nodesFromOf, caseBytes, ownCases, casesFrom, casesFromOf, bindingsBytes, pathsBytes, stepBytes, pathSteps, stepsBytes, backToBack, startsFrom, fileOf, treeSections, treeFile}
+use Rattle.spec_rules.specs.TreeFile.{isAmong, pathNumber, pathTable, firstOf, nodeBytes, casesIn, casesInOf, defaultField, nodesFrom, nodesFromOf, caseBytes, ownCases, casesFrom, casesFromOf, bindingsBytes, pathsBytes, stepBytes, pathSteps, stepsBytes, treeSections, treeFile}
 use Rattle.spec_file.specs.PathsLaws.{isAmong-first, isAmong-rest, pathNumber-first, pathNumber-rest}
+use Rattle.spec_file.specs.SectionsLaws.{trailerSize, file-sections}
 use Rattle.spec_file.specs.FileLaws.{file-length}
 use Rattle.spec_file.specs.Writable.{stepsIn, TextStarts, Writable, WritableOf, SmallStep, SmallPath, SmallNames, SmallTest, SmallNumbers, SmallNumbersOf, InWords}
 use Rattle.spec_file.specs.RulesLaws.{default-inside}
@@ -77,11 +79,11 @@ module _ (table : List Path) (few : length table < 65536) where
         → AllBytes (nodesFrom table k c b a)
     nodes-bytes absent k c b s l m n = bytes-nil
     nodes-bytes (leaf x bs) k c b s l m n =
-        node-bytes 2 x (firstOf (length bs) b) (length bs) 0 0 (omega arith) s (omega (arith, firstOf-most (length bs) b)) (omega arith) (omega arith) (omega arith)
+        node-bytes leafNode x (firstOf (length bs) b) (length bs) 0 0 (omega arith) s (omega (arith, firstOf-most (length bs) b)) (omega arith) (omega arith) (omega arith)
     nodes-bytes (hoist x bs a) k c b s l m n =
         let e = length-append bs (bindingsIn a) in
-        bytes-append (nodeBytes 3 x (firstOf (length bs) b) (length bs) (k + 1) 0) (nodesFrom table (k + 1) c (b + length bs) a)
-        (node-bytes 3 x (firstOf (length bs) b) (length bs) (k + 1) 0 (omega arith) (s .0) (omega (arith, firstOf-most (length bs) b)) (omega arith) (omega arith)
+        bytes-append (nodeBytes hoistNode x (firstOf (length bs) b) (length bs) (k + 1) 0) (nodesFrom table (k + 1) c (b + length bs) a)
+        (node-bytes hoistNode x (firstOf (length bs) b) (length bs) (k + 1) 0 (omega arith) (s .0) (omega (arith, firstOf-most (length bs) b)) (omega arith) (omega arith)
         (omega arith))
         (nodes-bytes a (k + 1) c (b + length bs) (s .1) (omega arith) (omega arith) (omega arith))
     nodes-bytes (switch p cs d) k c b s l m n =
@@ -90,9 +92,9 @@ module _ (table : List Path) (few : length table < 65536) where
         let k₂ = k + 1 + nodesInOf cs in
         let c₂ = c₁ + casesInOf cs in
         let b₂ = b + length (bindingsInOf cs) in
-        bytes-append (nodeBytes 0 (pathNumber table p) (firstOf (howMany cs) c) (howMany cs) 0 (defaultField k₂ d))
+        bytes-append (nodeBytes switchNode (pathNumber table p) (firstOf (howMany cs) c) (howMany cs) 0 (defaultField k₂ d))
         (nodesFromOf table (k + 1) c₁ b cs ++ nodesFrom table k₂ c₂ b₂ d)
-        (node-bytes 0 (pathNumber table p) (firstOf (howMany cs) c) (howMany cs) 0 (defaultField k₂ d) (omega arith) (number-small p)
+        (node-bytes switchNode (pathNumber table p) (firstOf (howMany cs) c) (howMany cs) 0 (defaultField k₂ d) (omega arith) (number-small p)
         (omega (arith, firstOf-most (howMany cs) c))
         (omega arith)
         (omega arith)
@@ -110,9 +112,9 @@ module _ (table : List Path) (few : length table < 65536) where
         let k₃ = k₂ + nodesInOf ts in
         let c₃ = c₂ + casesInOf ts in
         let b₃ = b₂ + length (bindingsInOf ts) in
-        bytes-append (nodeBytes 1 (pathNumber table p) (firstOf (howMany cs + howMany ts) c) (howMany cs) (howMany ts) (defaultField k₃ d))
+        bytes-append (nodeBytes listSwitchNode (pathNumber table p) (firstOf (howMany cs + howMany ts) c) (howMany cs) (howMany ts) (defaultField k₃ d))
         (nodesFromOf table (k + 1) c₁ b cs ++ (nodesFromOf table k₂ c₂ b₂ ts ++ nodesFrom table k₃ c₃ b₃ d))
-        (node-bytes 1 (pathNumber table p) (firstOf (howMany cs + howMany ts) c) (howMany cs) (howMany ts) (defaultField k₃ d) (omega arith) (number-small p)
+        (node-bytes listSwitchNode (pathNumber table p) (firstOf (howMany cs + howMany ts) c) (howMany cs) (howMany ts) (defaultField k₃ d) (omega arith) (number-small p)
         (omega (arith, firstOf-most (howMany cs + howMany ts) c))
         (omega arith)
         (omega arith)
@@ -154,11 +156,11 @@ module _ (pool : List ℕ) (few : length pool < 65536) where
 
   case-bytes : (u : Test) (start child : ℕ) → TextStarts pool start u → SmallTest u → child < 65536 → AllBytes (caseBytes u start child)
   unfolding caseBytes TextStarts SmallTest
-  case-bytes (Constr a) start child w s l = test-bytes 0 a 0 child (omega arith) s (omega arith) l
-  case-bytes (Int v) start child w s l = test-bytes 1 start (length v) child (omega arith) (omega (arith, w .inside)) (omega (arith, w .inside)) l
-  case-bytes (Bytes v) start child w s l = test-bytes 2 start (length v) child (omega arith) (omega (arith, w .inside)) (omega (arith, w .inside)) l
-  case-bytes (ListOf n) start child w s l = test-bytes 3 n 0 child (omega arith) s (omega arith) l
-  case-bytes (ListWithTail n) start child w s l = test-bytes 4 n 0 child (omega arith) s (omega arith) l
+  case-bytes (Constr a) start child w s l = test-bytes constrCase a 0 child (omega arith) s (omega arith) l
+  case-bytes (Int v) start child w s l = test-bytes intCase start (length v) child (omega arith) (omega (arith, w .inside)) (omega (arith, w .inside)) l
+  case-bytes (Bytes v) start child w s l = test-bytes bytesCase start (length v) child (omega arith) (omega (arith, w .inside)) (omega (arith, w .inside)) l
+  case-bytes (ListOf n) start child w s l = test-bytes listCase n 0 child (omega arith) s (omega arith) l
+  case-bytes (ListWithTail n) start child w s l = test-bytes listWithTailCase n 0 child (omega arith) s (omega arith) l
 
   own-bytes : (cs : Cases) (k : ℕ) → WritableOf pool cs → SmallNumbersOf cs → k + nodesInOf cs < 65536 → AllBytes (ownCases k cs)
   unfolding ownCases WritableOf SmallNumbersOf nodesInOf
@@ -207,12 +209,12 @@ step-record-bytes kind flag i t a b c d =
 
 step-bytes : (s : Step) → SmallStep s → AllBytes (stepBytes s)
 unfolding stepBytes SmallStep bit
-step-bytes (pair i t) h = step-record-bytes 0 0 i t (omega arith) (omega arith) (h .0) (h .1)
-step-bytes (tuple i t) h = step-record-bytes 1 0 i t (omega arith) (omega arith) (h .0) (h .1)
-step-bytes (constr i true t) h = step-record-bytes 2 1 i t (omega arith) (omega arith) (h .0) (h .1)
-step-bytes (constr i false t) h = step-record-bytes 2 0 i t (omega arith) (omega arith) (h .0) (h .1)
-step-bytes (list i t) h = step-record-bytes 3 0 i t (omega arith) (omega arith) (h .0) (h .1)
-step-bytes (listtail i t) h = step-record-bytes 4 0 i t (omega arith) (omega arith) (h .0) (h .1)
+step-bytes (pair i t) h = step-record-bytes pairStep 0 i t (omega arith) (omega arith) (h .0) (h .1)
+step-bytes (tuple i t) h = step-record-bytes tupleStep 0 i t (omega arith) (omega arith) (h .0) (h .1)
+step-bytes (constr i true t) h = step-record-bytes constrStep 1 i t (omega arith) (omega arith) (h .0) (h .1)
+step-bytes (constr i false t) h = step-record-bytes constrStep 0 i t (omega arith) (omega arith) (h .0) (h .1)
+step-bytes (list i t) h = step-record-bytes listStep 0 i t (omega arith) (omega arith) (h .0) (h .1)
+step-bytes (listtail i t) h = step-record-bytes listtailStep 0 i t (omega arith) (omega arith) (h .0) (h .1)
 
 path-bytes : (p : Path) → SmallPath p → AllBytes (pathSteps p)
 unfolding pathSteps SmallPath
@@ -235,33 +237,21 @@ unfolding backToBack EachBytes
 sections-bytes [] h = bytes-nil
 sections-bytes (x ∷ xs) h = bytes-append x (backToBack xs) (h .0) (sections-bytes xs (h .1))
 
-starts-bytes : (xs : List (List ℕ)) (at : ℕ) → at + length (backToBack xs) < 65536 → AllBytes (startsFrom at xs)
+starts-bytes : (xs : List (List ℕ)) (at : ℕ) (rest : List ℕ) → at + length (backToBack xs) < 65536 → AllBytes (wordsOf rest)
+    → AllBytes (wordsOf (startsFrom at xs ++ rest))
 unfolding backToBack startsFrom
-starts-bytes [] at l = bytes-nil
-starts-bytes (x ∷ xs) at l =
+starts-bytes [] at rest l h = h
+starts-bytes (x ∷ xs) at rest l h =
     let e = length-append x (backToBack xs) in
-    bytes-word at (startsFrom (at + length x) xs) (omega arith) (starts-bytes xs (at + length x) (omega arith))
+    bytes-word at (wordsOf (startsFrom (at + length x) xs ++ rest)) (omega arith) (starts-bytes xs (at + length x) rest (omega arith) h)
 
-file-of-bytes : (xs : List (List ℕ)) → EachBytes xs → length (backToBack xs) + treeTrailer < 65536 → AllBytes (fileOf xs)
-unfolding fileOf
+file-of-bytes : (xs : List (List ℕ)) → EachBytes xs → length (fileOf xs) < 65536 → AllBytes (fileOf xs)
+unfolding fileOf fileWith trailerOf
 file-of-bytes xs h l =
-    bytes-append (backToBack xs) (startsFrom 0 xs ++ wordBytes (length (backToBack xs) + treeTrailer)) (sections-bytes xs h)
-    (bytes-append (startsFrom 0 xs) (wordBytes (length (backToBack xs) + treeTrailer)) (starts-bytes xs 0 (omega arith))
-    (last-word (length (backToBack xs) + treeTrailer) l))
-
-length-file-of : (xs : List (List ℕ)) → length (backToBack xs) + 2 * length xs + 2 ≡ length (fileOf xs)
-unfolding fileOf
-length-file-of xs =
-    omega (
-      arith,
-      length-append (backToBack xs) (startsFrom 0 xs ++ wordBytes (length (backToBack xs) + treeTrailer)),
-      length-append (startsFrom 0 xs) (wordBytes (length (backToBack xs) + treeTrailer)),
-      length-starts xs 0,
-    )
-  where
-    length-starts : (ys : List (List ℕ)) (at : ℕ) → length (startsFrom at ys) ≡ 2 * length ys
-    length-starts [] at = refl
-    length-starts (y ∷ ys) at = omega (arith, length-starts ys (at + length y))
+    let long = file-sections [] xs .length-is in
+    let end = length (backToBack xs) + trailerSize [] xs in
+    bytes-append (backToBack xs) (wordsOf (startsFrom 0 xs ++ end ∷ [])) (sections-bytes xs h)
+    (starts-bytes xs 0 (end ∷ []) (omega arith) (last-word end (omega arith)))
 
 -- the written file is bytes
 pub file-bytes : (pool : List ℕ) (a : Tree) → Writable pool a → InWords a → AllBytes pool → length (treeFile pool a) < 65536 → AllBytes (treeFile pool a)
@@ -269,7 +259,6 @@ unfolding treeFile treeSections EachBytes
 file-bytes pool a w s o l =
     let table = pathTable a in
     let e = file-length pool a in
-    let f = length-file-of (treeSections pool table a) in
     file-of-bytes (treeSections pool table a) (
       nodes-bytes table (omega arith) a 0 0 0 (s .numbers) (omega arith) (omega arith) (omega arith),
       (
@@ -280,4 +269,4 @@ file-bytes pool a w s o l =
         ),
       ),
     )
-    (omega arith)
+    l

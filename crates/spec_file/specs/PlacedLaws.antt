@@ -7,6 +7,7 @@ use native.Mathlib.Omega.{arith}
 use native.Mathlib.Nat.{add-zero}
 use lib.ListN.{length}
 use Rattle.spec_rules.specs.Limits.{caseSize}
+use Rattle.spec_rules.specs.Kinds.{switchNode, listSwitchNode, leafNode, hoistNode}
 use Rattle.spec_rules.specs.Rows.{Path, Binding}
 use Rattle.spec_rules.specs.Splitting.{Test}
 use Rattle.spec_rules.specs.Building.{Tree, Cases, leaf, hoist, switch, listswitch, ccons}
@@ -42,16 +43,16 @@ pub record PathRead (t : List ℕ) (q : ℕ) (p : Path) : Type 0 where
   pub there : pathAt t q ≡ p
 
 pub record LeafAt (t : List ℕ) (b k x : ℕ) (bs : List Binding) : Type 0 where
-  pub node : NodeIs t k 2 x (firstOf (length bs) b) (length bs) 0 0
+  pub node : NodeIs t k leafNode x (firstOf (length bs) b) (length bs) 0 0
   pub bound : bindingsFrom t b (length bs) ≡ bs
 
 pub record HoistAt (t : List ℕ) (table : List Path) (k c b x : ℕ) (bs : List Binding) (a : Tree) : Type 0 where
-  pub node : NodeIs t k 3 x (firstOf (length bs) b) (length bs) (k + 1) 0
+  pub node : NodeIs t k hoistNode x (firstOf (length bs) b) (length bs) (k + 1) 0
   pub bound : bindingsFrom t b (length bs) ≡ bs
   pub below : Placed t table (k + 1) c (b + length bs) a
 
 pub record SwitchAt (t : List ℕ) (table : List Path) (k c b : ℕ) (p : Path) (cs : Cases) (d : Tree) : Type 0 where
-  pub node : NodeIs t k 0 (pathNumber table p) (firstOf (howMany cs) c) (howMany cs) 0 (defaultField (k + 1 + nodesInOf cs) d)
+  pub node : NodeIs t k switchNode (pathNumber table p) (firstOf (howMany cs) c) (howMany cs) 0 (defaultField (k + 1 + nodesInOf cs) d)
   pub path : PathRead t (pathNumber table p) p
   pub own : Stands t (casesAt t + caseSize * c) (ownCases (k + 1) cs)
   pub below : PlacedOf t table (k + 1) (c + howMany cs) b cs
@@ -59,7 +60,7 @@ pub record SwitchAt (t : List ℕ) (table : List Path) (k c b : ℕ) (p : Path) 
 
 pub record ListSwitchAt (t : List ℕ) (table : List Path) (k c b : ℕ) (p : Path) (cs ts : Cases) (d : Tree) : Type 0 where
   pub node :
-      NodeIs t k 1 (pathNumber table p) (firstOf (howMany cs + howMany ts) c) (howMany cs) (howMany ts) (defaultField (k + 1 + nodesInOf cs + nodesInOf ts) d)
+      NodeIs t k listSwitchNode (pathNumber table p) (firstOf (howMany cs + howMany ts) c) (howMany cs) (howMany ts) (defaultField (k + 1 + nodesInOf cs + nodesInOf ts) d)
   pub path : PathRead t (pathNumber table p) p
   pub own : Stands t (casesAt t + caseSize * c) (ownCases (k + 1) cs)
   pub own-tailed : Stands t (casesAt t + caseSize * (c + howMany cs)) (ownCases (k + 1 + nodesInOf cs) ts)

@@ -7,6 +7,7 @@ use Prim.Native.Nat.{ℕ, zero, suc, _+_, _*_, _≤_}
 use native.Mathlib.Omega.{arith}
 use lib.ListN.{length}
 use Rattle.spec_rules.specs.Limits.{caseSize}
+use Rattle.spec_rules.specs.Kinds.{switchNode, listSwitchNode, leafNode, hoistNode}
 use Rattle.spec_rules.specs.Rows.{Path, Binding}
 use Rattle.spec_rules.specs.Splitting.{Test, Constr, Int, Bytes, ListOf, ListWithTail}
 use Rattle.spec_rules.specs.Building.{Tree, Cases, absent, leaf, hoist, switch, listswitch, cnil, ccons}
@@ -120,16 +121,16 @@ module _ (t pool : List ℕ) (there : Stands t (treePoolAt t) pool) where
       tree-read (leaf x bs) zero k c b l r w h = absurd (omega arith)
       tree-read (leaf x bs) (suc deep) k c b l r w h =
           let g = leaf-placed t table tab k c b x bs h in
-          below deep k 2 (g .node .kind-is) ∙ leaf-read t (treeBelow deep t) k b x bs g
+          below deep k leafNode (g .node .kind-is) ∙ leaf-read t (treeBelow deep t) k b x bs g
       tree-read (hoist x bs a) zero k c b l r w h = absurd (omega arith)
       tree-read (hoist x bs a) (suc deep) k c b l r w h =
           let g = hoist-placed t table tab k c b x bs a h in
-          below deep k 3 (g .node .kind-is)
+          below deep k hoistNode (g .node .kind-is)
           ∙ hoist-read t (treeBelow deep t) table k c b x bs a g (tree-read a deep (k + 1) c (b + length bs) (omega arith) (w .1) (w .2) (g .below))
       tree-read (switch p cs d) zero k c b l r w h = absurd (omega arith)
       tree-read (switch p cs d) (suc deep) k c b l r w h =
           let g = switch-placed t table tab k c b p cs d h in
-          below deep k 0 (g .node .kind-is)
+          below deep k switchNode (g .node .kind-is)
           ∙ switch-read t (treeBelow deep t) table k c b p cs d g
           (cases-read cs deep (k + 1) (c + howMany cs) b c (omega arith) (w .1) (g .below) (g .own))
           (λ s. tree-read d deep (k + 1 + nodesInOf cs) (c + howMany cs + casesInOf cs) (b + length (bindingsInOf cs)) (omega arith) s (w .2) (g .default))
@@ -140,7 +141,7 @@ module _ (t pool : List ℕ) (there : Stands t (treePoolAt t) pool) where
           let k₂ = k + 1 + nodesInOf cs in
           let c₂ = c₁ + casesInOf cs in
           let b₂ = b + length (bindingsInOf cs) in
-          below deep k 1 (g .node .kind-is)
+          below deep k listSwitchNode (g .node .kind-is)
           ∙ list-switch-read t (treeBelow deep t) table k c b p cs ts d g
           (cases-read cs deep (k + 1) c₁ b c (omega arith) (w .1) (g .below) (g .own))
           (cases-read ts deep k₂ c₂ b₂ (c + howMany cs) (omega arith) (w .2) (g .below-tailed) (g .own-tailed))

@@ -10,6 +10,7 @@ use lib.Dec.{leb}
 use borrow.Author.Tests.{le-leb, lt-ltb, eq-eqb}
 use Rattle.base_words.specs.WordsLaws.{both-make}
 use Rattle.spec_rules.specs.Limits.{nodeBindingsMost, caseSize}
+use Rattle.spec_rules.specs.Kinds.{switchNode, listSwitchNode, leafNode, hoistNode, pathWord, firstCaseWord, casesWord, tailCasesWord, defaultWord, firstBindingWord, bindingsWord, bytesCase, listCase, listWithTailCase}
 use Rattle.spec_rules.specs.Searching.{every}
 use Rattle.spec_rules.specs.SheetFile.{runIn}
 use Rattle.spec_rules.specs.Rows.{Path, Binding}
@@ -87,7 +88,7 @@ module _ (t : List ℕ) where
   unfolding nodeKeepsRules
   node-keeps-rules k kind a b c d e h g = rw (h .zero-is, h .kind-is) g
 
-  bound-inside : (k b : ℕ) (bs : List Binding) → nodeWord t k 1 ≡ firstOf (length bs) b → nodeWord t k 2 ≡ length bs → length bs ≤ nodeBindingsMost
+  bound-inside : (k b : ℕ) (bs : List Binding) → nodeWord t k firstBindingWord ≡ firstOf (length bs) b → nodeWord t k bindingsWord ≡ length bs → length bs ≤ nodeBindingsMost
       → b + length bs ≤ bindings t → bindingParts t k ≡ true
   unfolding bindingParts nodeFirstBinding nodeBindings
   bound-inside k b bs e f l m =
@@ -99,7 +100,7 @@ module _ (t : List ℕ) where
   unfolding nodeKindOf nodeOfKind
   leaf-keeps-rules k b x bs h l m =
       let n = h .node in
-      node-keeps-rules k 2 x (firstOf (length bs) b) (length bs) 0 0 n
+      node-keeps-rules k leafNode x (firstOf (length bs) b) (length bs) 0 0 n
       (rw (bound-inside k b bs (n .word-1) (n .word-2) l m, n .word-3, n .word-4))
 
   hoist-keeps-rules : (table : List Path) (k c b x : ℕ) (bs : List Binding) (a : Tree) → HoistAt t table k c b x bs a → length bs ≤ nodeBindingsMost
@@ -107,12 +108,12 @@ module _ (t : List ℕ) where
   unfolding nodeKindOf nodeOfKind nodeChild
   hoist-keeps-rules table k c b x bs a h l m i =
       let n = h .node in
-      node-keeps-rules k 3 x (firstOf (length bs) b) (length bs) (k + 1) 0 n
+      node-keeps-rules k hoistNode x (firstOf (length bs) b) (length bs) (k + 1) 0 n
       (rw (bound-inside k b bs (n .word-1) (n .word-2) l m, n .word-3, n .word-4, lt-ltb (k + 1) (nodes t) i))
 
   -- path, run of cases and default of either switch
-  parts-inside : (k q first n m e : ℕ) → nodeWord t k 0 ≡ q → nodeWord t k 1 ≡ firstOf (n + m) first → nodeWord t k 2 ≡ n → nodeWord t k 3 ≡ m
-      → nodeWord t k 4 ≡ e → q < paths t → first + (n + m) ≤ cases t → e ≤ nodes t → switchParts t k ≡ true
+  parts-inside : (k q first n m e : ℕ) → nodeWord t k pathWord ≡ q → nodeWord t k firstCaseWord ≡ firstOf (n + m) first → nodeWord t k casesWord ≡ n → nodeWord t k tailCasesWord ≡ m
+      → nodeWord t k defaultWord ≡ e → q < paths t → first + (n + m) ≤ cases t → e ≤ nodes t → switchParts t k ≡ true
   unfolding switchParts nodePath nodeFirstCase nodeCases nodeTailCases nodeDefault
   parts-inside k q first n m e w₀ w₁ w₂ w₃ w₄ a b c =
       rw (w₀, w₁, w₂, w₃, w₄, lt-ltb q (paths t) a, run-in (n + m) first (cases t) b) (le-leb e (nodes t) c)
@@ -124,12 +125,12 @@ module _ (t : List ℕ) where
 
   -- the kinds of the cases of a switch, as its first case has it
   alike : (cs : Cases) (c k : ℕ) → SwitchCases cs → Stands t (casesAt t + caseSize * c) (ownCases k cs)
-      → (leb (caseKind t c) 2 ≡ true) × (every (isKind t (caseKind t c)) c (howMany cs) ≡ true)
+      → (leb (caseKind t c) bytesCase ≡ true) × (every (isKind t (caseKind t c)) c (howMany cs) ≡ true)
   unfolding SwitchCases AllOfKind
   alike cnil c k w own = absurd w
   alike (ccons u start a cs) c k w own =
       let e = own-first t c k u start a cs own .kind-is in
-      rw e (le-leb (testKind u) 2 (w .0), own-kinds (testKind u) (ccons u start a cs) c k (refl, w .1) own)
+      rw e (le-leb (testKind u) bytesCase (w .0), own-kinds (testKind u) (ccons u start a cs) c k (refl, w .1) own)
 
   switch-keeps-rules : (table : List Path) (k c b : ℕ) (p : Path) (cs : Cases) (d : Tree) → SwitchAt t table k c b p cs d → SwitchCases cs
       → c + howMany cs ≤ cases t → k + 1 + nodesInOf cs + nodesIn d ≤ nodes t → nodeKeepsRules t k ≡ true
@@ -144,7 +145,7 @@ module _ (t : List ℕ) where
       let parts : switchParts t k ≡ true =
       parts-inside k (pathNumber table p) c (howMany cs) 0 (defaultField k₂ d) (n .word-0) (rw same (n .word-1)) (n .word-2) (n .word-3) (n .word-4)
       (h .path .inside) (omega arith) (omega (arith, default-inside k₂ d)) in
-      node-keeps-rules k 0 (pathNumber table p) (firstOf (howMany cs) c) (howMany cs) 0 (defaultField k₂ d) n
+      node-keeps-rules k switchNode (pathNumber table p) (firstOf (howMany cs) c) (howMany cs) 0 (defaultField k₂ d) n
       (rw (parts, n .word-2, n .word-3, word-1, le-leb 1 (howMany cs) (some-case cs w), kinds .0, kinds .1))
 
   list-switch-keeps-rules : (table : List Path) (k c b : ℕ) (p : Path) (cs ts : Cases) (d : Tree) → ListSwitchAt t table k c b p cs ts d → ListCases cs ts
@@ -159,15 +160,15 @@ module _ (t : List ℕ) where
       let parts : switchParts t k ≡ true =
       parts-inside k (pathNumber table p) c (howMany cs) (howMany ts) (defaultField k₃ d) (n .word-0) (n .word-1) (n .word-2) (n .word-3) (n .word-4)
       (h .path .inside) (omega arith) (omega (arith, default-inside k₃ d)) in
-      node-keeps-rules k 1 (pathNumber table p) (firstOf count c) (howMany cs) (howMany ts) (defaultField k₃ d) n
+      node-keeps-rules k listSwitchNode (pathNumber table p) (firstOf count c) (howMany cs) (howMany ts) (defaultField k₃ d) n
       (rw (
         parts,
         n .word-2,
         n .word-3,
         word-1,
         le-leb 1 count (w .some-case),
-        own-kinds 3 cs c (k + 1) (w .exact) (h .own),
-        own-kinds 4 ts (c + howMany cs) (k + 1 + nodesInOf cs) (w .tailed) (h .own-tailed),
+        own-kinds listCase cs c (k + 1) (w .exact) (h .own),
+        own-kinds listWithTailCase ts (c + howMany cs) (k + 1 + nodesInOf cs) (w .tailed) (h .own-tailed),
       ))
 
 -- the n nodes from k on and the m cases from c on keep the rules

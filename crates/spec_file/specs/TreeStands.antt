@@ -4,6 +4,7 @@ use mathlib.Core.List.{List, _++_}
 use Prim.Native.Nat.{ℕ, _+_, _*_}
 use lib.ListN.{length}
 use Rattle.spec_rules.specs.Limits.{nodeSize, caseSize, bindingSize}
+use Rattle.spec_rules.specs.Kinds.{switchNode, listSwitchNode, leafNode, hoistNode}
 use Rattle.spec_rules.specs.Rows.{Path, Binding}
 use Rattle.spec_rules.specs.Building.{Tree, Cases, absent, leaf, hoist, switch, listswitch, cnil, ccons}
 use Rattle.spec_rules.specs.Hoisting.{howMany, nodesIn, nodesInOf, bindingsIn, bindingsInOf}
@@ -33,16 +34,16 @@ module _ (o : Starts) (t : List ℕ) where
     unfoldable mutual
       pub TreeStands : ℕ → ℕ → ℕ → Tree → Type 0
       TreeStands k c b absent = Unit {0}
-      TreeStands k c b (leaf x bs) = NodesStand k (nodeBytes 2 x (firstOf (length bs) b) (length bs) 0 0) × BindingsStand b bs
+      TreeStands k c b (leaf x bs) = NodesStand k (nodeBytes leafNode x (firstOf (length bs) b) (length bs) 0 0) × BindingsStand b bs
       TreeStands k c b (hoist x bs a) =
-          NodesStand k (nodeBytes 3 x (firstOf (length bs) b) (length bs) (k + 1) 0) × BindingsStand b bs × TreeStands (k + 1) c (b + length bs) a
+          NodesStand k (nodeBytes hoistNode x (firstOf (length bs) b) (length bs) (k + 1) 0) × BindingsStand b bs × TreeStands (k + 1) c (b + length bs) a
       TreeStands k c b (switch p cs d) =
-          NodesStand k (nodeBytes 0 (pathNumber table p) (firstOf (howMany cs) c) (howMany cs) 0 (defaultField (k + 1 + nodesInOf cs) d))
+          NodesStand k (nodeBytes switchNode (pathNumber table p) (firstOf (howMany cs) c) (howMany cs) 0 (defaultField (k + 1 + nodesInOf cs) d))
           × CasesStand c (ownCases (k + 1) cs)
           × TreeStandsOf (k + 1) (c + howMany cs) b cs
           × TreeStands (k + 1 + nodesInOf cs) (c + howMany cs + casesInOf cs) (b + length (bindingsInOf cs)) d
       TreeStands k c b (listswitch p cs ts d) =
-          NodesStand k (nodeBytes 1 (pathNumber table p) (firstOf (howMany cs + howMany ts) c) (howMany cs) (howMany ts) (defaultField (k + 1 + nodesInOf cs + nodesInOf ts) d))
+          NodesStand k (nodeBytes listSwitchNode (pathNumber table p) (firstOf (howMany cs + howMany ts) c) (howMany cs) (howMany ts) (defaultField (k + 1 + nodesInOf cs + nodesInOf ts) d))
           × CasesStand c (ownCases (k + 1) cs ++ ownCases (k + 1 + nodesInOf cs) ts)
           × TreeStandsOf (k + 1) (c + howMany cs + howMany ts) b cs
           × TreeStandsOf (k + 1 + nodesInOf cs) (c + howMany cs + howMany ts + casesInOf cs) (b + length (bindingsInOf cs)) ts

@@ -7,6 +7,7 @@ use native.Mathlib.Omega.{arith}
 use lib.ListN.{length}
 use Rattle.base_words.specs.Words.{wordBytes}
 use Rattle.spec_rules.specs.Limits.{nodeSize, caseSize, bindingSize}
+use Rattle.spec_rules.specs.Kinds.{switchNode, listSwitchNode, hoistNode}
 use Rattle.spec_rules.specs.Rows.{Path, Binding}
 use Rattle.spec_rules.specs.Splitting.{Test}
 use Rattle.spec_rules.specs.Building.{Tree, Cases, absent, leaf, hoist, switch, listswitch, cnil, ccons}
@@ -61,7 +62,7 @@ module _ (o : Starts) (t : List ℕ) (table : List Path) where
     tree-stands absent k c b n q s = tt
     tree-stands (leaf x bs) k c b n q s = (n, s)
     tree-stands (hoist x bs a) k c b n q s =
-        let head = nodeBytes 3 x (firstOf (length bs) b) (length bs) (k + 1) 0 in
+        let head = nodeBytes hoistNode x (firstOf (length bs) b) (length bs) (k + 1) 0 in
         let rest = nodesFrom table (k + 1) c (b + length bs) a in (
           stands-left head rest n,
           bindings-first b bs (bindingsIn a) s,
@@ -72,7 +73,7 @@ module _ (o : Starts) (t : List ℕ) (table : List Path) where
         let k₂ = k + 1 + nodesInOf cs in
         let c₂ = c₁ + casesInOf cs in
         let b₂ = b + length (bindingsInOf cs) in
-        let head = nodeBytes 0 (pathNumber table p) (firstOf (howMany cs) c) (howMany cs) 0 (defaultField k₂ d) in
+        let head = nodeBytes switchNode (pathNumber table p) (firstOf (howMany cs) c) (howMany cs) 0 (defaultField k₂ d) in
         let nodes-cs = nodesFromOf table (k + 1) c₁ b cs in
         let nodes-d = nodesFrom table k₂ c₂ b₂ d in
         let own = ownCases (k + 1) cs in
@@ -94,7 +95,7 @@ module _ (o : Starts) (t : List ℕ) (table : List Path) where
         let k₃ = k₂ + nodesInOf ts in
         let c₃ = c₂ + casesInOf ts in
         let b₃ = b₂ + length (bindingsInOf ts) in
-        let head = nodeBytes 1 (pathNumber table p) (firstOf (howMany cs + howMany ts) c) (howMany cs) (howMany ts) (defaultField k₃ d) in
+        let head = nodeBytes listSwitchNode (pathNumber table p) (firstOf (howMany cs + howMany ts) c) (howMany cs) (howMany ts) (defaultField k₃ d) in
         let nodes-cs = nodesFromOf table (k + 1) c₁ b cs in
         let nodes-ts = nodesFromOf table k₂ c₂ b₂ ts in
         let nodes-d = nodesFrom table k₃ c₃ b₃ d in

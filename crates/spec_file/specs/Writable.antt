@@ -8,11 +8,13 @@ use Prim.Native.Nat.{ℕ, _+_, _≤_, _<_}
 use lib.ListN.{length}
 use Rattle.base_words.specs.Words.{textAt}
 use Rattle.spec_rules.specs.Limits.{nodeBindingsMost, patternsMost, depthMost, nodesMost, bindingsMost, sheetMost}
+use Rattle.spec_rules.specs.Kinds.{bytesCase, listCase, listWithTailCase}
 use Rattle.spec_rules.specs.Rows.{Step, pair, tuple, constr, list, listtail, Path, Binding}
 use Rattle.spec_rules.specs.Splitting.{Test, Constr, Int, Bytes, ListOf, ListWithTail}
 use Rattle.spec_rules.specs.Building.{Tree, Cases, absent, leaf, hoist, switch, listswitch, cnil, ccons}
 use Rattle.spec_rules.specs.Hoisting.{howMany, nodesIn, bindingsIn}
 use Rattle.spec_rules.specs.TreeFile.{pathsUsed, isAmong, pathTable}
+unfoldable pub use Rattle.spec_rules.specs.Walking.{testKind}
 
 unfoldable pub present : Tree → Bool
 present absent = false
@@ -20,14 +22,6 @@ present (leaf c bs) = true
 present (hoist c bs a) = true
 present (switch p cs d) = true
 present (listswitch p cs ts d) = true
-
--- the kind of a case with this test
-unfoldable pub testKind : Test → ℕ
-testKind (Constr a) = 0
-testKind (Int w) = 1
-testKind (Bytes w) = 2
-testKind (ListOf n) = 3
-testKind (ListWithTail n) = 4
 
 -- the text w is the part of the pool from start on; an empty one starts at 0
 pub record InPool (pool : List ℕ) (start : ℕ) (w : List ℕ) : Type 0 where
@@ -52,13 +46,13 @@ AllOfKind kind (ccons t start a cs) = (testKind t ≡ kind) × AllOfKind kind cs
 unfoldable pub SwitchCases : Cases → Type 0
 unfolding AllOfKind
 SwitchCases cnil = ⊥
-SwitchCases (ccons t start a cs) = (testKind t ≤ 2) × AllOfKind (testKind t) cs
+SwitchCases (ccons t start a cs) = (testKind t ≤ bytesCase) × AllOfKind (testKind t) cs
 
 -- "a list switch with one of either, kind 3 in cases, 4 in tail cases"
 pub record ListCases (cs ts : Cases) : Type 0 where
   pub some-case : 1 ≤ howMany cs + howMany ts
-  pub exact : AllOfKind 3 cs
-  pub tailed : AllOfKind 4 ts
+  pub exact : AllOfKind listCase cs
+  pub tailed : AllOfKind listWithTailCase ts
 
 -- a tree that is absent, or that a file with this pool can say
 unfoldable mutual

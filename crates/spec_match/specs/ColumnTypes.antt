@@ -9,6 +9,7 @@ use mathlib.Core.Option.{Option, none, some}
 use lib.Dec.{eqb}
 use borrow.Author.Tests.{eqb-true, eqb-false}
 use Rattle.base_words.specs.Words.{either, pick}
+use Rattle.spec_rules.specs.Kinds.{pairType, tupleType}
 use Rattle.spec_rules.specs.SheetFile.{typeKind, typeFirst, constructorFirst, entry}
 use Rattle.spec_rules.specs.Patterns.{Mark, Pat, Pats, discard, variable, assign, integer, bytestring, listed, tailed, constructor, opened, pnil, pcons, many, oneConstructor, decorated, constructorOf}
 use Rattle.spec_rules.specs.Rows.{Step, pair, tuple, constr, list, listtail, Path, into, opening, sameStep, Cell, Row, columnsOf, columnsOfEach, openedColumns, clauseRows}
@@ -91,11 +92,11 @@ caseStep-index (ListWithTail n) t i = refl
 module _ (s : List ℕ) where
   unfoldable pub isOpen : ℕ → Bool
   unfolding oneConstructor
-  isOpen t = either (eqb (typeKind s t) 3) (either (eqb (typeKind s t) 4) (oneConstructor s t))
+  isOpen t = either (eqb (typeKind s t) pairType) (either (eqb (typeKind s t) tupleType) (oneConstructor s t))
 
   unfoldable pub openStep : ℕ → ℕ → Step
   unfolding decorated
-  openStep t i = pick (eqb (typeKind s t) 3) (pair i t) (pick (eqb (typeKind s t) 4) (tuple i t) (constr i (decorated s t) t))
+  openStep t i = pick (eqb (typeKind s t) pairType) (pair i t) (pick (eqb (typeKind s t) tupleType) (tuple i t) (constr i (decorated s t) t))
 
   -- the type of part i: of the one constructor, or at its own type entry
   unfoldable pub openPart : ℕ → ℕ → ℕ
@@ -104,7 +105,7 @@ module _ (s : List ℕ) where
 
   openStep-index : (t i : ℕ) → stepIndex (openStep t i) ≡ i
   unfolding openStep stepIndex
-  openStep-index t i = go (eqb (typeKind s t) 3) (eqb (typeKind s t) 4)
+  openStep-index t i = go (eqb (typeKind s t) pairType) (eqb (typeKind s t) tupleType)
     where
       go : (a b : Bool) → stepIndex (pick a (pair i t) (pick b (tuple i t) (constr i (decorated s t) t))) ≡ i
       go true b = refl

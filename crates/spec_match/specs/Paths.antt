@@ -3,23 +3,18 @@ use Prim.Native.Nat.{ℕ}
 use mathlib.Core.Path.{_≡_, refl, sym, ap, ap₂, _∙_}
 use mathlib.Core.Bool.{true, false, true≢false, false≢true}
 use mathlib.Core.List.{List, [], _∷_}
-use lib.Dec.{eqb}
 use lib.ListN.{getD}
-use Rattle.base_words.specs.Words.{pick}
 use Rattle.base_words.specs.WordsLaws.{both-true, both-make, sameText-refl, sameText-sound}
 use Rattle.spec_rules.specs.Rows.{Step, pair, tuple, constr, list, listtail, Path, bit, stepFields, sameStep, samePath}
+use Rattle.spec_rules.specs.TreeReader.{stepOfFields}
 
 -- the step with these fields: kind, flag, index, type
 stepOf : List ℕ → Step
-stepOf fs =
-    pick (eqb (getD fs 0 0) 0) (pair (getD fs 2 0) (getD fs 3 0))
-    (pick (eqb (getD fs 0 0) 1) (tuple (getD fs 2 0) (getD fs 3 0))
-    (pick (eqb (getD fs 0 0) 2) (constr (getD fs 2 0) (eqb (getD fs 1 0) 1) (getD fs 3 0))
-    (pick (eqb (getD fs 0 0) 3) (list (getD fs 2 0) (getD fs 3 0))
-    (listtail (getD fs 2 0) (getD fs 3 0)))))
+unfolding stepOfFields
+stepOf fs = stepOfFields (getD fs 0 0) (getD fs 1 0) (getD fs 2 0) (getD fs 3 0)
 
 stepOf-fields : (s : Step) → stepOf (stepFields s) ≡ s
-unfolding stepOf stepFields bit
+unfolding stepOf stepOfFields stepFields bit
 stepOf-fields (pair i t) = refl
 stepOf-fields (tuple i t) = refl
 stepOf-fields (constr i true t) = refl

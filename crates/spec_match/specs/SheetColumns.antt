@@ -11,6 +11,7 @@ use borrow.Author.Tests.{eqb-true, eqb-false}
 use Rattle.base_words.specs.Words.{both, either}
 use Rattle.base_words.specs.WordsLaws.{both-true, either-second-true}
 use Rattle.spec_rules.specs.Limits.{patternsMost}
+use Rattle.spec_rules.specs.Kinds.{intType, bytesType, listType, pairType, tupleType, dataType, discardPattern, variablePattern}
 use Rattle.spec_rules.specs.SheetFile.{subject, clauses, patterns, typeKind, typeFirst, typeCount, constructorFirst, entry, patternKind, patternA, patternFirst, patternCount, child, root}
 use Rattle.spec_rules.specs.Patterns.{PatternKind, Discard, Variable, Assign, Integer, ByteString, ListOfAll, ListWithRest, Constructor, Pair, Tuple, Unknown, patternKindOf, Pat, Pats, many, oneConstructor, decorated, constructorOf, along, ofConstructor, ofKind, patternTo, pattern, clausePattern, clausePatterns, takesArguments, opensInto, fits, fitAll}
 use Rattle.spec_rules.specs.Rows.{pair, tuple, constr, Path, Row}
@@ -56,9 +57,9 @@ module _ (s : List ℕ) (sh : Shaped s) where
       further k = omega arith
 
   -- ---- kinds of types that are tested, and that open
-  not-open : (t k : ℕ) → typeKind s t ≡ k → either (eqb k 3) (either (eqb k 4) (eqb k 5)) ≡ false → isOpen s t ≡ false
+  not-open : (t k : ℕ) → typeKind s t ≡ k → either (eqb k pairType) (either (eqb k tupleType) (eqb k dataType)) ≡ false → isOpen s t ≡ false
   unfolding isOpen oneConstructor
-  not-open t k e h = rw e (go (eqb k 3) (eqb k 4) (eqb k 5) h)
+  not-open t k e h = rw e (go (eqb k pairType) (eqb k tupleType) (eqb k dataType) h)
     where
       go : (a b c : Bool) → either a (either b c) ≡ false → either a (either b (both c (eqb (typeCount s t) 1))) ≡ false
       go true b c h = h
@@ -66,18 +67,18 @@ module _ (s : List ℕ) (sh : Shaped s) where
       go false false true h = absurd (false≢true (sym h))
       go false false false h = refl
 
-  several-not-open : (t : ℕ) → typeKind s t ≡ 5 → oneConstructor s t ≡ false → isOpen s t ≡ false
+  several-not-open : (t : ℕ) → typeKind s t ≡ dataType → oneConstructor s t ≡ false → isOpen s t ≡ false
   unfolding isOpen
   several-not-open t e h = rw (h, e)
 
   module _ (t : ℕ) (one : oneConstructor s t ≡ true) where
-    one-kind : typeKind s t ≡ 5
+    one-kind : typeKind s t ≡ dataType
     unfolding oneConstructor
-    one-kind = eqb-true (typeKind s t) 5 (both-true (eqb (typeKind s t) 5) (eqb (typeCount s t) 1) one .0)
+    one-kind = eqb-true (typeKind s t) dataType (both-true (eqb (typeKind s t) dataType) (eqb (typeCount s t) 1) one .0)
 
     one-open : isOpen s t ≡ true
     unfolding isOpen
-    one-open = either-second-true (eqb (typeKind s t) 3) (either (eqb (typeKind s t) 4) (oneConstructor s t)) (either-second-true (eqb (typeKind s t) 4) (oneConstructor s t) one)
+    one-open = either-second-true (eqb (typeKind s t) pairType) (either (eqb (typeKind s t) tupleType) (oneConstructor s t)) (either-second-true (eqb (typeKind s t) tupleType) (oneConstructor s t) one)
 
     one-step : (i : ℕ) → constr i (decorated s t) t ≡ openStep s t i
     unfolding openStep
@@ -87,7 +88,7 @@ module _ (s : List ℕ) (sh : Shaped s) where
     unfolding openPart
     one-part a i e = rw (one, e)
 
-  module _ (t : ℕ) (is-pair : typeKind s t ≡ 3) where
+  module _ (t : ℕ) (is-pair : typeKind s t ≡ pairType) where
     pair-open : isOpen s t ≡ true
     unfolding isOpen
     pair-open = rw is-pair
@@ -100,7 +101,7 @@ module _ (s : List ℕ) (sh : Shaped s) where
     unfolding oneConstructor
     pair-not-one = rw is-pair
 
-  module _ (t : ℕ) (is-tuple : typeKind s t ≡ 4) where
+  module _ (t : ℕ) (is-tuple : typeKind s t ≡ tupleType) where
     tuple-open : isOpen s t ≡ true
     unfolding isOpen
     tuple-open = rw is-tuple
@@ -172,18 +173,18 @@ module _ (s : List ℕ) (sh : Shaped s) where
     pair-resolved : Parent s p → fits (ofKind f s p t Pair) s ≡ true → Resolved s (ofKind f s p t Pair) t
     unfolding ofKind fits Resolved opensInto
     pair-resolved has h =
-        let (a, b) = both-true (both (eqb (typeKind s t) 3) (eqb (typeCount s t) (many partPatterns))) (fitAll partPatterns s) h in
-        let e = eqb-true (typeKind s t) 3 (both-true (eqb (typeKind s t) 3) (eqb (typeCount s t) (many partPatterns)) a .0) in
+        let (a, b) = both-true (both (eqb (typeKind s t) pairType) (eqb (typeCount s t) (many partPatterns))) (fitAll partPatterns s) h in
+        let e = eqb-true (typeKind s t) pairType (both-true (eqb (typeKind s t) pairType) (eqb (typeCount s t) (many partPatterns)) a .0) in
         (pair-open t e, pair-step t e, parts-resolved has (pair-not-one t e) b)
 
     tuple-resolved : Parent s p → fits (ofKind f s p t Tuple) s ≡ true → Resolved s (ofKind f s p t Tuple) t
     unfolding ofKind fits Resolved opensInto
     tuple-resolved has h =
-        let (a, b) = both-true (both (eqb (typeKind s t) 4) (eqb (typeCount s t) (many partPatterns))) (fitAll partPatterns s) h in
-        let e = eqb-true (typeKind s t) 4 (both-true (eqb (typeKind s t) 4) (eqb (typeCount s t) (many partPatterns)) a .0) in
+        let (a, b) = both-true (both (eqb (typeKind s t) tupleType) (eqb (typeCount s t) (many partPatterns))) (fitAll partPatterns s) h in
+        let e = eqb-true (typeKind s t) tupleType (both-true (eqb (typeKind s t) tupleType) (eqb (typeCount s t) (many partPatterns)) a .0) in
         (tuple-open t e, tuple-step t e, parts-resolved has (tuple-not-one t e) b)
 
-    kind-resolved : ((q u : ℕ) → patternKind s q ≤ 1 → isPlain (f q u) ≡ true)
+    kind-resolved : ((q u : ℕ) → patternKind s q ≤ variablePattern → isPlain (f q u) ≡ true)
         → (kind : PatternKind) → patternKindOf (patternKind s p) ≡ kind → fits (ofKind f s p t kind) s ≡ true → Resolved s (ofKind f s p t kind) t
     unfolding ofKind fits Resolved hasChildren
     kind-resolved plain Discard e h = tt
@@ -192,16 +193,16 @@ module _ (s : List ℕ) (sh : Shaped s) where
         let one = sh .assign-one p known (pattern-byte _ Assign e (omega arith)) in
         below (child s (patternFirst s p)) t
         (owned-pattern sh p (patternFirst s p) known (record { parent = ap hasChildren e; from = omega arith; to = omega arith })) h
-    kind-resolved plain Integer e h = (refl, not-open t 0 (eqb-true (typeKind s t) 0 h) refl)
-    kind-resolved plain ByteString e h = (refl, not-open t 1 (eqb-true (typeKind s t) 1 h) refl)
+    kind-resolved plain Integer e h = (refl, not-open t intType (eqb-true (typeKind s t) intType h) refl)
+    kind-resolved plain ByteString e h = (refl, not-open t bytesType (eqb-true (typeKind s t) bytesType h) refl)
     kind-resolved plain ListOfAll e h =
-        let (a, b) = both-true (eqb (typeKind s t) 2) (fitAll (along f s (patternFirst s p) (patternCount s p) (typeFirst s t) 0) s) h in
-        (refl, not-open t 2 (eqb-true (typeKind s t) 2 a) refl, list-resolved (ap hasChildren e) (patternCount s p) (omega arith) b)
+        let (a, b) = both-true (eqb (typeKind s t) listType) (fitAll (along f s (patternFirst s p) (patternCount s p) (typeFirst s t) 0) s) h in
+        (refl, not-open t listType (eqb-true (typeKind s t) listType a) refl, list-resolved (ap hasChildren e) (patternCount s p) (omega arith) b)
     kind-resolved plain ListWithRest e h =
         let byte = pattern-byte _ ListWithRest e (omega arith) in
-        let (a, b) = both-true (eqb (typeKind s t) 2) (both (fitAll (along f s (patternFirst s p) (patternCount s p - 1) (typeFirst s t) 0) s) (fits (f last t) s)) h in
+        let (a, b) = both-true (eqb (typeKind s t) listType) (both (fitAll (along f s (patternFirst s p) (patternCount s p - 1) (typeFirst s t) 0) s) (fits (f last t) s)) h in
         let (c, d) = both-true (fitAll (along f s (patternFirst s p) (patternCount s p - 1) (typeFirst s t) 0) s) (fits (f last t) s) b in
-        (refl, not-open t 2 (eqb-true (typeKind s t) 2 a) refl, list-resolved (ap hasChildren e) (patternCount s p - 1) (omega arith) c, plain last t (sh .tail-plain p known byte))
+        (refl, not-open t listType (eqb-true (typeKind s t) listType a) refl, list-resolved (ap hasChildren e) (patternCount s p - 1) (omega arith) c, plain last t (sh .tail-plain p known byte))
       where
         last : ℕ
         last = child s (patternFirst s p + (patternCount s p - 1))
@@ -211,14 +212,14 @@ module _ (s : List ℕ) (sh : Shaped s) where
     kind-resolved plain Unknown e h = tt
 
   -- a discard and a variable are plain
-  plain-to : (deep p t : ℕ) → patternKind s p ≤ 1 → isPlain (patternTo deep s p t) ≡ true
+  plain-to : (deep p t : ℕ) → patternKind s p ≤ variablePattern → isPlain (patternTo deep s p t) ≡ true
   unfolding patternTo isPlain ofKind patternKindOf
   plain-to zero p t l = refl
-  plain-to (suc deep) p t l = go (eqb (patternKind s p) 0) refl
+  plain-to (suc deep) p t l = go (eqb (patternKind s p) discardPattern) refl
     where
-      go : (b : Bool) → eqb (patternKind s p) 0 ≡ b → isPlain (ofKind (patternTo deep s) s p t (patternKindOf (patternKind s p))) ≡ true
-      go true e = rw (eqb-true (patternKind s p) 0 e)
-      go false e = let one : patternKind s p ≡ 1 = omega (arith, eqb-false (patternKind s p) 0 e) in rw one
+      go : (b : Bool) → eqb (patternKind s p) discardPattern ≡ b → isPlain (ofKind (patternTo deep s) s p t (patternKindOf (patternKind s p))) ≡ true
+      go true e = rw (eqb-true (patternKind s p) discardPattern e)
+      go false e = let one : patternKind s p ≡ variablePattern = omega (arith, eqb-false (patternKind s p) discardPattern e) in rw one
 
   -- LEMMA: a pattern that fits its type is resolved against it
   pub resolved-to : (deep p t : ℕ) → p < patterns s → fits (patternTo deep s p t) s ≡ true → Resolved s (patternTo deep s p t) t

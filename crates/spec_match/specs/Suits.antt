@@ -11,6 +11,7 @@ use lib.Dec.{eqb, leb, ltb}
 use borrow.Author.Tests.{eqb-true, eq-eqb, leb-true, le-leb, lt-ltb}
 use Rattle.base_words.specs.Words.{both, sameText}
 use Rattle.base_words.specs.WordsLaws.{both-true, both-make, both-second-false, both-assoc}
+use Rattle.spec_rules.specs.Kinds.{integerRecord, bytesRecord, listRecord, pairRecord, tupleRecord, constructorRecord}
 use Rattle.spec_rules.specs.Patterns.{Opens, pairs, tuples, fields, Pat, Pats, discard, variable, assign, integer, bytestring, listed, tailed, constructor, opened, pnil, pcons, many}
 use Rattle.spec_rules.specs.Rows.{Step, pair, tuple, constr, list, listtail, Path, into, opening, Binding, Cell, columnsOf, columnsOfEach, openedColumns}
 use Rattle.spec_rules.specs.PanelFile.{recordKind, recordA, recordFirst, recordCount, recordText}
@@ -30,15 +31,15 @@ unfoldable mutual
   Suits (discard m) v x = Unit {0}
   Suits (variable m name) v x = Unit {0}
   Suits (assign m name q) v x = Suits q v x
-  Suits (integer m at w) v x = recordKind v (x .place) ≡ 0
-  Suits (bytestring m at w) v x = recordKind v (x .place) ≡ 1
-  Suits (listed m qs) v x = (recordKind v (x .place) ≡ 2) × (elements v x ≡ many qs → SuitEach qs v (elementsAt v x))
+  Suits (integer m at w) v x = recordKind v (x .place) ≡ integerRecord
+  Suits (bytestring m at w) v x = recordKind v (x .place) ≡ bytesRecord
+  Suits (listed m qs) v x = (recordKind v (x .place) ≡ listRecord) × (elements v x ≡ many qs → SuitEach qs v (elementsAt v x))
   Suits (tailed m qs q) v x =
-      (recordKind v (x .place) ≡ 2)
+      (recordKind v (x .place) ≡ listRecord)
       × (x .dropped ≤ recordCount v (x .place))
       × (many qs ≤ elements v x → SuitEach qs v (elementsAt v x) × Suits q v (after (many qs) x))
   Suits (constructor m a qs) v x =
-      (recordKind v (x .place) ≡ 5)
+      (recordKind v (x .place) ≡ constructorRecord)
       × (recordA v (x .place) ≡ a → (recordCount v (x .place) ≡ many qs) × SuitEach qs v (recordFirst v (x .place)))
   Suits (opened m o qs) v x =
       (recordKind v (x .place) ≡ openKind o)
@@ -80,9 +81,9 @@ module _ (v : List ℕ) where
   unfolding partOf
   part-there kind r i k l = rw (both-make (eqb (recordKind v r) kind) (ltb i (recordCount v r)) (eq-eqb (recordKind v r) kind k) (lt-ltb i (recordCount v r) l))
 
-  tail-there : (r i : ℕ) → recordKind v r ≡ 2 → i ≤ recordCount v r → tailOf v r i ≡ some (record { place = r; dropped = i })
+  tail-there : (r i : ℕ) → recordKind v r ≡ listRecord → i ≤ recordCount v r → tailOf v r i ≡ some (record { place = r; dropped = i })
   unfolding tailOf
-  tail-there r i k l = rw (both-make (eqb (recordKind v r) 2) (leb i (recordCount v r)) (eq-eqb (recordKind v r) 2 k) (le-leb i (recordCount v r) l))
+  tail-there r i k l = rw (both-make (eqb (recordKind v r) listRecord) (leb i (recordCount v r)) (eq-eqb (recordKind v r) listRecord k) (le-leb i (recordCount v r) l))
 
   -- the steps from p lead to n parts: the first at child entry d, each next at the next
   abbrev pub Leads : Path → (ℕ → Step) → ℕ → ℕ → Type 0
@@ -91,22 +92,22 @@ module _ (v : List ℕ) where
   opening-leads : (p : Path) (x : Position) (t : ℕ) (o : Opens) → follow v p panelRoot ≡ some x → recordKind v (x .place) ≡ openKind o
       → Leads p (opening o t) (recordFirst v (x .place)) (recordCount v (x .place))
   unfolding opening openKind takeStep
-  opening-leads p x t pairs e k i l = one-step p (pair i t) x (partAt v (recordFirst v (x .place) + i)) e (part-there 3 (x .place) i k l)
-  opening-leads p x t tuples e k i l = one-step p (tuple i t) x (partAt v (recordFirst v (x .place) + i)) e (part-there 4 (x .place) i k l)
-  opening-leads p x t (fields a b) e k i l = one-step p (constr i b t) x (partAt v (recordFirst v (x .place) + i)) e (part-there 5 (x .place) i k l)
+  opening-leads p x t pairs e k i l = one-step p (pair i t) x (partAt v (recordFirst v (x .place) + i)) e (part-there pairRecord (x .place) i k l)
+  opening-leads p x t tuples e k i l = one-step p (tuple i t) x (partAt v (recordFirst v (x .place) + i)) e (part-there tupleRecord (x .place) i k l)
+  opening-leads p x t (fields a b) e k i l = one-step p (constr i b t) x (partAt v (recordFirst v (x .place) + i)) e (part-there constructorRecord (x .place) i k l)
 
-  constr-leads : (p : Path) (x : Position) (t : ℕ) → follow v p panelRoot ≡ some x → recordKind v (x .place) ≡ 5
+  constr-leads : (p : Path) (x : Position) (t : ℕ) → follow v p panelRoot ≡ some x → recordKind v (x .place) ≡ constructorRecord
       → Leads p (λ i. constr i false t) (recordFirst v (x .place)) (recordCount v (x .place))
   unfolding takeStep
-  constr-leads p x t e k i l = one-step p (constr i false t) x (partAt v (recordFirst v (x .place) + i)) e (part-there 5 (x .place) i k l)
+  constr-leads p x t e k i l = one-step p (constr i false t) x (partAt v (recordFirst v (x .place) + i)) e (part-there constructorRecord (x .place) i k l)
 
-  list-leads : (p : Path) (x : Position) (t : ℕ) → follow v p panelRoot ≡ some x → recordKind v (x .place) ≡ 2 → Leads p (λ i. list i t) (elementsAt v x) (elements v x)
+  list-leads : (p : Path) (x : Position) (t : ℕ) → follow v p panelRoot ≡ some x → recordKind v (x .place) ≡ listRecord → Leads p (λ i. list i t) (elementsAt v x) (elements v x)
   unfolding takeStep elementsAt elements
   list-leads p x t e k i l =
       one-step p (list i t) x (partAt v (recordFirst v (x .place) + x .dropped + i)) e
-      (part-there 2 (x .place) (x .dropped + i) k (omega arith) ∙ ap (λ j. some (partAt v j)) (sym (add-assoc (recordFirst v (x .place)) (x .dropped) i)))
+      (part-there listRecord (x .place) (x .dropped + i) k (omega arith) ∙ ap (λ j. some (partAt v j)) (sym (add-assoc (recordFirst v (x .place)) (x .dropped) i)))
 
-  tail-leads : (p : Path) (x : Position) (n t : ℕ) → follow v p panelRoot ≡ some x → recordKind v (x .place) ≡ 2 → x .dropped ≤ recordCount v (x .place) → n ≤ elements v x
+  tail-leads : (p : Path) (x : Position) (n t : ℕ) → follow v p panelRoot ≡ some x → recordKind v (x .place) ≡ listRecord → x .dropped ≤ recordCount v (x .place) → n ≤ elements v x
       → follow v (into p (listtail n t)) panelRoot ≡ some (after n x)
   unfolding takeStep elements after
   tail-leads p x n t e k d l = one-step p (listtail n t) x (after n x) e (tail-there (x .place) (x .dropped + n) k (omega arith))
@@ -219,18 +220,18 @@ module _ (v : List ℕ) where
   opened-read p (discard m) x e i s h = absurd (false≢true i)
   opened-read p (variable m name) x e i s h = absurd (false≢true i)
   opened-read p (assign m name q) x e i s h = absurd (false≢true i)
-  opened-read p (integer m at w) x e i s h = rw (eq-eqb (recordKind v (x .place)) 0 s, h) read-none
-  opened-read p (bytestring m at w) x e i s h = rw (eq-eqb (recordKind v (x .place)) 1 s, h) read-none
+  opened-read p (integer m at w) x e i s h = rw (eq-eqb (recordKind v (x .place)) integerRecord s, h) read-none
+  opened-read p (bytestring m at w) x e i s h = rw (eq-eqb (recordKind v (x .place)) bytesRecord s, h) read-none
   opened-read p (listed m qs) x e i s h =
       let n = eqb-true (elements v x) (many qs) h in
-      rw (eq-eqb (recordKind v (x .place)) 2 (s .0), h)
+      rw (eq-eqb (recordKind v (x .place)) listRecord (s .0), h)
       (from-first (λ j. Read (columnsOfEach p (λ i. list i (m .type)) 0 qs) (matchEach qs v j)) (elementsAt v x)
       (columnsOfEach-read p (λ i. list i (m .type)) (elementsAt v x) 0 (elements v x) qs (list-leads p x (m .type) e (s .0))
       (no-more (many qs) (elements v x) n) (to-first (λ j. SuitEach qs v j) (elementsAt v x) (s .1 n))))
   opened-read p (tailed m qs q) x e i s h =
       let n = leb-true (many qs) (elements v x) h in
       let (a, b) = s .2 n in
-      rw (eq-eqb (recordKind v (x .place)) 2 (s .0), h)
+      rw (eq-eqb (recordKind v (x .place)) listRecord (s .0), h)
       (read-append (columnsOfEach p (λ i. list i (m .type)) 0 qs) (columnsOf (into p (listtail (many qs) (m .type))) q)
       (matchEach qs v (elementsAt v x)) (matches q v (after (many qs) x))
       (from-first (λ j. Read (columnsOfEach p (λ i. list i (m .type)) 0 qs) (matchEach qs v j)) (elementsAt v x)
@@ -239,7 +240,7 @@ module _ (v : List ℕ) where
       (columns-read (into p (listtail (many qs) (m .type))) q (after (many qs) x) (tail-leads p x (many qs) (m .type) e (s .0) (s .1) n) b))
   opened-read p (constructor m a qs) x e i s h =
       let (n, f) = s .1 (eqb-true (recordA v (x .place)) a h) in
-      rw (eq-eqb (recordKind v (x .place)) 5 (s .0), h, eq-eqb (recordCount v (x .place)) (many qs) n)
+      rw (eq-eqb (recordKind v (x .place)) constructorRecord (s .0), h, eq-eqb (recordCount v (x .place)) (many qs) n)
       (from-first (λ j. Read (columnsOfEach p (λ i. constr i false (m .type)) 0 qs) (matchEach qs v j)) (recordFirst v (x .place))
       (columnsOfEach-read p (λ i. constr i false (m .type)) (recordFirst v (x .place)) 0 (recordCount v (x .place)) qs (constr-leads p x (m .type) e (s .0))
       (no-more (many qs) (recordCount v (x .place)) n) (to-first (λ j. SuitEach qs v j) (recordFirst v (x .place)) f)))
@@ -250,11 +251,11 @@ module _ (v : List ℕ) where
   head-fails (discard m) x i h = absurd (false≢true i)
   head-fails (variable m name) x i h = absurd (false≢true i)
   head-fails (assign m name q) x i h = absurd (false≢true i)
-  head-fails (integer m at w) x i h = both-second-false (eqb (recordKind v (x .place)) 0) (sameText (recordText v (x .place)) w) h
-  head-fails (bytestring m at w) x i h = both-second-false (eqb (recordKind v (x .place)) 1) (sameText (recordText v (x .place)) w) h
-  head-fails (listed m qs) x i h = rw h (both-second-false (eqb (recordKind v (x .place)) 2) false refl)
-  head-fails (tailed m qs q) x i h = rw h (both-second-false (eqb (recordKind v (x .place)) 2) false refl)
-  head-fails (constructor m a qs) x i h = rw h (both-second-false (eqb (recordKind v (x .place)) 5) false refl)
+  head-fails (integer m at w) x i h = both-second-false (eqb (recordKind v (x .place)) integerRecord) (sameText (recordText v (x .place)) w) h
+  head-fails (bytestring m at w) x i h = both-second-false (eqb (recordKind v (x .place)) bytesRecord) (sameText (recordText v (x .place)) w) h
+  head-fails (listed m qs) x i h = rw h (both-second-false (eqb (recordKind v (x .place)) listRecord) false refl)
+  head-fails (tailed m qs q) x i h = rw h (both-second-false (eqb (recordKind v (x .place)) listRecord) false refl)
+  head-fails (constructor m a qs) x i h = rw h (both-second-false (eqb (recordKind v (x .place)) constructorRecord) false refl)
   head-fails (opened m o qs) x i h = absurd (false≢true i)
 
   -- ---- what a matching pattern gives its names
@@ -302,7 +303,7 @@ module _ (v : List ℕ) where
     gives-bound p (integer m at w) x e s h = bound-none
     gives-bound p (bytestring m at w) x e s h = bound-none
     gives-bound p (listed m qs) x e s h =
-        let (k, f) = both-true (eqb (recordKind v (x .place)) 2) (both (eqb (elements v x) (many qs)) (matchEach qs v (elementsAt v x))) h in
+        let (k, f) = both-true (eqb (recordKind v (x .place)) listRecord) (both (eqb (elements v x) (many qs)) (matchEach qs v (elementsAt v x))) h in
         let (l, g) = both-true (eqb (elements v x) (many qs)) (matchEach qs v (elementsAt v x)) f in
         let n = eqb-true (elements v x) (many qs) l in
         from-first (λ j. bound v (allBindingsOfEach p (λ i. list i (m .type)) 0 qs) ≡ some (givesEach qs v j)) (elementsAt v x)
@@ -310,7 +311,7 @@ module _ (v : List ℕ) where
         (no-more (many qs) (elements v x) n) (to-first (λ j. SuitEach qs v j) (elementsAt v x) (s .1 n))
         (to-first (λ j. matchEach qs v j ≡ true) (elementsAt v x) g))
     gives-bound p (tailed m qs q) x e s h =
-        let (k, f) = both-true (eqb (recordKind v (x .place)) 2) (both (leb (many qs) (elements v x)) (both (matchEach qs v (elementsAt v x)) (matches q v (after (many qs) x)))) h in
+        let (k, f) = both-true (eqb (recordKind v (x .place)) listRecord) (both (leb (many qs) (elements v x)) (both (matchEach qs v (elementsAt v x)) (matches q v (after (many qs) x)))) h in
         let (l, g) = both-true (leb (many qs) (elements v x)) (both (matchEach qs v (elementsAt v x)) (matches q v (after (many qs) x))) f in
         let (c, d) = both-true (matchEach qs v (elementsAt v x)) (matches q v (after (many qs) x)) g in
         let n = leb-true (many qs) (elements v x) l in
@@ -323,7 +324,7 @@ module _ (v : List ℕ) where
         (to-first (λ j. matchEach qs v j ≡ true) (elementsAt v x) c)))
         (gives-bound (into p (listtail (many qs) (m .type))) q (after (many qs) x) (tail-leads p x (many qs) (m .type) e (s .0) (s .1) n) b d)
     gives-bound p (constructor m a qs) x e s h =
-        let (k, f) = both-true (eqb (recordKind v (x .place)) 5) (both (eqb (recordA v (x .place)) a) (both (eqb (recordCount v (x .place)) (many qs)) (matchEach qs v (recordFirst v (x .place))))) h in
+        let (k, f) = both-true (eqb (recordKind v (x .place)) constructorRecord) (both (eqb (recordA v (x .place)) a) (both (eqb (recordCount v (x .place)) (many qs)) (matchEach qs v (recordFirst v (x .place))))) h in
         let (l, g) = both-true (eqb (recordA v (x .place)) a) (both (eqb (recordCount v (x .place)) (many qs)) (matchEach qs v (recordFirst v (x .place)))) f in
         let (c, d) = both-true (eqb (recordCount v (x .place)) (many qs)) (matchEach qs v (recordFirst v (x .place))) g in
         let (n, b) = s .1 (eqb-true (recordA v (x .place)) a l) in

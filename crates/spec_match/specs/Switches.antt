@@ -13,6 +13,7 @@ use lib.Dec.{eqb, leb}
 use borrow.Author.Tests.{eqb-true, eq-eqb, leb-true, leb-false, le-leb, lt-leb}
 use Rattle.base_words.specs.Words.{either}
 use Rattle.base_words.specs.WordsLaws.{either-true, either-false, either-first-true, either-second-true}
+use Rattle.spec_rules.specs.Kinds.{listRecord}
 use Rattle.spec_rules.specs.Patterns.{Mark, Pat, Pats, discard, variable, assign, integer, bytestring, listed, tailed, constructor, opened, many}
 use Rattle.spec_rules.specs.Rows.{Path}
 use Rattle.spec_rules.specs.Splitting.{Test, Constr, Int, Bytes, ListOf, ListWithTail, sameTest, taillessLength, tailedLength, longest, Met, isMet, casesOf, covers}
@@ -173,7 +174,7 @@ own-met qs i =
 
 -- ---- the patterns that suit one part are of one kind
 module _ (v : List ℕ) (x : Position) where
-  isList-kind : (q : Pat) → Suited v x q → isList q ≡ eqb (recordKind v (x .place)) 2
+  isList-kind : (q : Pat) → Suited v x q → isList q ≡ eqb (recordKind v (x .place)) listRecord
   unfolding isList isTest Suits
   isList-kind (discard m) (i, s) = absurd (false≢true i)
   isList-kind (variable m name) (i, s) = absurd (false≢true i)
@@ -185,10 +186,10 @@ module _ (v : List ℕ) (x : Position) where
   isList-kind (constructor m a qs) (i, s) = rw (s .0)
   isList-kind (opened m o qs) (i, s) = absurd (false≢true i)
 
-  hasList-kind : (q : Pat) (qs : List Pat) → All (Suited v x) (q ∷ qs) → hasList (q ∷ qs) ≡ eqb (recordKind v (x .place)) 2
+  hasList-kind : (q : Pat) (qs : List Pat) → All (Suited v x) (q ∷ qs) → hasList (q ∷ qs) ≡ eqb (recordKind v (x .place)) listRecord
   unfolding hasList
   hasList-kind q [] g = either-none (isList q) ∙ isList-kind q (g .0)
-  hasList-kind q (z ∷ qs) g = ap₂ either (isList-kind q (g .0)) (hasList-kind z qs (g .1)) ∙ twice (eqb (recordKind v (x .place)) 2)
+  hasList-kind q (z ∷ qs) g = ap₂ either (isList-kind q (g .0)) (hasList-kind z qs (g .1)) ∙ twice (eqb (recordKind v (x .place)) listRecord)
     where
       twice : (b : Bool) → either b b ≡ b
       twice true = refl
@@ -279,7 +280,7 @@ module _ (v : List ℕ) (x : Position) where
       go (inr c) ih = ih c
 
   -- a list has a length
-  list-length : recordKind v (x .place) ≡ 2 → lengthAt v x ≡ some (elements v x)
+  list-length : recordKind v (x .place) ≡ listRecord → lengthAt v x ≡ some (elements v x)
   unfolding lengthAt elements
   list-length e = rw e
 
@@ -350,7 +351,7 @@ module _ (v : List ℕ) (p : Path) (x : Position) (found : follow v p panelRoot 
   owns = own-met qs (all-map (Suited v x) (λ q. isTest q ≡ true) (λ q s. s .0) qs suited)
 
   -- of a part that is no list
-  module _ (not-list : eqb (recordKind v (x .place)) 2 ≡ false) where
+  module _ (not-list : eqb (recordKind v (x .place)) listRecord ≡ false) where
     plain : All (Plain v x) qs
     plain = all-map (Suited v x) (Plain v x) (λ q s. (s, isList-kind v x q s ∙ not-list)) qs suited
 
@@ -385,7 +386,7 @@ module _ (v : List ℕ) (p : Path) (x : Position) (found : follow v p panelRoot 
             (to-default (none-covers qs (sym (casesOf-covers t₀ qs (shown-in-range v x (longest taillessLength qs) (longest tailedLength qs) q₀)) ∙ e) passing))
 
   -- of a list
-  module _ (is-list : eqb (recordKind v (x .place)) 2 ≡ true) where
+  module _ (is-list : eqb (recordKind v (x .place)) listRecord ≡ true) where
     abbrev n : ℕ
     n = elements v x
 
@@ -424,7 +425,7 @@ module _ (v : List ℕ) (p : Path) (x : Position) (found : follow v p panelRoot 
 
     at-listswitch : Alike (walk (listswitch p (casesOn f exact) (casesOn f tails) d) v) answer
     at-listswitch =
-        rw (walk-list v p (casesOn f exact) (casesOn f tails) d x n found (list-length v x (eqb-true (recordKind v (x .place)) 2 is-list)))
+        rw (walk-list v p (casesOn f exact) (casesOn f tails) d x n found (list-length v x (eqb-true (recordKind v (x .place)) listRecord is-list)))
         (go (isMet (ListOf n) cases) refl)
       where
         otherwise : Unit {0} → Walked
@@ -439,8 +440,8 @@ module _ (v : List ℕ) (p : Path) (x : Position) (found : follow v p panelRoot 
   -- LEMMA: a switch goes to the case that holds, or to the default where no pattern of the column passes
   pub at-node : Alike (walk (nodeOn p qs f d) v) answer
   unfolding nodeOn
-  at-node = go (eqb (recordKind v (x .place)) 2) refl
+  at-node = go (eqb (recordKind v (x .place)) listRecord) refl
     where
-      go : (b : Bool) → eqb (recordKind v (x .place)) 2 ≡ b → Alike (walk (nodeOn p qs f d) v) answer
+      go : (b : Bool) → eqb (recordKind v (x .place)) listRecord ≡ b → Alike (walk (nodeOn p qs f d) v) answer
       go true e = rw (hasList-kind v x q₀ rest suited, e, nodeOn) (at-listswitch e)
       go false e = rw (hasList-kind v x q₀ rest suited, e, nodeOn) (at-switch e)

@@ -11,6 +11,7 @@ use borrow.Author.Tests.{eq-eqb, eqb-true, leb-true}
 use Rattle.base_words.specs.Words.{both}
 use Rattle.base_words.specs.WordsLaws.{both-true}
 use Rattle.spec_rules.specs.Limits.{patternsMost, recordsMost}
+use Rattle.spec_rules.specs.Kinds.{intType, bytesType, listType, pairType, tupleType, dataType}
 use Rattle.spec_rules.specs.SheetFile.{subject, clauses, typeKind, typeFirst, typeCount, constructorFirst, constructorCount, entry, patternKind, patternA, patternFirst, patternCount, child, root}
 use Rattle.spec_rules.specs.Patterns.{PatternKind, Discard, Variable, Assign, Integer, ByteString, ListOfAll, ListWithRest, Constructor, Pair, Tuple, Unknown, patternKindOf, Pat, Pats, many, oneConstructor, decorated, constructorOf, along, ofConstructor, ofKind, patternTo, pattern, clausePattern, clausePatterns, takesArguments, opensInto, fits, fitAll}
 use Rattle.spec_rules.specs.PanelFile.{recordKind, recordA, recordFirst, recordCount, part, RecordKind, Integer-record, Bytes-record, List-record, Pair-record, Tuple-record, Constructor-record, Unknown-record, recordKindOf}
@@ -50,11 +51,11 @@ module _ (s v : List ℕ) where
   unfolding recordFits takesArguments
   number-of-type f r t Integer-record h = (eqb-true _ _ h, omega arith)
   number-of-type f r t Bytes-record h = (eqb-true _ _ h, omega arith)
-  number-of-type f r t List-record h = (eqb-true _ _ (both-true (eqb (typeKind s t) 2) _ h .0), omega arith)
-  number-of-type f r t Pair-record h = (eqb-true _ _ (both-true (eqb (typeKind s t) 3) _ h .0), omega arith)
-  number-of-type f r t Tuple-record h = (eqb-true _ _ (both-true (eqb (typeKind s t) 4) _ h .0), omega arith)
+  number-of-type f r t List-record h = (eqb-true _ _ (both-true (eqb (typeKind s t) listType) _ h .0), omega arith)
+  number-of-type f r t Pair-record h = (eqb-true _ _ (both-true (eqb (typeKind s t) pairType) _ h .0), omega arith)
+  number-of-type f r t Tuple-record h = (eqb-true _ _ (both-true (eqb (typeKind s t) tupleType) _ h .0), omega arith)
   number-of-type f r t Constructor-record h = (
-    eqb-true _ _ (both-true (eqb (typeKind s t) 5) _ (both-true (takesArguments s t (recordA v r) (recordCount v r)) _ h .0) .0),
+    eqb-true _ _ (both-true (eqb (typeKind s t) dataType) _ (both-true (takesArguments s t (recordA v r) (recordCount v r)) _ h .0) .0),
     omega arith,
   )
   number-of-type f r t Unknown-record h = absurd (false≢true h)
@@ -68,25 +69,25 @@ module _ (s v : List ℕ) where
     as-kind : (kind : RecordKind) → typeKind s t ≡ recordNumber kind → recordFits f s v r t kind ≡ true
     as-kind kind e = rw (byte-record (recordKind v r) kind (kind-of-type ∙ e)) at h
 
-    list-parts : typeKind s t ≡ 2 → PartsHave f (recordFirst v r) (recordCount v r) (typeFirst s t) 0
+    list-parts : typeKind s t ≡ listType → PartsHave f (recordFirst v r) (recordCount v r) (typeFirst s t) 0
     list-parts e =
-        parts-have f (recordFirst v r) (recordCount v r) (typeFirst s t) 0 (unfold recordFits in (both-true (eqb (typeKind s t) 2) (partsFit f s v (recordFirst v r) (recordCount v r) (typeFirst s t) 0) (as-kind List-record e) .1))
+        parts-have f (recordFirst v r) (recordCount v r) (typeFirst s t) 0 (unfold recordFits in (both-true (eqb (typeKind s t) listType) (partsFit f s v (recordFirst v r) (recordCount v r) (typeFirst s t) 0) (as-kind List-record e) .1))
 
-    pair-parts : typeKind s t ≡ 3 → (typeCount s t ≡ recordCount v r) × PartsHave f (recordFirst v r) (recordCount v r) (typeFirst s t) 1
+    pair-parts : typeKind s t ≡ pairType → (typeCount s t ≡ recordCount v r) × PartsHave f (recordFirst v r) (recordCount v r) (typeFirst s t) 1
     unfolding recordFits
     pair-parts e =
-        let a = both-true (eqb (typeKind s t) 3) (both (eqb (typeCount s t) (recordCount v r)) (partsFit f s v (recordFirst v r) (recordCount v r) (typeFirst s t) 1)) (as-kind Pair-record e) in
+        let a = both-true (eqb (typeKind s t) pairType) (both (eqb (typeCount s t) (recordCount v r)) (partsFit f s v (recordFirst v r) (recordCount v r) (typeFirst s t) 1)) (as-kind Pair-record e) in
         let b = both-true (eqb (typeCount s t) (recordCount v r)) (partsFit f s v (recordFirst v r) (recordCount v r) (typeFirst s t) 1) (a .1) in
         (eqb-true _ _ (b .0), parts-have f (recordFirst v r) (recordCount v r) (typeFirst s t) 1 (b .1))
 
-    tuple-parts : typeKind s t ≡ 4 → (typeCount s t ≡ recordCount v r) × PartsHave f (recordFirst v r) (recordCount v r) (typeFirst s t) 1
+    tuple-parts : typeKind s t ≡ tupleType → (typeCount s t ≡ recordCount v r) × PartsHave f (recordFirst v r) (recordCount v r) (typeFirst s t) 1
     unfolding recordFits
     tuple-parts e =
-        let a = both-true (eqb (typeKind s t) 4) (both (eqb (typeCount s t) (recordCount v r)) (partsFit f s v (recordFirst v r) (recordCount v r) (typeFirst s t) 1)) (as-kind Tuple-record e) in
+        let a = both-true (eqb (typeKind s t) tupleType) (both (eqb (typeCount s t) (recordCount v r)) (partsFit f s v (recordFirst v r) (recordCount v r) (typeFirst s t) 1)) (as-kind Tuple-record e) in
         let b = both-true (eqb (typeCount s t) (recordCount v r)) (partsFit f s v (recordFirst v r) (recordCount v r) (typeFirst s t) 1) (a .1) in
         (eqb-true _ _ (b .0), parts-have f (recordFirst v r) (recordCount v r) (typeFirst s t) 1 (b .1))
 
-    field-parts : typeKind s t ≡ 5
+    field-parts : typeKind s t ≡ dataType
         → (takesArguments s t (recordA v r) (recordCount v r) ≡ true)
         × PartsHave f (recordFirst v r) (recordCount v r) (constructorFirst s (constructorOf s t (recordA v r))) 1
     unfolding recordFits
@@ -97,16 +98,16 @@ module _ (s v : List ℕ) where
         (a .0, parts-have f (recordFirst v r) (recordCount v r) (constructorFirst s (constructorOf s t (recordA v r))) 1 (a .1))
 
   -- ---- constructor a of type t with n fields
-  pub takes : (t a n : ℕ) → takesArguments s t a n ≡ true → (typeKind s t ≡ 5) × (a < typeCount s t) × (constructorCount s (constructorOf s t a) ≡ n)
+  pub takes : (t a n : ℕ) → takesArguments s t a n ≡ true → (typeKind s t ≡ dataType) × (a < typeCount s t) × (constructorCount s (constructorOf s t a) ≡ n)
   unfolding takesArguments
   takes t a n h =
-      let x = both-true (eqb (typeKind s t) 5) (both (leb (a + 1) (typeCount s t)) (eqb (constructorCount s (constructorOf s t a)) n)) h in
+      let x = both-true (eqb (typeKind s t) dataType) (both (leb (a + 1) (typeCount s t)) (eqb (constructorCount s (constructorOf s t a)) n)) h in
       let y = both-true (leb (a + 1) (typeCount s t)) (eqb (constructorCount s (constructorOf s t a)) n) (x .1) in
       (eqb-true _ _ (x .0), omega (arith, leb-true (a + 1) (typeCount s t) (y .0)), eqb-true _ _ (y .1))
 
   pub one-of-one : (t a b : ℕ) → oneConstructor s t ≡ true → a < typeCount s t → b < typeCount s t → b ≡ a
   unfolding oneConstructor
-  one-of-one t a b h l k = omega (arith, eqb-true (typeCount s t) 1 (both-true (eqb (typeKind s t) 5) (eqb (typeCount s t) 1) h .1))
+  one-of-one t a b h l k = omega (arith, eqb-true (typeCount s t) 1 (both-true (eqb (typeKind s t) dataType) (eqb (typeCount s t) 1) h .1))
 
   -- ---- patterns along a child list suit the parts along another, of the same types
   along-suits : (f : ℕ → ℕ → Pat) (g : ℕ → ℕ → Bool) → ((p t r : ℕ) → fits (f p t) s ≡ true → g r t ≡ true → Suits (f p t) v (record { place = r; dropped = 0 }))
@@ -146,7 +147,7 @@ module _ (s v : List ℕ) where
       kind-is n e = kind-of-type g r t typed ∙ e
 
       -- the elements of a list from the dropped ones on, n of them
-      elements-suit : (n : ℕ) → typeKind s t ≡ 2 → fitAll (along f s (patternFirst s p) n (typeFirst s t) 0) s ≡ true → n ≤ elements v x
+      elements-suit : (n : ℕ) → typeKind s t ≡ listType → fitAll (along f s (patternFirst s p) n (typeFirst s t) 0) s ≡ true → n ≤ elements v x
           → SuitEach (along f s (patternFirst s p) n (typeFirst s t) 0) v (elementsAt v x)
       unfolding elements elementsAt
       elements-suit n e h l = along-suits f g each-suits (patternFirst s p) n (typeFirst s t) 0 (recordFirst v r + x .dropped) h from-dropped
@@ -160,17 +161,17 @@ module _ (s v : List ℕ) where
       list-suits : fits (ofKind f s p t ListOfAll) s ≡ true → Suits (ofKind f s p t ListOfAll) v x
       unfolding ofKind fits Suits
       list-suits h =
-          let (a, b) = both-true (eqb (typeKind s t) 2) (fitAll (along f s (patternFirst s p) (patternCount s p) (typeFirst s t) 0) s) h in
-          let e = eqb-true (typeKind s t) 2 a in
-          (kind-is 2 e, λ q. elements-suit (patternCount s p) e b (omega (arith, q, many-along f s (patternFirst s p) (patternCount s p) (typeFirst s t) 0)))
+          let (a, b) = both-true (eqb (typeKind s t) listType) (fitAll (along f s (patternFirst s p) (patternCount s p) (typeFirst s t) 0) s) h in
+          let e = eqb-true (typeKind s t) listType a in
+          (kind-is listType e, λ q. elements-suit (patternCount s p) e b (omega (arith, q, many-along f s (patternFirst s p) (patternCount s p) (typeFirst s t) 0)))
 
       tail-suits : hasTypeTo (suc k) s v r t ≡ true → fits (ofKind f s p t ListWithRest) s ≡ true → Suits (ofKind f s p t ListWithRest) v x
       unfolding ofKind fits Suits
       tail-suits whole h =
-          let (a, b) = both-true (eqb (typeKind s t) 2) (both (fitAll (along f s (patternFirst s p) (patternCount s p - 1) (typeFirst s t) 0) s) (fits (f last t) s)) h in
+          let (a, b) = both-true (eqb (typeKind s t) listType) (both (fitAll (along f s (patternFirst s p) (patternCount s p - 1) (typeFirst s t) 0) s) (fits (f last t) s)) h in
           let (c, d) = both-true (fitAll (along f s (patternFirst s p) (patternCount s p - 1) (typeFirst s t) 0) s) (fits (f last t) s) b in
-          let e = eqb-true (typeKind s t) 2 a in (
-            kind-is 2 e,
+          let e = eqb-true (typeKind s t) listType a in (
+            kind-is listType e,
             inside,
             λ q. (
               elements-suit (patternCount s p - 1) e c (omega (arith, q, many-along f s (patternFirst s p) (patternCount s p - 1) (typeFirst s t) 0)),
@@ -218,10 +219,10 @@ module _ (s v : List ℕ) where
           go true e w =
               let (a, b) = both-true (takesArguments s t (patternA s p) (many fieldPatterns)) (fitAll fieldPatterns s) w in
               let (c, d) = fields-suit a b (the-one e a) in
-              (kind-is 5 (takes t (patternA s p) (many fieldPatterns) a .0), eq-eqb _ _ (the-one e a), c, d)
+              (kind-is dataType (takes t (patternA s p) (many fieldPatterns) a .0), eq-eqb _ _ (the-one e a), c, d)
           go false e w =
               let (a, b) = both-true (takesArguments s t (patternA s p) (many fieldPatterns)) (fitAll fieldPatterns s) w in
-              (kind-is 5 (takes t (patternA s p) (many fieldPatterns) a .0), fields-suit a b)
+              (kind-is dataType (takes t (patternA s p) (many fieldPatterns) a .0), fields-suit a b)
 
       -- the parts of a pair or a tuple
       abbrev partPatterns : Pats
@@ -238,28 +239,28 @@ module _ (s v : List ℕ) where
       pair-suits : fits (ofKind f s p t Pair) s ≡ true → Suits (ofKind f s p t Pair) v x
       unfolding ofKind fits Suits openKind hasNumber opensInto
       pair-suits h =
-          let (a, b) = both-true (both (eqb (typeKind s t) 3) (eqb (typeCount s t) (many partPatterns))) (fitAll partPatterns s) h in
-          let (c, d) = both-true (eqb (typeKind s t) 3) (eqb (typeCount s t) (many partPatterns)) a in
-          let e = eqb-true (typeKind s t) 3 c in
+          let (a, b) = both-true (both (eqb (typeKind s t) pairType) (eqb (typeCount s t) (many partPatterns))) (fitAll partPatterns s) h in
+          let (c, d) = both-true (eqb (typeKind s t) pairType) (eqb (typeCount s t) (many partPatterns)) a in
+          let e = eqb-true (typeKind s t) pairType c in
           let (m, n) = parts-suit (eqb-true _ _ d) b (pair-parts g r t typed e) in
-          (kind-is 3 e, refl, m, n)
+          (kind-is pairType e, refl, m, n)
 
       tuple-suits : fits (ofKind f s p t Tuple) s ≡ true → Suits (ofKind f s p t Tuple) v x
       unfolding ofKind fits Suits openKind hasNumber opensInto
       tuple-suits h =
-          let (a, b) = both-true (both (eqb (typeKind s t) 4) (eqb (typeCount s t) (many partPatterns))) (fitAll partPatterns s) h in
-          let (c, d) = both-true (eqb (typeKind s t) 4) (eqb (typeCount s t) (many partPatterns)) a in
-          let e = eqb-true (typeKind s t) 4 c in
+          let (a, b) = both-true (both (eqb (typeKind s t) tupleType) (eqb (typeCount s t) (many partPatterns))) (fitAll partPatterns s) h in
+          let (c, d) = both-true (eqb (typeKind s t) tupleType) (eqb (typeCount s t) (many partPatterns)) a in
+          let e = eqb-true (typeKind s t) tupleType c in
           let (m, n) = parts-suit (eqb-true _ _ d) b (tuple-parts g r t typed e) in
-          (kind-is 4 e, refl, m, n)
+          (kind-is tupleType e, refl, m, n)
 
       kind-suits : hasTypeTo (suc k) s v r t ≡ true → (kind : PatternKind) → fits (ofKind f s p t kind) s ≡ true → Suits (ofKind f s p t kind) v x
       unfolding ofKind fits Suits
       kind-suits whole Discard h = tt
       kind-suits whole Variable h = tt
       kind-suits whole Assign h = below (suc k) (child s (patternFirst s p)) t x h whole inside
-      kind-suits whole Integer h = kind-is 0 (eqb-true (typeKind s t) 0 h)
-      kind-suits whole ByteString h = kind-is 1 (eqb-true (typeKind s t) 1 h)
+      kind-suits whole Integer h = kind-is intType (eqb-true (typeKind s t) intType h)
+      kind-suits whole ByteString h = kind-is bytesType (eqb-true (typeKind s t) bytesType h)
       kind-suits whole ListOfAll h = list-suits h
       kind-suits whole ListWithRest h = tail-suits whole h
       kind-suits whole Constructor h = constructor-suits h

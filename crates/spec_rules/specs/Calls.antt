@@ -8,10 +8,12 @@ use lib.ListN.{length}
 use lib.Dec.{eqb, leb, ltb}
 use Rattle.base_words.specs.Words.{both, textAt, zeros}
 use Rattle.spec_rules.specs.Limits.{nodesMost, bindingsMost, treeRoom, workRoom, boundRoom}
+use Rattle.spec_rules.specs.Kinds.{bytesRecord}
+use Rattle.spec_rules.specs.RefusalNumbers.{roomRefusal, nodesRefusal, bindingsRefusal, idleRefusal, panelMisfitRefusal, treeRefusal, stuckRefusal, noTextRefusal}
 use Rattle.spec_rules.specs.Searching.{lowest}
 use Rattle.spec_rules.specs.SheetFile.{clauses, pool}
 use Rattle.spec_rules.specs.Patterns.{Pat, clausePatterns}
-use Rattle.spec_rules.specs.SheetRefusals.{Verdict, accepted, refused, require, requireNone, verdict}
+use Rattle.spec_rules.specs.SheetRefusals.{Verdict, accepted, refused, require, requireNone, andThen, verdict}
 use Rattle.spec_rules.specs.Building.{Tree}
 use Rattle.spec_rules.specs.Hoisting.{wholeTree, nodesIn, bindingsIn, hasLeaf}
 use Rattle.spec_rules.specs.TreeFile.{treeFile}
@@ -53,14 +55,14 @@ lowestIdle n a = lowest (λ c. not (hasLeaf c a)) 0 n
 unfoldable pub treeVerdict : ℕ → Tree → Verdict
 unfolding nodesIn bindingsIn lowestIdle
 treeVerdict n a =
-    require (leb (nodesIn a) nodesMost) 12
-    (require (leb (length (bindingsIn a)) bindingsMost) 13
-    (requireNone (lowestIdle n a) 14
+    require (leb (nodesIn a) nodesMost) nodesRefusal
+    (require (leb (length (bindingsIn a)) bindingsMost) bindingsRefusal
+    (requireNone (lowestIdle n a) idleRefusal
     accepted))
 
 -- 1: "written tree or work buffer under 65,536 bytes"
 unfoldable pub buildRoom : ℕ → ℕ → Verdict
-buildRoom treeLength workLength = require (both (leb treeRoom treeLength) (leb workRoom workLength)) 1 accepted
+buildRoom treeLength workLength = require (both (leb treeRoom treeLength) (leb workRoom workLength)) roomRefusal accepted
 
 pub record Built : Type 0 where
   pub bytes : ℕ
@@ -98,22 +100,18 @@ buildCall s treeLength workLength = record {
 }
 
 -- ---- the fit check: "a sheet (2 to 11) and a panel, and alone gives 25"
-abbrev pub andThen : Verdict → Verdict → Verdict
-andThen accepted w = w
-andThen (refused number place) w = refused number place
-
 unfoldable pub fitCall : List ℕ → List ℕ → Verdict
 unfolding verdict panelVerdict panelFits
-fitCall s v = andThen (verdict s) (andThen (panelVerdict v) (require (panelFits s v) 25 accepted))
+fitCall s v = andThen (verdict s) (andThen (panelVerdict v) (require (panelFits s v) panelMisfitRefusal accepted))
 
 -- ---- the walk: "a tree, any panel and a binding buffer"
 -- 1: "binding buffer under 576 u16"; 31; 21 to 24; 32
 unfoldable pub walkRoom : ℕ → Verdict
-walkRoom boundLength = require (leb boundRoom boundLength) 1 accepted
+walkRoom boundLength = require (leb boundRoom boundLength) roomRefusal accepted
 
 unfoldable pub treeFileVerdict : List ℕ → Verdict
 unfolding treeFits
-treeFileVerdict t = require (treeFits t) 31 accepted
+treeFileVerdict t = require (treeFits t) treeRefusal accepted
 
 pub data WalkEnd : Type 0 where
   leafOf : ℕ → ℕ → WalkEnd
@@ -123,7 +121,7 @@ pub data WalkEnd : Type 0 where
 unfoldable pub walkEnd : Walked → Answer WalkEnd
 walkEnd (reached c xs) = answers (leafOf c (length xs))
 walkEnd noLeaf = answers withoutLeaf
-walkEnd stuck = refuses 32 0
+walkEnd stuck = refuses stuckRefusal 0
 
 unfoldable pub walkAnswer : List ℕ → List ℕ → ℕ → Answer WalkEnd
 unfolding walkRoom treeFileVerdict panelVerdict treeOf walk walkEnd
@@ -163,13 +161,13 @@ pub record Span : Type 0 where
 
 unfoldable pub hasText : List ℕ → ℕ → ℕ → Bool
 unfolding records recordKind
-hasText v place dropped = both (ltb place (records v)) (both (leb (recordKind v place) 1) (eqb dropped 0))
+hasText v place dropped = both (ltb place (records v)) (both (leb (recordKind v place) bytesRecord) (eqb dropped 0))
 
 unfoldable pub textCall : List ℕ → ℕ → ℕ → Answer Span
 unfolding panelVerdict hasText panelPoolAt recordFirst recordCount
 textCall v place dropped =
     unless (panelVerdict v)
-    (unless (require (hasText v place dropped) 33 accepted)
+    (unless (require (hasText v place dropped) noTextRefusal accepted)
     (answers (record { start = panelPoolAt v + recordFirst v place; count = recordCount v place })))
 
 unfoldable pub partOfSpan : List ℕ → Answer Span → List ℕ

@@ -6,6 +6,7 @@ use mathlib.Core.List.{List}
 use lib.Dec.{eqb}
 use Rattle.base_words.specs.Words.{both}
 use Rattle.spec_rules.specs.Limits.{recordsMost}
+use Rattle.spec_rules.specs.Kinds.{intType, bytesType, listType, pairType, tupleType}
 use Rattle.spec_rules.specs.SheetFile.{subject, typeKind, typeFirst, typeCount, constructorFirst, entry}
 use Rattle.spec_rules.specs.Patterns.{constructorOf, takesArguments}
 use Rattle.spec_rules.specs.PanelFile.{recordKind, recordA, recordFirst, recordCount, part, RecordKind, Integer-record, Bytes-record, List-record, Pair-record, Tuple-record, Constructor-record, Unknown-record, recordKindOf}
@@ -18,13 +19,13 @@ partsFit f s v j (suc n) e step = both (f (part v j) (entry s e)) (partsFit f s 
 
 unfoldable pub recordFits : (ℕ → ℕ → Bool) → List ℕ → List ℕ → ℕ → ℕ → RecordKind → Bool
 unfolding typeKind typeFirst typeCount constructorFirst constructorOf takesArguments recordA recordFirst recordCount partsFit
-recordFits f s v r t Integer-record = eqb (typeKind s t) 0
-recordFits f s v r t Bytes-record = eqb (typeKind s t) 1
-recordFits f s v r t List-record = both (eqb (typeKind s t) 2) (partsFit f s v (recordFirst v r) (recordCount v r) (typeFirst s t) 0)
+recordFits f s v r t Integer-record = eqb (typeKind s t) intType
+recordFits f s v r t Bytes-record = eqb (typeKind s t) bytesType
+recordFits f s v r t List-record = both (eqb (typeKind s t) listType) (partsFit f s v (recordFirst v r) (recordCount v r) (typeFirst s t) 0)
 recordFits f s v r t Pair-record =
-    both (eqb (typeKind s t) 3) (both (eqb (typeCount s t) (recordCount v r)) (partsFit f s v (recordFirst v r) (recordCount v r) (typeFirst s t) 1))
+    both (eqb (typeKind s t) pairType) (both (eqb (typeCount s t) (recordCount v r)) (partsFit f s v (recordFirst v r) (recordCount v r) (typeFirst s t) 1))
 recordFits f s v r t Tuple-record =
-    both (eqb (typeKind s t) 4) (both (eqb (typeCount s t) (recordCount v r)) (partsFit f s v (recordFirst v r) (recordCount v r) (typeFirst s t) 1))
+    both (eqb (typeKind s t) tupleType) (both (eqb (typeCount s t) (recordCount v r)) (partsFit f s v (recordFirst v r) (recordCount v r) (typeFirst s t) 1))
 recordFits f s v r t Constructor-record =
     both (takesArguments s t (recordA v r) (recordCount v r))
     (partsFit f s v (recordFirst v r) (recordCount v r) (constructorFirst s (constructorOf s t (recordA v r))) 1)

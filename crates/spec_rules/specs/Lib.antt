@@ -1,10 +1,14 @@
 pub mod Limits
+pub mod Kinds
+pub mod RefusalNumbers
+pub mod Sections
 pub mod Searching
 pub mod SearchingLaws
 pub mod SheetFile
 pub mod Patterns
 pub mod Texts
 pub mod SheetRefusals
+pub mod SheetRefusalsLaws
 pub mod Rows
 pub mod Columns
 pub mod Splitting

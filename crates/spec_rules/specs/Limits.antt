@@ -1,6 +1,10 @@
 -- Document 01's numbers, each in this one place: sizes of records, limits and counts.
 -- Every other file of the project names them from here.
-use Prim.Native.Nat.{ℕ}
+use Prim.Native.Nat.{ℕ, _+_, _*_}
+
+-- "Numbers are u16": a number of a file takes two bytes.
+abbrev pub wordSize : ℕ
+wordSize = 2
 
 -- The sheet file: records and trailer, in bytes.
 abbrev pub typeSize : ℕ
@@ -21,8 +25,13 @@ childSize = 2
 abbrev pub clauseSize : ℕ
 clauseSize = 2
 
+-- types, constructors, type list, patterns, child list, clauses, pool
+abbrev pub sheetStarts : ℕ
+sheetStarts = 7
+
+-- the starts, the subject, the length: 18
 abbrev pub sheetTrailer : ℕ
-sheetTrailer = 18
+sheetTrailer = wordSize * (sheetStarts + 2)
 
 -- Refusal 2: the longest sheet.
 abbrev pub sheetMost : ℕ
@@ -87,8 +96,13 @@ pathSize = 4
 abbrev pub stepSize : ℕ
 stepSize = 6
 
+-- nodes, cases, bindings, paths, steps, pool
+abbrev pub treeStarts : ℕ
+treeStarts = 6
+
+-- the starts, the length: 14
 abbrev pub treeTrailer : ℕ
-treeTrailer = 14
+treeTrailer = wordSize * (treeStarts + 1)
 
 abbrev pub nodeBindingsMost : ℕ
 nodeBindingsMost = 192
@@ -100,8 +114,13 @@ recordSize = 8
 abbrev pub partSize : ℕ
 partSize = 2
 
+-- records, children, pool
+abbrev pub panelStarts : ℕ
+panelStarts = 3
+
+-- the starts, the length: 8
 abbrev pub panelTrailer : ℕ
-panelTrailer = 8
+panelTrailer = wordSize * (panelStarts + 1)
 
 abbrev pub panelMost : ℕ
 panelMost = 16384

@@ -45,24 +45,24 @@ abbrev pub refusedWord : List ℕ
 refusedWord = 114 ∷ 101 ∷ 102 ∷ 117 ∷ 115 ∷ 101 ∷ 100 ∷ []
 
 -- pair_
-abbrev pub pairStep : List ℕ
-pairStep = 112 ∷ 97 ∷ 105 ∷ 114 ∷ 95 ∷ []
+abbrev pub pairStepWord : List ℕ
+pairStepWord = 112 ∷ 97 ∷ 105 ∷ 114 ∷ 95 ∷ []
 
 -- tuple_
-abbrev pub tupleStep : List ℕ
-tupleStep = 116 ∷ 117 ∷ 112 ∷ 108 ∷ 101 ∷ 95 ∷ []
+abbrev pub tupleStepWord : List ℕ
+tupleStepWord = 116 ∷ 117 ∷ 112 ∷ 108 ∷ 101 ∷ 95 ∷ []
 
 -- constr_
-abbrev pub constrStep : List ℕ
-constrStep = 99 ∷ 111 ∷ 110 ∷ 115 ∷ 116 ∷ 114 ∷ 95 ∷ []
+abbrev pub constrStepWord : List ℕ
+constrStepWord = 99 ∷ 111 ∷ 110 ∷ 115 ∷ 116 ∷ 114 ∷ 95 ∷ []
 
 -- list_
-abbrev pub listStep : List ℕ
-listStep = 108 ∷ 105 ∷ 115 ∷ 116 ∷ 95 ∷ []
+abbrev pub listStepWord : List ℕ
+listStepWord = 108 ∷ 105 ∷ 115 ∷ 116 ∷ 95 ∷ []
 
 -- listtail_
-abbrev pub listtailStep : List ℕ
-listtailStep = 108 ∷ 105 ∷ 115 ∷ 116 ∷ 116 ∷ 97 ∷ 105 ∷ 108 ∷ 95 ∷ []
+abbrev pub listtailStepWord : List ℕ
+listtailStepWord = 108 ∷ 105 ∷ 115 ∷ 116 ∷ 116 ∷ 97 ∷ 105 ∷ 108 ∷ 95 ∷ []
 
 -- _true
 abbrev pub trueFlag : List ℕ
@@ -119,11 +119,11 @@ flagText false = falseFlag
 
 unfoldable pub stepText : Step → List ℕ
 unfolding decimal flagText
-stepText (pair i t) = pairStep ++ decimal i
-stepText (tuple i t) = tupleStep ++ decimal i
-stepText (constr i b t) = constrStep ++ (decimal i ++ flagText b)
-stepText (list i t) = listStep ++ decimal i
-stepText (listtail i t) = listtailStep ++ decimal i
+stepText (pair i t) = pairStepWord ++ decimal i
+stepText (tuple i t) = tupleStepWord ++ decimal i
+stepText (constr i b t) = constrStepWord ++ (decimal i ++ flagText b)
+stepText (list i t) = listStepWord ++ decimal i
+stepText (listtail i t) = listtailStepWord ++ decimal i
 
 -- the steps after the first, each behind its `.`
 unfoldable pub moreSteps : Path → List ℕ

@@ -5,6 +5,7 @@ use mathlib.Core.Bool.{Bool, true, false}
 use mathlib.Core.List.{List, [], _∷_, _++_}
 use lib.Dec.{eqb, leb}
 use Rattle.base_words.specs.Words.{both, sameText}
+use Rattle.spec_rules.specs.Kinds.{integerRecord, bytesRecord, listRecord, pairRecord, tupleRecord, constructorRecord}
 use Rattle.spec_rules.specs.Patterns.{Opens, pairs, tuples, fields, Pat, Pats, discard, variable, assign, integer, bytestring, listed, tailed, constructor, opened, pnil, pcons, many}
 use Rattle.spec_rules.specs.PanelFile.{recordKind, recordA, recordFirst, recordCount, part, recordText}
 use Rattle.spec_rules.specs.Positions.{Position, Bound, panelRoot, Walked, reached, noLeaf}
@@ -26,9 +27,9 @@ unfoldable pub after : ℕ → Position → Position
 after n x = record { place = x .place; dropped = x .dropped + n }
 
 unfoldable pub openKind : Opens → ℕ
-openKind pairs = 3
-openKind tuples = 4
-openKind (fields a decorated) = 5
+openKind pairs = pairRecord
+openKind tuples = tupleRecord
+openKind (fields a decorated) = constructorRecord
 
 -- a constructor's number is asked also where its type has no other
 unfoldable pub hasNumber : Opens → ℕ → Bool
@@ -44,16 +45,16 @@ unfoldable mutual
   matches (discard m) v x = true
   matches (variable m name) v x = true
   matches (assign m name q) v x = matches q v x
-  matches (integer m at w) v x = both (eqb (recordKind v (x .place)) 0) (sameText (recordText v (x .place)) w)
-  matches (bytestring m at w) v x = both (eqb (recordKind v (x .place)) 1) (sameText (recordText v (x .place)) w)
-  matches (listed m qs) v x = both (eqb (recordKind v (x .place)) 2) (both (eqb (elements v x) (many qs)) (matchEach qs v (elementsAt v x)))
+  matches (integer m at w) v x = both (eqb (recordKind v (x .place)) integerRecord) (sameText (recordText v (x .place)) w)
+  matches (bytestring m at w) v x = both (eqb (recordKind v (x .place)) bytesRecord) (sameText (recordText v (x .place)) w)
+  matches (listed m qs) v x = both (eqb (recordKind v (x .place)) listRecord) (both (eqb (elements v x) (many qs)) (matchEach qs v (elementsAt v x)))
   matches (tailed m qs q) v x =
-      both (eqb (recordKind v (x .place)) 2)
+      both (eqb (recordKind v (x .place)) listRecord)
       (both (leb (many qs) (elements v x))
       (both (matchEach qs v (elementsAt v x))
       (matches q v (after (many qs) x))))
   matches (constructor m a qs) v x =
-      both (eqb (recordKind v (x .place)) 5)
+      both (eqb (recordKind v (x .place)) constructorRecord)
       (both (eqb (recordA v (x .place)) a)
       (both (eqb (recordCount v (x .place)) (many qs))
       (matchEach qs v (recordFirst v (x .place)))))

@@ -2,15 +2,17 @@
 -- A panel is the list of its bytes; a field that is not there reads 0.
 use Prim.Native.Nat.{ℕ, zero, suc, _+_, _-_, _*_, _/_}
 use mathlib.Core.Bool.{Bool, true, false}
-use mathlib.Core.List.{List}
+use mathlib.Core.List.{List, [], _∷_}
 use lib.ListN.{length, getD}
 use lib.Dec.{eqb, leb, ltb}
 use Rattle.base_words.specs.Words.{wordAt, textAt, both, pick}
 use Rattle.spec_rules.specs.Limits.{recordSize, partSize, panelTrailer, panelMost, recordsMost, panelDepthMost}
+use Rattle.spec_rules.specs.Kinds.{integerRecord, bytesRecord, listRecord, pairRecord, tupleRecord, constructorRecord}
+use Rattle.spec_rules.specs.RefusalNumbers.{panelLengthRefusal, panelLayoutRefusal, panelShapeRefusal, panelTextRefusal}
 use Rattle.spec_rules.specs.Searching.{every, times}
 use Rattle.spec_rules.specs.SheetFile.{runIn}
 use Rattle.spec_rules.specs.Texts.{canonical, shortText}
-use Rattle.spec_rules.specs.SheetRefusals.{Verdict, accepted, require, wholeRecords}
+use Rattle.spec_rules.specs.SheetRefusals.{Verdict, accepted, require, wholeRecords, wholeBetween}
 
 -- ---- sections: "Panel records are 8 bytes like patterns ..; then children, pool, and a trailer of three starts and the length"
 unfoldable pub panelStart : List ℕ → ℕ → ℕ
@@ -35,6 +37,13 @@ panelPoolAt v = panelStart v 2
 
 unfoldable pub panelPoolEnd : List ℕ → ℕ
 panelPoolEnd v = length v - panelTrailer
+
+-- in this order: the sizes of their records (of the pool, of a byte), and where they start; the last ends where the trailer starts
+abbrev pub panelSizes : List ℕ
+panelSizes = recordSize ∷ partSize ∷ 1 ∷ []
+
+abbrev pub panelPlaces : List ℕ → List ℕ
+panelPlaces v = recordsAt v ∷ partsAt v ∷ panelPoolAt v ∷ panelPoolEnd v ∷ []
 
 unfoldable pub records : List ℕ → ℕ
 unfolding recordsAt partsAt
@@ -83,12 +92,12 @@ pub data RecordKind : Type 0 where
 
 unfoldable pub recordKindOf : ℕ → RecordKind
 recordKindOf k =
-    pick (eqb k 0) Integer-record
-    (pick (eqb k 1) Bytes-record
-    (pick (eqb k 2) List-record
-    (pick (eqb k 3) Pair-record
-    (pick (eqb k 4) Tuple-record
-    (pick (eqb k 5) Constructor-record
+    pick (eqb k integerRecord) Integer-record
+    (pick (eqb k bytesRecord) Bytes-record
+    (pick (eqb k listRecord) List-record
+    (pick (eqb k pairRecord) Pair-record
+    (pick (eqb k tupleRecord) Tuple-record
+    (pick (eqb k constructorRecord) Constructor-record
     Unknown-record)))))
 
 -- ---- 21: "length (under 8, over 16,384, or trailer differs)"
@@ -101,10 +110,8 @@ unfoldable pub panelLayoutFits : List ℕ → Bool
 unfolding recordsAt partsAt panelPoolAt panelPoolEnd records wholeRecords
 panelLayoutFits v =
     both (eqb (recordsAt v) 0)
-    (both (wholeRecords recordSize (recordsAt v) (partsAt v))
-    (both (wholeRecords partSize (partsAt v) (panelPoolAt v))
-    (both (wholeRecords 1 (panelPoolAt v) (panelPoolEnd v))
-    (both (leb 1 (records v)) (leb (records v) recordsMost)))))
+    (both (wholeBetween panelSizes (panelPlaces v))
+    (both (leb 1 (records v)) (leb (records v) recordsMost)))
 
 -- ---- 23: shape
 unfoldable pub hasParts : RecordKind → Bool
@@ -201,8 +208,8 @@ panelTextsFit v = every (recordTextFits v) 0 (records v)
 unfoldable pub panelVerdict : List ℕ → Verdict
 unfolding panelLengthFits panelLayoutFits panelShapeFits panelTextsFit
 panelVerdict v =
-    require (panelLengthFits v) 21
-    (require (panelLayoutFits v) 22
-    (require (panelShapeFits v) 23
-    (require (panelTextsFit v) 24
+    require (panelLengthFits v) panelLengthRefusal
+    (require (panelLayoutFits v) panelLayoutRefusal
+    (require (panelShapeFits v) panelShapeRefusal
+    (require (panelTextsFit v) panelTextRefusal
     accepted)))

@@ -6,6 +6,7 @@ use mathlib.Core.List.{List, [], _∷_, _++_}
 use lib.Dec.{eqb, leb}
 use Rattle.base_words.specs.Words.{both, pick}
 use Rattle.spec_rules.specs.Limits.{patternsMost}
+use Rattle.spec_rules.specs.Kinds.{intType, bytesType, listType, pairType, tupleType, dataType, decoratedFlag, discardPattern, variablePattern, assignPattern, integerPattern, byteStringPattern, listPattern, listWithTailPattern, constructorPattern, pairPattern, tuplePattern}
 use Rattle.spec_rules.specs.SheetFile.{subject, typeKind, typeFlag, typeFirst, typeCount, constructorFirst, constructorCount, entry, patternKind, patternA, patternFirst, patternCount, child, root, poolText}
 
 abbrev pub Text : Type 0
@@ -18,16 +19,16 @@ pub data PatternKind : Type 0 where
 
 unfoldable pub patternKindOf : ℕ → PatternKind
 patternKindOf k =
-    pick (eqb k 0) Discard
-    (pick (eqb k 1) Variable
-    (pick (eqb k 2) Assign
-    (pick (eqb k 3) Integer
-    (pick (eqb k 4) ByteString
-    (pick (eqb k 5) ListOfAll
-    (pick (eqb k 6) ListWithRest
-    (pick (eqb k 7) Constructor
-    (pick (eqb k 8) Pair
-    (pick (eqb k 9) Tuple
+    pick (eqb k discardPattern) Discard
+    (pick (eqb k variablePattern) Variable
+    (pick (eqb k assignPattern) Assign
+    (pick (eqb k integerPattern) Integer
+    (pick (eqb k byteStringPattern) ByteString
+    (pick (eqb k listPattern) ListOfAll
+    (pick (eqb k listWithTailPattern) ListWithRest
+    (pick (eqb k constructorPattern) Constructor
+    (pick (eqb k pairPattern) Pair
+    (pick (eqb k tuplePattern) Tuple
     Unknown)))))))))
 
 -- A pattern's own number, and the number of the type that it is fitted to.
@@ -67,11 +68,11 @@ many (pcons q qs) = suc (many qs)
 -- "5 Data (1 or more constructors)", "one-constructor types", and the flags "1 opaque, 2 list-decorated, 3 both"
 unfoldable pub oneConstructor : List ℕ → ℕ → Bool
 unfolding typeKind typeCount
-oneConstructor s t = both (eqb (typeKind s t) 5) (eqb (typeCount s t) 1)
+oneConstructor s t = both (eqb (typeKind s t) dataType) (eqb (typeCount s t) 1)
 
 unfoldable pub decorated : List ℕ → ℕ → Bool
 unfolding typeFlag
-decorated s t = leb 2 (typeFlag s t)
+decorated s t = leb decoratedFlag (typeFlag s t)
 
 -- a constructor's number is its place among its own type's constructors, from 0
 unfoldable pub constructorOf : List ℕ → ℕ → ℕ → ℕ
@@ -136,12 +137,12 @@ clausePatterns s c (suc n) = clausePattern s c ∷ clausePatterns s (c + 1) n
 -- each is asked for its own kind and count alone.
 unfoldable pub takesArguments : List ℕ → ℕ → ℕ → ℕ → Bool
 unfolding typeKind typeCount constructorCount constructorOf
-takesArguments s t a n = both (eqb (typeKind s t) 5) (both (leb (a + 1) (typeCount s t)) (eqb (constructorCount s (constructorOf s t a)) n))
+takesArguments s t a n = both (eqb (typeKind s t) dataType) (both (leb (a + 1) (typeCount s t)) (eqb (constructorCount s (constructorOf s t a)) n))
 
 unfoldable pub opensInto : List ℕ → ℕ → Opens → ℕ → Bool
 unfolding typeKind typeCount takesArguments
-opensInto s t pairs n = both (eqb (typeKind s t) 3) (eqb (typeCount s t) n)
-opensInto s t tuples n = both (eqb (typeKind s t) 4) (eqb (typeCount s t) n)
+opensInto s t pairs n = both (eqb (typeKind s t) pairType) (eqb (typeCount s t) n)
+opensInto s t tuples n = both (eqb (typeKind s t) tupleType) (eqb (typeCount s t) n)
 opensInto s t (fields a list) n = takesArguments s t a n
 
 unfoldable mutual
@@ -151,10 +152,10 @@ unfoldable mutual
   fits (discard m) s = true
   fits (variable m x) s = true
   fits (assign m x q) s = fits q s
-  fits (integer m at w) s = eqb (typeKind s (m .type)) 0
-  fits (bytestring m at w) s = eqb (typeKind s (m .type)) 1
-  fits (listed m qs) s = both (eqb (typeKind s (m .type)) 2) (fitAll qs s)
-  fits (tailed m qs q) s = both (eqb (typeKind s (m .type)) 2) (both (fitAll qs s) (fits q s))
+  fits (integer m at w) s = eqb (typeKind s (m .type)) intType
+  fits (bytestring m at w) s = eqb (typeKind s (m .type)) bytesType
+  fits (listed m qs) s = both (eqb (typeKind s (m .type)) listType) (fitAll qs s)
+  fits (tailed m qs q) s = both (eqb (typeKind s (m .type)) listType) (both (fitAll qs s) (fits q s))
   fits (constructor m a qs) s = both (takesArguments s (m .type) a (many qs)) (fitAll qs s)
   fits (opened m o qs) s = both (opensInto s (m .type) o (many qs)) (fitAll qs s)
 

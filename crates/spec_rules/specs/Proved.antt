@@ -1,11 +1,15 @@
 -- 01, "Proved cases": P1 to P12 over the definitions, from the bytes of sheets and panels; four sheets and a list switch more (P13 to P17), and refusal 1.
 -- Each holds by computing; the bytes are in Samples.
+use Prim.Native.Nat.{ℕ, _-_}
 use mathlib.Core.Path.{_≡_, refl}
 use mathlib.Core.Bool.{true, false}
 use mathlib.Core.List.{List, [], _∷_}
-use Rattle.base_words.specs.Words.{zeros}
+use Rattle.base_words.specs.Words.{textAt, zeros}
 use Rattle.spec_rules.specs.Limits.{treeRoom, workRoom, boundRoom}
+use Rattle.spec_rules.specs.Sections.{sheetFileOf, panelFileOf}
 use Rattle.spec_rules.specs.SheetRefusals.{accepted, refused, verdict}
+use Rattle.spec_rules.specs.SheetFile.{subject, typesAt, constructorsAt, entriesAt, patternsAt, childrenAt, clausesAt, poolAt, poolEnd}
+use Rattle.spec_rules.specs.PanelFile.{recordsAt, partsAt, panelPoolAt, panelPoolEnd}
 use Rattle.spec_rules.specs.Rows.{tuple, constr, list, listtail, Path, Binding}
 use Rattle.spec_rules.specs.Splitting.{Constr, Int, ListOf, ListWithTail}
 use Rattle.spec_rules.specs.Building.{Tree, absent, leaf, hoist, switch, listswitch, cnil, ccons}
@@ -44,6 +48,31 @@ P1-accepted : verdict sheet1 ≡ accepted
 unfolding verdict
 P1-accepted = refl
 
+-- What is computed for the other sheets and panels is what stands here: the file of its own sections, trailer included.
+abbrev between : List ℕ → ℕ → ℕ → List ℕ
+between s from to = textAt s from (to - from)
+
+P1-sections : sheetFileOf (record {
+  types = between sheet1 (typesAt sheet1) (constructorsAt sheet1);
+  constructors = between sheet1 (constructorsAt sheet1) (entriesAt sheet1);
+  entries = between sheet1 (entriesAt sheet1) (patternsAt sheet1);
+  patterns = between sheet1 (patternsAt sheet1) (childrenAt sheet1);
+  children = between sheet1 (childrenAt sheet1) (clausesAt sheet1);
+  clauses = between sheet1 (clausesAt sheet1) (poolAt sheet1);
+  pool = between sheet1 (poolAt sheet1) (poolEnd sheet1);
+  subject = subject sheet1;
+}) ≡ sheet1
+unfolding sheetFileOf typesAt constructorsAt entriesAt patternsAt childrenAt clausesAt poolAt poolEnd subject
+P1-sections = refl
+
+P2-sections : panelFileOf (record {
+  records = between panel2 (recordsAt panel2) (partsAt panel2);
+  parts = between panel2 (partsAt panel2) (panelPoolAt panel2);
+  pool = between panel2 (panelPoolAt panel2) (panelPoolEnd panel2);
+}) ≡ panel2
+unfolding panelFileOf recordsAt partsAt panelPoolAt panelPoolEnd
+P2-sections = refl
+
 P1-built : buildAnswer sheet1 treeRoom workRoom ≡ answers (record { bytes = 322; nodes = 16; bindings = 6 })
 unfolding buildAnswer
 P1-built = refl
@@ -72,19 +101,19 @@ P2 = refl
 
 -- "n2 its first element", which the panel shows as 5
 P3 : walkCall file1 panel3 boundRoom ≡ record { answer = answers (leafOf 1 1); bound = 2 ∷ 1 ∷ 0 ∷ zeros 573 }
-unfolding walkCall
+unfolding walkCall panelFileOf
 P3 = refl
 
 P3-text : textPart panel3 1 0 ≡ 53 ∷ []
-unfolding textPart
+unfolding textPart panelFileOf
 P3-text = refl
 
 P4 : walkCall file1 panel4 boundRoom ≡ record { answer = answers (leafOf 2 0); bound = zeros 576 }
-unfolding walkCall
+unfolding walkCall panelFileOf
 P4 = refl
 
 P5 : walkCall file1 panel5 boundRoom ≡ record { answer = answers (leafOf 2 0); bound = zeros 576 }
-unfolding walkCall
+unfolding walkCall panelFileOf
 P5 = refl
 
 P2-meaning : walk tree1 panel2 ≡ meaning sheet1 panel2
@@ -92,43 +121,43 @@ unfolding walk meaning
 P2-meaning = refl
 
 P3-meaning : walk tree1 panel3 ≡ meaning sheet1 panel3
-unfolding walk meaning
+unfolding walk meaning panelFileOf
 P3-meaning = refl
 
 P4-meaning : walk tree1 panel4 ≡ meaning sheet1 panel4
-unfolding walk meaning
+unfolding walk meaning panelFileOf
 P4-meaning = refl
 
 P5-meaning : walk tree1 panel5 ≡ meaning sheet1 panel5
-unfolding walk meaning
+unfolding walk meaning panelFileOf
 P5-meaning = refl
 
 P5-fits : fitCall sheet1 panel5 ≡ accepted
-unfolding fitCall
+unfolding fitCall panelFileOf
 P5-fits = refl
 
 -- ---- P6 "clause 1 hoists at the root, clause 0 at its leaf"
 P6 : sheetTree sheet6 ≡ hoist 1 [] (switch [] (ccons (Int (55 ∷ [])) 0 (hoist 0 [] (leaf 0 [])) cnil) (leaf 1 []))
-unfolding sheetTree
+unfolding sheetTree sheetFileOf
 P6 = refl
 
 -- ---- P7 "`7` alone on 8: no leaf"
 P7 : walkCall (sheetTreeFile sheet7) panel7 boundRoom ≡ record { answer = answers withoutLeaf; bound = zeros 576 }
-unfolding walkCall sheetTreeFile
+unfolding walkCall sheetTreeFile sheetFileOf panelFileOf
 P7 = refl
 
 P7-meaning : meaning sheet7 panel7 ≡ noLeaf
-unfolding meaning
+unfolding meaning sheetFileOf panelFileOf
 P7-meaning = refl
 
 -- an integer does not fit a sheet of lists
 P7-misfit : fitCall sheet1 panel7 ≡ refused 25 0
-unfolding fitCall
+unfolding fitCall panelFileOf
 P7-misfit = refl
 
 -- ---- P8 "refusal 14, clause 1"
 P8 : buildAnswer sheet8 treeRoom workRoom ≡ refuses 14 1
-unfolding buildAnswer
+unfolding buildAnswer sheetFileOf
 P8 = refl
 
 -- ---- P9 "accepted, default leaf 2"
@@ -138,11 +167,11 @@ P9 : sheetTree sheet9
     (ccons (Constr 1) 0 (hoist 0 [] (leaf 0 []))
     (ccons (Constr 0) 0 (hoist 1 [] (leaf 1 [])) cnil))
     (leaf 2 []))
-unfolding sheetTree
+unfolding sheetTree sheetFileOf
 P9 = refl
 
 P9-built : buildAnswer sheet9 treeRoom workRoom ≡ answers (record { bytes = 118; nodes = 7; bindings = 0 })
-unfolding buildAnswer
+unfolding buildAnswer sheetFileOf
 P9-built = refl
 
 -- ---- P10 "tuple_1 is tested first"
@@ -153,7 +182,7 @@ P10 : sheetTree sheet10
     (switch (tuple 0 0 ∷ []) (ccons (Int (49 ∷ [])) 0 (hoist 0 [] (leaf 0 [])) cnil) (leaf 1 []))
     cnil)
     absent)
-unfolding sheetTree
+unfolding sheetTree sheetFileOf
 P10 = refl
 
 -- ---- P11 "tuple_0"
@@ -166,12 +195,12 @@ P11 : sheetTree sheet11
     (switch (tuple 1 0 ∷ []) (ccons (Int (52 ∷ [])) 3 (leaf 1 []) cnil) absent)
     cnil))
     absent)
-unfolding sheetTree
+unfolding sheetTree sheetFileOf
 P11 = refl
 
 -- ---- P12 "no clause: 4"
 P12 : buildAnswer sheet12 treeRoom workRoom ≡ refuses 4 0
-unfolding buildAnswer
+unfolding buildAnswer sheetFileOf
 P12 = refl
 
 -- ---- one more: (1,1), (1,2), (2,3). Clause 1 hoists above the switch on tuple_1, since the last leaf of a switch is noted once
@@ -189,7 +218,7 @@ P13 : sheetTree sheet13
     (switch (tuple 1 0 ∷ []) (ccons (Int (51 ∷ [])) 2 (leaf 2 []) cnil) absent)
     cnil))
     absent)
-unfolding sheetTree
+unfolding sheetTree sheetFileOf
 P13 = refl
 
 -- ---- one more: (1,_), (_,2), (_,3). tuple_0 is tested first, though more rows have a test in tuple_1: its count ends at the
@@ -202,12 +231,12 @@ P14 : sheetTree sheet14
     (ccons (Int (50 ∷ [])) 1 (hoist 1 [] (leaf 1 []))
     (ccons (Int (51 ∷ [])) 2 (leaf 2 []) cnil))
     absent))
-unfolding sheetTree
+unfolding sheetTree sheetFileOf
 P14 = refl
 
 -- ---- one more: `1`, discard, `2`. The case of `2` starts with the default rows so far, so that the discard takes it.
 P15 : buildAnswer sheet15 treeRoom workRoom ≡ refuses 14 2
-unfolding buildAnswer
+unfolding buildAnswer sheetFileOf
 P15 = refl
 
 -- ---- one more: (1,_,C1 5), (2,C0 5,_), (_,C0 n1,C1 n2). Clause 2's hoist has n1 before n2, as its leaf that is built first, in the
@@ -245,7 +274,7 @@ P16 : sheetTree sheet16
     (switch (tuple 1 0 ∷ [])
     (ccons (Constr 0) 0 (switch (tuple 2 0 ∷ []) (ccons (Constr 1) 0 (leaf 2 n1-n2) cnil) absent) cnil)
     absent))
-unfolding sheetTree
+unfolding sheetTree sheetFileOf
 P16 = refl
 
 -- ---- one more: [5,2,7] at a list switch with ListWithTail(1), (3), (2) and (4) goes to ListWithTail(3), the largest not above its
@@ -259,7 +288,7 @@ P17 : walk
     absent)
     panel5
     ≡ reached 3 []
-unfolding walk
+unfolding walk panelFileOf
 P17 = refl
 
 -- ---- refusal 1: a buffer one byte, or one u16, too small

@@ -4,6 +4,7 @@ use Prim.Native.Nat.{ℕ, _+_}
 use mathlib.Core.Bool.{Bool, true, false}
 use mathlib.Core.List.{List, [], _∷_, _++_}
 use Rattle.base_words.specs.Words.{both, sameText}
+use Rattle.spec_rules.specs.Kinds.{pairStep, tupleStep, constrStep, listStep, listtailStep}
 use Rattle.spec_rules.specs.Patterns.{Opens, pairs, tuples, fields, Pat, Pats, discard, variable, assign, integer, bytestring, listed, tailed, constructor, opened, pnil, pcons, many}
 
 -- A step into a part: its index, for a constructor's field 01's b, and last the type of the part stepped from.
@@ -27,11 +28,11 @@ bit false = 0
 
 unfoldable pub stepFields : Step → List ℕ
 unfolding bit
-stepFields (pair i t) = 0 ∷ 0 ∷ i ∷ t ∷ []
-stepFields (tuple i t) = 1 ∷ 0 ∷ i ∷ t ∷ []
-stepFields (constr i b t) = 2 ∷ bit b ∷ i ∷ t ∷ []
-stepFields (list i t) = 3 ∷ 0 ∷ i ∷ t ∷ []
-stepFields (listtail i t) = 4 ∷ 0 ∷ i ∷ t ∷ []
+stepFields (pair i t) = pairStep ∷ 0 ∷ i ∷ t ∷ []
+stepFields (tuple i t) = tupleStep ∷ 0 ∷ i ∷ t ∷ []
+stepFields (constr i b t) = constrStep ∷ bit b ∷ i ∷ t ∷ []
+stepFields (list i t) = listStep ∷ 0 ∷ i ∷ t ∷ []
+stepFields (listtail i t) = listtailStep ∷ 0 ∷ i ∷ t ∷ []
 
 unfoldable pub sameStep : Step → Step → Bool
 unfolding sameText stepFields

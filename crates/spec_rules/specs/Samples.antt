@@ -1,7 +1,9 @@
 -- The sheets and panels of 01's proved cases P1 to P12 and of four cases more, the tree file of P1's sheet and its listing, as bytes.
--- A comment says what each run of bytes is; Proved has what is proved of them.
+-- P1's sheet, its tree file and P2's panel are whole files, trailer included; of the others the sections are written out, and where
+-- each starts is computed. A comment says what each run of bytes is; Proved has what is proved of them.
 use Prim.Native.Nat.{ℕ}
 use mathlib.Core.List.{List, [], _∷_}
+use Rattle.spec_rules.specs.Sections.{sheetFileOf, panelFileOf}
 
 -- P1: subject List of Int; clauses `[1, ..n1]`, `[n2, 2]`, discard
 abbrev pub sheet1 : List ℕ
@@ -53,335 +55,364 @@ panel2 =
 
 -- P3: [5,2]
 abbrev pub panel3 : List ℕ
-panel3 =
-    -- record 0: list, parts 1, 2
-    2 ∷ 0 ∷ 0 ∷ 0 ∷ 0 ∷ 0 ∷ 2 ∷ 0 ∷
-    -- record 1: integer 5
-    0 ∷ 0 ∷ 0 ∷ 0 ∷ 0 ∷ 0 ∷ 1 ∷ 0 ∷
-    -- record 2: integer 2
-    0 ∷ 0 ∷ 0 ∷ 0 ∷ 1 ∷ 0 ∷ 1 ∷ 0 ∷
-    -- the child list
-    1 ∷ 0 ∷ 2 ∷ 0 ∷
-    -- the pool: 5 2
-    53 ∷ 50 ∷
-    -- the three starts, the length
-    0 ∷ 0 ∷ 24 ∷ 0 ∷ 28 ∷ 0 ∷ 38 ∷ 0 ∷ []
+panel3 = panelFileOf (record {
+  records =
+      -- record 0: list, parts 1, 2
+      2 ∷ 0 ∷ 0 ∷ 0 ∷ 0 ∷ 0 ∷ 2 ∷ 0 ∷
+      -- record 1: integer 5
+      0 ∷ 0 ∷ 0 ∷ 0 ∷ 0 ∷ 0 ∷ 1 ∷ 0 ∷
+      -- record 2: integer 2
+      0 ∷ 0 ∷ 0 ∷ 0 ∷ 1 ∷ 0 ∷ 1 ∷ 0 ∷ [];
+  parts = 1 ∷ 0 ∷ 2 ∷ 0 ∷ [];
+  -- 5 2
+  pool = 53 ∷ 50 ∷ [];
+})
 
 -- P4: []
 abbrev pub panel4 : List ℕ
-panel4 =
-    -- record 0: list
-    2 ∷ 0 ∷ 0 ∷ 0 ∷ 0 ∷ 0 ∷ 0 ∷ 0 ∷
-    -- the three starts, the length
-    0 ∷ 0 ∷ 8 ∷ 0 ∷ 8 ∷ 0 ∷ 16 ∷ 0 ∷ []
+panel4 = panelFileOf (record {
+  records =
+      -- record 0: list
+      2 ∷ 0 ∷ 0 ∷ 0 ∷ 0 ∷ 0 ∷ 0 ∷ 0 ∷ [];
+  parts = [];
+  pool = [];
+})
 
 -- P5: [5,2,7]
 abbrev pub panel5 : List ℕ
-panel5 =
-    -- record 0: list, parts 1, 2, 3
-    2 ∷ 0 ∷ 0 ∷ 0 ∷ 0 ∷ 0 ∷ 3 ∷ 0 ∷
-    -- record 1: integer 5
-    0 ∷ 0 ∷ 0 ∷ 0 ∷ 0 ∷ 0 ∷ 1 ∷ 0 ∷
-    -- record 2: integer 2
-    0 ∷ 0 ∷ 0 ∷ 0 ∷ 1 ∷ 0 ∷ 1 ∷ 0 ∷
-    -- record 3: integer 7
-    0 ∷ 0 ∷ 0 ∷ 0 ∷ 2 ∷ 0 ∷ 1 ∷ 0 ∷
-    -- the child list
-    1 ∷ 0 ∷ 2 ∷ 0 ∷ 3 ∷ 0 ∷
-    -- the pool: 5 2 7
-    53 ∷ 50 ∷ 55 ∷
-    -- the three starts, the length
-    0 ∷ 0 ∷ 32 ∷ 0 ∷ 38 ∷ 0 ∷ 49 ∷ 0 ∷ []
+panel5 = panelFileOf (record {
+  records =
+      -- record 0: list, parts 1, 2, 3
+      2 ∷ 0 ∷ 0 ∷ 0 ∷ 0 ∷ 0 ∷ 3 ∷ 0 ∷
+      -- record 1: integer 5
+      0 ∷ 0 ∷ 0 ∷ 0 ∷ 0 ∷ 0 ∷ 1 ∷ 0 ∷
+      -- record 2: integer 2
+      0 ∷ 0 ∷ 0 ∷ 0 ∷ 1 ∷ 0 ∷ 1 ∷ 0 ∷
+      -- record 3: integer 7
+      0 ∷ 0 ∷ 0 ∷ 0 ∷ 2 ∷ 0 ∷ 1 ∷ 0 ∷ [];
+  parts = 1 ∷ 0 ∷ 2 ∷ 0 ∷ 3 ∷ 0 ∷ [];
+  -- 5 2 7
+  pool = 53 ∷ 50 ∷ 55 ∷ [];
+})
 
 -- P6: `7`, discard
 abbrev pub sheet6 : List ℕ
-sheet6 =
-    -- type 0: Int
-    0 ∷ 0 ∷ 0 ∷ 0 ∷ 0 ∷ 0 ∷
-    -- pattern 0: integer 7
-    3 ∷ 0 ∷ 0 ∷ 0 ∷ 0 ∷ 0 ∷ 1 ∷ 0 ∷
-    -- pattern 1: discard
-    0 ∷ 0 ∷ 0 ∷ 0 ∷ 0 ∷ 0 ∷ 0 ∷ 0 ∷
-    -- the clauses' roots
-    0 ∷ 0 ∷ 1 ∷ 0 ∷
-    -- the pool: 7
-    55 ∷
-    -- the seven starts, the subject's type, the length
-    0 ∷ 0 ∷ 6 ∷ 0 ∷ 6 ∷ 0 ∷ 6 ∷ 0 ∷ 22 ∷ 0 ∷ 22 ∷ 0 ∷ 26 ∷ 0 ∷ 0 ∷ 0 ∷ 45 ∷ 0 ∷ []
+sheet6 = sheetFileOf (record {
+  types =
+      -- type 0: Int
+      0 ∷ 0 ∷ 0 ∷ 0 ∷ 0 ∷ 0 ∷ [];
+  constructors = [];
+  entries = [];
+  patterns =
+      -- pattern 0: integer 7
+      3 ∷ 0 ∷ 0 ∷ 0 ∷ 0 ∷ 0 ∷ 1 ∷ 0 ∷
+      -- pattern 1: discard
+      0 ∷ 0 ∷ 0 ∷ 0 ∷ 0 ∷ 0 ∷ 0 ∷ 0 ∷ [];
+  children = [];
+  clauses = 0 ∷ 0 ∷ 1 ∷ 0 ∷ [];
+  -- 7
+  pool = 55 ∷ [];
+  subject = 0;
+})
 
 -- P7: `7` alone
 abbrev pub sheet7 : List ℕ
-sheet7 =
-    -- type 0: Int
-    0 ∷ 0 ∷ 0 ∷ 0 ∷ 0 ∷ 0 ∷
-    -- pattern 0: integer 7
-    3 ∷ 0 ∷ 0 ∷ 0 ∷ 0 ∷ 0 ∷ 1 ∷ 0 ∷
-    -- the clauses' roots
-    0 ∷ 0 ∷
-    -- the pool: 7
-    55 ∷
-    -- the seven starts, the subject's type, the length
-    0 ∷ 0 ∷ 6 ∷ 0 ∷ 6 ∷ 0 ∷ 6 ∷ 0 ∷ 14 ∷ 0 ∷ 14 ∷ 0 ∷ 16 ∷ 0 ∷ 0 ∷ 0 ∷ 35 ∷ 0 ∷ []
+sheet7 = sheetFileOf (record {
+  types =
+      -- type 0: Int
+      0 ∷ 0 ∷ 0 ∷ 0 ∷ 0 ∷ 0 ∷ [];
+  constructors = [];
+  entries = [];
+  patterns =
+      -- pattern 0: integer 7
+      3 ∷ 0 ∷ 0 ∷ 0 ∷ 0 ∷ 0 ∷ 1 ∷ 0 ∷ [];
+  children = [];
+  clauses = 0 ∷ 0 ∷ [];
+  -- 7
+  pool = 55 ∷ [];
+  subject = 0;
+})
 
 -- P7: 8
 abbrev pub panel7 : List ℕ
-panel7 =
-    -- record 0: integer 8
-    0 ∷ 0 ∷ 0 ∷ 0 ∷ 0 ∷ 0 ∷ 1 ∷ 0 ∷
-    -- the pool: 8
-    56 ∷
-    -- the three starts, the length
-    0 ∷ 0 ∷ 8 ∷ 0 ∷ 8 ∷ 0 ∷ 17 ∷ 0 ∷ []
+panel7 = panelFileOf (record {
+  records =
+      -- record 0: integer 8
+      0 ∷ 0 ∷ 0 ∷ 0 ∷ 0 ∷ 0 ∷ 1 ∷ 0 ∷ [];
+  parts = [];
+  -- 8
+  pool = 56 ∷ [];
+})
 
 -- P8: discard, `7`
 abbrev pub sheet8 : List ℕ
-sheet8 =
-    -- type 0: Int
-    0 ∷ 0 ∷ 0 ∷ 0 ∷ 0 ∷ 0 ∷
-    -- pattern 0: discard
-    0 ∷ 0 ∷ 0 ∷ 0 ∷ 0 ∷ 0 ∷ 0 ∷ 0 ∷
-    -- pattern 1: integer 7
-    3 ∷ 0 ∷ 0 ∷ 0 ∷ 0 ∷ 0 ∷ 1 ∷ 0 ∷
-    -- the clauses' roots
-    0 ∷ 0 ∷ 1 ∷ 0 ∷
-    -- the pool: 7
-    55 ∷
-    -- the seven starts, the subject's type, the length
-    0 ∷ 0 ∷ 6 ∷ 0 ∷ 6 ∷ 0 ∷ 6 ∷ 0 ∷ 22 ∷ 0 ∷ 22 ∷ 0 ∷ 26 ∷ 0 ∷ 0 ∷ 0 ∷ 45 ∷ 0 ∷ []
+sheet8 = sheetFileOf (record {
+  types =
+      -- type 0: Int
+      0 ∷ 0 ∷ 0 ∷ 0 ∷ 0 ∷ 0 ∷ [];
+  constructors = [];
+  entries = [];
+  patterns =
+      -- pattern 0: discard
+      0 ∷ 0 ∷ 0 ∷ 0 ∷ 0 ∷ 0 ∷ 0 ∷ 0 ∷
+      -- pattern 1: integer 7
+      3 ∷ 0 ∷ 0 ∷ 0 ∷ 0 ∷ 0 ∷ 1 ∷ 0 ∷ [];
+  children = [];
+  clauses = 0 ∷ 0 ∷ 1 ∷ 0 ∷ [];
+  -- 7
+  pool = 55 ∷ [];
+  subject = 0;
+})
 
 -- P9: a two-constructor type, constructors 1, 0, discard
 abbrev pub sheet9 : List ℕ
-sheet9 =
-    -- type 0: Data, constructors 0 to 1
-    5 ∷ 0 ∷ 0 ∷ 0 ∷ 2 ∷ 0 ∷
-    -- constructor 0: no field
-    0 ∷ 0 ∷ 0 ∷ 0 ∷
-    -- constructor 1: no field
-    0 ∷ 0 ∷ 0 ∷ 0 ∷
-    -- pattern 0: constructor 1
-    7 ∷ 0 ∷ 1 ∷ 0 ∷ 0 ∷ 0 ∷ 0 ∷ 0 ∷
-    -- pattern 1: constructor 0
-    7 ∷ 0 ∷ 0 ∷ 0 ∷ 0 ∷ 0 ∷ 0 ∷ 0 ∷
-    -- pattern 2: discard
-    0 ∷ 0 ∷ 0 ∷ 0 ∷ 0 ∷ 0 ∷ 0 ∷ 0 ∷
-    -- the clauses' roots
-    0 ∷ 0 ∷ 1 ∷ 0 ∷ 2 ∷ 0 ∷
-    -- the seven starts, the subject's type, the length
-    0 ∷ 0 ∷ 6 ∷ 0 ∷ 14 ∷ 0 ∷ 14 ∷ 0 ∷ 38 ∷ 0 ∷ 38 ∷ 0 ∷ 44 ∷ 0 ∷ 0 ∷ 0 ∷ 62 ∷ 0 ∷ []
+sheet9 = sheetFileOf (record {
+  types =
+      -- type 0: Data, constructors 0 to 1
+      5 ∷ 0 ∷ 0 ∷ 0 ∷ 2 ∷ 0 ∷ [];
+  constructors =
+      -- constructor 0: no field
+      0 ∷ 0 ∷ 0 ∷ 0 ∷
+      -- constructor 1: no field
+      0 ∷ 0 ∷ 0 ∷ 0 ∷ [];
+  entries = [];
+  patterns =
+      -- pattern 0: constructor 1
+      7 ∷ 0 ∷ 1 ∷ 0 ∷ 0 ∷ 0 ∷ 0 ∷ 0 ∷
+      -- pattern 1: constructor 0
+      7 ∷ 0 ∷ 0 ∷ 0 ∷ 0 ∷ 0 ∷ 0 ∷ 0 ∷
+      -- pattern 2: discard
+      0 ∷ 0 ∷ 0 ∷ 0 ∷ 0 ∷ 0 ∷ 0 ∷ 0 ∷ [];
+  children = [];
+  clauses = 0 ∷ 0 ∷ 1 ∷ 0 ∷ 2 ∷ 0 ∷ [];
+  pool = [];
+  subject = 0;
+})
 
 -- P10: (1,2), (_,2)
 abbrev pub sheet10 : List ℕ
-sheet10 =
-    -- type 0: Tuple, entries 0 to 1
-    4 ∷ 0 ∷ 0 ∷ 0 ∷ 2 ∷ 0 ∷
-    -- type 1: Int
-    0 ∷ 0 ∷ 0 ∷ 0 ∷ 0 ∷ 0 ∷
-    -- the type list
-    1 ∷ 0 ∷ 1 ∷ 0 ∷
-    -- pattern 0: tuple, children 1, 2
-    9 ∷ 0 ∷ 0 ∷ 0 ∷ 0 ∷ 0 ∷ 2 ∷ 0 ∷
-    -- pattern 1: integer 1
-    3 ∷ 0 ∷ 0 ∷ 0 ∷ 0 ∷ 0 ∷ 1 ∷ 0 ∷
-    -- pattern 2: integer 2
-    3 ∷ 0 ∷ 0 ∷ 0 ∷ 1 ∷ 0 ∷ 1 ∷ 0 ∷
-    -- pattern 3: tuple, children 4, 5
-    9 ∷ 0 ∷ 0 ∷ 0 ∷ 2 ∷ 0 ∷ 2 ∷ 0 ∷
-    -- pattern 4: discard
-    0 ∷ 0 ∷ 0 ∷ 0 ∷ 0 ∷ 0 ∷ 0 ∷ 0 ∷
-    -- pattern 5: integer 2
-    3 ∷ 0 ∷ 0 ∷ 0 ∷ 1 ∷ 0 ∷ 1 ∷ 0 ∷
-    -- the child list
-    1 ∷ 0 ∷ 2 ∷ 0 ∷ 4 ∷ 0 ∷ 5 ∷ 0 ∷
-    -- the clauses' roots
-    0 ∷ 0 ∷ 3 ∷ 0 ∷
-    -- the pool: 1 2
-    49 ∷ 50 ∷
-    -- the seven starts, the subject's type, the length
-    0 ∷ 0 ∷ 12 ∷ 0 ∷ 12 ∷ 0 ∷ 16 ∷ 0 ∷ 64 ∷ 0 ∷ 72 ∷ 0 ∷ 76 ∷ 0 ∷ 0 ∷ 0 ∷ 96 ∷ 0 ∷ []
+sheet10 = sheetFileOf (record {
+  types =
+      -- type 0: Tuple, entries 0 to 1
+      4 ∷ 0 ∷ 0 ∷ 0 ∷ 2 ∷ 0 ∷
+      -- type 1: Int
+      0 ∷ 0 ∷ 0 ∷ 0 ∷ 0 ∷ 0 ∷ [];
+  constructors = [];
+  entries = 1 ∷ 0 ∷ 1 ∷ 0 ∷ [];
+  patterns =
+      -- pattern 0: tuple, children 1, 2
+      9 ∷ 0 ∷ 0 ∷ 0 ∷ 0 ∷ 0 ∷ 2 ∷ 0 ∷
+      -- pattern 1: integer 1
+      3 ∷ 0 ∷ 0 ∷ 0 ∷ 0 ∷ 0 ∷ 1 ∷ 0 ∷
+      -- pattern 2: integer 2
+      3 ∷ 0 ∷ 0 ∷ 0 ∷ 1 ∷ 0 ∷ 1 ∷ 0 ∷
+      -- pattern 3: tuple, children 4, 5
+      9 ∷ 0 ∷ 0 ∷ 0 ∷ 2 ∷ 0 ∷ 2 ∷ 0 ∷
+      -- pattern 4: discard
+      0 ∷ 0 ∷ 0 ∷ 0 ∷ 0 ∷ 0 ∷ 0 ∷ 0 ∷
+      -- pattern 5: integer 2
+      3 ∷ 0 ∷ 0 ∷ 0 ∷ 1 ∷ 0 ∷ 1 ∷ 0 ∷ [];
+  children = 1 ∷ 0 ∷ 2 ∷ 0 ∷ 4 ∷ 0 ∷ 5 ∷ 0 ∷ [];
+  clauses = 0 ∷ 0 ∷ 3 ∷ 0 ∷ [];
+  -- 1 2
+  pool = 49 ∷ 50 ∷ [];
+  subject = 0;
+})
 
 -- P11: (1,2), (3,4)
 abbrev pub sheet11 : List ℕ
-sheet11 =
-    -- type 0: Tuple, entries 0 to 1
-    4 ∷ 0 ∷ 0 ∷ 0 ∷ 2 ∷ 0 ∷
-    -- type 1: Int
-    0 ∷ 0 ∷ 0 ∷ 0 ∷ 0 ∷ 0 ∷
-    -- the type list
-    1 ∷ 0 ∷ 1 ∷ 0 ∷
-    -- pattern 0: tuple, children 1, 2
-    9 ∷ 0 ∷ 0 ∷ 0 ∷ 0 ∷ 0 ∷ 2 ∷ 0 ∷
-    -- pattern 1: integer 1
-    3 ∷ 0 ∷ 0 ∷ 0 ∷ 0 ∷ 0 ∷ 1 ∷ 0 ∷
-    -- pattern 2: integer 2
-    3 ∷ 0 ∷ 0 ∷ 0 ∷ 1 ∷ 0 ∷ 1 ∷ 0 ∷
-    -- pattern 3: tuple, children 4, 5
-    9 ∷ 0 ∷ 0 ∷ 0 ∷ 2 ∷ 0 ∷ 2 ∷ 0 ∷
-    -- pattern 4: integer 3
-    3 ∷ 0 ∷ 0 ∷ 0 ∷ 2 ∷ 0 ∷ 1 ∷ 0 ∷
-    -- pattern 5: integer 4
-    3 ∷ 0 ∷ 0 ∷ 0 ∷ 3 ∷ 0 ∷ 1 ∷ 0 ∷
-    -- the child list
-    1 ∷ 0 ∷ 2 ∷ 0 ∷ 4 ∷ 0 ∷ 5 ∷ 0 ∷
-    -- the clauses' roots
-    0 ∷ 0 ∷ 3 ∷ 0 ∷
-    -- the pool: 1 2 3 4
-    49 ∷ 50 ∷ 51 ∷ 52 ∷
-    -- the seven starts, the subject's type, the length
-    0 ∷ 0 ∷ 12 ∷ 0 ∷ 12 ∷ 0 ∷ 16 ∷ 0 ∷ 64 ∷ 0 ∷ 72 ∷ 0 ∷ 76 ∷ 0 ∷ 0 ∷ 0 ∷ 98 ∷ 0 ∷ []
+sheet11 = sheetFileOf (record {
+  types =
+      -- type 0: Tuple, entries 0 to 1
+      4 ∷ 0 ∷ 0 ∷ 0 ∷ 2 ∷ 0 ∷
+      -- type 1: Int
+      0 ∷ 0 ∷ 0 ∷ 0 ∷ 0 ∷ 0 ∷ [];
+  constructors = [];
+  entries = 1 ∷ 0 ∷ 1 ∷ 0 ∷ [];
+  patterns =
+      -- pattern 0: tuple, children 1, 2
+      9 ∷ 0 ∷ 0 ∷ 0 ∷ 0 ∷ 0 ∷ 2 ∷ 0 ∷
+      -- pattern 1: integer 1
+      3 ∷ 0 ∷ 0 ∷ 0 ∷ 0 ∷ 0 ∷ 1 ∷ 0 ∷
+      -- pattern 2: integer 2
+      3 ∷ 0 ∷ 0 ∷ 0 ∷ 1 ∷ 0 ∷ 1 ∷ 0 ∷
+      -- pattern 3: tuple, children 4, 5
+      9 ∷ 0 ∷ 0 ∷ 0 ∷ 2 ∷ 0 ∷ 2 ∷ 0 ∷
+      -- pattern 4: integer 3
+      3 ∷ 0 ∷ 0 ∷ 0 ∷ 2 ∷ 0 ∷ 1 ∷ 0 ∷
+      -- pattern 5: integer 4
+      3 ∷ 0 ∷ 0 ∷ 0 ∷ 3 ∷ 0 ∷ 1 ∷ 0 ∷ [];
+  children = 1 ∷ 0 ∷ 2 ∷ 0 ∷ 4 ∷ 0 ∷ 5 ∷ 0 ∷ [];
+  clauses = 0 ∷ 0 ∷ 3 ∷ 0 ∷ [];
+  -- 1 2 3 4
+  pool = 49 ∷ 50 ∷ 51 ∷ 52 ∷ [];
+  subject = 0;
+})
 
 -- P12: no clause
 abbrev pub sheet12 : List ℕ
-sheet12 =
-    -- type 0: Int
-    0 ∷ 0 ∷ 0 ∷ 0 ∷ 0 ∷ 0 ∷
-    -- the seven starts, the subject's type, the length
-    0 ∷ 0 ∷ 6 ∷ 0 ∷ 6 ∷ 0 ∷ 6 ∷ 0 ∷ 6 ∷ 0 ∷ 6 ∷ 0 ∷ 6 ∷ 0 ∷ 0 ∷ 0 ∷ 24 ∷ 0 ∷ []
+sheet12 = sheetFileOf (record {
+  types =
+      -- type 0: Int
+      0 ∷ 0 ∷ 0 ∷ 0 ∷ 0 ∷ 0 ∷ [];
+  constructors = [];
+  entries = [];
+  patterns = [];
+  children = [];
+  clauses = [];
+  pool = [];
+  subject = 0;
+})
 
 -- one more, for the step-back notes: (1,1), (1,2), (2,3)
 abbrev pub sheet13 : List ℕ
-sheet13 =
-    -- type 0: Tuple, entries 0 to 1
-    4 ∷ 0 ∷ 0 ∷ 0 ∷ 2 ∷ 0 ∷
-    -- type 1: Int
-    0 ∷ 0 ∷ 0 ∷ 0 ∷ 0 ∷ 0 ∷
-    -- the type list
-    1 ∷ 0 ∷ 1 ∷ 0 ∷
-    -- pattern 0: tuple, children 1, 2
-    9 ∷ 0 ∷ 0 ∷ 0 ∷ 0 ∷ 0 ∷ 2 ∷ 0 ∷
-    -- pattern 1: integer 1
-    3 ∷ 0 ∷ 0 ∷ 0 ∷ 0 ∷ 0 ∷ 1 ∷ 0 ∷
-    -- pattern 2: integer 1
-    3 ∷ 0 ∷ 0 ∷ 0 ∷ 0 ∷ 0 ∷ 1 ∷ 0 ∷
-    -- pattern 3: tuple, children 4, 5
-    9 ∷ 0 ∷ 0 ∷ 0 ∷ 2 ∷ 0 ∷ 2 ∷ 0 ∷
-    -- pattern 4: integer 1
-    3 ∷ 0 ∷ 0 ∷ 0 ∷ 0 ∷ 0 ∷ 1 ∷ 0 ∷
-    -- pattern 5: integer 2
-    3 ∷ 0 ∷ 0 ∷ 0 ∷ 1 ∷ 0 ∷ 1 ∷ 0 ∷
-    -- pattern 6: tuple, children 7, 8
-    9 ∷ 0 ∷ 0 ∷ 0 ∷ 4 ∷ 0 ∷ 2 ∷ 0 ∷
-    -- pattern 7: integer 2
-    3 ∷ 0 ∷ 0 ∷ 0 ∷ 1 ∷ 0 ∷ 1 ∷ 0 ∷
-    -- pattern 8: integer 3
-    3 ∷ 0 ∷ 0 ∷ 0 ∷ 2 ∷ 0 ∷ 1 ∷ 0 ∷
-    -- the child list
-    1 ∷ 0 ∷ 2 ∷ 0 ∷ 4 ∷ 0 ∷ 5 ∷ 0 ∷ 7 ∷ 0 ∷ 8 ∷ 0 ∷
-    -- the clauses' roots
-    0 ∷ 0 ∷ 3 ∷ 0 ∷ 6 ∷ 0 ∷
-    -- the pool: 1 2 3
-    49 ∷ 50 ∷ 51 ∷
-    -- the seven starts, the subject's type, the length
-    0 ∷ 0 ∷ 12 ∷ 0 ∷ 12 ∷ 0 ∷ 16 ∷ 0 ∷ 88 ∷ 0 ∷ 100 ∷ 0 ∷ 106 ∷ 0 ∷ 0 ∷ 0 ∷ 127 ∷ 0 ∷ []
+sheet13 = sheetFileOf (record {
+  types =
+      -- type 0: Tuple, entries 0 to 1
+      4 ∷ 0 ∷ 0 ∷ 0 ∷ 2 ∷ 0 ∷
+      -- type 1: Int
+      0 ∷ 0 ∷ 0 ∷ 0 ∷ 0 ∷ 0 ∷ [];
+  constructors = [];
+  entries = 1 ∷ 0 ∷ 1 ∷ 0 ∷ [];
+  patterns =
+      -- pattern 0: tuple, children 1, 2
+      9 ∷ 0 ∷ 0 ∷ 0 ∷ 0 ∷ 0 ∷ 2 ∷ 0 ∷
+      -- pattern 1: integer 1
+      3 ∷ 0 ∷ 0 ∷ 0 ∷ 0 ∷ 0 ∷ 1 ∷ 0 ∷
+      -- pattern 2: integer 1
+      3 ∷ 0 ∷ 0 ∷ 0 ∷ 0 ∷ 0 ∷ 1 ∷ 0 ∷
+      -- pattern 3: tuple, children 4, 5
+      9 ∷ 0 ∷ 0 ∷ 0 ∷ 2 ∷ 0 ∷ 2 ∷ 0 ∷
+      -- pattern 4: integer 1
+      3 ∷ 0 ∷ 0 ∷ 0 ∷ 0 ∷ 0 ∷ 1 ∷ 0 ∷
+      -- pattern 5: integer 2
+      3 ∷ 0 ∷ 0 ∷ 0 ∷ 1 ∷ 0 ∷ 1 ∷ 0 ∷
+      -- pattern 6: tuple, children 7, 8
+      9 ∷ 0 ∷ 0 ∷ 0 ∷ 4 ∷ 0 ∷ 2 ∷ 0 ∷
+      -- pattern 7: integer 2
+      3 ∷ 0 ∷ 0 ∷ 0 ∷ 1 ∷ 0 ∷ 1 ∷ 0 ∷
+      -- pattern 8: integer 3
+      3 ∷ 0 ∷ 0 ∷ 0 ∷ 2 ∷ 0 ∷ 1 ∷ 0 ∷ [];
+  children = 1 ∷ 0 ∷ 2 ∷ 0 ∷ 4 ∷ 0 ∷ 5 ∷ 0 ∷ 7 ∷ 0 ∷ 8 ∷ 0 ∷ [];
+  clauses = 0 ∷ 0 ∷ 3 ∷ 0 ∷ 6 ∷ 0 ∷ [];
+  -- 1 2 3
+  pool = 49 ∷ 50 ∷ 51 ∷ [];
+  subject = 0;
+})
 
 -- one more, for the count: (1,_), (_,2), (_,3)
 abbrev pub sheet14 : List ℕ
-sheet14 =
-    -- type 0: Tuple, entries 0 to 1
-    4 ∷ 0 ∷ 0 ∷ 0 ∷ 2 ∷ 0 ∷
-    -- type 1: Int
-    0 ∷ 0 ∷ 0 ∷ 0 ∷ 0 ∷ 0 ∷
-    -- the type list
-    1 ∷ 0 ∷ 1 ∷ 0 ∷
-    -- pattern 0: tuple, children 1, 2
-    9 ∷ 0 ∷ 0 ∷ 0 ∷ 0 ∷ 0 ∷ 2 ∷ 0 ∷
-    -- pattern 1: integer 1
-    3 ∷ 0 ∷ 0 ∷ 0 ∷ 0 ∷ 0 ∷ 1 ∷ 0 ∷
-    -- pattern 2: discard
-    0 ∷ 0 ∷ 0 ∷ 0 ∷ 0 ∷ 0 ∷ 0 ∷ 0 ∷
-    -- pattern 3: tuple, children 4, 5
-    9 ∷ 0 ∷ 0 ∷ 0 ∷ 2 ∷ 0 ∷ 2 ∷ 0 ∷
-    -- pattern 4: discard
-    0 ∷ 0 ∷ 0 ∷ 0 ∷ 0 ∷ 0 ∷ 0 ∷ 0 ∷
-    -- pattern 5: integer 2
-    3 ∷ 0 ∷ 0 ∷ 0 ∷ 1 ∷ 0 ∷ 1 ∷ 0 ∷
-    -- pattern 6: tuple, children 7, 8
-    9 ∷ 0 ∷ 0 ∷ 0 ∷ 4 ∷ 0 ∷ 2 ∷ 0 ∷
-    -- pattern 7: discard
-    0 ∷ 0 ∷ 0 ∷ 0 ∷ 0 ∷ 0 ∷ 0 ∷ 0 ∷
-    -- pattern 8: integer 3
-    3 ∷ 0 ∷ 0 ∷ 0 ∷ 2 ∷ 0 ∷ 1 ∷ 0 ∷
-    -- the child list
-    1 ∷ 0 ∷ 2 ∷ 0 ∷ 4 ∷ 0 ∷ 5 ∷ 0 ∷ 7 ∷ 0 ∷ 8 ∷ 0 ∷
-    -- the clauses' roots
-    0 ∷ 0 ∷ 3 ∷ 0 ∷ 6 ∷ 0 ∷
-    -- the pool: 1 2 3
-    49 ∷ 50 ∷ 51 ∷
-    -- the seven starts, the subject's type, the length
-    0 ∷ 0 ∷ 12 ∷ 0 ∷ 12 ∷ 0 ∷ 16 ∷ 0 ∷ 88 ∷ 0 ∷ 100 ∷ 0 ∷ 106 ∷ 0 ∷ 0 ∷ 0 ∷ 127 ∷ 0 ∷ []
+sheet14 = sheetFileOf (record {
+  types =
+      -- type 0: Tuple, entries 0 to 1
+      4 ∷ 0 ∷ 0 ∷ 0 ∷ 2 ∷ 0 ∷
+      -- type 1: Int
+      0 ∷ 0 ∷ 0 ∷ 0 ∷ 0 ∷ 0 ∷ [];
+  constructors = [];
+  entries = 1 ∷ 0 ∷ 1 ∷ 0 ∷ [];
+  patterns =
+      -- pattern 0: tuple, children 1, 2
+      9 ∷ 0 ∷ 0 ∷ 0 ∷ 0 ∷ 0 ∷ 2 ∷ 0 ∷
+      -- pattern 1: integer 1
+      3 ∷ 0 ∷ 0 ∷ 0 ∷ 0 ∷ 0 ∷ 1 ∷ 0 ∷
+      -- pattern 2: discard
+      0 ∷ 0 ∷ 0 ∷ 0 ∷ 0 ∷ 0 ∷ 0 ∷ 0 ∷
+      -- pattern 3: tuple, children 4, 5
+      9 ∷ 0 ∷ 0 ∷ 0 ∷ 2 ∷ 0 ∷ 2 ∷ 0 ∷
+      -- pattern 4: discard
+      0 ∷ 0 ∷ 0 ∷ 0 ∷ 0 ∷ 0 ∷ 0 ∷ 0 ∷
+      -- pattern 5: integer 2
+      3 ∷ 0 ∷ 0 ∷ 0 ∷ 1 ∷ 0 ∷ 1 ∷ 0 ∷
+      -- pattern 6: tuple, children 7, 8
+      9 ∷ 0 ∷ 0 ∷ 0 ∷ 4 ∷ 0 ∷ 2 ∷ 0 ∷
+      -- pattern 7: discard
+      0 ∷ 0 ∷ 0 ∷ 0 ∷ 0 ∷ 0 ∷ 0 ∷ 0 ∷
+      -- pattern 8: integer 3
+      3 ∷ 0 ∷ 0 ∷ 0 ∷ 2 ∷ 0 ∷ 1 ∷ 0 ∷ [];
+  children = 1 ∷ 0 ∷ 2 ∷ 0 ∷ 4 ∷ 0 ∷ 5 ∷ 0 ∷ 7 ∷ 0 ∷ 8 ∷ 0 ∷ [];
+  clauses = 0 ∷ 0 ∷ 3 ∷ 0 ∷ 6 ∷ 0 ∷ [];
+  -- 1 2 3
+  pool = 49 ∷ 50 ∷ 51 ∷ [];
+  subject = 0;
+})
 
 -- one more, for the order of a hoist's bindings: (1,_,C1 5), (2,C0 5,_), (_,C0 n1,C1 n2)
 abbrev pub sheet16 : List ℕ
-sheet16 =
-    -- type 0: Tuple, entries 0 to 2
-    4 ∷ 0 ∷ 0 ∷ 0 ∷ 3 ∷ 0 ∷
-    -- type 1: Int
-    0 ∷ 0 ∷ 0 ∷ 0 ∷ 0 ∷ 0 ∷
-    -- type 2: Data, constructors 0 to 1
-    5 ∷ 0 ∷ 0 ∷ 0 ∷ 2 ∷ 0 ∷
-    -- constructor 0: fields
-    0 ∷ 0 ∷ 1 ∷ 0 ∷
-    -- constructor 1: fields
-    0 ∷ 0 ∷ 1 ∷ 0 ∷
-    -- the type list
-    1 ∷ 0 ∷ 2 ∷ 0 ∷ 2 ∷ 0 ∷
-    -- pattern 0: tuple, children 1, 2, 3
-    9 ∷ 0 ∷ 0 ∷ 0 ∷ 0 ∷ 0 ∷ 3 ∷ 0 ∷
-    -- pattern 1: integer 1
-    3 ∷ 0 ∷ 0 ∷ 0 ∷ 0 ∷ 0 ∷ 1 ∷ 0 ∷
-    -- pattern 2: discard
-    0 ∷ 0 ∷ 0 ∷ 0 ∷ 0 ∷ 0 ∷ 0 ∷ 0 ∷
-    -- pattern 3: constructor 1, children 4
-    7 ∷ 0 ∷ 1 ∷ 0 ∷ 3 ∷ 0 ∷ 1 ∷ 0 ∷
-    -- pattern 4: integer 5
-    3 ∷ 0 ∷ 0 ∷ 0 ∷ 1 ∷ 0 ∷ 1 ∷ 0 ∷
-    -- pattern 5: tuple, children 6, 7, 9
-    9 ∷ 0 ∷ 0 ∷ 0 ∷ 4 ∷ 0 ∷ 3 ∷ 0 ∷
-    -- pattern 6: integer 2
-    3 ∷ 0 ∷ 0 ∷ 0 ∷ 2 ∷ 0 ∷ 1 ∷ 0 ∷
-    -- pattern 7: constructor 0, children 8
-    7 ∷ 0 ∷ 0 ∷ 0 ∷ 7 ∷ 0 ∷ 1 ∷ 0 ∷
-    -- pattern 8: integer 5
-    3 ∷ 0 ∷ 0 ∷ 0 ∷ 1 ∷ 0 ∷ 1 ∷ 0 ∷
-    -- pattern 9: discard
-    0 ∷ 0 ∷ 0 ∷ 0 ∷ 0 ∷ 0 ∷ 0 ∷ 0 ∷
-    -- pattern 10: tuple, children 11, 12, 14
-    9 ∷ 0 ∷ 0 ∷ 0 ∷ 8 ∷ 0 ∷ 3 ∷ 0 ∷
-    -- pattern 11: discard
-    0 ∷ 0 ∷ 0 ∷ 0 ∷ 0 ∷ 0 ∷ 0 ∷ 0 ∷
-    -- pattern 12: constructor 0, children 13
-    7 ∷ 0 ∷ 0 ∷ 0 ∷ 11 ∷ 0 ∷ 1 ∷ 0 ∷
-    -- pattern 13: variable n1
-    1 ∷ 0 ∷ 1 ∷ 0 ∷ 0 ∷ 0 ∷ 0 ∷ 0 ∷
-    -- pattern 14: constructor 1, children 15
-    7 ∷ 0 ∷ 1 ∷ 0 ∷ 12 ∷ 0 ∷ 1 ∷ 0 ∷
-    -- pattern 15: variable n2
-    1 ∷ 0 ∷ 2 ∷ 0 ∷ 0 ∷ 0 ∷ 0 ∷ 0 ∷
-    -- the child list
-    1 ∷ 0 ∷ 2 ∷ 0 ∷ 3 ∷ 0 ∷ 4 ∷ 0 ∷ 6 ∷ 0 ∷ 7 ∷ 0 ∷ 9 ∷ 0 ∷ 8 ∷ 0 ∷ 11 ∷ 0 ∷ 12 ∷ 0 ∷ 14 ∷ 0 ∷ 13 ∷ 0 ∷ 15 ∷ 0 ∷
-    -- the clauses' roots
-    0 ∷ 0 ∷ 5 ∷ 0 ∷ 10 ∷ 0 ∷
-    -- the pool: 1 5 2
-    49 ∷ 53 ∷ 50 ∷
-    -- the seven starts, the subject's type, the length
-    0 ∷ 0 ∷ 18 ∷ 0 ∷ 26 ∷ 0 ∷ 32 ∷ 0 ∷ 160 ∷ 0 ∷ 186 ∷ 0 ∷ 192 ∷ 0 ∷ 0 ∷ 0 ∷ 213 ∷ 0 ∷ []
+sheet16 = sheetFileOf (record {
+  types =
+      -- type 0: Tuple, entries 0 to 2
+      4 ∷ 0 ∷ 0 ∷ 0 ∷ 3 ∷ 0 ∷
+      -- type 1: Int
+      0 ∷ 0 ∷ 0 ∷ 0 ∷ 0 ∷ 0 ∷
+      -- type 2: Data, constructors 0 to 1
+      5 ∷ 0 ∷ 0 ∷ 0 ∷ 2 ∷ 0 ∷ [];
+  constructors =
+      -- constructor 0: fields
+      0 ∷ 0 ∷ 1 ∷ 0 ∷
+      -- constructor 1: fields
+      0 ∷ 0 ∷ 1 ∷ 0 ∷ [];
+  entries = 1 ∷ 0 ∷ 2 ∷ 0 ∷ 2 ∷ 0 ∷ [];
+  patterns =
+      -- pattern 0: tuple, children 1, 2, 3
+      9 ∷ 0 ∷ 0 ∷ 0 ∷ 0 ∷ 0 ∷ 3 ∷ 0 ∷
+      -- pattern 1: integer 1
+      3 ∷ 0 ∷ 0 ∷ 0 ∷ 0 ∷ 0 ∷ 1 ∷ 0 ∷
+      -- pattern 2: discard
+      0 ∷ 0 ∷ 0 ∷ 0 ∷ 0 ∷ 0 ∷ 0 ∷ 0 ∷
+      -- pattern 3: constructor 1, children 4
+      7 ∷ 0 ∷ 1 ∷ 0 ∷ 3 ∷ 0 ∷ 1 ∷ 0 ∷
+      -- pattern 4: integer 5
+      3 ∷ 0 ∷ 0 ∷ 0 ∷ 1 ∷ 0 ∷ 1 ∷ 0 ∷
+      -- pattern 5: tuple, children 6, 7, 9
+      9 ∷ 0 ∷ 0 ∷ 0 ∷ 4 ∷ 0 ∷ 3 ∷ 0 ∷
+      -- pattern 6: integer 2
+      3 ∷ 0 ∷ 0 ∷ 0 ∷ 2 ∷ 0 ∷ 1 ∷ 0 ∷
+      -- pattern 7: constructor 0, children 8
+      7 ∷ 0 ∷ 0 ∷ 0 ∷ 7 ∷ 0 ∷ 1 ∷ 0 ∷
+      -- pattern 8: integer 5
+      3 ∷ 0 ∷ 0 ∷ 0 ∷ 1 ∷ 0 ∷ 1 ∷ 0 ∷
+      -- pattern 9: discard
+      0 ∷ 0 ∷ 0 ∷ 0 ∷ 0 ∷ 0 ∷ 0 ∷ 0 ∷
+      -- pattern 10: tuple, children 11, 12, 14
+      9 ∷ 0 ∷ 0 ∷ 0 ∷ 8 ∷ 0 ∷ 3 ∷ 0 ∷
+      -- pattern 11: discard
+      0 ∷ 0 ∷ 0 ∷ 0 ∷ 0 ∷ 0 ∷ 0 ∷ 0 ∷
+      -- pattern 12: constructor 0, children 13
+      7 ∷ 0 ∷ 0 ∷ 0 ∷ 11 ∷ 0 ∷ 1 ∷ 0 ∷
+      -- pattern 13: variable n1
+      1 ∷ 0 ∷ 1 ∷ 0 ∷ 0 ∷ 0 ∷ 0 ∷ 0 ∷
+      -- pattern 14: constructor 1, children 15
+      7 ∷ 0 ∷ 1 ∷ 0 ∷ 12 ∷ 0 ∷ 1 ∷ 0 ∷
+      -- pattern 15: variable n2
+      1 ∷ 0 ∷ 2 ∷ 0 ∷ 0 ∷ 0 ∷ 0 ∷ 0 ∷ [];
+  children = 1 ∷ 0 ∷ 2 ∷ 0 ∷ 3 ∷ 0 ∷ 4 ∷ 0 ∷ 6 ∷ 0 ∷ 7 ∷ 0 ∷ 9 ∷ 0 ∷ 8 ∷ 0 ∷ 11 ∷ 0 ∷ 12 ∷ 0 ∷ 14 ∷ 0 ∷ 13 ∷ 0 ∷ 15 ∷ 0 ∷ [];
+  clauses = 0 ∷ 0 ∷ 5 ∷ 0 ∷ 10 ∷ 0 ∷ [];
+  -- 1 5 2
+  pool = 49 ∷ 53 ∷ 50 ∷ [];
+  subject = 0;
+})
 
 -- one more, for a new case: `1`, discard, `2`
 abbrev pub sheet15 : List ℕ
-sheet15 =
-    -- type 0: Int
-    0 ∷ 0 ∷ 0 ∷ 0 ∷ 0 ∷ 0 ∷
-    -- pattern 0: integer 1
-    3 ∷ 0 ∷ 0 ∷ 0 ∷ 0 ∷ 0 ∷ 1 ∷ 0 ∷
-    -- pattern 1: discard
-    0 ∷ 0 ∷ 0 ∷ 0 ∷ 0 ∷ 0 ∷ 0 ∷ 0 ∷
-    -- pattern 2: integer 2
-    3 ∷ 0 ∷ 0 ∷ 0 ∷ 1 ∷ 0 ∷ 1 ∷ 0 ∷
-    -- the clauses' roots
-    0 ∷ 0 ∷ 1 ∷ 0 ∷ 2 ∷ 0 ∷
-    -- the pool: 1 2
-    49 ∷ 50 ∷
-    -- the seven starts, the subject's type, the length
-    0 ∷ 0 ∷ 6 ∷ 0 ∷ 6 ∷ 0 ∷ 6 ∷ 0 ∷ 30 ∷ 0 ∷ 30 ∷ 0 ∷ 36 ∷ 0 ∷ 0 ∷ 0 ∷ 56 ∷ 0 ∷ []
+sheet15 = sheetFileOf (record {
+  types =
+      -- type 0: Int
+      0 ∷ 0 ∷ 0 ∷ 0 ∷ 0 ∷ 0 ∷ [];
+  constructors = [];
+  entries = [];
+  patterns =
+      -- pattern 0: integer 1
+      3 ∷ 0 ∷ 0 ∷ 0 ∷ 0 ∷ 0 ∷ 1 ∷ 0 ∷
+      -- pattern 1: discard
+      0 ∷ 0 ∷ 0 ∷ 0 ∷ 0 ∷ 0 ∷ 0 ∷ 0 ∷
+      -- pattern 2: integer 2
+      3 ∷ 0 ∷ 0 ∷ 0 ∷ 1 ∷ 0 ∷ 1 ∷ 0 ∷ [];
+  children = [];
+  clauses = 0 ∷ 0 ∷ 1 ∷ 0 ∷ 2 ∷ 0 ∷ [];
+  -- 1 2
+  pool = 49 ∷ 50 ∷ [];
+  subject = 0;
+})
 
 -- the tree file of P1's sheet
 abbrev pub file1 : List ℕ

@@ -2,7 +2,7 @@
 -- A sheet is the list of its bytes; a field that is not there reads 0.
 use Prim.Native.Nat.{ℕ, _+_, _-_, _*_, _/_}
 use mathlib.Core.Bool.{Bool}
-use mathlib.Core.List.{List}
+use mathlib.Core.List.{List, [], _∷_}
 use lib.ListN.{length, getD}
 use lib.Dec.{eqb, leb, ltb}
 use Rattle.base_words.specs.Words.{wordAt, textAt, both, either}
@@ -52,6 +52,13 @@ poolAt s = sheetStart s 6
 
 unfoldable pub poolEnd : List ℕ → ℕ
 poolEnd s = length s - sheetTrailer
+
+-- in this order: the sizes of their records (of the pool, of a byte), and where they start; the last ends where the trailer starts
+abbrev pub sheetSizes : List ℕ
+sheetSizes = typeSize ∷ constructorSize ∷ entrySize ∷ patternSize ∷ childSize ∷ clauseSize ∷ 1 ∷ []
+
+abbrev pub sheetPlaces : List ℕ → List ℕ
+sheetPlaces s = typesAt s ∷ constructorsAt s ∷ entriesAt s ∷ patternsAt s ∷ childrenAt s ∷ clausesAt s ∷ poolAt s ∷ poolEnd s ∷ []
 
 -- how many records each section has
 unfoldable pub types : List ℕ → ℕ

@@ -1,5 +1,5 @@
 -- 01, "Refusal numbers, in the order they are tried": 2 to 11, of a sheet.
--- Each is a test of the sheet's bytes; `verdict` tries them in 01's order.
+-- Each is a test of the sheet's bytes; `verdict` tries them in 01's order, in four stages that a call may take apart.
 use Prim.Native.Nat.{ℕ, zero, suc, _+_, _-_, _%_}
 use mathlib.Core.Bool.{Bool, true, false, not}
 use mathlib.Core.List.{List, [], _∷_}
@@ -7,9 +7,11 @@ use mathlib.Core.Option.{Option, none, some}
 use lib.ListN.{length}
 use lib.Dec.{eqb, leb, ltb}
 use Rattle.base_words.specs.Words.{both, either, pick}
-use Rattle.spec_rules.specs.Limits.{typeSize, constructorSize, entrySize, patternSize, childSize, clauseSize, sheetTrailer, sheetMost, typesMost, constructorsMost, entriesMost, patternsMost, childrenMost, clausesMost, depthMost}
+use Rattle.spec_rules.specs.Limits.{sheetTrailer, sheetMost, typesMost, constructorsMost, entriesMost, patternsMost, childrenMost, clausesMost, depthMost}
+use Rattle.spec_rules.specs.Kinds.{bytesType, listType, pairType, tupleType, dataType, noFlag, opaqueFlag, bothFlags, variablePattern}
+use Rattle.spec_rules.specs.RefusalNumbers.{lengthRefusal, layoutRefusal, noClauseRefusal, countRefusal, typesRefusal, transparentRefusal, shapeRefusal, textRefusal, misfitRefusal, nameTwiceRefusal}
 use Rattle.spec_rules.specs.Searching.{every, lowest, times}
-use Rattle.spec_rules.specs.SheetFile.{subject, sheetLength, typesAt, constructorsAt, entriesAt, patternsAt, childrenAt, clausesAt, poolAt, poolEnd, types, constructors, entries, patterns, children, clauses, poolSize, typeKind, typeFlag, typeFirst, typeCount, constructorFirst, constructorCount, entry, patternKind, patternZero, patternA, patternFirst, patternCount, child, root, poolText, runIn}
+use Rattle.spec_rules.specs.SheetFile.{subject, sheetLength, typesAt, constructorsAt, entriesAt, patternsAt, childrenAt, clausesAt, poolAt, poolEnd, sheetSizes, sheetPlaces, types, constructors, entries, patterns, children, clauses, poolSize, typeKind, typeFlag, typeFirst, typeCount, constructorFirst, constructorCount, entry, patternKind, patternZero, patternA, patternFirst, patternCount, child, root, poolText, runIn}
 use Rattle.spec_rules.specs.Patterns.{PatternKind, Discard, Variable, Assign, Integer, ByteString, ListOfAll, ListWithRest, Constructor, Pair, Tuple, Unknown, patternKindOf, clausePattern, fits, names}
 use Rattle.spec_rules.specs.Texts.{canonical, shortText}
 
@@ -23,17 +25,17 @@ lengthFits s = both (leb sheetTrailer (length s)) (both (leb (length s) sheetMos
 unfoldable pub wholeRecords : ℕ → ℕ → ℕ → Bool
 wholeRecords size from to = both (leb from to) (eqb ((to - from) % size) 0)
 
+-- the same from each of these places to the next, each by its own size
+abbrev pub wholeBetween : List ℕ → List ℕ → Bool
+wholeBetween [] places = true
+wholeBetween (size ∷ sizes) [] = false
+wholeBetween (size ∷ sizes) (from ∷ []) = false
+wholeBetween (size ∷ []) (from ∷ to ∷ places) = wholeRecords size from to
+wholeBetween (size ∷ next ∷ sizes) (from ∷ to ∷ places) = both (wholeRecords size from to) (wholeBetween (next ∷ sizes) (to ∷ places))
+
 unfoldable pub layoutFits : List ℕ → Bool
 unfolding typesAt constructorsAt entriesAt patternsAt childrenAt clausesAt poolAt poolEnd wholeRecords
-layoutFits s =
-    both (eqb (typesAt s) 0)
-    (both (wholeRecords typeSize (typesAt s) (constructorsAt s))
-    (both (wholeRecords constructorSize (constructorsAt s) (entriesAt s))
-    (both (wholeRecords entrySize (entriesAt s) (patternsAt s))
-    (both (wholeRecords patternSize (patternsAt s) (childrenAt s))
-    (both (wholeRecords childSize (childrenAt s) (clausesAt s))
-    (both (wholeRecords clauseSize (clausesAt s) (poolAt s))
-    (wholeRecords 1 (poolAt s) (poolEnd s))))))))
+layoutFits s = both (eqb (typesAt s) 0) (wholeBetween sheetSizes (sheetPlaces s))
 
 -- ---- 4 No clause: "clause section empty"
 unfoldable pub hasClause : List ℕ → Bool
@@ -57,17 +59,17 @@ countsFit s =
 unfoldable pub typeParts : List ℕ → ℕ → Bool
 unfolding types constructors entries typeKind typeFirst typeCount runIn
 typeParts s t =
-    pick (leb (typeKind s t) 1) (both (eqb (typeFirst s t) 0) (eqb (typeCount s t) 0))
-    (pick (eqb (typeKind s t) 2) (both (eqb (typeCount s t) 1) (runIn (typeFirst s t) (typeCount s t) (entries s)))
-    (pick (eqb (typeKind s t) 3) (both (eqb (typeCount s t) 2) (runIn (typeFirst s t) (typeCount s t) (entries s)))
-    (pick (eqb (typeKind s t) 4) (both (leb 2 (typeCount s t)) (runIn (typeFirst s t) (typeCount s t) (entries s)))
-    (pick (eqb (typeKind s t) 5) (both (leb 1 (typeCount s t)) (runIn (typeFirst s t) (typeCount s t) (constructors s)))
+    pick (leb (typeKind s t) bytesType) (both (eqb (typeFirst s t) 0) (eqb (typeCount s t) 0))
+    (pick (eqb (typeKind s t) listType) (both (eqb (typeCount s t) 1) (runIn (typeFirst s t) (typeCount s t) (entries s)))
+    (pick (eqb (typeKind s t) pairType) (both (eqb (typeCount s t) 2) (runIn (typeFirst s t) (typeCount s t) (entries s)))
+    (pick (eqb (typeKind s t) tupleType) (both (leb 2 (typeCount s t)) (runIn (typeFirst s t) (typeCount s t) (entries s)))
+    (pick (eqb (typeKind s t) dataType) (both (leb 1 (typeCount s t)) (runIn (typeFirst s t) (typeCount s t) (constructors s)))
     false))))
 
 -- "Flags, Data only: 1 opaque, 2 list-decorated, 3 both"
 unfoldable pub typeFlags : List ℕ → ℕ → Bool
 unfolding typeKind typeFlag
-typeFlags s t = either (eqb (typeFlag s t) 0) (both (eqb (typeKind s t) 5) (leb (typeFlag s t) 3))
+typeFlags s t = either (eqb (typeFlag s t) noFlag) (both (eqb (typeKind s t) dataType) (leb (typeFlag s t) bothFlags))
 
 unfoldable pub typeKeepsRules : List ℕ → ℕ → Bool
 unfolding typeParts typeFlags
@@ -95,8 +97,8 @@ typesFit s =
 unfoldable pub transparent : List ℕ → ℕ → Bool
 unfolding typeKind typeFlag typeFirst typeCount constructorCount
 transparent s t =
-    both (eqb (typeKind s t) 5)
-    (both (eqb (typeFlag s t) 1)
+    both (eqb (typeKind s t) dataType)
+    (both (eqb (typeFlag s t) opaqueFlag)
     (both (eqb (typeCount s t) 1)
     (eqb (constructorCount s (typeFirst s t)) 1)))
 
@@ -123,7 +125,7 @@ hasChildren Unknown = false
 -- the last child of a list with tail is a variable or discard
 unfoldable pub tailFits : List ℕ → ℕ → Bool
 unfolding patternKind patternFirst patternCount child
-tailFits s p = leb (patternKind s (child s (patternFirst s p + (patternCount s p - 1)))) 1
+tailFits s p = leb (patternKind s (child s (patternFirst s p + (patternCount s p - 1)))) variablePattern
 
 -- a, first and count of a pattern, by its kind. "Unused fields are 0, and in any record first is 0 where count is 0"
 unfoldable pub fieldsFit : List ℕ → ℕ → PatternKind → Bool
@@ -271,17 +273,42 @@ abbrev pub requireNone : Option ℕ → ℕ → Verdict → Verdict
 requireNone none number v = v
 requireNone (some place) number v = refused number place
 
+-- a verdict, and where it accepts the next
+abbrev pub andThen : Verdict → Verdict → Verdict
+andThen accepted w = w
+andThen (refused number place) w = refused number place
+
+-- 2 to 6: the sections read, and the types keep their rules
+unfoldable pub readableVerdict : List ℕ → Verdict
+unfolding lengthFits layoutFits hasClause countsFit typesFit
+readableVerdict s =
+    require (lengthFits s) lengthRefusal
+    (require (layoutFits s) layoutRefusal
+    (require (hasClause s) noClauseRefusal
+    (require (countsFit s) countRefusal
+    (require (typesFit s) typesRefusal
+    accepted))))
+
+-- 7: no type is transparent
+unfoldable pub transparentVerdict : List ℕ → Verdict
+unfolding lowestTransparent
+transparentVerdict s = requireNone (lowestTransparent s) transparentRefusal accepted
+
+-- 8: the patterns keep their rules
+unfoldable pub shapeVerdict : List ℕ → Verdict
+unfolding shapeFits
+shapeVerdict s = require (shapeFits s) shapeRefusal accepted
+
+-- 9 to 11: the texts are canonical and short, and each clause fits and binds no name twice
+unfoldable pub clausesVerdict : List ℕ → Verdict
+unfolding lowestBadText lowestMisfit lowestNameTwice
+clausesVerdict s =
+    requireNone (lowestBadText s) textRefusal
+    (requireNone (lowestMisfit s) misfitRefusal
+    (requireNone (lowestNameTwice s) nameTwiceRefusal
+    accepted))
+
+-- all of them; SheetRefusalsLaws `verdict-in-order` has the ten as one list
 unfoldable pub verdict : List ℕ → Verdict
-unfolding lengthFits layoutFits hasClause countsFit typesFit lowestTransparent shapeFits lowestBadText lowestMisfit lowestNameTwice
-verdict s =
-    require (lengthFits s) 2
-    (require (layoutFits s) 3
-    (require (hasClause s) 4
-    (require (countsFit s) 5
-    (require (typesFit s) 6
-    (requireNone (lowestTransparent s) 7
-    (require (shapeFits s) 8
-    (requireNone (lowestBadText s) 9
-    (requireNone (lowestMisfit s) 10
-    (requireNone (lowestNameTwice s) 11
-    accepted)))))))))
+unfolding readableVerdict transparentVerdict shapeVerdict clausesVerdict
+verdict s = andThen (readableVerdict s) (andThen (transparentVerdict s) (andThen (shapeVerdict s) (clausesVerdict s)))

@@ -5,7 +5,8 @@ use mathlib.Core.Bool.{Bool, true, false}
 use mathlib.Core.List.{List, [], _∷_, _++_}
 use lib.ListN.{length}
 use Rattle.base_words.specs.Words.{wordBytes, either}
-use Rattle.spec_rules.specs.Limits.{treeTrailer}
+use Rattle.spec_rules.specs.Kinds.{switchNode, listSwitchNode, leafNode, hoistNode, constrCase, intCase, bytesCase, listCase, listWithTailCase, pairStep, tupleStep, constrStep, listStep, listtailStep}
+use Rattle.spec_rules.specs.Sections.{fileOf}
 use Rattle.spec_rules.specs.Rows.{Step, pair, tuple, constr, list, listtail, Path, bit, samePath, Binding}
 use Rattle.spec_rules.specs.Splitting.{Test, Constr, Int, Bytes, ListOf, ListWithTail}
 use Rattle.spec_rules.specs.Building.{Tree, Cases, absent, leaf, hoist, switch, listswitch, cnil, ccons}
@@ -93,14 +94,14 @@ unfoldable mutual
 
   pub nodesFrom : List Path → ℕ → ℕ → ℕ → Tree → List ℕ
   nodesFrom table k c b absent = []
-  nodesFrom table k c b (leaf x bs) = nodeBytes 2 x (firstOf (length bs) b) (length bs) 0 0
-  nodesFrom table k c b (hoist x bs a) = nodeBytes 3 x (firstOf (length bs) b) (length bs) (k + 1) 0 ++ nodesFrom table (k + 1) c (b + length bs) a
+  nodesFrom table k c b (leaf x bs) = nodeBytes leafNode x (firstOf (length bs) b) (length bs) 0 0
+  nodesFrom table k c b (hoist x bs a) = nodeBytes hoistNode x (firstOf (length bs) b) (length bs) (k + 1) 0 ++ nodesFrom table (k + 1) c (b + length bs) a
   nodesFrom table k c b (switch p cs d) =
-      nodeBytes 0 (pathNumber table p) (firstOf (howMany cs) c) (howMany cs) 0 (defaultField (k + 1 + nodesInOf cs) d)
+      nodeBytes switchNode (pathNumber table p) (firstOf (howMany cs) c) (howMany cs) 0 (defaultField (k + 1 + nodesInOf cs) d)
       ++ (nodesFromOf table (k + 1) (c + howMany cs) b cs
       ++ nodesFrom table (k + 1 + nodesInOf cs) (c + howMany cs + casesInOf cs) (b + length (bindingsInOf cs)) d)
   nodesFrom table k c b (listswitch p cs ts d) =
-      nodeBytes 1 (pathNumber table p) (firstOf (howMany cs + howMany ts) c) (howMany cs) (howMany ts) (defaultField (k + 1 + nodesInOf cs + nodesInOf ts) d)
+      nodeBytes listSwitchNode (pathNumber table p) (firstOf (howMany cs + howMany ts) c) (howMany cs) (howMany ts) (defaultField (k + 1 + nodesInOf cs + nodesInOf ts) d)
       ++ (nodesFromOf table (k + 1) (c + howMany cs + howMany ts) b cs
       ++ (nodesFromOf table (k + 1 + nodesInOf cs) (c + howMany cs + howMany ts + casesInOf cs) (b + length (bindingsInOf cs)) ts
       ++ nodesFrom table (k + 1 + nodesInOf cs + nodesInOf ts) (c + howMany cs + howMany ts + casesInOf cs + casesInOf ts) (b + length (bindingsInOf cs) + length (bindingsInOf ts)) d))
@@ -112,11 +113,11 @@ unfoldable mutual
 
 -- "Cases, 8 bytes: kind (0 Constr, 1 Int, 2 Bytes, 3 List, 4 ListWithTail), zero byte, number or text start, text length, child"
 unfoldable pub caseBytes : Test → ℕ → ℕ → List ℕ
-caseBytes (Constr a) start child = 0 ∷ 0 ∷ (wordBytes a ++ (wordBytes 0 ++ wordBytes child))
-caseBytes (Int w) start child = 1 ∷ 0 ∷ (wordBytes start ++ (wordBytes (length w) ++ wordBytes child))
-caseBytes (Bytes w) start child = 2 ∷ 0 ∷ (wordBytes start ++ (wordBytes (length w) ++ wordBytes child))
-caseBytes (ListOf n) start child = 3 ∷ 0 ∷ (wordBytes n ++ (wordBytes 0 ++ wordBytes child))
-caseBytes (ListWithTail n) start child = 4 ∷ 0 ∷ (wordBytes n ++ (wordBytes 0 ++ wordBytes child))
+caseBytes (Constr a) start child = constrCase ∷ 0 ∷ (wordBytes a ++ (wordBytes 0 ++ wordBytes child))
+caseBytes (Int w) start child = intCase ∷ 0 ∷ (wordBytes start ++ (wordBytes (length w) ++ wordBytes child))
+caseBytes (Bytes w) start child = bytesCase ∷ 0 ∷ (wordBytes start ++ (wordBytes (length w) ++ wordBytes child))
+caseBytes (ListOf n) start child = listCase ∷ 0 ∷ (wordBytes n ++ (wordBytes 0 ++ wordBytes child))
+caseBytes (ListWithTail n) start child = listWithTailCase ∷ 0 ∷ (wordBytes n ++ (wordBytes 0 ++ wordBytes child))
 
 -- the cases of one switch, whose first child is node k
 unfoldable pub ownCases : ℕ → Cases → List ℕ
@@ -159,11 +160,11 @@ pathsBytes at (p ∷ ps) = wordBytes (firstOf (length p) at) ++ (wordBytes (leng
 -- "Steps, 6 bytes: kind 0 pair, 1 tuple, 2 constr, 3 list, 4 listtail; flag; index; type of the part stepped from"
 unfoldable pub stepBytes : Step → List ℕ
 unfolding bit
-stepBytes (pair i t) = 0 ∷ 0 ∷ (wordBytes i ++ wordBytes t)
-stepBytes (tuple i t) = 1 ∷ 0 ∷ (wordBytes i ++ wordBytes t)
-stepBytes (constr i b t) = 2 ∷ bit b ∷ (wordBytes i ++ wordBytes t)
-stepBytes (list i t) = 3 ∷ 0 ∷ (wordBytes i ++ wordBytes t)
-stepBytes (listtail i t) = 4 ∷ 0 ∷ (wordBytes i ++ wordBytes t)
+stepBytes (pair i t) = pairStep ∷ 0 ∷ (wordBytes i ++ wordBytes t)
+stepBytes (tuple i t) = tupleStep ∷ 0 ∷ (wordBytes i ++ wordBytes t)
+stepBytes (constr i b t) = constrStep ∷ bit b ∷ (wordBytes i ++ wordBytes t)
+stepBytes (list i t) = listStep ∷ 0 ∷ (wordBytes i ++ wordBytes t)
+stepBytes (listtail i t) = listtailStep ∷ 0 ∷ (wordBytes i ++ wordBytes t)
 
 unfoldable pub pathSteps : Path → List ℕ
 unfolding stepBytes
@@ -176,15 +177,7 @@ stepsBytes [] = []
 stepsBytes (p ∷ ps) = pathSteps p ++ stepsBytes ps
 
 -- ---- the file
--- sections back to back; where each starts, the first at `at`
-unfoldable pub backToBack : List (List ℕ) → List ℕ
-backToBack [] = []
-backToBack (x ∷ xs) = x ++ backToBack xs
-
-unfoldable pub startsFrom : ℕ → List (List ℕ) → List ℕ
-startsFrom at [] = []
-startsFrom at (x ∷ xs) = wordBytes at ++ startsFrom (at + length x) xs
-
+-- nodes, cases, bindings, paths, steps; "Then the sheet's pool"
 unfoldable pub treeSections : List ℕ → List Path → Tree → List (List ℕ)
 unfolding nodesFrom casesFrom bindingsIn bindingsBytes pathsBytes stepsBytes
 treeSections pool table a =
@@ -195,11 +188,6 @@ treeSections pool table a =
     ∷ stepsBytes table
     ∷ pool
     ∷ []
-
--- "Then the sheet's pool. Trailer, 14 bytes: six starts, file length"
-unfoldable pub fileOf : List (List ℕ) → List ℕ
-unfolding backToBack startsFrom
-fileOf sections = backToBack sections ++ (startsFrom 0 sections ++ wordBytes (length (backToBack sections) + treeTrailer))
 
 unfoldable pub treeFile : List ℕ → Tree → List ℕ
 unfolding fileOf treeSections pathTable

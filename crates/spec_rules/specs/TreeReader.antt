@@ -7,9 +7,10 @@ use lib.ListN.{length, getD}
 use lib.Dec.{eqb, leb, ltb}
 use Rattle.base_words.specs.Words.{wordAt, textAt, both, either, pick}
 use Rattle.spec_rules.specs.Limits.{nodeSize, caseSize, bindingSize, pathSize, stepSize, treeTrailer, nodeBindingsMost}
+use Rattle.spec_rules.specs.Kinds.{switchNode, listSwitchNode, leafNode, hoistNode, pathWord, firstCaseWord, casesWord, tailCasesWord, defaultWord, clauseWord, firstBindingWord, bindingsWord, childWord, constrCase, intCase, bytesCase, listCase, listWithTailCase, pairStep, tupleStep, constrStep, listStep, listtailStep}
 use Rattle.spec_rules.specs.Searching.{every}
 use Rattle.spec_rules.specs.SheetFile.{runIn}
-use Rattle.spec_rules.specs.SheetRefusals.{wholeRecords}
+use Rattle.spec_rules.specs.SheetRefusals.{wholeRecords, wholeBetween}
 use Rattle.spec_rules.specs.Rows.{Step, pair, tuple, constr, list, listtail, Path, Binding}
 use Rattle.spec_rules.specs.Splitting.{Test, Constr, Int, Bytes, ListOf, ListWithTail}
 use Rattle.spec_rules.specs.Building.{Tree, Cases, absent, leaf, hoist, switch, listswitch, cnil, ccons}
@@ -49,6 +50,13 @@ treePoolAt t = treeStart t 5
 
 unfoldable pub treePoolEnd : List ℕ → ℕ
 treePoolEnd t = length t - treeTrailer
+
+-- in this order: the sizes of their records (of the pool, of a byte), and where they start; the last ends where the trailer starts
+abbrev pub treeSizes : List ℕ
+treeSizes = nodeSize ∷ caseSize ∷ bindingSize ∷ pathSize ∷ stepSize ∷ 1 ∷ []
+
+abbrev pub treePlaces : List ℕ → List ℕ
+treePlaces t = nodesAt t ∷ casesAt t ∷ bindingsAt t ∷ pathsAt t ∷ stepsAt t ∷ treePoolAt t ∷ treePoolEnd t ∷ []
 
 unfoldable pub nodes : List ℕ → ℕ
 unfolding nodesAt casesAt
@@ -91,40 +99,40 @@ nodeWord t k i = wordAt t (nodesAt t + nodeSize * k + 2 + 2 * i)
 -- "0 switch and 1 list switch: path, first case, cases, tail cases, default node + 1 or 0"
 unfoldable pub nodePath : List ℕ → ℕ → ℕ
 unfolding nodeWord
-nodePath t k = nodeWord t k 0
+nodePath t k = nodeWord t k pathWord
 
 unfoldable pub nodeFirstCase : List ℕ → ℕ → ℕ
 unfolding nodeWord
-nodeFirstCase t k = nodeWord t k 1
+nodeFirstCase t k = nodeWord t k firstCaseWord
 
 unfoldable pub nodeCases : List ℕ → ℕ → ℕ
 unfolding nodeWord
-nodeCases t k = nodeWord t k 2
+nodeCases t k = nodeWord t k casesWord
 
 unfoldable pub nodeTailCases : List ℕ → ℕ → ℕ
 unfolding nodeWord
-nodeTailCases t k = nodeWord t k 3
+nodeTailCases t k = nodeWord t k tailCasesWord
 
 unfoldable pub nodeDefault : List ℕ → ℕ → ℕ
 unfolding nodeWord
-nodeDefault t k = nodeWord t k 4
+nodeDefault t k = nodeWord t k defaultWord
 
 -- "2 leaf: clause, first binding, count. 3 hoist: clause, first binding, count, child"
 unfoldable pub nodeClause : List ℕ → ℕ → ℕ
 unfolding nodeWord
-nodeClause t k = nodeWord t k 0
+nodeClause t k = nodeWord t k clauseWord
 
 unfoldable pub nodeFirstBinding : List ℕ → ℕ → ℕ
 unfolding nodeWord
-nodeFirstBinding t k = nodeWord t k 1
+nodeFirstBinding t k = nodeWord t k firstBindingWord
 
 unfoldable pub nodeBindings : List ℕ → ℕ → ℕ
 unfolding nodeWord
-nodeBindings t k = nodeWord t k 2
+nodeBindings t k = nodeWord t k bindingsWord
 
 unfoldable pub nodeChild : List ℕ → ℕ → ℕ
 unfolding nodeWord
-nodeChild t k = nodeWord t k 3
+nodeChild t k = nodeWord t k childWord
 
 -- "Cases, 8 bytes: kind .., zero byte, number or text start, text length, child"
 unfoldable pub caseKind : List ℕ → ℕ → ℕ
@@ -190,14 +198,7 @@ lengthTrue t = both (leb treeTrailer (length t)) (eqb (treeLength t) (length t))
 -- "starts rising from 0, whole records"
 unfoldable pub startsRise : List ℕ → Bool
 unfolding nodesAt casesAt bindingsAt pathsAt stepsAt treePoolAt treePoolEnd wholeRecords
-startsRise t =
-    both (eqb (nodesAt t) 0)
-    (both (wholeRecords nodeSize (nodesAt t) (casesAt t))
-    (both (wholeRecords caseSize (casesAt t) (bindingsAt t))
-    (both (wholeRecords bindingSize (bindingsAt t) (pathsAt t))
-    (both (wholeRecords pathSize (pathsAt t) (stepsAt t))
-    (both (wholeRecords stepSize (stepsAt t) (treePoolAt t))
-    (wholeRecords 1 (treePoolAt t) (treePoolEnd t)))))))
+startsRise t = both (eqb (nodesAt t) 0) (wholeBetween treeSizes (treePlaces t))
 
 -- a switch's and a list switch's path, run of cases and default: "parts inside their sections", "first 0 at count 0 (a switch's
 -- count is cases plus tail cases)"
@@ -218,7 +219,7 @@ unfolding every caseKind isKind nodeFirstCase nodeCases nodeTailCases
 switchCases t k =
     both (leb 1 (nodeCases t k))
     (both (eqb (nodeTailCases t k) 0)
-    (both (leb (caseKind t (nodeFirstCase t k)) 2)
+    (both (leb (caseKind t (nodeFirstCase t k)) bytesCase)
     (every (isKind t (caseKind t (nodeFirstCase t k))) (nodeFirstCase t k) (nodeCases t k))))
 
 -- "a list switch with one of either, kind 3 in cases, 4 in tail cases"
@@ -226,8 +227,8 @@ unfoldable pub listSwitchCases : List ℕ → ℕ → Bool
 unfolding every isKind nodeFirstCase nodeCases nodeTailCases
 listSwitchCases t k =
     both (leb 1 (nodeCases t k + nodeTailCases t k))
-    (both (every (isKind t 3) (nodeFirstCase t k) (nodeCases t k))
-    (every (isKind t 4) (nodeFirstCase t k + nodeCases t k) (nodeTailCases t k)))
+    (both (every (isKind t listCase) (nodeFirstCase t k) (nodeCases t k))
+    (every (isKind t listWithTailCase) (nodeFirstCase t k + nodeCases t k) (nodeTailCases t k)))
 
 -- a leaf's and a hoist's bindings: "parts inside their sections", "at most 192 bindings a node"
 unfoldable pub bindingParts : List ℕ → ℕ → Bool
@@ -239,10 +240,10 @@ pub data NodeKind : Type 0 where
 
 unfoldable pub nodeKindOf : ℕ → NodeKind
 nodeKindOf k =
-    pick (eqb k 0) Switch
-    (pick (eqb k 1) List-switch
-    (pick (eqb k 2) Leaf
-    (pick (eqb k 3) Hoist-node
+    pick (eqb k switchNode) Switch
+    (pick (eqb k listSwitchNode) List-switch
+    (pick (eqb k leafNode) Leaf
+    (pick (eqb k hoistNode) Hoist-node
     Unknown-node)))
 
 -- "known kinds, zero bytes and unused fields 0"
@@ -250,8 +251,8 @@ unfoldable pub nodeOfKind : List ℕ → ℕ → NodeKind → Bool
 unfolding nodes nodeWord nodeChild switchParts switchCases listSwitchCases bindingParts
 nodeOfKind t k Switch = both (switchParts t k) (switchCases t k)
 nodeOfKind t k List-switch = both (switchParts t k) (listSwitchCases t k)
-nodeOfKind t k Leaf = both (bindingParts t k) (both (eqb (nodeWord t k 3) 0) (eqb (nodeWord t k 4) 0))
-nodeOfKind t k Hoist-node = both (bindingParts t k) (both (ltb (nodeChild t k) (nodes t)) (eqb (nodeWord t k 4) 0))
+nodeOfKind t k Leaf = both (bindingParts t k) (both (eqb (nodeWord t k childWord) 0) (eqb (nodeWord t k defaultWord) 0))
+nodeOfKind t k Hoist-node = both (bindingParts t k) (both (ltb (nodeChild t k) (nodes t)) (eqb (nodeWord t k defaultWord) 0))
 nodeOfKind t k Unknown-node = false
 
 unfoldable pub nodeKeepsRules : List ℕ → ℕ → Bool
@@ -263,11 +264,11 @@ pub data CaseKind : Type 0 where
 
 unfoldable pub caseKindOf : ℕ → CaseKind
 caseKindOf k =
-    pick (eqb k 0) Constr-case
-    (pick (eqb k 1) Int-case
-    (pick (eqb k 2) Bytes-case
-    (pick (eqb k 3) List-case
-    (pick (eqb k 4) List-with-tail-case
+    pick (eqb k constrCase) Constr-case
+    (pick (eqb k intCase) Int-case
+    (pick (eqb k bytesCase) Bytes-case
+    (pick (eqb k listCase) List-case
+    (pick (eqb k listWithTailCase) List-with-tail-case
     Unknown-case))))
 
 unfoldable pub caseOfKind : List ℕ → ℕ → CaseKind → Bool
@@ -294,7 +295,7 @@ pathKeepsRules t p = runIn (pathFirst t p) (pathCount t p) (steps t)
 -- "flag 1 at constr only"
 unfoldable pub stepKeepsRules : List ℕ → ℕ → Bool
 unfolding stepKind stepFlag
-stepKeepsRules t i = both (leb (stepKind t i) 4) (either (eqb (stepFlag t i) 0) (both (eqb (stepFlag t i) 1) (eqb (stepKind t i) 2)))
+stepKeepsRules t i = both (leb (stepKind t i) listtailStep) (either (eqb (stepFlag t i) 0) (both (eqb (stepFlag t i) 1) (eqb (stepKind t i) constrStep)))
 
 -- "node 0 there, each other node a child exactly once, in pre-order"; the order is the writer's, "(hoist before its child; cases, tail
 -- cases, default)"
@@ -348,10 +349,10 @@ treeFits t =
 -- ---- the tree that a file stands for
 unfoldable pub stepOfFields : ℕ → ℕ → ℕ → ℕ → Step
 stepOfFields kind flag i t =
-    pick (eqb kind 0) (pair i t)
-    (pick (eqb kind 1) (tuple i t)
-    (pick (eqb kind 2) (constr i (eqb flag 1) t)
-    (pick (eqb kind 3) (list i t)
+    pick (eqb kind pairStep) (pair i t)
+    (pick (eqb kind tupleStep) (tuple i t)
+    (pick (eqb kind constrStep) (constr i (eqb flag 1) t)
+    (pick (eqb kind listStep) (list i t)
     (listtail i t))))
 
 unfoldable pub stepAt : List ℕ → ℕ → Step

@@ -6,6 +6,7 @@ use mathlib.Core.List.{List, [], _∷_}
 use mathlib.Core.Option.{Option, none, some}
 use lib.Dec.{eqb, leb, ltb}
 use Rattle.base_words.specs.Words.{both, pick}
+use Rattle.spec_rules.specs.Kinds.{listRecord, pairRecord, tupleRecord, constructorRecord, constrCase, intCase, bytesCase, listCase, listWithTailCase}
 use Rattle.spec_rules.specs.PanelFile.{recordKind, recordA, recordFirst, recordCount, part, recordText, RecordKind, Integer-record, Bytes-record, List-record, Pair-record, Tuple-record, Constructor-record, Unknown-record, recordKindOf}
 pub use Rattle.spec_rules.specs.Positions.{Position, panelRoot, Bound, Walked, reached, noLeaf, stuck}
 use Rattle.spec_rules.specs.Rows.{Step, pair, tuple, constr, list, listtail, Path, Binding}
@@ -23,14 +24,14 @@ partOf v kind r i =
 unfoldable pub tailOf : List ℕ → ℕ → ℕ → Option Position
 unfolding recordKind recordCount
 tailOf v r i =
-    pick (both (eqb (recordKind v r) 2) (leb i (recordCount v r))) (some (record { place = r; dropped = i })) none
+    pick (both (eqb (recordKind v r) listRecord) (leb i (recordCount v r))) (some (record { place = r; dropped = i })) none
 
 unfoldable pub takeStep : List ℕ → Step → Position → Option Position
 unfolding partOf tailOf
-takeStep v (pair i t) x = partOf v 3 (x .place) i
-takeStep v (tuple i t) x = partOf v 4 (x .place) i
-takeStep v (constr i b t) x = partOf v 5 (x .place) i
-takeStep v (list i t) x = partOf v 2 (x .place) (x .dropped + i)
+takeStep v (pair i t) x = partOf v pairRecord (x .place) i
+takeStep v (tuple i t) x = partOf v tupleRecord (x .place) i
+takeStep v (constr i b t) x = partOf v constructorRecord (x .place) i
+takeStep v (list i t) x = partOf v listRecord (x .place) (x .dropped + i)
 takeStep v (listtail i t) x = tailOf v (x .place) (x .dropped + i)
 
 unfoldable pub follow : List ℕ → Path → Position → Option Position
@@ -70,14 +71,14 @@ shownAt v x = shown v (x .place) (recordKindOf (recordKind v (x .place)))
 -- the length of the list at a position, less the dropped ones
 unfoldable pub lengthAt : List ℕ → Position → Option ℕ
 unfolding recordKind recordCount
-lengthAt v x = pick (eqb (recordKind v (x .place)) 2) (some (recordCount v (x .place) - x .dropped)) none
+lengthAt v x = pick (eqb (recordKind v (x .place)) listRecord) (some (recordCount v (x .place) - x .dropped)) none
 
 unfoldable pub testKind : Test → ℕ
-testKind (Constr a) = 0
-testKind (Int w) = 1
-testKind (Bytes w) = 2
-testKind (ListOf n) = 3
-testKind (ListWithTail n) = 4
+testKind (Constr a) = constrCase
+testKind (Int w) = intCase
+testKind (Bytes w) = bytesCase
+testKind (ListOf n) = listCase
+testKind (ListWithTail n) = listWithTailCase
 
 -- the kind of a switch is that of its cases, which are all alike
 unfoldable pub firstKind : Cases → ℕ

@@ -12,6 +12,7 @@ use borrow.Author.Tests.{leb-true, le-leb, lt-leb}
 use Rattle.base_words.specs.Words.{both, textAt, zeros}
 use Rattle.base_words.specs.WordsLaws.{both-true, both-make, both-first-false, both-second-false, textAt-append-left, textAt-whole}
 use Rattle.spec_rules.specs.Limits.{treeRoom, workRoom, boundRoom, nodeBindingsMost}
+use Rattle.spec_rules.specs.RefusalNumbers.{roomRefusal, panelMisfitRefusal, treeRefusal, stuckRefusal, noTextRefusal}
 use Rattle.spec_rules.specs.SheetFile.{clauses}
 use Rattle.spec_rules.specs.SheetRefusals.{Verdict, accepted, refused, require, verdict}
 use Rattle.spec_rules.specs.TreeReader.{treeFits, treeOf}
@@ -40,7 +41,7 @@ module _ {A : Type 0} where
 
 -- ---- the build
 module _ (s : List ℕ) (n m : ℕ) where
-  pub build-room : (n < treeRoom) ⊎ (m < workRoom) → buildAnswer s n m ≡ refuses 1 0
+  pub build-room : (n < treeRoom) ⊎ (m < workRoom) → buildAnswer s n m ≡ refuses roomRefusal 0
   unfolding buildAnswer buildRoom
   build-room (inl l) = rw (both-first-false (leb treeRoom n) (leb workRoom m) (lt-leb treeRoom n l))
   build-room (inr l) = rw (both-second-false (leb treeRoom n) (leb workRoom m) (lt-leb workRoom m l))
@@ -70,7 +71,7 @@ module _ (s : List ℕ) (n m : ℕ) where
   pub build-answers-only : (x : Built) → buildAnswer s n m ≡ answers x → BuildAnswers x
   unfolding buildAnswer buildRoom
   build-answers-only x e =
-      let (room, rest) = unless-answers (require (both (leb treeRoom n) (leb workRoom m)) 1 accepted) _ x e in
+      let (room, rest) = unless-answers (require (both (leb treeRoom n) (leb workRoom m)) roomRefusal accepted) _ x e in
       let (sheet, last) = unless-answers (verdict s) _ x rest in
       let (tree, end) = unless-answers (treeVerdict (clauses s) (sheetTree s)) _ x last in
       let (a, b) = both-true (leb treeRoom n) (leb workRoom m) (held (both (leb treeRoom n) (leb workRoom m)) room) in
@@ -117,7 +118,7 @@ module _ (s v : List ℕ) where
   unfolding fitCall
   fit-panel h number place e = rw (h, e)
 
-  pub fit-type : verdict s ≡ accepted → panelVerdict v ≡ accepted → panelFits s v ≡ false → fitCall s v ≡ refused 25 0
+  pub fit-type : verdict s ≡ accepted → panelVerdict v ≡ accepted → panelFits s v ≡ false → fitCall s v ≡ refused panelMisfitRefusal 0
   unfolding fitCall
   fit-type h k e = rw (h, k, e)
 
@@ -154,11 +155,11 @@ length-boundWords [] = refl
 length-boundWords (x ∷ xs) = omega (arith, length-boundWords xs)
 
 module _ (t v : List ℕ) (n : ℕ) where
-  pub walk-room : n < boundRoom → walkAnswer t v n ≡ refuses 1 0
+  pub walk-room : n < boundRoom → walkAnswer t v n ≡ refuses roomRefusal 0
   unfolding walkAnswer walkRoom
   walk-room l = rw (lt-leb boundRoom n l)
 
-  pub walk-tree : boundRoom ≤ n → treeFits t ≡ false → walkAnswer t v n ≡ refuses 31 0
+  pub walk-tree : boundRoom ≤ n → treeFits t ≡ false → walkAnswer t v n ≡ refuses treeRefusal 0
   unfolding walkAnswer walkRoom treeFileVerdict
   walk-tree l e = rw (le-leb boundRoom n l, e)
 
@@ -177,7 +178,7 @@ module _ (t v : List ℕ) (n : ℕ) where
     pub walk-without : walk (treeOf t) v ≡ noLeaf → walkAnswer t v n ≡ answers withoutLeaf
     walk-without e = walk-answers ∙ ap walkEnd e ∙ unfold walkEnd in refl
 
-    pub walk-stuck : walk (treeOf t) v ≡ stuck → walkAnswer t v n ≡ refuses 32 0
+    pub walk-stuck : walk (treeOf t) v ≡ stuck → walkAnswer t v n ≡ refuses stuckRefusal 0
     walk-stuck e = walk-answers ∙ ap walkEnd e ∙ unfold walkEnd in refl
 
     pub walk-writes : (c : ℕ) (xs : List Bound) → walk (treeOf t) v ≡ reached c xs → (walkCall t v n) .bound ≡ boundWords xs ++ zeros (n - 3 * length xs)
@@ -217,7 +218,7 @@ module _ (v : List ℕ) (place dropped : ℕ) where
   unfolding textCall
   text-panel number at e = rw e
 
-  pub text-none : panelVerdict v ≡ accepted → hasText v place dropped ≡ false → textCall v place dropped ≡ refuses 33 0
+  pub text-none : panelVerdict v ≡ accepted → hasText v place dropped ≡ false → textCall v place dropped ≡ refuses noTextRefusal 0
   unfolding textCall
   text-none h e = rw (h, e)
 

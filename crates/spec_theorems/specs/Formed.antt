@@ -11,6 +11,7 @@ use borrow.Author.Tests.{not-true}
 use Rattle.base_words.specs.Words.{either, pick}
 use Rattle.base_words.specs.WordsLaws.{either-false}
 use Rattle.spec_rules.specs.Limits.{childrenMost}
+use Rattle.spec_rules.specs.Kinds.{listType, listCase, listWithTailCase}
 use Rattle.spec_rules.specs.SheetFile.{typeKind, pool}
 use Rattle.spec_rules.specs.Patterns.{Pat, discard, variable, assign, integer, bytestring, listed, tailed, constructor, opened, many}
 use Rattle.spec_rules.specs.Rows.{Path, Row, openedColumns, clauseRow, clauseRows}
@@ -99,7 +100,7 @@ module _ (s : List ℕ) where
     abbrev Fine : Pat → Type 0
     Fine q = (isTest q ≡ true) × Resolved s q t × FactsOf s q
 
-    fine-list : (q : Pat) → Fine q → isList q ≡ eqb (typeKind s t) 2
+    fine-list : (q : Pat) → Fine q → isList q ≡ eqb (typeKind s t) listType
     unfolding isList isTest Resolved
     fine-list (discard m) h = absurd (false≢true (h .0))
     fine-list (variable m x) h = absurd (false≢true (h .0))
@@ -111,12 +112,12 @@ module _ (s : List ℕ) where
     fine-list (constructor m a qs) h = rw (← h .1 .0, h .2 .0)
     fine-list (opened m o qs) h = absurd (false≢true (h .0))
 
-    hasList-kind : (qs : List Pat) → All Fine qs → hasList qs ≡ true → eqb (typeKind s t) 2 ≡ true
+    hasList-kind : (qs : List Pat) → All Fine qs → hasList qs ≡ true → eqb (typeKind s t) listType ≡ true
     unfolding hasList
     hasList-kind [] h e = absurd (false≢true e)
     hasList-kind (q ∷ qs) h e = go (isList q) refl e (hasList-kind qs (h .1))
       where
-        go : (b : Bool) → isList q ≡ b → either b (hasList qs) ≡ true → (hasList qs ≡ true → eqb (typeKind s t) 2 ≡ true) → eqb (typeKind s t) 2 ≡ true
+        go : (b : Bool) → isList q ≡ b → either b (hasList qs) ≡ true → (hasList qs ≡ true → eqb (typeKind s t) listType ≡ true) → eqb (typeKind s t) listType ≡ true
         go true x y ih = sym (fine-list q (h .0)) ∙ x
         go false x y ih = ih y
 
@@ -171,7 +172,7 @@ module _ (s : List ℕ) where
     covered-kind (constructor m a qs) u h l c = rw (sameTest-sound u (Constr a) c, ← h .1 .0, h .2 .0)
     covered-kind (opened m o qs) u h l c = absurd (false≢true c)
 
-    covered-list : (q : Pat) (u : Test) → isList q ≡ true → covers q u ≡ true → isTail u ≡ false → testKind u ≡ 3
+    covered-list : (q : Pat) (u : Test) → isList q ≡ true → covers q u ≡ true → isTail u ≡ false → testKind u ≡ listCase
     unfolding covers isList isTail testKind
     covered-list (discard m) u l c e = absurd (false≢true l)
     covered-list (variable m x) u l c e = absurd (false≢true l)
@@ -187,7 +188,7 @@ module _ (s : List ℕ) where
     covered-list (constructor m a qs) u l c e = absurd (false≢true l)
     covered-list (opened m o qs) u l c e = absurd (false≢true l)
 
-    tail-kind : (u : Test) → isTail u ≡ true → testKind u ≡ 4
+    tail-kind : (u : Test) → isTail u ≡ true → testKind u ≡ listWithTailCase
     unfolding isTail testKind
     tail-kind (Constr a) e = absurd (false≢true e)
     tail-kind (Int w) e = absurd (false≢true e)
@@ -249,15 +250,15 @@ module _ (s : List ℕ) where
           Plain q = Fine q × (isList q ≡ false)
 
       -- a list switch
-      exact-kinds : hasList qs ≡ true → All (λ m. testKind (m .test) ≡ 3) (only isExact (casesOf qs))
+      exact-kinds : hasList qs ≡ true → All (λ m. testKind (m .test) ≡ listCase) (only isExact (casesOf qs))
       exact-kinds e =
-          all-only (Case Fine) (λ m. testKind (m .test) ≡ 3) isExact
+          all-only (Case Fine) (λ m. testKind (m .test) ≡ listCase) isExact
           (λ m x o.
           covered-list (o .pattern) (m .test) (fine-list (o .pattern) (o .has) ∙ hasList-kind qs fine e) (o .covered) (not-true (isTail (m .test)) x))
           (casesOf qs) (casesOf-opened Fine qs fine)
 
-      tail-kinds : All (λ m. testKind (m .test) ≡ 4) (only isTail (casesOf qs))
-      tail-kinds = all-only (Case Fine) (λ m. testKind (m .test) ≡ 4) isTail (λ m x o. tail-kind (m .test) x) (casesOf qs) (casesOf-opened Fine qs fine)
+      tail-kinds : All (λ m. testKind (m .test) ≡ listWithTailCase) (only isTail (casesOf qs))
+      tail-kinds = all-only (Case Fine) (λ m. testKind (m .test) ≡ listWithTailCase) isTail (λ m x o. tail-kind (m .test) x) (casesOf qs) (casesOf-opened Fine qs fine)
 
       node-formed : (N : Path → Type 0) (p : Path) (f : Test → Tree) (d : Tree) → N p → ((u : Test) → isMet u (casesOf qs) ≡ true → Formed N CaseOf (f u)) → Formed N CaseOf d
           → Formed N CaseOf (nodeOn p qs f d)

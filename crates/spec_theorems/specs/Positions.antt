@@ -12,6 +12,7 @@ use borrow.Author.Tests.{eqb-true, leb-true, ltb-true}
 use Rattle.base_words.specs.Words.{both, pick}
 use Rattle.base_words.specs.WordsLaws.{both-true}
 use Rattle.spec_rules.specs.Limits.{nodeBindingsMost}
+use Rattle.spec_rules.specs.Kinds.{listRecord, leafNode}
 use Rattle.spec_rules.specs.PanelFile.{records, recordKind, recordFirst, recordCount, part}
 use Rattle.spec_rules.specs.Rows.{Step, pair, tuple, constr, list, listtail, Path, Binding}
 use Rattle.spec_rules.specs.Splitting.{Test, ListOf, ListWithTail, sameTest}
@@ -57,17 +58,17 @@ module _ (v : List ℕ) (a : PanelAccepted v) where
 
   tail-in-panel : (r i : ℕ) (y : Position) → r < records v → tailOf v r i ≡ some y → InPanel v y
   unfolding tailOf
-  tail-in-panel r i y there e = go (both (eqb (recordKind v r) 2) (leb i (recordCount v r))) refl e
+  tail-in-panel r i y there e = go (both (eqb (recordKind v r) listRecord) (leb i (recordCount v r))) refl e
     where
       here : Position
       here = record { place = r; dropped = i }
 
-      inside : both (eqb (recordKind v r) 2) (leb i (recordCount v r)) ≡ true → InPanel v here
+      inside : both (eqb (recordKind v r) listRecord) (leb i (recordCount v r)) ≡ true → InPanel v here
       inside f =
-          let (k, l) = both-true (eqb (recordKind v r) 2) (leb i (recordCount v r)) f in
-          record { there = there; most = leb-true i (recordCount v r) l; of-list = λ n. absurd (n (eqb-true (recordKind v r) 2 k)) }
+          let (k, l) = both-true (eqb (recordKind v r) listRecord) (leb i (recordCount v r)) f in
+          record { there = there; most = leb-true i (recordCount v r) l; of-list = λ n. absurd (n (eqb-true (recordKind v r) listRecord k)) }
 
-      go : (b : Bool) → both (eqb (recordKind v r) 2) (leb i (recordCount v r)) ≡ b → _≡_ {A = Option Position} (pick b (some here) none) (some y) → InPanel v y
+      go : (b : Bool) → both (eqb (recordKind v r) listRecord) (leb i (recordCount v r)) ≡ b → _≡_ {A = Option Position} (pick b (some here) none) (some y) → InPanel v y
       go true f g = subst (InPanel v) (some-same here y g) (inside f)
       go false f g = absurd (no-position y g)
 
@@ -267,7 +268,7 @@ module _ (t : List ℕ) (sound : TreeSound t) where
     default-few zero l = tt
     default-few (suc k) l = below k l
 
-    bindings-few : (k : ℕ) → k < nodes t → 2 ≤ nodeKind t k → length (bindingsFrom t (nodeFirstBinding t k) (nodeBindings t k)) ≤ nodeBindingsMost
+    bindings-few : (k : ℕ) → k < nodes t → leafNode ≤ nodeKind t k → length (bindingsFrom t (nodeFirstBinding t k) (nodeBindings t k)) ≤ nodeBindingsMost
     bindings-few k h l = omega (arith, length-bindingsFrom t (nodeFirstBinding t k) (nodeBindings t k), sound .is-ruled .bindings-most k h l)
 
     node-few : (k : ℕ) → k < nodes t → (kind : NodeKind) → nodeKindOf (nodeKind t k) ≡ kind → AllLeaves Few (nodeFor f t k kind)

@@ -10,15 +10,16 @@ use lib.Dec.{leb}
 use lib.ListN.{length}
 use borrow.Author.Tests.{leb-true, leb-false, le-leb, lt-leb, not-false}
 use Rattle.spec_rules.specs.Limits.{nodesMost, bindingsMost}
+use Rattle.spec_rules.specs.RefusalNumbers.{lengthRefusal, layoutRefusal, noClauseRefusal, countRefusal, typesRefusal, transparentRefusal, shapeRefusal, textRefusal, misfitRefusal, nameTwiceRefusal, nodesRefusal, bindingsRefusal, idleRefusal, panelLengthRefusal, panelLayoutRefusal, panelShapeRefusal, panelTextRefusal}
 use Rattle.spec_rules.specs.SearchingLaws.{Lowest}
 use Rattle.spec_rules.specs.SheetFile.{types, patterns, clauses}
-use Rattle.spec_rules.specs.SheetRefusals.{lengthFits, layoutFits, hasClause, countsFit, typesFit, transparent, lowestTransparent, shapeFits, badText, lowestBadText, misfit, lowestMisfit, nameTwice, lowestNameTwice, Verdict, accepted, refused, require, requireNone, verdict}
+use Rattle.spec_rules.specs.SheetRefusals.{lengthFits, layoutFits, hasClause, countsFit, typesFit, transparent, lowestTransparent, shapeFits, badText, lowestBadText, misfit, lowestMisfit, nameTwice, lowestNameTwice, Verdict, accepted, refused, require, requireNone, andThen, readableVerdict, transparentVerdict, shapeVerdict, clausesVerdict, verdict}
 use Rattle.spec_rules.specs.Building.{Tree}
 use Rattle.spec_rules.specs.Hoisting.{nodesIn, bindingsIn, hasLeaf}
 use Rattle.spec_rules.specs.PanelFile.{panelLengthFits, panelLayoutFits, panelShapeFits, panelTextsFit, panelVerdict}
 use Rattle.spec_rules.specs.Calls.{lowestIdle, treeVerdict}
 use Rattle.spec_theorems.specs.Said.{Passes2, Passes3, Passes4, Passes5, Passes6, Passes7, Passes8, Passes9, Passes10, Passes11, Passes12, Passes13, Passes14, Passes21, Passes22, Passes23, Passes24}
-use Rattle.spec_theorems.specs.Stages.{Stage, From, none-from, stage-from, stage-later, stage-here, stage-accepted, test-stage, lowest-stage}
+use Rattle.spec_theorems.specs.Stages.{Stage, then-stage, From, none-from, stage-from, stage-later, stage-here, stage-accepted, test-stage, lowest-stage}
 
 -- ---- chains of stages: Passed and what decides then
 record Chain (w : Verdict) (n : ℕ) (Passed : Type 0) (rest : Verdict) : Type 0 where
@@ -68,122 +69,136 @@ most-of {w} {n} c m k e = go (leb m n) refl
 -- ---- 2 to 11
 module _ (s : List ℕ) where
   abbrev after10 : Verdict
-  after10 = requireNone (lowestNameTwice s) 11 accepted
+  after10 = requireNone (lowestNameTwice s) nameTwiceRefusal accepted
 
   abbrev after9 : Verdict
-  after9 = requireNone (lowestMisfit s) 10 after10
+  after9 = requireNone (lowestMisfit s) misfitRefusal after10
 
   abbrev after8 : Verdict
-  after8 = requireNone (lowestBadText s) 9 after9
+  after8 = clausesVerdict s
 
   abbrev after7 : Verdict
-  after7 = require (shapeFits s) 8 after8
+  after7 = andThen (shapeVerdict s) after8
 
   abbrev after6 : Verdict
-  after6 = requireNone (lowestTransparent s) 7 after7
+  after6 = andThen (transparentVerdict s) after7
+
+  -- what is left of the first stage of the verdict, and the other stages after it
+  abbrev left5 : Verdict
+  left5 = require (typesFit s) typesRefusal accepted
+
+  abbrev left4 : Verdict
+  left4 = require (countsFit s) countRefusal left5
+
+  abbrev left3 : Verdict
+  left3 = require (hasClause s) noClauseRefusal left4
+
+  abbrev left2 : Verdict
+  left2 = require (layoutFits s) layoutRefusal left3
 
   abbrev after5 : Verdict
-  after5 = require (typesFit s) 6 after6
+  after5 = andThen left5 after6
 
   abbrev after4 : Verdict
-  after4 = require (countsFit s) 5 after5
+  after4 = andThen left4 after6
 
   abbrev after3 : Verdict
-  after3 = require (hasClause s) 4 after4
+  after3 = andThen left3 after6
 
   abbrev after2 : Verdict
-  after2 = require (layoutFits s) 3 after3
+  after2 = andThen left2 after6
 
-  stage2 : Stage (verdict s) 2 (Passes2 s) (λ k. (lengthFits s ≡ false) × (k ≡ 0)) after2
-  unfolding verdict
-  stage2 = test-stage (lengthFits s) 2 after2
+  stage2 : Stage (verdict s) lengthRefusal (Passes2 s) (λ k. (lengthFits s ≡ false) × (k ≡ 0)) after2
+  unfolding verdict readableVerdict
+  stage2 = then-stage after6 (test-stage (lengthFits s) lengthRefusal left2)
 
-  stage3 : Stage after2 3 (layoutFits s ≡ true) (λ k. (layoutFits s ≡ false) × (k ≡ 0)) after3
-  stage3 = test-stage (layoutFits s) 3 after3
+  stage3 : Stage after2 layoutRefusal (layoutFits s ≡ true) (λ k. (layoutFits s ≡ false) × (k ≡ 0)) after3
+  stage3 = then-stage after6 (test-stage (layoutFits s) layoutRefusal left3)
 
-  stage4 : Stage after3 4 (hasClause s ≡ true) (λ k. (hasClause s ≡ false) × (k ≡ 0)) after4
-  stage4 = test-stage (hasClause s) 4 after4
+  stage4 : Stage after3 noClauseRefusal (hasClause s ≡ true) (λ k. (hasClause s ≡ false) × (k ≡ 0)) after4
+  stage4 = then-stage after6 (test-stage (hasClause s) noClauseRefusal left4)
 
-  stage5 : Stage after4 5 (countsFit s ≡ true) (λ k. (countsFit s ≡ false) × (k ≡ 0)) after5
-  stage5 = test-stage (countsFit s) 5 after5
+  stage5 : Stage after4 countRefusal (countsFit s ≡ true) (λ k. (countsFit s ≡ false) × (k ≡ 0)) after5
+  stage5 = then-stage after6 (test-stage (countsFit s) countRefusal left5)
 
-  stage6 : Stage after5 6 (typesFit s ≡ true) (λ k. (typesFit s ≡ false) × (k ≡ 0)) after6
-  stage6 = test-stage (typesFit s) 6 after6
+  stage6 : Stage after5 typesRefusal (typesFit s ≡ true) (λ k. (typesFit s ≡ false) × (k ≡ 0)) after6
+  stage6 = then-stage after6 (test-stage (typesFit s) typesRefusal accepted)
 
-  stage7 : Stage after6 7 ((t : ℕ) → t < types s → transparent s t ≡ false) (Lowest (transparent s) 0 (types s)) after7
-  unfolding lowestTransparent
-  stage7 = lowest-stage (transparent s) (types s) 7 after7
+  stage7 : Stage after6 transparentRefusal ((t : ℕ) → t < types s → transparent s t ≡ false) (Lowest (transparent s) 0 (types s)) after7
+  unfolding transparentVerdict lowestTransparent
+  stage7 = then-stage after7 (lowest-stage (transparent s) (types s) transparentRefusal accepted)
 
-  stage8 : Stage after7 8 (shapeFits s ≡ true) (λ k. (shapeFits s ≡ false) × (k ≡ 0)) after8
-  stage8 = test-stage (shapeFits s) 8 after8
+  stage8 : Stage after7 shapeRefusal (shapeFits s ≡ true) (λ k. (shapeFits s ≡ false) × (k ≡ 0)) after8
+  unfolding shapeVerdict
+  stage8 = then-stage after8 (test-stage (shapeFits s) shapeRefusal accepted)
 
-  stage9 : Stage after8 9 ((p : ℕ) → p < patterns s → badText s p ≡ false) (Lowest (badText s) 0 (patterns s)) after9
-  unfolding lowestBadText
-  stage9 = lowest-stage (badText s) (patterns s) 9 after9
+  stage9 : Stage after8 textRefusal ((p : ℕ) → p < patterns s → badText s p ≡ false) (Lowest (badText s) 0 (patterns s)) after9
+  unfolding clausesVerdict lowestBadText
+  stage9 = lowest-stage (badText s) (patterns s) textRefusal after9
 
-  stage10 : Stage after9 10 ((c : ℕ) → c < clauses s → misfit s c ≡ false) (Lowest (misfit s) 0 (clauses s)) after10
+  stage10 : Stage after9 misfitRefusal ((c : ℕ) → c < clauses s → misfit s c ≡ false) (Lowest (misfit s) 0 (clauses s)) after10
   unfolding lowestMisfit
-  stage10 = lowest-stage (misfit s) (clauses s) 10 after10
+  stage10 = lowest-stage (misfit s) (clauses s) misfitRefusal after10
 
-  stage11 : Stage after10 11 ((c : ℕ) → c < clauses s → nameTwice s c ≡ false) (Lowest (nameTwice s) 0 (clauses s)) accepted
+  stage11 : Stage after10 nameTwiceRefusal ((c : ℕ) → c < clauses s → nameTwice s c ≡ false) (Lowest (nameTwice s) 0 (clauses s)) accepted
   unfolding lowestNameTwice
-  stage11 = lowest-stage (nameTwice s) (clauses s) 11 accepted
+  stage11 = lowest-stage (nameTwice s) (clauses s) nameTwiceRefusal accepted
 
-  from11 : From 11 after10
+  from11 : From nameTwiceRefusal after10
   from11 = stage-from stage11 (none-from 12)
 
-  from10 : From 10 after9
+  from10 : From misfitRefusal after9
   from10 = stage-from stage10 from11
 
-  from9 : From 9 after8
+  from9 : From textRefusal after8
   from9 = stage-from stage9 from10
 
-  from8 : From 8 after7
+  from8 : From shapeRefusal after7
   from8 = stage-from stage8 from9
 
-  from7 : From 7 after6
+  from7 : From transparentRefusal after6
   from7 = stage-from stage7 from8
 
-  from6 : From 6 after5
+  from6 : From typesRefusal after5
   from6 = stage-from stage6 from7
 
-  from5 : From 5 after4
+  from5 : From countRefusal after4
   from5 = stage-from stage5 from6
 
-  from4 : From 4 after3
+  from4 : From noClauseRefusal after3
   from4 = stage-from stage4 from5
 
-  from3 : From 3 after2
+  from3 : From layoutRefusal after2
   from3 = stage-from stage3 from4
 
-  chain2 : Chain (verdict s) 2 (Passes2 s) after2
+  chain2 : Chain (verdict s) lengthRefusal (Passes2 s) after2
   chain2 = first stage2
 
-  chain3 : Chain (verdict s) 3 (Passes3 s) after3
+  chain3 : Chain (verdict s) layoutRefusal (Passes3 s) after3
   chain3 = next chain2 (omega arith) stage3
 
-  chain4 : Chain (verdict s) 4 (Passes4 s) after4
+  chain4 : Chain (verdict s) noClauseRefusal (Passes4 s) after4
   chain4 = next chain3 (omega arith) stage4
 
-  chain5 : Chain (verdict s) 5 (Passes5 s) after5
+  chain5 : Chain (verdict s) countRefusal (Passes5 s) after5
   chain5 = next chain4 (omega arith) stage5
 
-  chain6 : Chain (verdict s) 6 (Passes6 s) after6
+  chain6 : Chain (verdict s) typesRefusal (Passes6 s) after6
   chain6 = next chain5 (omega arith) stage6
 
-  chain7 : Chain (verdict s) 7 (Passes7 s) after7
+  chain7 : Chain (verdict s) transparentRefusal (Passes7 s) after7
   chain7 = next chain6 (omega arith) stage7
 
-  chain8 : Chain (verdict s) 8 (Passes8 s) after8
+  chain8 : Chain (verdict s) shapeRefusal (Passes8 s) after8
   chain8 = next chain7 (omega arith) stage8
 
-  chain9 : Chain (verdict s) 9 (Passes9 s) after9
+  chain9 : Chain (verdict s) textRefusal (Passes9 s) after9
   chain9 = next chain8 (omega arith) stage9
 
-  chain10 : Chain (verdict s) 10 (Passes10 s) after10
+  chain10 : Chain (verdict s) misfitRefusal (Passes10 s) after10
   chain10 = next chain9 (omega arith) stage10
 
-  chain11 : Chain (verdict s) 11 (Passes11 s) accepted
+  chain11 : Chain (verdict s) nameTwiceRefusal (Passes11 s) accepted
   chain11 = next chain10 (omega arith) stage11
 
   pub sheet-accepted : (verdict s ≡ accepted) ↔ Passes11 s
@@ -194,34 +209,34 @@ module _ (s : List ℕ) where
   sheet-numbers n k e = (stage-from stage2 from3 n k e, most-of chain11 n k e)
 
   module _ (k : ℕ) where
-    pub refusal-2 : (verdict s ≡ refused 2 k) ↔ ((lengthFits s ≡ false) × (k ≡ 0))
+    pub refusal-2 : (verdict s ≡ refused lengthRefusal k) ↔ ((lengthFits s ≡ false) × (k ≡ 0))
     refusal-2 = first-refusal stage2 from3 k
 
-    pub refusal-3 : (verdict s ≡ refused 3 k) ↔ (Passes2 s × ((layoutFits s ≡ false) × (k ≡ 0)))
+    pub refusal-3 : (verdict s ≡ refused layoutRefusal k) ↔ (Passes2 s × ((layoutFits s ≡ false) × (k ≡ 0)))
     refusal-3 = refusal chain2 (omega arith) stage3 from4 k
 
-    pub refusal-4 : (verdict s ≡ refused 4 k) ↔ (Passes3 s × ((hasClause s ≡ false) × (k ≡ 0)))
+    pub refusal-4 : (verdict s ≡ refused noClauseRefusal k) ↔ (Passes3 s × ((hasClause s ≡ false) × (k ≡ 0)))
     refusal-4 = refusal chain3 (omega arith) stage4 from5 k
 
-    pub refusal-5 : (verdict s ≡ refused 5 k) ↔ (Passes4 s × ((countsFit s ≡ false) × (k ≡ 0)))
+    pub refusal-5 : (verdict s ≡ refused countRefusal k) ↔ (Passes4 s × ((countsFit s ≡ false) × (k ≡ 0)))
     refusal-5 = refusal chain4 (omega arith) stage5 from6 k
 
-    pub refusal-6 : (verdict s ≡ refused 6 k) ↔ (Passes5 s × ((typesFit s ≡ false) × (k ≡ 0)))
+    pub refusal-6 : (verdict s ≡ refused typesRefusal k) ↔ (Passes5 s × ((typesFit s ≡ false) × (k ≡ 0)))
     refusal-6 = refusal chain5 (omega arith) stage6 from7 k
 
-    pub refusal-7 : (verdict s ≡ refused 7 k) ↔ (Passes6 s × Lowest (transparent s) 0 (types s) k)
+    pub refusal-7 : (verdict s ≡ refused transparentRefusal k) ↔ (Passes6 s × Lowest (transparent s) 0 (types s) k)
     refusal-7 = refusal chain6 (omega arith) stage7 from8 k
 
-    pub refusal-8 : (verdict s ≡ refused 8 k) ↔ (Passes7 s × ((shapeFits s ≡ false) × (k ≡ 0)))
+    pub refusal-8 : (verdict s ≡ refused shapeRefusal k) ↔ (Passes7 s × ((shapeFits s ≡ false) × (k ≡ 0)))
     refusal-8 = refusal chain7 (omega arith) stage8 from9 k
 
-    pub refusal-9 : (verdict s ≡ refused 9 k) ↔ (Passes8 s × Lowest (badText s) 0 (patterns s) k)
+    pub refusal-9 : (verdict s ≡ refused textRefusal k) ↔ (Passes8 s × Lowest (badText s) 0 (patterns s) k)
     refusal-9 = refusal chain8 (omega arith) stage9 from10 k
 
-    pub refusal-10 : (verdict s ≡ refused 10 k) ↔ (Passes9 s × Lowest (misfit s) 0 (clauses s) k)
+    pub refusal-10 : (verdict s ≡ refused misfitRefusal k) ↔ (Passes9 s × Lowest (misfit s) 0 (clauses s) k)
     refusal-10 = refusal chain9 (omega arith) stage10 from11 k
 
-    pub refusal-11 : (verdict s ≡ refused 11 k) ↔ (Passes10 s × Lowest (nameTwice s) 0 (clauses s) k)
+    pub refusal-11 : (verdict s ≡ refused nameTwiceRefusal k) ↔ (Passes10 s × Lowest (nameTwice s) 0 (clauses s) k)
     refusal-11 = refusal chain10 (omega arith) stage11 (none-from 12) k
 
 -- ---- 12, 13 and 14
@@ -240,35 +255,35 @@ most-stage x most n rest =
 
 module _ (n : ℕ) (a : Tree) where
   abbrev after13 : Verdict
-  after13 = requireNone (lowestIdle n a) 14 accepted
+  after13 = requireNone (lowestIdle n a) idleRefusal accepted
 
   abbrev after12 : Verdict
-  after12 = require (leb (length (bindingsIn a)) bindingsMost) 13 after13
+  after12 = require (leb (length (bindingsIn a)) bindingsMost) bindingsRefusal after13
 
-  stage12 : Stage (treeVerdict n a) 12 (Passes12 a) (λ k. (nodesMost < nodesIn a) × (k ≡ 0)) after12
+  stage12 : Stage (treeVerdict n a) nodesRefusal (Passes12 a) (λ k. (nodesMost < nodesIn a) × (k ≡ 0)) after12
   unfolding treeVerdict
-  stage12 = most-stage (nodesIn a) nodesMost 12 after12
+  stage12 = most-stage (nodesIn a) nodesMost nodesRefusal after12
 
-  stage13 : Stage after12 13 (length (bindingsIn a) ≤ bindingsMost) (λ k. (bindingsMost < length (bindingsIn a)) × (k ≡ 0)) after13
-  stage13 = most-stage (length (bindingsIn a)) bindingsMost 13 after13
+  stage13 : Stage after12 bindingsRefusal (length (bindingsIn a) ≤ bindingsMost) (λ k. (bindingsMost < length (bindingsIn a)) × (k ≡ 0)) after13
+  stage13 = most-stage (length (bindingsIn a)) bindingsMost bindingsRefusal after13
 
-  stage14 : Stage after13 14 ((c : ℕ) → c < n → not (hasLeaf c a) ≡ false) (Lowest (λ c. not (hasLeaf c a)) 0 n) accepted
+  stage14 : Stage after13 idleRefusal ((c : ℕ) → c < n → not (hasLeaf c a) ≡ false) (Lowest (λ c. not (hasLeaf c a)) 0 n) accepted
   unfolding lowestIdle
-  stage14 = lowest-stage (λ c. not (hasLeaf c a)) n 14 accepted
+  stage14 = lowest-stage (λ c. not (hasLeaf c a)) n idleRefusal accepted
 
-  from14 : From 14 after13
+  from14 : From idleRefusal after13
   from14 = stage-from stage14 (none-from 15)
 
-  from13 : From 13 after12
+  from13 : From bindingsRefusal after12
   from13 = stage-from stage13 from14
 
-  chain12 : Chain (treeVerdict n a) 12 (Passes12 a) after12
+  chain12 : Chain (treeVerdict n a) nodesRefusal (Passes12 a) after12
   chain12 = first stage12
 
-  chain13 : Chain (treeVerdict n a) 13 (Passes13 a) after13
+  chain13 : Chain (treeVerdict n a) bindingsRefusal (Passes13 a) after13
   chain13 = next chain12 (omega arith) stage13
 
-  chain14 : Chain (treeVerdict n a) 14 (Passes13 a × ((c : ℕ) → c < n → not (hasLeaf c a) ≡ false)) accepted
+  chain14 : Chain (treeVerdict n a) idleRefusal (Passes13 a × ((c : ℕ) → c < n → not (hasLeaf c a) ≡ false)) accepted
   chain14 = next chain13 (omega arith) stage14
 
   pub tree-numbers : (m k : ℕ) → treeVerdict n a ≡ refused m k → (12 ≤ m) × (m ≤ 14)
@@ -285,58 +300,58 @@ module _ (n : ℕ) (a : Tree) where
       not-of b e = rw e
 
   module _ (k : ℕ) where
-    pub refusal-12 : (treeVerdict n a ≡ refused 12 k) ↔ ((nodesMost < nodesIn a) × (k ≡ 0))
+    pub refusal-12 : (treeVerdict n a ≡ refused nodesRefusal k) ↔ ((nodesMost < nodesIn a) × (k ≡ 0))
     refusal-12 = first-refusal stage12 from13 k
 
-    pub refusal-13 : (treeVerdict n a ≡ refused 13 k) ↔ (Passes12 a × ((bindingsMost < length (bindingsIn a)) × (k ≡ 0)))
+    pub refusal-13 : (treeVerdict n a ≡ refused bindingsRefusal k) ↔ (Passes12 a × ((bindingsMost < length (bindingsIn a)) × (k ≡ 0)))
     refusal-13 = refusal chain12 (omega arith) stage13 from14 k
 
-    pub refusal-14 : (treeVerdict n a ≡ refused 14 k) ↔ (Passes13 a × Lowest (λ c. not (hasLeaf c a)) 0 n k)
+    pub refusal-14 : (treeVerdict n a ≡ refused idleRefusal k) ↔ (Passes13 a × Lowest (λ c. not (hasLeaf c a)) 0 n k)
     refusal-14 = refusal chain13 (omega arith) stage14 (none-from 15) k
 
 -- ---- 21 to 24
 module _ (v : List ℕ) where
   abbrev after23 : Verdict
-  after23 = require (panelTextsFit v) 24 accepted
+  after23 = require (panelTextsFit v) panelTextRefusal accepted
 
   abbrev after22 : Verdict
-  after22 = require (panelShapeFits v) 23 after23
+  after22 = require (panelShapeFits v) panelShapeRefusal after23
 
   abbrev after21 : Verdict
-  after21 = require (panelLayoutFits v) 22 after22
+  after21 = require (panelLayoutFits v) panelLayoutRefusal after22
 
-  stage21 : Stage (panelVerdict v) 21 (Passes21 v) (λ k. (panelLengthFits v ≡ false) × (k ≡ 0)) after21
+  stage21 : Stage (panelVerdict v) panelLengthRefusal (Passes21 v) (λ k. (panelLengthFits v ≡ false) × (k ≡ 0)) after21
   unfolding panelVerdict
-  stage21 = test-stage (panelLengthFits v) 21 after21
+  stage21 = test-stage (panelLengthFits v) panelLengthRefusal after21
 
-  stage22 : Stage after21 22 (panelLayoutFits v ≡ true) (λ k. (panelLayoutFits v ≡ false) × (k ≡ 0)) after22
-  stage22 = test-stage (panelLayoutFits v) 22 after22
+  stage22 : Stage after21 panelLayoutRefusal (panelLayoutFits v ≡ true) (λ k. (panelLayoutFits v ≡ false) × (k ≡ 0)) after22
+  stage22 = test-stage (panelLayoutFits v) panelLayoutRefusal after22
 
-  stage23 : Stage after22 23 (panelShapeFits v ≡ true) (λ k. (panelShapeFits v ≡ false) × (k ≡ 0)) after23
-  stage23 = test-stage (panelShapeFits v) 23 after23
+  stage23 : Stage after22 panelShapeRefusal (panelShapeFits v ≡ true) (λ k. (panelShapeFits v ≡ false) × (k ≡ 0)) after23
+  stage23 = test-stage (panelShapeFits v) panelShapeRefusal after23
 
-  stage24 : Stage after23 24 (panelTextsFit v ≡ true) (λ k. (panelTextsFit v ≡ false) × (k ≡ 0)) accepted
-  stage24 = test-stage (panelTextsFit v) 24 accepted
+  stage24 : Stage after23 panelTextRefusal (panelTextsFit v ≡ true) (λ k. (panelTextsFit v ≡ false) × (k ≡ 0)) accepted
+  stage24 = test-stage (panelTextsFit v) panelTextRefusal accepted
 
-  from24 : From 24 after23
+  from24 : From panelTextRefusal after23
   from24 = stage-from stage24 (none-from 25)
 
-  from23 : From 23 after22
+  from23 : From panelShapeRefusal after22
   from23 = stage-from stage23 from24
 
-  from22 : From 22 after21
+  from22 : From panelLayoutRefusal after21
   from22 = stage-from stage22 from23
 
-  chain21 : Chain (panelVerdict v) 21 (Passes21 v) after21
+  chain21 : Chain (panelVerdict v) panelLengthRefusal (Passes21 v) after21
   chain21 = first stage21
 
-  chain22 : Chain (panelVerdict v) 22 (Passes22 v) after22
+  chain22 : Chain (panelVerdict v) panelLayoutRefusal (Passes22 v) after22
   chain22 = next chain21 (omega arith) stage22
 
-  chain23 : Chain (panelVerdict v) 23 (Passes23 v) after23
+  chain23 : Chain (panelVerdict v) panelShapeRefusal (Passes23 v) after23
   chain23 = next chain22 (omega arith) stage23
 
-  chain24 : Chain (panelVerdict v) 24 (Passes24 v) accepted
+  chain24 : Chain (panelVerdict v) panelTextRefusal (Passes24 v) accepted
   chain24 = next chain23 (omega arith) stage24
 
   pub panel-numbers : (n k : ℕ) → panelVerdict v ≡ refused n k → (21 ≤ n) × (n ≤ 24)
@@ -346,14 +361,14 @@ module _ (v : List ℕ) where
   panel-accepted = acceptance chain24 refl
 
   module _ (k : ℕ) where
-    pub refusal-21 : (panelVerdict v ≡ refused 21 k) ↔ ((panelLengthFits v ≡ false) × (k ≡ 0))
+    pub refusal-21 : (panelVerdict v ≡ refused panelLengthRefusal k) ↔ ((panelLengthFits v ≡ false) × (k ≡ 0))
     refusal-21 = first-refusal stage21 from22 k
 
-    pub refusal-22 : (panelVerdict v ≡ refused 22 k) ↔ (Passes21 v × ((panelLayoutFits v ≡ false) × (k ≡ 0)))
+    pub refusal-22 : (panelVerdict v ≡ refused panelLayoutRefusal k) ↔ (Passes21 v × ((panelLayoutFits v ≡ false) × (k ≡ 0)))
     refusal-22 = refusal chain21 (omega arith) stage22 from23 k
 
-    pub refusal-23 : (panelVerdict v ≡ refused 23 k) ↔ (Passes22 v × ((panelShapeFits v ≡ false) × (k ≡ 0)))
+    pub refusal-23 : (panelVerdict v ≡ refused panelShapeRefusal k) ↔ (Passes22 v × ((panelShapeFits v ≡ false) × (k ≡ 0)))
     refusal-23 = refusal chain22 (omega arith) stage23 from24 k
 
-    pub refusal-24 : (panelVerdict v ≡ refused 24 k) ↔ (Passes23 v × ((panelTextsFit v ≡ false) × (k ≡ 0)))
+    pub refusal-24 : (panelVerdict v ≡ refused panelTextRefusal k) ↔ (Passes23 v × ((panelTextsFit v ≡ false) × (k ≡ 0)))
     refusal-24 = refusal chain23 (omega arith) stage24 (none-from 25) k

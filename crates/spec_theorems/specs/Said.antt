@@ -7,6 +7,8 @@ use mathlib.Core.List.{List, [], _∷_, _++_}
 use lib.Dec.{eqb}
 use lib.ListN.{length}
 use Rattle.spec_rules.specs.Limits.{nodesMost, bindingsMost, treeRoom}
+use Rattle.spec_rules.specs.Kinds.{listRecord}
+use Rattle.spec_rules.specs.RefusalNumbers.{stuckRefusal}
 use Rattle.base_words.specs.Words.{zeros}
 use Rattle.spec_rules.specs.SearchingLaws.{Lowest}
 use Rattle.spec_rules.specs.SheetFile.{types, patterns, clauses}
@@ -72,14 +74,14 @@ pub record OfClause (s : List ℕ) (c : ℕ) (bs : List Binding) : Type 0 where
 pub record InPanel (v : List ℕ) (x : Position) : Type 0 where
   pub there : x .place < records v
   pub most : x .dropped ≤ recordCount v (x .place)
-  pub of-list : (recordKind v (x .place) ≡ 2 → ⊥) → x .dropped ≡ 0
+  pub of-list : (recordKind v (x .place) ≡ listRecord → ⊥) → x .dropped ≡ 0
 
 -- ---- how a walk call ends where 1, 31 and 21 to 24 are not given: at a leaf, without one, or with 32; with what it writes
 pub data WalkEnds (t v : List ℕ) (n : ℕ) : Type 0 where
   at-a-leaf : (c : ℕ) (xs : List Bound) → walk (treeOf t) v ≡ reached c xs → walkAnswer t v n ≡ answers (leafOf c (length xs))
       → (walkCall t v n) .bound ≡ boundWords xs ++ zeros (n - 3 * length xs) → WalkEnds t v n
   without-leaf : walk (treeOf t) v ≡ noLeaf → walkAnswer t v n ≡ answers withoutLeaf → (walkCall t v n) .bound ≡ zeros n → WalkEnds t v n
-  with-32 : walk (treeOf t) v ≡ stuck → walkAnswer t v n ≡ refuses 32 0 → (walkCall t v n) .bound ≡ zeros n → WalkEnds t v n
+  with-32 : walk (treeOf t) v ≡ stuck → walkAnswer t v n ≡ refuses stuckRefusal 0 → (walkCall t v n) .bound ≡ zeros n → WalkEnds t v n
 
 -- ---- what the build answers is the file's length and the records written
 pub record TellsTheFile (s : List ℕ) (x : Built) : Type 0 where

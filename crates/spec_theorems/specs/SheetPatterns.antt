@@ -11,6 +11,7 @@ use borrow.Author.Tests.{eqb-true, eq-eqb, ne-eqb}
 use Rattle.base_words.specs.Words.{both, textAt}
 use Rattle.base_words.specs.WordsLaws.{both-true, length-textAt, getD-textAt, texts-agree}
 use Rattle.spec_rules.specs.Limits.{patternsMost, childrenMost}
+use Rattle.spec_rules.specs.Kinds.{intType, bytesType, listType, dataType, integerPattern, byteStringPattern}
 use Rattle.spec_rules.specs.SheetFile.{subject, clauses, patterns, poolAt, poolSize, typeKind, typeFirst, constructorFirst, entry, patternKind, patternA, patternFirst, patternCount, child, root, poolText, pool}
 use Rattle.spec_rules.specs.Patterns.{PatternKind, Discard, Variable, Assign, Integer, ByteString, ListOfAll, ListWithRest, Constructor, Pair, Tuple, Unknown, pairs, tuples, Pat, Pats, discard, variable, assign, integer, bytestring, listed, tailed, constructor, opened, many, oneConstructor, decorated, constructorOf, along, ofConstructor, ofKind, patternTo, pattern, clausePattern, clausePatterns, takesArguments, opensInto, fits, fitAll}
 use Rattle.spec_rules.specs.Rows.{Step, pair, tuple, constr, list, listtail, Path, into, opening}
@@ -57,11 +58,11 @@ module _ (s : List ℕ) where
   FactsOf (discard m) = Unit {0}
   FactsOf (variable m x) = FieldA x
   FactsOf (assign m x q) = FieldA x
-  FactsOf (integer m at w) = (typeKind s (m .type) ≡ 0) × InPool (pool s) at w
-  FactsOf (bytestring m at w) = (typeKind s (m .type) ≡ 1) × InPool (pool s) at w
-  FactsOf (listed m qs) = (typeKind s (m .type) ≡ 2) × (many qs ≤ childrenMost)
-  FactsOf (tailed m qs q) = (typeKind s (m .type) ≡ 2) × (many qs ≤ childrenMost)
-  FactsOf (constructor m a qs) = (typeKind s (m .type) ≡ 5) × FieldA a
+  FactsOf (integer m at w) = (typeKind s (m .type) ≡ intType) × InPool (pool s) at w
+  FactsOf (bytestring m at w) = (typeKind s (m .type) ≡ bytesType) × InPool (pool s) at w
+  FactsOf (listed m qs) = (typeKind s (m .type) ≡ listType) × (many qs ≤ childrenMost)
+  FactsOf (tailed m qs q) = (typeKind s (m .type) ≡ listType) × (many qs ≤ childrenMost)
+  FactsOf (constructor m a qs) = (typeKind s (m .type) ≡ dataType) × FieldA a
   FactsOf (opened m o qs) = Unit {0}
 
   abbrev pub Facts : Path → Pat → Type 0
@@ -169,7 +170,7 @@ module _ (s : List ℕ) where
             below (suc n) (child s (patternFirst s k)) x t (rw z at (part-known (ap hasChildren e) 0 (omega arith))) (rw z at (part-stands Assign e refl 0 (omega arith))) h,
           )
 
-      text-everywhere : (kind : PatternKind) → kindAt s k ≡ kind → 3 ≤ patternKind s k → patternKind s k ≤ 4
+      text-everywhere : (kind : PatternKind) → kindAt s k ≡ kind → integerPattern ≤ patternKind s k → patternKind s k ≤ byteStringPattern
           → InPool (pool s) (patternFirst s k) (poolText s (patternFirst s k) (patternCount s k))
       text-everywhere kind e low high = text-in-pool s (a .is-laid) (patternFirst s k) (patternCount s k) (a .is-shaped .text-run k known low high)
 
@@ -177,19 +178,19 @@ module _ (s : List ℕ) where
       unfolding ofKind fits Everywhere
       integer-everywhere e h =
           let byte = pattern-byte _ Integer e (omega arith) in
-          (used, (eqb-true (typeKind s t) 0 h, text-everywhere Integer e (omega arith) (omega arith)))
+          (used, (eqb-true (typeKind s t) intType h, text-everywhere Integer e (omega arith) (omega arith)))
 
       bytestring-everywhere : kindAt s k ≡ ByteString → fits (ofKind f s k t ByteString) s ≡ true → Everywhere Facts x (ofKind f s k t ByteString)
       unfolding ofKind fits Everywhere
       bytestring-everywhere e h =
           let byte = pattern-byte _ ByteString e (omega arith) in
-          (used, (eqb-true (typeKind s t) 1 h, text-everywhere ByteString e (omega arith) (omega arith)))
+          (used, (eqb-true (typeKind s t) bytesType h, text-everywhere ByteString e (omega arith) (omega arith)))
 
       listed-everywhere : kindAt s k ≡ ListOfAll → fits (ofKind f s k t ListOfAll) s ≡ true → Everywhere Facts x (ofKind f s k t ListOfAll)
       unfolding ofKind fits Everywhere partPath partType hasChildren
       listed-everywhere e h =
-          let (kind, all) = both-true (eqb (typeKind s t) 2) (fitAll (along f s (patternFirst s k) (patternCount s k) (typeFirst s t) 0) s) h in (
-            (used, (eqb-true (typeKind s t) 2 kind, omega (arith, many-along f s (patternFirst s k) (patternCount s k) (typeFirst s t) 0, count-most (ap hasChildren e)))),
+          let (kind, all) = both-true (eqb (typeKind s t) listType) (fitAll (along f s (patternFirst s k) (patternCount s k) (typeFirst s t) 0) s) h in (
+            (used, (eqb-true (typeKind s t) listType kind, omega (arith, many-along f s (patternFirst s k) (patternCount s k) (typeFirst s t) 0, count-most (ap hasChildren e)))),
             list-everywhere ListOfAll e refl (patternCount s k) (omega arith) (λ i l. refl) (λ i l. refl) all,
           )
 
@@ -198,10 +199,10 @@ module _ (s : List ℕ) where
       unfolding ofKind fits Everywhere partPath partType hasChildren
       tailed-everywhere e h =
           let two = a .is-shaped .tail-after-some k known (pattern-byte _ ListWithRest e (omega arith)) in
-          let (kind, rest) = both-true (eqb (typeKind s t) 2) (both (fitAll elements s) (fits tail s)) h in
+          let (kind, rest) = both-true (eqb (typeKind s t) listType) (both (fitAll elements s) (fits tail s)) h in
           let (all, end) = both-true (fitAll elements s) (fits tail s) rest in
           let many-is : many elements ≡ last = many-along f s (patternFirst s k) last (typeFirst s t) 0 in (
-            (used, (eqb-true (typeKind s t) 2 kind, omega (arith, count-most (ap hasChildren e)))),
+            (used, (eqb-true (typeKind s t) listType kind, omega (arith, count-most (ap hasChildren e)))),
             list-everywhere ListWithRest e refl last (omega arith) (λ i l. rw (not-last i l)) (λ i l. rw (not-last i l)) all,
             rw many-is
                 (below (suc n) (child s (patternFirst s k + last)) (into x (listtail last t)) t (part-known (ap hasChildren e) last (omega arith))

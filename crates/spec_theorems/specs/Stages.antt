@@ -10,7 +10,7 @@ use lib.Dec.{ltb}
 use borrow.Author.Tests.{ltb-true, ltb-false}
 use Rattle.spec_rules.specs.Searching.{lowest}
 use Rattle.spec_rules.specs.SearchingLaws.{Lowest, lowest-some, lowest-none, lowest-make-none}
-use Rattle.spec_rules.specs.SheetRefusals.{Verdict, accepted, refused, require, requireNone}
+use Rattle.spec_rules.specs.SheetRefusals.{Verdict, accepted, refused, require, requireNone, andThen}
 
 -- ---- the lowest is one
 module _ (f : ℕ → Bool) where
@@ -65,6 +65,15 @@ pub record Stage (w : Verdict) (n : ℕ) (Pass : Type 0) (Fail : ℕ → Type 0)
   pub goes-on : Pass → w ≡ rest
   pub stops : (k : ℕ) → Fail k → w ≡ refused n k
   pub decided : Pass ⊎ ((k : ℕ) × Fail k)
+
+-- the same where another verdict follows
+pub then-stage : {w : Verdict} {n : ℕ} {Pass : Type 0} {Fail : ℕ → Type 0} {rest : Verdict} (next : Verdict) → Stage w n Pass Fail rest
+    → Stage (andThen w next) n Pass Fail (andThen rest next)
+then-stage next s = record {
+  goes-on = λ p. ap (λ v. andThen v next) (s .goes-on p);
+  stops = λ k q. ap (λ v. andThen v next) (s .stops k q);
+  decided = s .decided;
+}
 
 -- the numbers that a verdict gives are n or higher
 abbrev pub From : ℕ → Verdict → Type 0

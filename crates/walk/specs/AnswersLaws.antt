@@ -11,6 +11,8 @@ use lib.ListN.{length}
 use Rattle.base_words.specs.Words.{zeros}
 use Rattle.base_words.specs.Stored.{stored}
 use Rattle.base_words.specs.StoredLaws.{stored-zeros}
+use Rattle.spec_rules.specs.Limits.{boundRoom}
+use Rattle.spec_rules.specs.RefusalNumbers.{roomRefusal, treeRefusal, stuckRefusal}
 use Rattle.spec_rules.specs.SheetRefusals.{accepted, refused}
 use Rattle.spec_rules.specs.PanelFile.{panelVerdict}
 use Rattle.spec_rules.specs.TreeReader.{bindingsFrom, treeFits, treeOf}
@@ -50,20 +52,20 @@ module _ (t v l : List ℕ) (clear : l ≡ zeros (length l)) where
   unfolding walkEnd walkedWords
   gives-no-leaf w = by-end t v noLeaf l l Walked.NoLeaf (w .means) refl (let e : length l - 0 ≡ length l = omega arith in clear ∙ ap zeros (sym e))
 
-  pub gives-stuck : Arrives t v Reached.Stuck → Gives t v (panelEnd t v) l l (Walked.Refused 32 0)
+  pub gives-stuck : Arrives t v Reached.Stuck → Gives t v (panelEnd t v) l l (Walked.Refused stuckRefusal 0)
   unfolding walkEnd
-  gives-stuck w = by-end t v stuck l l (Walked.Refused 32 0) (w .means) refl clear
+  gives-stuck w = by-end t v stuck l l (Walked.Refused stuckRefusal 0) (w .means) refl clear
 
   module _ (a f n : ℕ) (l' : List ℕ) (w : Arrives t v (Reached.Leaf a f n)) where
-    pub gives-unbound : (r : Bool) → Binds v (bindingsFrom t f n) l l' r → r ≡ false → Gives t v (panelEnd t v) l l' (Walked.Refused 32 0)
+    pub gives-unbound : (r : Bool) → Binds v (bindingsFrom t f n) l l' r → r ≡ false → Gives t v (panelEnd t v) l l' (Walked.Refused stuckRefusal 0)
     unfolding walkEnd atLeaf
     gives-unbound r b e = go (bound v (bindingsFrom t f n)) refl
       where
-        go : (o : Option (List Bound)) → bound v (bindingsFrom t f n) ≡ o → Gives t v (panelEnd t v) l l' (Walked.Refused 32 0)
-        go none q = by-end t v stuck l l' (Walked.Refused 32 0) (sym (ap (atLeaf a) q) ∙ w .means) refl (b .words ∙ ap (wordsAfter l 0) q)
+        go : (o : Option (List Bound)) → bound v (bindingsFrom t f n) ≡ o → Gives t v (panelEnd t v) l l' (Walked.Refused stuckRefusal 0)
+        go none q = by-end t v stuck l l' (Walked.Refused stuckRefusal 0) (sym (ap (atLeaf a) q) ∙ w .means) refl (b .words ∙ ap (wordsAfter l 0) q)
         go (some xs) q = let g : false ≡ true = sym e ∙ b .answer ∙ ap isThere q in let z : _≡_ {A = ℕ} 0 1 = cc in absurd (omega arith)
 
-    pub gives-leaf : (r : Bool) → 576 ≤ length l → Binds v (bindingsFrom t f n) l l' r → r ≡ true → Gives t v (panelEnd t v) l l' (Walked.Leaf a n)
+    pub gives-leaf : (r : Bool) → boundRoom ≤ length l → Binds v (bindingsFrom t f n) l l' r → r ≡ true → Gives t v (panelEnd t v) l l' (Walked.Leaf a n)
     unfolding walkEnd atLeaf walkedWords
     gives-leaf r room b e = go (bound v (bindingsFrom t f n)) refl
       where
@@ -97,14 +99,14 @@ module _ (t v l l' : List ℕ) where
   unfolding walkCall
   call-refused number e z = rw (e, z)
 
-  pub call-no-room : length l < 576 → l' ≡ zeros (length l) → callOf (Walked.Refused 1 0) l' ≡ walkCall t v (length l)
+  pub call-no-room : length l < boundRoom → l' ≡ zeros (length l) → callOf (Walked.Refused roomRefusal 0) l' ≡ walkCall t v (length l)
   unfolding walkAnswer walkRoom
-  call-no-room h z = call-refused 1 (rw (lt-leb 576 (length l) h)) z
+  call-no-room h z = call-refused roomRefusal (rw (lt-leb boundRoom (length l) h)) z
 
-  module _ (room : 576 ≤ length l) where
-    pub call-no-tree : treeFits t ≡ false → l' ≡ zeros (length l) → callOf (Walked.Refused 31 0) l' ≡ walkCall t v (length l)
+  module _ (room : boundRoom ≤ length l) where
+    pub call-no-tree : treeFits t ≡ false → l' ≡ zeros (length l) → callOf (Walked.Refused treeRefusal 0) l' ≡ walkCall t v (length l)
     unfolding walkAnswer walkRoom treeFileVerdict
-    call-no-tree e z = call-refused 31 (rw (le-leb 576 (length l) room, e)) z
+    call-no-tree e z = call-refused treeRefusal (rw (le-leb boundRoom (length l) room, e)) z
 
     pub call-walks : treeFits t ≡ true → (k : List ℕ) (r : Walked) → length k ≡ length l → Gives t v (treeEnd t v) k l' r → callOf r l' ≡ walkCall t v (length l)
     unfolding walkCall
@@ -115,4 +117,4 @@ module _ (t v l l' : List ℕ) where
         rw (a, ← b) (ap (λ (x : Answer WalkEnd). record { answer = x; bound = l' }) (g .answer))
       where
         whole : walkAnswer t v (length l) ≡ treeEnd t v
-        whole = unfold walkAnswer walkRoom treeFileVerdict in rw (le-leb 576 (length l) room, e)
+        whole = unfold walkAnswer walkRoom treeFileVerdict in rw (le-leb boundRoom (length l) room, e)

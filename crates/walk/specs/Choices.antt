@@ -4,9 +4,10 @@ use mathlib.Core.Path.{_≡_}
 use mathlib.Core.Bool.{Bool, true, false}
 use mathlib.Core.List.{List}
 use mathlib.Core.Option.{Option, none, some}
-use Prim.Native.Nat.{ℕ, _+_, _≤_, _<_}
+use Prim.Native.Nat.{ℕ, suc, _+_, _≤_, _<_}
 use lib.Dec.{eqb}
 use Rattle.base_words.specs.Words.{pick, sameText}
+use Rattle.spec_rules.specs.Kinds.{integerRecord, bytesRecord, constructorRecord, intCase, bytesCase}
 use Rattle.spec_rules.specs.Searching.{lowest}
 use Rattle.spec_rules.specs.Splitting.{Test, Int, Bytes, sameTest}
 use Rattle.spec_rules.specs.TreeReader.{caseKind, caseNumber, caseChild, caseText, caseTest}
@@ -16,17 +17,17 @@ use Rattle.walk.specs.declared.choose.Chosen.the-variants.{Child, Nothin
 
 -- the kind of record that a switch asks for whose first case has this test
 abbrev pub askedBy : TestRead → ℕ
-askedBy (TestRead.Constr a) = 5
-askedBy (TestRead.Text i s n) = pick i 0 1
-askedBy (TestRead.List k) = 6
-askedBy (TestRead.Tailed k) = 6
+askedBy (TestRead.Constr a) = constructorRecord
+askedBy (TestRead.Text i s n) = pick i integerRecord bytesRecord
+askedBy (TestRead.List k) = suc constructorRecord
+askedBy (TestRead.Tailed k) = suc constructorRecord
 
 -- ---- the n cases from i on are of one kind, or have texts
 abbrev pub AllKind : List ℕ → ℕ → ℕ → ℕ → Type 0
 AllKind t kind i n = (j : ℕ) → i ≤ j → j < i + n → caseKind t j ≡ kind
 
 abbrev pub AllText : List ℕ → ℕ → ℕ → Type 0
-AllText t i n = (j : ℕ) → i ≤ j → j < i + n → (1 ≤ caseKind t j) × (caseKind t j ≤ 2)
+AllText t i n = (j : ℕ) → i ≤ j → j < i + n → (intCase ≤ caseKind t j) × (caseKind t j ≤ bytesCase)
 
 -- ---- choosing: the first of the n cases from i on of this test, of this number, of this text
 abbrev pub firstCase : List ℕ → Test → ℕ → ℕ → Option ℕ

@@ -11,6 +11,7 @@ use lib.Dec.{eqb, leb}
 use lib.ListN.{length}
 use Rattle.base_words.specs.Words.{textAt, both, pick, sameText}
 use Rattle.base_words.specs.WordsLaws.{length-textAt, not-sameText}
+use Rattle.spec_rules.specs.Kinds.{integerRecord, bytesRecord, constructorRecord, constrCase, intCase, bytesCase, listCase, listWithTailCase}
 use Rattle.spec_rules.specs.Searching.{lowest}
 use Rattle.spec_rules.specs.SearchingLaws.{lowest-agree}
 use Rattle.spec_rules.specs.Splitting.{Test, Constr, Int, Bytes, ListOf, ListWithTail, testFields, sameTest}
@@ -29,10 +30,10 @@ use Rattle.walk.specs.Choices.{askedBy, AllKind, AllText, firstCase, fir
 
 -- ---- the kind of record that a switch asks for, by the kind of its first case
 abbrev pub askedFor : ℕ → ℕ
-askedFor zero = 5
+askedFor zero = constructorRecord
 askedFor (suc c) = c
 
-module _ (t : List ℕ) (i : ℕ) (h : caseKind t i ≤ 2) where
+module _ (t : List ℕ) (i : ℕ) (h : caseKind t i ≤ bytesCase) where
   pub asked-is : askedBy (testOf t i) ≡ askedFor (caseKind t i)
   unfolding testOf testOfFields
   asked-is = go (caseKindOf (caseKind t i)) refl
@@ -45,27 +46,27 @@ module _ (t : List ℕ) (i : ℕ) (h : caseKind t i ≤ 2) where
       go List-with-tail-case e = absurd (omega (arith, case-byte (caseKind t i) List-with-tail-case e (omega arith)))
       go Unknown-case e = absurd (omega (arith, unknown-case (caseKind t i) e))
 
-  pub constr-asked : askedBy (testOf t i) ≡ 5 → caseKind t i ≡ 0
+  pub constr-asked : askedBy (testOf t i) ≡ constructorRecord → caseKind t i ≡ constrCase
   constr-asked e = go (caseKind t i) h (sym asked-is ∙ e)
     where
-      go : (c : ℕ) → c ≤ 2 → askedFor c ≡ 5 → c ≡ 0
+      go : (c : ℕ) → c ≤ bytesCase → askedFor c ≡ constructorRecord → c ≡ constrCase
       go zero l q = refl
       go (suc c) l q = absurd (omega arith)
 
   -- an integer's text or a byte string's
-  pub text-asked : (askedBy (testOf t i) ≡ 5 → ⊥) → (integer : Bool) × (caseKind t i ≡ pick integer 1 2) × (askedBy (testOf t i) ≡ pick integer 0 1)
+  pub text-asked : (askedBy (testOf t i) ≡ constructorRecord → ⊥) → (integer : Bool) × (caseKind t i ≡ pick integer intCase bytesCase) × (askedBy (testOf t i) ≡ pick integer integerRecord bytesRecord)
   text-asked n = go (caseKind t i) h refl
     where
-      go : (c : ℕ) → c ≤ 2 → caseKind t i ≡ c → (integer : Bool) × (caseKind t i ≡ pick integer 1 2) × (askedBy (testOf t i) ≡ pick integer 0 1)
+      go : (c : ℕ) → c ≤ bytesCase → caseKind t i ≡ c → (integer : Bool) × (caseKind t i ≡ pick integer intCase bytesCase) × (askedBy (testOf t i) ≡ pick integer integerRecord bytesRecord)
       go zero l q = absurd (n (asked-is ∙ ap askedFor q))
       go (suc zero) l q = (true, q, asked-is ∙ ap askedFor q)
       go (suc (suc zero)) l q = (false, q, asked-is ∙ ap askedFor q)
       go (suc (suc (suc c))) l q = absurd (omega arith)
 
-  pub texts-asked : (askedBy (testOf t i) ≡ 5 → ⊥) → (n : ℕ) → AllKind t (caseKind t i) i n → (askedBy (testOf t i) ≤ 1) × AllText t i n
+  pub texts-asked : (askedBy (testOf t i) ≡ constructorRecord → ⊥) → (n : ℕ) → AllKind t (caseKind t i) i n → (askedBy (testOf t i) ≤ bytesRecord) × AllText t i n
   texts-asked other n alike = let w = text-asked other in go (w .0) (w .1) (w .2)
     where
-      go : (integer : Bool) → caseKind t i ≡ pick integer 1 2 → askedBy (testOf t i) ≡ pick integer 0 1 → (askedBy (testOf t i) ≤ 1) × AllText t i n
+      go : (integer : Bool) → caseKind t i ≡ pick integer intCase bytesCase → askedBy (testOf t i) ≡ pick integer integerRecord bytesRecord → (askedBy (testOf t i) ≤ bytesRecord) × AllText t i n
       go true k a = (omega arith, λ j low high. let e = alike j low high in (omega arith, omega arith))
       go false k a = (omega arith, λ j low high. let e = alike j low high in (omega arith, omega arith))
 
@@ -79,7 +80,7 @@ module _ (v : List ℕ) (p : Place) (x : Record) (is : x ≡ recordOf v (p .plac
   kind-is : recordKind v (p .place) ≡ x .kind
   kind-is = sym (ap (λ (y : Record). y .kind) is)
 
-  pub shown-constr : x .kind ≡ 5 → shownAt v p ≡ some (Constr (x .a))
+  pub shown-constr : x .kind ≡ constructorRecord → shownAt v p ≡ some (Constr (x .a))
   unfolding shownAt shown recordKindOf
   shown-constr k = let a = ap (λ (y : Record). y .a) is in rw (kind-is, k, a)
 
@@ -89,7 +90,7 @@ module _ (v : List ℕ) (p : Place) (x : Record) (is : x ≡ recordOf v (p .plac
     where
       go : (kind : RecordKind) → recordKindOf (recordKind v (p .place)) ≡ kind → ofKind (shown v (p .place) (recordKindOf (recordKind v (p .place)))) c ≡ false
       go Integer-record e = rw e (ne-eqb 1 c (λ q. h (sym kind-is ∙ record-byte _ Integer-record e (omega arith) ∙ ap askedFor q)))
-      go Bytes-record e = rw e (ne-eqb 2 c (λ q. h (sym kind-is ∙ record-byte _ Bytes-record e (omega arith) ∙ ap askedFor q)))
+      go Bytes-record e = rw e (ne-eqb bytesCase c (λ q. h (sym kind-is ∙ record-byte _ Bytes-record e (omega arith) ∙ ap askedFor q)))
       go List-record e = rw e
       go Pair-record e = rw e
       go Tuple-record e = rw e
@@ -105,12 +106,12 @@ module _ (v : List ℕ) (p : Place) (x : Record) (is : x ≡ recordOf v (p .plac
         let a = opened .pool-at in
         rw (a, f, c)
 
-    pub shown-text : (integer : Bool) → x .kind ≡ pick integer 0 1 → shownAt v p ≡ some (textTest integer (textAt v (n .«pool_at» + x .first) (x .count)))
+    pub shown-text : (integer : Bool) → x .kind ≡ pick integer integerRecord bytesRecord → shownAt v p ≡ some (textTest integer (textAt v (n .«pool_at» + x .first) (x .count)))
     unfolding shownAt shown recordKindOf
     shown-text true k = rw (kind-is, k, text-is)
     shown-text false k = rw (kind-is, k, text-is)
 
-    pub text-inside : PanelShaped v → p .place < records v → x .kind ≤ 1 → n .«pool_at» + x .first + x .count ≤ length v
+    pub text-inside : PanelShaped v → p .place < records v → x .kind ≤ bytesRecord → n .«pool_at» + x .first + x .count ≤ length v
     text-inside shaped h k =
         let q = kind-is in
         let f = ap (λ (y : Record). y .first) is in
@@ -118,7 +119,7 @@ module _ (v : List ℕ) (p : Place) (x : Record) (is : x ≡ recordOf v (p .plac
         omega (arith, shaped .text-run (p .place) h (omega arith) .inside, opened .pool-at, opened .laid .pool-end, opened .laid .trailer-end)
 
 -- ---- the test of a case of a known kind
-pub test-kind : (t : List ℕ) (i : ℕ) → caseKind t i ≤ 4 → testKind (caseTest t i) ≡ caseKind t i
+pub test-kind : (t : List ℕ) (i : ℕ) → caseKind t i ≤ listWithTailCase → testKind (caseTest t i) ≡ caseKind t i
 unfolding caseTest testOfKind testKind
 test-kind t i h = go (caseKindOf (caseKind t i)) refl
   where
@@ -139,24 +140,24 @@ only-this true = refl
 only-this false = refl
 
 module _ (t : List ℕ) (i : ℕ) where
-  constr-same : (a : ℕ) → caseKind t i ≡ 0 → eqb a (caseNumber t i) ≡ sameTest (Constr a) (caseTest t i)
+  constr-same : (a : ℕ) → caseKind t i ≡ constrCase → eqb a (caseNumber t i) ≡ sameTest (Constr a) (caseTest t i)
   unfolding sameTest sameText testFields testOfKind
   constr-same a k = only-this (eqb a (caseNumber t i)) ∙ ap (sameTest (Constr a)) (test-of t i Constr-case k)
 
-  list-same : (a : ℕ) → caseKind t i ≡ 3 → eqb a (caseNumber t i) ≡ sameTest (ListOf a) (caseTest t i)
+  list-same : (a : ℕ) → caseKind t i ≡ listCase → eqb a (caseNumber t i) ≡ sameTest (ListOf a) (caseTest t i)
   unfolding sameTest sameText testFields testOfKind
   list-same a k = only-this (eqb a (caseNumber t i)) ∙ ap (sameTest (ListOf a)) (test-of t i List-case k)
 
-  tail-same : (a : ℕ) → caseKind t i ≡ 4 → eqb a (caseNumber t i) ≡ sameTest (ListWithTail a) (caseTest t i)
+  tail-same : (a : ℕ) → caseKind t i ≡ listWithTailCase → eqb a (caseNumber t i) ≡ sameTest (ListWithTail a) (caseTest t i)
   unfolding sameTest sameText testFields testOfKind
   tail-same a k = only-this (eqb a (caseNumber t i)) ∙ ap (sameTest (ListWithTail a)) (test-of t i List-with-tail-case k)
 
-  text-same : (integer : Bool) (w : List ℕ) → caseKind t i ≡ pick integer 1 2 → sameText w (caseText t i) ≡ sameTest (textTest integer w) (caseTest t i)
+  text-same : (integer : Bool) (w : List ℕ) → caseKind t i ≡ pick integer intCase bytesCase → sameText w (caseText t i) ≡ sameTest (textTest integer w) (caseTest t i)
   unfolding sameTest sameText testFields testOfKind
   text-same true w k = ap (sameTest (Int w)) (test-of t i Int-case k)
   text-same false w k = ap (sameTest (Bytes w)) (test-of t i Bytes-case k)
 
-  pub tail-number-of : (n : ℕ) → caseKind t i ≡ 4 → tailNumber n (ListWithTail (caseNumber t i)) ≡ tailNumber n (caseTest t i)
+  pub tail-number-of : (n : ℕ) → caseKind t i ≡ listWithTailCase → tailNumber n (ListWithTail (caseNumber t i)) ≡ tailNumber n (caseTest t i)
   unfolding testOfKind
   tail-number-of n k = ap (tailNumber n) (test-of t i List-with-tail-case k)
 
@@ -165,14 +166,14 @@ module _ (t : List ℕ) (i n : ℕ) where
   pub numbered-constr : (a : ℕ) → AllKind t 0 i n → firstNumbered t a i n ≡ firstCase t (Constr a) i n
   numbered-constr a k = lowest-agree (λ j. eqb a (caseNumber t j)) (λ j. sameTest (Constr a) (caseTest t j)) i n (λ j low high. constr-same t j a (k j low high))
 
-  pub numbered-list : (a : ℕ) → AllKind t 3 i n → firstNumbered t a i n ≡ firstCase t (ListOf a) i n
+  pub numbered-list : (a : ℕ) → AllKind t listCase i n → firstNumbered t a i n ≡ firstCase t (ListOf a) i n
   numbered-list a k = lowest-agree (λ j. eqb a (caseNumber t j)) (λ j. sameTest (ListOf a) (caseTest t j)) i n (λ j low high. list-same t j a (k j low high))
 
-  pub numbered-tail : (a : ℕ) → AllKind t 4 i n → firstNumbered t a i n ≡ firstCase t (ListWithTail a) i n
+  pub numbered-tail : (a : ℕ) → AllKind t listWithTailCase i n → firstNumbered t a i n ≡ firstCase t (ListWithTail a) i n
   numbered-tail a k =
       lowest-agree (λ j. eqb a (caseNumber t j)) (λ j. sameTest (ListWithTail a) (caseTest t j)) i n (λ j low high. tail-same t j a (k j low high))
 
-  pub text-first : (integer : Bool) (w : List ℕ) → AllKind t (pick integer 1 2) i n → firstText t w i n ≡ firstCase t (textTest integer w) i n
+  pub text-first : (integer : Bool) (w : List ℕ) → AllKind t (pick integer intCase bytesCase) i n → firstText t w i n ≡ firstCase t (textTest integer w) i n
   text-first integer w k =
       lowest-agree (λ j. sameText w (caseText t j)) (λ j. sameTest (textTest integer w) (caseTest t j)) i n (λ j low high. text-same t j integer w (k j low high))
 

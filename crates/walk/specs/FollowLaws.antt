@@ -11,6 +11,8 @@ use borrow.Author.Tests.{eq-eqb, ne-eqb, lt-ltb, le-ltb, le-leb, lt-leb, eqb-tru
 use lib.Dec.{eqb, ltb, leb}
 use Rattle.base_words.specs.Words.{both}
 use Rattle.base_words.specs.WordsLaws.{both-true}
+use Rattle.spec_rules.specs.Limits.{panelMost}
+use Rattle.spec_rules.specs.Kinds.{bytesRecord, listRecord, pairRecord, tupleRecord, constructorRecord, pairStep, tupleStep, constrStep, listStep}
 use Rattle.spec_rules.specs.PanelFile.{records, parts, recordKind, recordFirst, recordCount, part}
 use Rattle.spec_rules.specs.Rows.{Step, pair, tuple, constr, list, listtail, Path}
 use Rattle.spec_rules.specs.TreeReader.{pathsAt, stepsAt, paths, stepAt, stepsFrom, stepOfFields, pathFirst, pathCount, pathAt}
@@ -60,16 +62,16 @@ module _ (v : List ℕ) (r : ℕ) (x : Record) (is : x ≡ recordOf v r) where
   unfolding partOf
   part-same kind i h = rw (kind-is, eq-eqb (x .kind) kind h, count-is, first-is)
 
-  tail-other : (i : ℕ) → (x .kind ≡ 2 → ⊥) → tailOf v r i ≡ none
+  tail-other : (i : ℕ) → (x .kind ≡ listRecord → ⊥) → tailOf v r i ≡ none
   unfolding tailOf
-  tail-other i h = rw (kind-is, ne-eqb (x .kind) 2 h)
+  tail-other i h = rw (kind-is, ne-eqb (x .kind) listRecord h)
 
-  tail-same : (i : ℕ) → x .kind ≡ 2 → tailIn x r i ≡ tailOf v r i
+  tail-same : (i : ℕ) → x .kind ≡ listRecord → tailIn x r i ≡ tailOf v r i
   unfolding tailOf
-  tail-same i h = rw (kind-is, eq-eqb (x .kind) 2 h, count-is)
+  tail-same i h = rw (kind-is, eq-eqb (x .kind) listRecord h, count-is)
 
   -- the parts of a record that has them are entries of the child list
-  pub parts-in : PanelShaped v → r < records v → 2 ≤ x .kind → x .first + x .count ≤ parts v
+  pub parts-in : PanelShaped v → r < records v → listRecord ≤ x .kind → x .first + x .count ≤ parts v
   parts-in shaped h low =
       let k = kind-is in
       let c = count-is in
@@ -91,7 +93,7 @@ tail-there x r i l = rw (le-leb i (x .count) l)
 
 -- ---- positions stay within the panel
 module _ {v : List ℕ} (laid : PanelLaid v) (shaped : PanelShaped v) where
-  pub count-small : (r : ℕ) → r < records v → recordCount v r ≤ 16384
+  pub count-small : (r : ℕ) → r < records v → recordCount v r ≤ panelMost
   count-small r h = ⊎-elim texts others (small (recordKind v r))
     where
       small : (k : ℕ) → (k ≤ 1) ⊎ (2 ≤ k)
@@ -99,19 +101,19 @@ module _ {v : List ℕ} (laid : PanelLaid v) (shaped : PanelShaped v) where
       small (suc zero) = inl (omega arith)
       small (suc (suc k)) = inr (omega arith)
 
-      texts : recordKind v r ≤ 1 → recordCount v r ≤ 16384
+      texts : recordKind v r ≤ bytesRecord → recordCount v r ≤ panelMost
       texts k = omega (arith, shaped .text-run r h k .inside, laid .pool-end, laid .trailer-end, laid .length-most)
 
-      others : 2 ≤ recordKind v r → recordCount v r ≤ 16384
+      others : listRecord ≤ recordKind v r → recordCount v r ≤ panelMost
       others k = omega (arith, shaped .parts-run r h k .inside, laid .parts-end, laid .pool-end, laid .trailer-end, laid .length-most)
 
-  pub dropped-small : (x : Place) → Within v x → x .dropped ≤ 16384
+  pub dropped-small : (x : Place) → Within v x → x .dropped ≤ panelMost
   dropped-small x w = omega (arith, w .dropped-in, count-small (x .place) (w .place-in))
 
   pub root-within : Within v panelRoot
   root-within = record { place-in = laid .some-record; dropped-in = omega arith }
 
-  part-within : (kind r i : ℕ) (y : Place) → r < records v → 2 ≤ kind → partOf v kind r i ≡ some y → Within v y
+  part-within : (kind r i : ℕ) (y : Place) → r < records v → listRecord ≤ kind → partOf v kind r i ≡ some y → Within v y
   unfolding partOf
   part-within kind r i y h low e = go (both (eqb (recordKind v r) kind) (ltb i (recordCount v r))) refl
     where
@@ -135,14 +137,14 @@ module _ {v : List ℕ} (laid : PanelLaid v) (shaped : PanelShaped v) where
 
   tail-within : (r i : ℕ) (y : Place) → r < records v → tailOf v r i ≡ some y → Within v y
   unfolding tailOf
-  tail-within r i y h e = go (both (eqb (recordKind v r) 2) (leb i (recordCount v r))) refl
+  tail-within r i y h e = go (both (eqb (recordKind v r) listRecord) (leb i (recordCount v r))) refl
     where
       there : Option Place
       there = some (record { place = r; dropped = i })
 
-      go : (b : Bool) → both (eqb (recordKind v r) 2) (leb i (recordCount v r)) ≡ b → Within v y
+      go : (b : Bool) → both (eqb (recordKind v r) listRecord) (leb i (recordCount v r)) ≡ b → Within v y
       go true b =
-          let p = both-true (eqb (recordKind v r) 2) (leb i (recordCount v r)) b in
+          let p = both-true (eqb (recordKind v r) listRecord) (leb i (recordCount v r)) b in
           let l = leb-true i (recordCount v r) (p .1) in
           let f : there ≡ some y = rw b at e in
           let a : r ≡ y .place = cc in
@@ -153,10 +155,10 @@ module _ {v : List ℕ} (laid : PanelLaid v) (shaped : PanelShaped v) where
 
   pub step-within : (s : Step) (x y : Place) → Within v x → takeStep v s x ≡ some y → Within v y
   unfolding takeStep
-  step-within (pair i t) x y w e = part-within 3 (x .place) i y (w .place-in) (omega arith) e
-  step-within (tuple i t) x y w e = part-within 4 (x .place) i y (w .place-in) (omega arith) e
-  step-within (constr i b t) x y w e = part-within 5 (x .place) i y (w .place-in) (omega arith) e
-  step-within (list i t) x y w e = part-within 2 (x .place) (x .dropped + i) y (w .place-in) (omega arith) e
+  step-within (pair i t) x y w e = part-within pairRecord (x .place) i y (w .place-in) (omega arith) e
+  step-within (tuple i t) x y w e = part-within tupleRecord (x .place) i y (w .place-in) (omega arith) e
+  step-within (constr i b t) x y w e = part-within constructorRecord (x .place) i y (w .place-in) (omega arith) e
+  step-within (list i t) x y w e = part-within listRecord (x .place) (x .dropped + i) y (w .place-in) (omega arith) e
   step-within (listtail i t) x y w e = tail-within (x .place) (x .dropped + i) y (w .place-in) e
 
   pub follow-within : (p : Path) (x y : Place) → Within v x → follow v p x ≡ some y → Within v y
@@ -169,10 +171,10 @@ module _ {v : List ℕ} (laid : PanelLaid v) (shaped : PanelShaped v) where
       go (some z) q ih = ih z (step-within s x z w q) (rw (q, follow) at e)
 
 -- ---- one step, by the fields of its record, from a position whose record was read as x
-pub left-has-parts : (kind : ℕ) → 2 ≤ leftBy kind
-left-has-parts kind = go (ltb kind 3) refl
+pub left-has-parts : (kind : ℕ) → listRecord ≤ leftBy kind
+left-has-parts kind = go (ltb kind listStep) refl
   where
-    go : (b : Bool) → ltb kind 3 ≡ b → 2 ≤ leftBy kind
+    go : (b : Bool) → ltb kind listStep ≡ b → listRecord ≤ leftBy kind
     go true e = rw e (omega arith)
     go false e = rw e (omega arith)
 
@@ -181,54 +183,54 @@ module _ (v : List ℕ) (s : StepRead) (p : Position) where
   stepped = takeStep v (stepOfFields (s .kind) (s .flag) (s .index) (s .of)) (placed p)
 
   -- a step to a part is taken from the kind of its number and 3, one into a list from kind 2
-  part-step : s .kind < 3 → partOf v (leftBy (s .kind)) (p .«record») (s .index) ≡ stepped
+  part-step : s .kind < listStep → partOf v (leftBy (s .kind)) (p .«record») (s .index) ≡ stepped
   unfolding stepOfFields takeStep
   part-step h = go (s .kind) h refl
     where
-      go : (k : ℕ) → k < 3 → s .kind ≡ k → partOf v (leftBy (s .kind)) (p .«record») (s .index) ≡ stepped
+      go : (k : ℕ) → k < listStep → s .kind ≡ k → partOf v (leftBy (s .kind)) (p .«record») (s .index) ≡ stepped
       go zero l e = rw e
       go (suc zero) l e = rw e
       go (suc (suc zero)) l e = rw e
       go (suc (suc (suc k))) l e = absurd (omega arith)
 
-  list-step : s .kind ≡ 3 → partOf v 2 (p .«record») (p .dropped + s .index) ≡ stepped
+  list-step : s .kind ≡ listStep → partOf v listRecord (p .«record») (p .dropped + s .index) ≡ stepped
   unfolding stepOfFields takeStep
   list-step e = rw e
 
-  tail-step : 3 < s .kind → tailOf v (p .«record») (p .dropped + s .index) ≡ stepped
+  tail-step : listStep < s .kind → tailOf v (p .«record») (p .dropped + s .index) ≡ stepped
   unfolding stepOfFields takeStep
   tail-step h =
-      rw (ne-eqb (s .kind) 0 (λ e. omega arith), ne-eqb (s .kind) 1 (λ e. omega arith), ne-eqb (s .kind) 2 (λ e. omega arith), ne-eqb (s .kind) 3 (λ e. omega arith))
+      rw (ne-eqb (s .kind) pairStep (λ e. omega arith), ne-eqb (s .kind) tupleStep (λ e. omega arith), ne-eqb (s .kind) constrStep (λ e. omega arith), ne-eqb (s .kind) listStep (λ e. omega arith))
 
   module _ (x : Record) (is : x ≡ recordOf v (p .«record»)) where
-    left-list : 3 ≤ s .kind → leftBy (s .kind) ≡ 2
-    left-list l = rw (le-ltb (s .kind) 3 l)
+    left-list : listStep ≤ s .kind → leftBy (s .kind) ≡ listRecord
+    left-list l = rw (le-ltb (s .kind) listStep l)
 
     pub step-wrong-kind : (x .kind ≡ leftBy (s .kind) → ⊥) → none ≡ stepped
     step-wrong-kind h = ⊎-elim small others (three (s .kind))
       where
-        three : (k : ℕ) → (k < 3) ⊎ ((k ≡ 3) ⊎ (3 < k))
+        three : (k : ℕ) → (k < listStep) ⊎ ((k ≡ listStep) ⊎ (listStep < k))
         three zero = inl (omega arith)
         three (suc zero) = inl (omega arith)
         three (suc (suc zero)) = inl (omega arith)
         three (suc (suc (suc zero))) = inr (inl refl)
         three (suc (suc (suc (suc k)))) = inr (inr (omega arith))
 
-        small : s .kind < 3 → none ≡ stepped
+        small : s .kind < listStep → none ≡ stepped
         small l = sym (part-other v (p .«record») x is (leftBy (s .kind)) (s .index) h) ∙ part-step l
 
-        others : (s .kind ≡ 3) ⊎ (3 < s .kind) → none ≡ stepped
-        others (inl e) = sym (part-other v (p .«record») x is 2 (p .dropped + s .index) (λ q. h (q ∙ sym (left-list (omega arith))))) ∙ list-step e
+        others : (s .kind ≡ listStep) ⊎ (listStep < s .kind) → none ≡ stepped
+        others (inl e) = sym (part-other v (p .«record») x is listRecord (p .dropped + s .index) (λ q. h (q ∙ sym (left-list (omega arith))))) ∙ list-step e
         others (inr l) = sym (tail-other v (p .«record») x is (p .dropped + s .index) (λ q. h (q ∙ sym (left-list (omega arith))))) ∙ tail-step l
 
     module _ (from : x .kind ≡ leftBy (s .kind)) where
-      pub step-part : s .kind < 3 → partIn v x (s .index) ≡ stepped
+      pub step-part : s .kind < listStep → partIn v x (s .index) ≡ stepped
       step-part l = part-same v (p .«record») x is (leftBy (s .kind)) (s .index) from ∙ part-step l
 
-      pub step-list : s .kind ≡ 3 → partIn v x (p .dropped + s .index) ≡ stepped
-      step-list e = part-same v (p .«record») x is 2 (p .dropped + s .index) (from ∙ left-list (omega arith)) ∙ list-step e
+      pub step-list : s .kind ≡ listStep → partIn v x (p .dropped + s .index) ≡ stepped
+      step-list e = part-same v (p .«record») x is listRecord (p .dropped + s .index) (from ∙ left-list (omega arith)) ∙ list-step e
 
-      pub step-listtail : 3 < s .kind → tailIn x (p .«record») (p .dropped + s .index) ≡ stepped
+      pub step-listtail : listStep < s .kind → tailIn x (p .«record») (p .dropped + s .index) ≡ stepped
       step-listtail l = tail-same v (p .«record») x is (p .dropped + s .index) (from ∙ left-list (omega arith)) ∙ tail-step l
 
 -- the step that was read is the tree's

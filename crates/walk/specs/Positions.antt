@@ -5,6 +5,7 @@ use mathlib.Core.Option.{Option, none, some}
 use Prim.Native.Nat.{ℕ, _+_, _≤_, _<_}
 use lib.Dec.{ltb, leb}
 use Rattle.base_words.specs.Words.{pick}
+use Rattle.spec_rules.specs.Kinds.{listRecord, pairRecord, listStep}
 use Rattle.spec_rules.specs.PanelFile.{records, recordCount, part}
 use Rattle.spec_rules.specs.Walking.{Position as Place}
 use Rattle.spec_accepted.specs.TreeFacts.{TreeSound}
@@ -27,7 +28,7 @@ foundOf (some x) = At (record { «record» = x .place; dropped = x .dropped })
 
 -- ---- one step: the kind of record that it is taken from, and the part or the tail of a record that was read
 abbrev pub leftBy : ℕ → ℕ
-leftBy kind = pick (ltb kind 3) (kind + 3) 2
+leftBy kind = pick (ltb kind listStep) (kind + pairRecord) listRecord
 
 abbrev pub partIn : List ℕ → Record → ℕ → Option Place
 partIn v x i = pick (ltb i (x .count)) (some (record { place = part v (x .first + i); dropped = 0 })) none

@@ -8,6 +8,7 @@ use Prim.Native.Nat.{ℕ, zero, suc, _+_, _-_, _≤_, _<_}
 use native.Mathlib.Omega.{arith}
 use borrow.Author.Tests.{eq-eqb, ne-eqb}
 use Rattle.base_words.specs.Words.{pick, textAt}
+use Rattle.spec_rules.specs.Kinds.{integerRecord, bytesRecord, listRecord, constructorRecord, intCase, bytesCase, listWithTailCase}
 use Rattle.spec_rules.specs.Searching.{lowest}
 use Rattle.spec_rules.specs.SearchingLaws.{lowest-some}
 use Rattle.spec_rules.specs.SheetRefusals.{isIn}
@@ -169,24 +170,24 @@ module _ (t v : List ℕ) (path first cases tails d : ℕ) where
   unfolding atList
   list-no-part e = list-stuck none e (λ g. refl)
 
-  pub list-wrong-kind : (p : Place) (x : Record) → follow v (pathAt t path) panelRoot ≡ some p → x ≡ recordOf v (p .place) → (x .kind ≡ 2 → ⊥)
+  pub list-wrong-kind : (p : Place) (x : Record) → follow v (pathAt t path) panelRoot ≡ some p → x ≡ recordOf v (p .place) → (x .kind ≡ listRecord → ⊥)
       → Turns t v (caseChildren t first (cases + tails) ++ defaultChild d) (listWalk t v path first cases tails d) (Next.End Reached.Stuck)
   unfolding atList ofLength lengthAt
   list-wrong-kind p x e is h =
       let k : recordKind v (p .place) ≡ x .kind = sym (ap (λ (y : Record). y .kind) is) in
-      list-stuck (some p) e (λ g. rw (k, ne-eqb (x .kind) 2 h))
+      list-stuck (some p) e (λ g. rw (k, ne-eqb (x .kind) listRecord h))
 
-  pub list-turns : (p : Place) (x : Record) (r : Next) → follow v (pathAt t path) panelRoot ≡ some p → x ≡ recordOf v (p .place) → x .kind ≡ 2
+  pub list-turns : (p : Place) (x : Record) (r : Next) → follow v (pathAt t path) panelRoot ≡ some p → x ≡ recordOf v (p .place) → x .kind ≡ listRecord
       → Turns t v (caseChildren t first (cases + tails) ++ defaultChild d) (lengthWalk t v (x .count - p .dropped) first cases tails d) r
       → Turns t v (caseChildren t first (cases + tails) ++ defaultChild d) (listWalk t v path first cases tails d) r
   unfolding walk atList ofLength lengthAt
   list-turns p x r e is h w =
       let k : recordKind v (p .place) ≡ x .kind = sym (ap (λ (y : Record). y .kind) is) in
       let c : recordCount v (p .place) ≡ x .count = sym (ap (λ (y : Record). y .count) is) in
-      record { means = λ f. w .means f ∙ sym (rw (e, k, eq-eqb (x .kind) 2 h, c)); leads = w .leads }
+      record { means = λ f. w .means f ∙ sym (rw (e, k, eq-eqb (x .kind) listRecord h, c)); leads = w .leads }
 
 -- ---- a switch
-first-kind : (f : ℕ → Tree) (t : List ℕ) (i n : ℕ) → 1 ≤ n → caseKind t i ≤ 4 → firstKind (casesFor f t i n) ≡ caseKind t i
+first-kind : (f : ℕ → Tree) (t : List ℕ) (i n : ℕ) → 1 ≤ n → caseKind t i ≤ listWithTailCase → firstKind (casesFor f t i n) ≡ caseKind t i
 unfolding firstKind
 first-kind f t i n h k = ap firstKind (casesFor-some f t i n (λ z. omega arith)) ∙ test-kind t i k
 
@@ -199,7 +200,7 @@ of-this-kind-go : (k : ℕ) (x : Test) (g : Test → Walked) → ofKind (some x)
 unfolding ofThisKind
 of-this-kind-go k x g e = rw (e, ofThisKind)
 
-text-kind : (integer : Bool) (w : List ℕ) → testKind (textTest integer w) ≡ pick integer 1 2
+text-kind : (integer : Bool) (w : List ℕ) → testKind (textTest integer w) ≡ pick integer intCase bytesCase
 unfolding testKind
 text-kind true w = refl
 text-kind false w = refl
@@ -211,7 +212,7 @@ module _ (t v : List ℕ) (path first cases d : ℕ) where
   switch-no-part e = record { means = λ f. sym (rw e); leads = tt }
 
   -- the part there is, and its record was read as x
-  module _ (some-case : 1 ≤ cases) (known : caseKind t first ≤ 2) (p : Place) (found : follow v (pathAt t path) panelRoot ≡ some p) (x : Record) (is : x ≡ recordOf v (p .place)) where
+  module _ (some-case : 1 ≤ cases) (known : caseKind t first ≤ bytesCase) (p : Place) (found : follow v (pathAt t path) panelRoot ≡ some p) (x : Record) (is : x ≡ recordOf v (p .place)) where
     opened-at : (o : Option Test) → shownAt v p ≡ o → (f : ℕ → Tree)
         → switchWalk t v path first cases d f ≡ ofThisKind (caseKind t first) o (λ y. casesWalk t v y first cases d f)
     unfolding walk atPart
@@ -235,7 +236,7 @@ module _ (t v : List ℕ) (path first cases d : ℕ) where
     }
 
     module _ (asks : x .kind ≡ askedBy (testOf t first)) (alike : AllKind t (caseKind t first) first cases) (chosen : Chosen) (r : Next) (by : TurnsBy chosen d r) where
-      pub switch-constr : askedBy (testOf t first) ≡ 5 → chosen ≡ chosenOf t (firstNumbered t (x .a) first cases)
+      pub switch-constr : askedBy (testOf t first) ≡ constructorRecord → chosen ≡ chosenOf t (firstNumbered t (x .a) first cases)
           → Turns t v (caseChildren t first cases ++ defaultChild d) (switchWalk t v path first cases d) r
       unfolding testKind
       switch-constr five e =
@@ -243,7 +244,7 @@ module _ (t v : List ℕ) (path first cases d : ℕ) where
           switch-turns (Constr (x .a)) (shown-constr v p x is (asks ∙ five)) (sym zero) r
           (by t v (Constr (x .a)) first cases (e ∙ ap (chosenOf t) (numbered-constr t first cases (x .a) (rw zero at alike))))
 
-      pub switch-text : (n : PanelMap) → Opened v n → (askedBy (testOf t first) ≡ 5 → ⊥)
+      pub switch-text : (n : PanelMap) → Opened v n → (askedBy (testOf t first) ≡ constructorRecord → ⊥)
           → chosen ≡ chosenOf t (firstText t (textAt v (n .«pool_at» + x .first) (x .count)) first cases)
           → Turns t v (caseChildren t first cases ++ defaultChild d) (switchWalk t v path first cases d) r
       switch-text n opened other e = let texts = text-asked t first known other in go (texts .0) (texts .1) (texts .2)
@@ -251,7 +252,7 @@ module _ (t v : List ℕ) (path first cases d : ℕ) where
           w : List ℕ
           w = textAt v (n .«pool_at» + x .first) (x .count)
 
-          go : (integer : Bool) → caseKind t first ≡ pick integer 1 2 → askedBy (testOf t first) ≡ pick integer 0 1
+          go : (integer : Bool) → caseKind t first ≡ pick integer intCase bytesCase → askedBy (testOf t first) ≡ pick integer integerRecord bytesRecord
               → Turns t v (caseChildren t first cases ++ defaultChild d) (switchWalk t v path first cases d) r
           go integer k a =
               switch-turns (textTest integer w) (shown-text v p x is n opened integer (asks ∙ a)) (text-kind integer w ∙ sym k) r

@@ -1,6 +1,6 @@
 use Rattle.app_listing.specs.WritingLaws.{writes-then, writes-as}
 use Rattle.app_listing.specs.RecordsLaws.{constr-flag, constr-no-flag}
-use Rattle.spec_rules.specs.Listing.{constrStep, decimal}
+use Rattle.spec_rules.specs.Listing.{constrStepWord, decimal}
 use mathlib.Core.List.{List, _++_}
 use Prim.Native.Nat.{ℕ}
 use mathlib.Core.Path.{ap}
@@ -29,7 +29,7 @@ same-length c = search needs
 
 returns : tie.Need-returns
 returns c = writes-as (writes-then (c .before .before .before .before .before .before .before .before .put-numbered .ensures) (c .before .before .put-text .ensures))
-    (ap (λ (l : List ℕ). constrStep ++ (decimal (c .before .before .before .before .before .before .before .before .before .before .before .before .args .index) ++ l)) (constr-flag _ (c .before .before .before .before .before .if1 .taken)))
+    (ap (λ (l : List ℕ). constrStepWord ++ (decimal (c .before .before .before .before .before .before .before .before .before .before .before .before .args .index) ++ l)) (constr-flag _ (c .before .before .before .before .before .if1 .taken)))
 
 slice-aggregate-put-text-2 : tie.Need-slice-aggregate-put-text-2
 slice-aggregate-put-text-2 c = search needs
@@ -42,7 +42,7 @@ same-length-2 c = search needs
 
 returns-2 : tie.Need-returns-2
 returns-2 c = writes-as (writes-then (c .before .before .before .before .before .before .before .before .put-numbered .ensures) (c .before .before .put-text2 .ensures))
-    (ap (λ (l : List ℕ). constrStep ++ (decimal (c .before .before .before .before .before .before .before .before .before .before .before .before .args .index) ++ l)) (constr-no-flag _ (c .before .before .before .before .before .if1 .left)))
+    (ap (λ (l : List ℕ). constrStepWord ++ (decimal (c .before .before .before .before .before .before .before .before .before .before .before .before .args .index) ++ l)) (constr-no-flag _ (c .before .before .before .before .before .if1 .left)))
 
 pub put-constr-step-spec : {M : Type 1} → statement M
 put-constr-step-spec =
