@@ -1,6 +1,6 @@
 -- `walk::nodes::from_switch` meets its contract: one law of the walk at a switch for each way out.
 use Rattle.walk.specs.TurnsLaws.{switch-no-part, switch-wrong-kind, switch-constr, switch-text}
-use Rattle.walk.specs.ChoicesLaws.{texts-asked, text-inside}
+use Rattle.walk.specs.ChoicesLaws.{texts-asked, text-inside, chosen-in}
 use Rattle.walk.specs.Choices.{askedBy}
 use Rattle.walk.specs.FollowLaws.{found-some, found-none, found-within, ready-path, ready-ruled}
 use Rattle.walk.specs.Positions.{placed}
@@ -62,7 +62,11 @@ numbered-case-requires c κs =
     (start .pre .0 .mapped, start .pre .3)
 
 chosen-or-requires : tie.Need-chosen-or-requires
-chosen-or-requires c κs = search needs
+chosen-or-requires c κs =
+    let back6 = c .before .before .before .before .before .before in
+    let start = back6 .before .before .before .before .before .before in
+    let a = start .args in
+    (start .pre .0 .mapped, chosen-in _ (a .first) (a .cases) _ (c .numbered-case .result) (start .pre .3) (c .numbered-case .ensures))
 
 returns-3 : tie.Need-returns-3
 returns-3 c =
@@ -118,7 +122,11 @@ text-case-requires c κs =
     (ready-ruled ready, start .pre .3, texts .1, inside)
 
 chosen-or-requires-2 : tie.Need-chosen-or-requires-2
-chosen-or-requires-2 c κs = search needs
+chosen-or-requires-2 c κs =
+    let back7 = c .before .before .before .before .before .before .before in
+    let start = back7 .before .before .before .before .before .before .before in
+    let a = start .args in
+    (start .pre .0 .mapped, chosen-in _ (a .first) (a .cases) _ (c .text-case .result) (start .pre .3) (c .text-case .ensures))
 
 returns-4 : tie.Need-returns-4
 returns-4 c =
