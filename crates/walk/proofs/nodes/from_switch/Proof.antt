@@ -2,7 +2,7 @@
 use Rattle.walk.specs.TurnsLaws.{switch-no-part, switch-wrong-kind, switch-constr, switch-text}
 use Rattle.walk.specs.ChoicesLaws.{texts-asked, text-inside, chosen-in}
 use Rattle.walk.specs.Choices.{askedBy}
-use Rattle.walk.specs.FollowLaws.{found-some, found-none, found-within, ready-path, ready-ruled}
+use Rattle.walk.specs.FollowLaws.{found-some, found-none, found-within, followable, ready-path, ready-ruled}
 use Rattle.walk.specs.Positions.{placed}
 use Rattle.walk.specs.declared.follow.Found.the-variants.{At}
 use Rattle.spec_rules.specs.TreeReader.{pathAt}
@@ -40,7 +40,7 @@ record-at-requires c κs =
     let p = c .before .p .given .0 .0 in
     let r : back3 .follow .result ≡ At p = c .before .p .given .1 in
     let found = found-some (follow (a .v .now) (pathAt (a .t .now) (a .path)) panelRoot) p (sym (back3 .follow .ensures) ∙ r) in
-    (ready .opened .laid, found-within ready (a .path) p found .place-in)
+    (ready .opened .laid, found-within (followable ready) (a .path) p found .place-in)
 
 returns-2 : tie.Need-returns-2
 returns-2 c =
@@ -100,7 +100,7 @@ add-start c =
     let found = found-some (follow (a .v .now) (pathAt (a .t .now) (a .path)) panelRoot) p (sym (back9 .follow .ensures) ∙ r) in
     let asked = back10 .asked-by .ensures ∙ ap askedBy (start .pre .6) in
     let texts = texts-asked (a .t .now) (a .first) (start .pre .4) (λ e. c .before .before .if2 .left (asked ∙ e)) (a .cases) (start .pre .5) in
-    let inside = text-inside (a .v .now) (placed p) (back5 .record-at .result) (back5 .record-at .ensures) (a .n) (ready .opened) (ready .panel .is-shaped) (found-within ready (a .path) p found .place-in) (omega (arith, back3 .if1 .left, asked, texts .0)) in
+    let inside = text-inside (a .v .now) (placed p) (back5 .record-at .result) (back5 .record-at .ensures) (a .n) (ready .opened) (ready .panel .is-shaped) (found-within (followable ready) (a .path) p found .place-in) (omega (arith, back3 .if1 .left, asked, texts .0)) in
     omega (arith, inside, ready .opened .laid .length-most)
 
 text-case-requires : tie.Need-text-case-requires
@@ -118,7 +118,7 @@ text-case-requires c κs =
     let found = found-some (follow (a .v .now) (pathAt (a .t .now) (a .path)) panelRoot) p (sym (back9 .follow .ensures) ∙ r) in
     let asked = back10 .asked-by .ensures ∙ ap askedBy (start .pre .6) in
     let texts = texts-asked (a .t .now) (a .first) (start .pre .4) (λ e. c .before .before .if2 .left (asked ∙ e)) (a .cases) (start .pre .5) in
-    let inside = text-inside (a .v .now) (placed p) (back5 .record-at .result) (back5 .record-at .ensures) (a .n) (ready .opened) (ready .panel .is-shaped) (found-within ready (a .path) p found .place-in) (omega (arith, back3 .if1 .left, asked, texts .0)) in
+    let inside = text-inside (a .v .now) (placed p) (back5 .record-at .result) (back5 .record-at .ensures) (a .n) (ready .opened) (ready .panel .is-shaped) (found-within (followable ready) (a .path) p found .place-in) (omega (arith, back3 .if1 .left, asked, texts .0)) in
     (ready-ruled ready, start .pre .3, texts .1, inside)
 
 chosen-or-requires-2 : tie.Need-chosen-or-requires-2
