@@ -1,4 +1,4 @@
--- What the code has of a sheet's tree on its way into the file: built before hoisting; then within refusals 12 and 13, with its scopes.
+-- What the code has of a sheet's tree on its way into the file: built before hoisting; then within refusals 12 and 13; then with its scopes.
 -- Facts alone; RawLaws has what follows from them.
 use mathlib.Core.Path.{_≡_}
 use mathlib.Core.List.{List}
@@ -27,8 +27,8 @@ pub record Raw (s w : List ℕ) (nodes cases bindings : ℕ) (leaves : List ℕ)
   pub leaves-are : (c : ℕ) → c < clausesMost → getD leaves c 0 ≡ pick (hasLeaf c (rawTree s)) 1 0
   pub held : length (bindingsIn (rawTree s)) ≤ bindingsMost → Held w (sheetPaths s) 0 0 0 (rawTree s)
 
--- it is in the arena, with its hoists within 12, and its scopes are found
-pub record Hoistable (s w : List ℕ) (nodes cases bindings : ℕ) (x : Scopes) : Type 0 where
+-- it is in the arena, with its hoists within 12, and its own bindings within 13
+pub record Fitting (s w : List ℕ) (nodes cases bindings : ℕ) : Type 0 where
   pub long : arenaEnd ≤ length w
   pub nodes-are : nodes ≡ nodesIn (rawTree s)
   pub nodes-fit : nodesIn (rawTree s) + hoistsOf s ≤ nodesMost
@@ -36,6 +36,10 @@ pub record Hoistable (s w : List ℕ) (nodes cases bindings : ℕ) (x : Scopes) 
   pub bindings-are : bindings ≡ length (bindingsIn (rawTree s))
   pub bindings-most : length (bindingsIn (rawTree s)) ≤ bindingsMost
   pub held : Held w (sheetPaths s) 0 0 0 (rawTree s)
+
+-- and its scopes are found
+pub record Hoistable (s w : List ℕ) (nodes cases bindings : ℕ) (x : Scopes) : Type 0 where
+  pub fitting : Fitting s w nodes cases bindings
   pub scoped : Scoped (rawTree s) (clauses s) x
 
 -- and none of 12 to 14 is given

@@ -39,7 +39,7 @@ use Rattle.build_scopes.specs.declared.Scopes.{Scopes}
 use Rattle.build_scopes.specs.Marks.{Ready, ReadyWith}
 use Rattle.build_scopes.specs.Numbers.{descent, never, firstNumber, firstLeafNode, idleNumber, BindCounts}
 use Rattle.build_scopes.specs.NumbersLaws.{descent-in}
-use Rattle.build_scopes.specs.Scoped.{Scoped}
+use Rattle.build_scopes.specs.Scoped.{Scoped, ScopedWith}
 use Rattle.build_scopes.specs.FirstLeafLaws.{counts-each}
 use Rattle.build_scopes.specs.WriterLaws.{ready-held, scoped-leaf}
 use Rattle.build_nodes.specs.declared.tops.Tops.{Tops as BuildingTops}
@@ -54,7 +54,7 @@ use Rattle.build_call.specs.VerdictLaws.{rawTree, hoistsOf, hoistBinding
 use Rattle.build_call.specs.Counts.{isMarked, leafBindings}
 use Rattle.build_call.specs.CountsLaws.{no-leaf, some-leaf}
 use Rattle.build_call.specs.CoveredLaws.{length-paths, raw-covered}
-use Rattle.build_call.specs.Raw.{Raw, Hoistable, Whole}
+use Rattle.build_call.specs.Raw.{Raw, Fitting, Hoistable, Whole}
 
 -- ---- sums that agree one by one
 sum-agree : (f g : ℕ → ℕ) (i n : ℕ) → ((k : ℕ) → i ≤ k → k < i + n → f k ≡ g k) → sum f i n ≡ sum g i n
@@ -178,11 +178,10 @@ module _ {s : List ℕ} (ok : Accepted s) where
             sym (no-leaf w (getD (x .leaf) c 0) (omega arith)) ∙ sym (ap length (firstBindings-idle c (rawTree s) e))
 
   -- ---- from one set of facts to the next
-  -- 12 is not given, and the bindings have room: it can be hoisted
-  pub hoistable : (w : List ℕ) (nodes cases bindings : ℕ) (leaves : List ℕ) (x : Scopes) → Raw s w nodes cases bindings leaves
-      → nodesIn (rawTree s) + hoistsOf s ≤ nodesMost → bindings ≤ bindingsMost → (n : ℕ) → n ≡ clauses s → ((h : ReadyWith w nodes) → Scoped (h .tree) n x)
-      → Hoistable s w nodes cases bindings x
-  hoistable w nodes cases bindings leaves x r fit few n is found =
+  -- 12 is not given, and the bindings have room
+  pub fitting : (w : List ℕ) (nodes cases bindings : ℕ) (leaves : List ℕ) → Raw s w nodes cases bindings leaves
+      → nodesIn (rawTree s) + hoistsOf s ≤ nodesMost → bindings ≤ bindingsMost → Fitting s w nodes cases bindings
+  fitting w nodes cases bindings leaves r fit few =
       let most : length (bindingsIn (rawTree s)) ≤ bindingsMost = omega (arith, r .bindings-are) in
       record {
         long = r .long;
@@ -192,8 +191,25 @@ module _ {s : List ℕ} (ok : Accepted s) where
         bindings-are = omega (arith, r .bindings-are);
         bindings-most = most;
         held = r .held most;
-        scoped = found-scopes w (r .long) (r .nodes-most) most (r .held most) nodes (r .nodes-are) x (subst (λ k. (h : ReadyWith w nodes) → Scoped (h .tree) k x) is found);
       }
+
+  module _ (w : List ℕ) (nodes cases bindings : ℕ) (f : Fitting s w nodes cases bindings) where
+    few-nodes : nodesIn (rawTree s) ≤ nodesMost
+    few-nodes = omega (arith, f .nodes-fit)
+
+    -- what finding the scopes asks
+    pub scopes-asked : ReadyWith w nodes
+    scopes-asked = raw-ready-with w (f .long) few-nodes (f .bindings-most) (f .held) nodes (f .nodes-are)
+
+    -- they are found: it can be hoisted
+    pub hoistable : (x : Scopes) (sets : List ℕ) (n : ℕ) → n ≡ clauses s → ((h : ReadyWith w nodes) → ScopedWith (h .tree) n sets x)
+        → Hoistable s w nodes cases bindings x
+    hoistable x sets n is found = record {
+      fitting = f;
+      scoped =
+          found-scopes w (f .long) few-nodes (f .bindings-most) (f .held) nodes (f .nodes-are) x
+          (subst (λ k. (h : ReadyWith w nodes) → Scoped (h .tree) k x) is (λ h. found h .scopes));
+    }
 
   -- what building answers, where the tree fits
   pub raw-built : (w : List ℕ) (tops : BuildingTops) → arenaEnd ≤ length w → BuildingRaw s w tops → Raw s w (tops .nodes) (tops .cases) (tops .bindings) (tops .leaves)
@@ -213,12 +229,6 @@ module _ {s : List ℕ} (ok : Accepted s) where
   hoists-counted w nodes cases bindings leaves r n more is e =
       e ∙ ap (times (λ c. isMarked (getD leaves c 0)) 0) is ∙ marks-hoists s leaves few-clauses (r .leaves-are)
 
-  -- what finding the scopes asks
-  pub scopes-asked : (w : List ℕ) (nodes cases bindings : ℕ) (leaves : List ℕ) → Raw s w nodes cases bindings leaves → bindings ≤ bindingsMost → ReadyWith w nodes
-  scopes-asked w nodes cases bindings leaves r few =
-      let most : length (bindingsIn (rawTree s)) ≤ bindingsMost = omega (arith, r .bindings-are) in
-      raw-ready-with w (r .long) (r .nodes-most) most (r .held most) nodes (r .nodes-are)
-
   -- bindings of which it is known that they have no room
   pub raw-over : (w : List ℕ) (nodes cases bindings : ℕ) (leaves : List ℕ) → Raw s w nodes cases bindings leaves → bindingsMost < bindings
       → bindingsMost < length (bindingsIn (rawTree s)) + hoistBindings s
@@ -226,14 +236,14 @@ module _ {s : List ℕ} (ok : Accepted s) where
 
   module _ (w : List ℕ) (nodes cases bindings : ℕ) (x : Scopes) (h : Hoistable s w nodes cases bindings x) where
     nodes-few : nodesIn (rawTree s) ≤ nodesMost
-    nodes-few = omega (arith, h .nodes-fit)
+    nodes-few = omega (arith, h .fitting .nodes-fit)
 
     -- the bindings of the whole tree
     pub all-bindings : (n more : ℕ) → n ≡ clauses s → more ≡ sum (λ c. leafBindings w (getD (x .leaf) c 0)) 0 n
         → bindings + more ≡ length (bindingsIn (rawTree s)) + hoistBindings s
     all-bindings n more is e =
-        ap₂ _+_ (h .bindings-are)
-        (e ∙ ap (sum (λ c. leafBindings w (getD (x .leaf) c 0)) 0) is ∙ found-bindings w (h .long) nodes-few (h .bindings-most) (h .held) x (h .scoped))
+        ap₂ _+_ (h .fitting .bindings-are)
+        (e ∙ ap (sum (λ c. leafBindings w (getD (x .leaf) c 0)) 0) is ∙ found-bindings w (h .fitting .long) nodes-few (h .fitting .bindings-most) (h .fitting .held) x (h .scoped))
 
     -- the lowest idle clause, by its number
     pub idle-found : x .idle < clausesMost → lowestIdle (clauses s) (rawTree s) ≡ some (x .idle)
@@ -256,13 +266,13 @@ module _ {s : List ℕ} (ok : Accepted s) where
 
     pub whole : length (bindingsIn (rawTree s)) + hoistBindings s ≤ bindingsMost → clausesMost ≤ x .idle → Whole s w nodes cases x
     whole fit l = record {
-      long = h .long;
-      nodes-are = h .nodes-are;
-      nodes-fit = h .nodes-fit;
-      cases-are = h .cases-are;
+      long = h .fitting .long;
+      nodes-are = h .fitting .nodes-are;
+      nodes-fit = h .fitting .nodes-fit;
+      cases-are = h .fitting .cases-are;
       bindings-fit = fit;
       busy = none-idle l;
-      held = h .held;
+      held = h .fitting .held;
       scoped = h .scoped;
     }
 

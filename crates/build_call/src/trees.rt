@@ -14,6 +14,7 @@ use base_numbers::tree::NODES_MOST;
 use build_file_nodes::write_nodes;
 use build_file_tail::put_tail;
 use build_nodes::raw;
+use build_scopes::NODES_FEW;
 use build_scopes::Scopes;
 use build_scopes::get_hoist_paths;
 use build_table::TABLE;
@@ -27,7 +28,7 @@ ghost use Rattle.spec_rules.specs.Limits.{treeRoom, workRoom};
 ghost use Rattle.format_panel.specs.Answers.{SheetAccepts};
 ghost use Rattle.build_table.specs.Tabled.{Tabled};
 ghost use Rattle.build_call.specs.Answers.{Gives, treeEnd};
-ghost use Rattle.build_call.specs.Raw.{Raw, Hoistable, Whole};
+ghost use Rattle.build_call.specs.Raw.{Raw, Fitting, Hoistable, Whole};
 
 // A refusal whose place is 0.
 pub fn refused(number: u16) -> Built
@@ -94,6 +95,49 @@ fn write_hoisted(
     write_tree(s, m, t, w, nodes, cases, x, tree)
 }
 
+// Its scopes, over a table with room for the nodes: `sets` then has the clauses with a leaf at or below each of them.
+fn hoist_with(
+    s: &[u8],
+    m: Map,
+    t: &[u8],
+    w: &[u8],
+    nodes: usize,
+    cases: usize,
+    bindings: usize,
+    sets: &mut [u32],
+    tree: &mut [u8],
+) -> Built
+    requires { ⌜ SheetAccepts (now s) m × Tabled (now s) (now t) × Fitting (now s) (now w) nodes cases bindings × (nodes ≤ length (now sets)) ⌝ }
+    requires { ⌜ (treeRoom ≤ length (now tree)) × (now tree ≡ zeros (length (now tree))) ⌝ }
+    ensures { λ r. ⌜ Gives (now (s .entry)) (treeEnd (now (s .entry))) (now (tree .entry)) (now (tree .exit)) r ⌝ }
+{
+    let x = get_hoist_paths(w, nodes, m.counts.clauses, sets);
+    write_hoisted(s, m, t, w, nodes, cases, bindings, x, tree)
+}
+
+// The table is a small one where that is enough.
+fn hoist_tree(
+    s: &[u8],
+    m: Map,
+    t: &[u8],
+    w: &[u8],
+    nodes: usize,
+    cases: usize,
+    bindings: usize,
+    tree: &mut [u8],
+) -> Built
+    requires { ⌜ SheetAccepts (now s) m × Tabled (now s) (now t) × Fitting (now s) (now w) nodes cases bindings ⌝ }
+    requires { ⌜ (treeRoom ≤ length (now tree)) × (now tree ≡ zeros (length (now tree))) ⌝ }
+    ensures { λ r. ⌜ Gives (now (s .entry)) (treeEnd (now (s .entry))) (now (tree .entry)) (now (tree .exit)) r ⌝ }
+{
+    if nodes <= NODES_FEW {
+        let mut sets = [0u32; NODES_FEW];
+        return hoist_with(s, m, t, w, nodes, cases, bindings, &mut sets, tree);
+    }
+    let mut sets = [0u32; NODES_MOST];
+    hoist_with(s, m, t, w, nodes, cases, bindings, &mut sets, tree)
+}
+
 // The tree in the arena, with the counts of its building: 12, 13, or on to its scopes.
 pub fn finish(
     s: &[u8],
@@ -118,8 +162,7 @@ pub fn finish(
     if BINDINGS_MOST < bindings {
         return refused(refusals::BINDINGS);
     }
-    let x = get_hoist_paths(w, nodes, clauses);
-    write_hoisted(s, m, t, w, nodes, cases, bindings, x, tree)
+    hoist_tree(s, m, t, w, nodes, cases, bindings, tree)
 }
 
 // The tree of an accepted sheet, on buffers that are large enough, the tree's all zero.

@@ -35,3 +35,8 @@ pub record Scoped (a : Tree) (clauses : ℕ) (x : Scopes) : Type 0 where
   pub leaf : (c : ℕ) → c < clauses → getD (x .leaf) c 0 ≡ firstLeafNode c a
   pub hoists : x .hoists ≡ times (λ c. hasLeaf c a) 0 clauses
   pub idle : x .idle ≡ idleNumber (lowestIdle clauses a)
+
+-- with the clauses that have a leaf at or below each node, by node
+pub record ScopedWith (a : Tree) (clauses : ℕ) (sets : List ℕ) (x : Scopes) : Type 0 where
+  pub scopes : Scoped a clauses x
+  pub sets-marked : SetsMarked a 0 sets

@@ -1,6 +1,7 @@
 // Where each clause is hoisted, and its first leaf in building order: rules 5 to 7 of the scope document over the tree in the arena.
 // Scopes are found from the root down, with no places written out. Two passes over the nodes find at each its last leaf and the set of the
-// clauses with a leaf there; then each clause costs two ways down the tree. The memory is five bytes a node.
+// clauses with a leaf there; then each clause costs two ways down the tree. The memory is five bytes a node, of which the four of the sets
+// are lent, so that the caller has them afterwards.
 use base_numbers::sheet::CLAUSES_MOST;
 use base_numbers::tree::NODES_MOST;
 use descent::first_leaf;
@@ -13,14 +14,14 @@ ghost use Prim.Native.Nat.{_<_, _≤_};
 ghost use lib.ListN.{length};
 ghost use Rattle.spec_rules.specs.Limits.{clausesMost};
 ghost use Rattle.build_scopes.specs.Marks.{ReadyWith};
-ghost use Rattle.build_scopes.specs.Scoped.{Surveyed, withClause, Scoped};
+ghost use Rattle.build_scopes.specs.Scoped.{Surveyed, withClause, ScopedWith};
 
 pub mod descent;
 pub mod last;
 pub mod marks;
 
-// The nodes of a small tree.
-const NODES_FEW: usize = 64;
+// The nodes of a small tree. A table is cleared whole as it is made; most trees are small, so theirs are.
+pub const NODES_FEW: usize = 64;
 
 // By clause, the node above which it is hoisted and the node of its first leaf, 1,024 where it has no leaf; how many clauses have one,
 // and the lowest that has none, or 32.
@@ -52,7 +53,7 @@ fn with_clause(w: &[u8], c: usize, last: &[u8], sets: &[u32], x: Scopes) -> Scop
 // Over tables with room for the nodes, whatever stands in them.
 fn hoist_paths(w: &[u8], nodes: usize, clauses: usize, last: &mut [u8], sets: &mut [u32]) -> Scopes
     requires { ⌜ ReadyWith (now w) nodes × (clauses ≤ clausesMost) × (nodes ≤ length (now last)) × (nodes ≤ length (now sets)) ⌝ }
-    ensures { λ r. ⌜ ((h : ReadyWith (now (w .entry)) nodes) → Scoped (h .tree) clauses r) ⌝ }
+    ensures { λ r. ⌜ ((h : ReadyWith (now (w .entry)) nodes) → ScopedWith (h .tree) clauses (now (sets .exit)) r) ⌝ }
 {
     mark_last(w, nodes, last);
     mark(w, nodes, sets);
@@ -71,17 +72,15 @@ fn hoist_paths(w: &[u8], nodes: usize, clauses: usize, last: &mut [u8], sets: &m
     x
 }
 
-// A table is cleared whole as it is made; most trees are small, so theirs are.
-pub fn get_hoist_paths(w: &[u8], nodes: usize, clauses: usize) -> Scopes
-    requires { ⌜ ReadyWith (now w) nodes × (clauses ≤ clausesMost) ⌝ }
-    ensures { λ r. ⌜ ((h : ReadyWith (now (w .entry)) nodes) → Scoped (h .tree) clauses r) ⌝ }
+// `sets` has room for the nodes, and afterwards the clauses with a leaf at or below each of them.
+pub fn get_hoist_paths(w: &[u8], nodes: usize, clauses: usize, sets: &mut [u32]) -> Scopes
+    requires { ⌜ ReadyWith (now w) nodes × (clauses ≤ clausesMost) × (nodes ≤ length (now sets)) ⌝ }
+    ensures { λ r. ⌜ ((h : ReadyWith (now (w .entry)) nodes) → ScopedWith (h .tree) clauses (now (sets .exit)) r) ⌝ }
 {
     if nodes <= NODES_FEW {
         let mut last = [0u8; NODES_FEW];
-        let mut sets = [0u32; NODES_FEW];
-        return hoist_paths(w, nodes, clauses, &mut last, &mut sets);
+        return hoist_paths(w, nodes, clauses, &mut last, sets);
     }
     let mut last = [0u8; NODES_MOST];
-    let mut sets = [0u32; NODES_MOST];
-    hoist_paths(w, nodes, clauses, &mut last, &mut sets)
+    hoist_paths(w, nodes, clauses, &mut last, sets)
 }

@@ -10,10 +10,10 @@ use Rattle.base_words.specs.Words.{pick, sameText}
 use Rattle.spec_rules.specs.Kinds.{integerRecord, bytesRecord, constructorRecord, intCase, bytesCase}
 use Rattle.spec_rules.specs.Searching.{lowest}
 use Rattle.spec_rules.specs.Splitting.{Test, Int, Bytes, sameTest}
-use Rattle.spec_rules.specs.TreeReader.{caseKind, caseNumber, caseChild, caseText, caseTest}
+use Rattle.spec_rules.specs.TreeReader.{caseKind, caseNumber, caseText, caseTest}
 use Rattle.format_tree.specs.declared.reading.Test.{Test as TestRead}
 use Rattle.walk.specs.declared.choose.Chosen.{Chosen}
-use Rattle.walk.specs.declared.choose.Chosen.the-variants.{Child, Nothing}
+use Rattle.walk.specs.declared.choose.Chosen.the-variants.{At, Nothing}
 
 -- the kind of record that a switch asks for whose first case has this test
 abbrev pub askedBy : TestRead → ℕ
@@ -39,9 +39,14 @@ firstNumbered t number i n = lowest (λ j. eqb number (caseNumber t j)) i n
 abbrev pub firstText : List ℕ → List ℕ → ℕ → ℕ → Option ℕ
 firstText t w i n = lowest (λ j. sameText w (caseText t j)) i n
 
-abbrev pub chosenOf : List ℕ → Option ℕ → Chosen
-chosenOf t none = Nothing
-chosenOf t (some j) = Child (caseChild t j)
+abbrev pub chosenOf : Option ℕ → Chosen
+chosenOf none = Nothing
+chosenOf (some j) = At j
+
+-- the place that was chosen is one of so many
+abbrev pub ChosenIn : ℕ → Chosen → Type 0
+ChosenIn count (At j) = j < count
+ChosenIn count Nothing = Unit {0}
 
 -- an integer's text or a byte string's
 abbrev pub textTest : Bool → List ℕ → Test

@@ -1,6 +1,6 @@
 -- Laws of what a switch asks for and what a part shows, and of the search of a run of cases of one kind.
 -- Rests on Choices, and on the facts of an accepted tree and an accepted panel.
-use mathlib.Core.Path.{_≡_, refl, sym, ap, _∙_}
+use mathlib.Core.Path.{_≡_, refl, sym, ap, subst, _∙_}
 use mathlib.Core.Bool.{Bool, true, false}
 use mathlib.Core.List.{List}
 use mathlib.Core.Option.{Option, none, some}
@@ -13,7 +13,7 @@ use Rattle.base_words.specs.Words.{textAt, both, pick, sameText}
 use Rattle.base_words.specs.WordsLaws.{length-textAt, not-sameText}
 use Rattle.spec_rules.specs.Kinds.{integerRecord, bytesRecord, constructorRecord, constrCase, intCase, bytesCase, listCase, listWithTailCase}
 use Rattle.spec_rules.specs.Searching.{lowest}
-use Rattle.spec_rules.specs.SearchingLaws.{lowest-agree}
+use Rattle.spec_rules.specs.SearchingLaws.{lowest-some, lowest-agree}
 use Rattle.spec_rules.specs.Splitting.{Test, Constr, Int, Bytes, ListOf, ListWithTail, testFields, sameTest}
 use Rattle.spec_rules.specs.Building.{Tree, Cases, ccons}
 use Rattle.spec_rules.specs.PanelFile.{records, recordKind, recordText, RecordKind, Integer-record, Bytes-record, List-record, Pair-record, Tuple-record, Constructor-record, Unknown-record, recordKindOf}
@@ -26,7 +26,8 @@ use Rattle.format_panel.specs.declared.Map.{Map as PanelMap}
 use Rattle.format_panel.specs.declared.records.Record.{Record}
 use Rattle.format_panel.specs.Opened.{recordOf, Opened}
 use Rattle.format_tree.specs.Reading.{testOfFields, testOf}
-use Rattle.walk.specs.Choices.{askedBy, AllKind, AllText, firstCase, firstNumbered, firstText, textTest}
+use Rattle.walk.specs.declared.choose.Chosen.{Chosen}
+use Rattle.walk.specs.Choices.{askedBy, AllKind, AllText, firstCase, firstNumbered, firstText, chosenOf, ChosenIn, textTest}
 
 -- ---- the kind of record that a switch asks for, by the kind of its first case
 abbrev pub askedFor : ℕ → ℕ
@@ -180,6 +181,14 @@ module _ (t : List ℕ) (i n : ℕ) where
 -- a loop over the run begins with all of it
 pub run-start : (f : ℕ → Bool) (i n : ℕ) → lowest f i (i + n - i) ≡ lowest f i n
 run-start f i n = let e : i + n - i ≡ n = omega arith in rw e
+
+-- the place that a search of a run answers is one of the run
+pub chosen-in : (f : ℕ → Bool) (i n count : ℕ) (chosen : Chosen) → i + n ≤ count → chosen ≡ chosenOf (lowest f i n) → ChosenIn count chosen
+chosen-in f i n count chosen inside e = go (lowest f i n) refl
+  where
+    go : (o : Option ℕ) → lowest f i n ≡ o → ChosenIn count chosen
+    go none q = subst (ChosenIn count) (sym (e ∙ ap chosenOf q)) tt
+    go (some j) q = subst (ChosenIn count) (sym (e ∙ ap chosenOf q)) (omega (arith, inside, lowest-some f i n j q .to))
 
 -- texts of two lengths differ
 pub lengths-differ : (v t : List ℕ) (i n j m : ℕ) → i + n ≤ length v → j + m ≤ length t → (n ≡ m → ⊥) → false ≡ sameText (textAt v i n) (textAt t j m)

@@ -15,9 +15,8 @@ use Rattle.spec_rules.specs.Limits.{panelMost}
 use Rattle.spec_rules.specs.Kinds.{bytesRecord, listRecord, pairRecord, tupleRecord, constructorRecord, pairStep, tupleStep, constrStep, listStep}
 use Rattle.spec_rules.specs.PanelFile.{records, parts, recordKind, recordFirst, recordCount, part}
 use Rattle.spec_rules.specs.Rows.{Step, pair, tuple, constr, list, listtail, Path}
-use Rattle.spec_rules.specs.TreeReader.{pathsAt, stepsAt, paths, stepAt, stepsFrom, stepOfFields, pathFirst, pathCount, pathAt}
+use Rattle.spec_rules.specs.TreeReader.{pathsAt, stepsAt, paths, steps, stepAt, stepsFrom, stepOfFields, pathFirst, pathCount, pathAt}
 use Rattle.spec_rules.specs.Walking.{Position as Place, panelRoot, partOf, tailOf, takeStep, follow}
-use Rattle.spec_accepted.specs.TreeFacts.{TreeRuled}
 use Rattle.spec_accepted.specs.PanelFacts.{PanelLaid, PanelShaped}
 use Rattle.format_panel.specs.declared.Map.{Map as PanelMap}
 use Rattle.format_panel.specs.declared.records.Record.{Record}
@@ -26,11 +25,11 @@ use Rattle.format_tree.specs.declared.reading.Step.{Step as StepRead}
 use Rattle.format_tree.specs.declared.reading.Path.{Path as PathRead}
 use Rattle.format_tree.specs.declared.reading.Binding.{Binding as BindingRead}
 use Rattle.format_tree.specs.declared.layout.Map.{Map}
-use Rattle.format_tree.specs.Reading.{mapOf, Mapped, Ruled, stepOf, pathOf, bindingOf}
-use Rattle.format_tree.specs.ReadingLaws.{mapped-own, paths-start, steps-start, paths-count, steps-count, bindings-count}
+use Rattle.format_tree.specs.Reading.{Ruled, stepOf, pathOf, bindingOf}
+use Rattle.format_tree.specs.ReadingLaws.{mapped-own, paths-start, steps-start, paths-count, bindings-count}
 use Rattle.walk.specs.declared.follow.Position.{Position}
 use Rattle.walk.specs.declared.follow.Found.the-variants.{At, Stuck}
-use Rattle.walk.specs.Positions.{placed, foundOf, leftBy, partIn, tailIn, Within, Ready}
+use Rattle.walk.specs.Positions.{placed, foundOf, leftBy, partIn, tailIn, Within, Followable, Bindable, Ready}
 
 -- ---- what was found
 pub found-some : (o : Option Place) (p : Position) → foundOf o ≡ At p → o ≡ some (placed p)
@@ -243,12 +242,11 @@ pub step-taken : (v t : List ℕ) (i : ℕ) (s : StepRead) (p : Position) → s 
 step-taken v t i s p e = ap (λ (x : Step). takeStep v x (placed p)) (step-read t i s e)
 
 -- the run of steps of a path that was read
-pub path-run : {t : List ℕ} {m : Map} → Mapped t m → TreeRuled t → (p : ℕ) (x : PathRead) → p < m .paths .count → x ≡ pathOf t p → x .first + x .count ≤ m .steps .count
-path-run w rules p x h e =
-    let n = paths-count w in
+pub path-run : {t v : List ℕ} {n : PanelMap} → Followable t v n → (p : ℕ) (x : PathRead) → p < paths t → x ≡ pathOf t p → x .first + x .count ≤ steps t
+path-run w p x h e =
     let f = ap (λ (y : PathRead). y .first) e in
     let c = ap (λ (y : PathRead). y .count) e in
-    omega (arith, rules .path-steps p (omega arith) .inside, steps-count w)
+    omega (arith, w .path-steps p h)
 
 -- ---- a path after k of its steps
 module _ (v t : List ℕ) (first count : ℕ) where
@@ -279,27 +277,37 @@ module _ (v t : List ℕ) (first count : ℕ) where
   unfolding follow stepsFrom
   path-end k x h = let e : count - k ≡ 0 = omega arith in rw e
 
--- the path of a binding that was read
-pub binding-path-in : {t : List ℕ} {m : Map} → Mapped t m → TreeRuled t → (b : ℕ) (x : BindingRead) → b < m .bindings .count → x ≡ bindingOf t b → x .path < m .paths .count
-binding-path-in w rules b x h e =
-    let n = bindings-count w in
-    let p = ap (λ (y : BindingRead). y .path) e in
-    omega (arith, rules .binding-path b (omega arith), paths-count w)
-
 -- ---- where a path was followed to
-module _ {t : List ℕ} {m : Map} {v : List ℕ} {n : PanelMap} (ready : Ready t m v n) where
-  pub ready-ruled : Ruled t m
-  ready-ruled = record { mapped = ready .mapped; rules = ready .sound .is-ruled }
+pub found-within : {t v : List ℕ} {n : PanelMap} → Followable t v n → (p : ℕ) (x : Position) → follow v (pathAt t p) panelRoot ≡ some (placed x) → Within v (placed x)
+found-within {t} w p x e =
+    let laid = w .opened .laid in
+    let shaped = w .shaped in
+    follow-within laid shaped (pathAt t p) panelRoot (placed x) (root-within laid shaped) e
 
-  -- the same with the tree's own map, and what a path is followed with
-  pub ready-own : Ready t (mapOf t) v n
-  ready-own = record { mapped = mapped-own (ready .mapped); sound = ready .sound; opened = ready .opened; panel = ready .panel }
+-- ---- what a path is followed with
+module _ {t : List ℕ} {m : Map} {v : List ℕ} {n : PanelMap} where
+  -- the path of a binding that was read
+  pub binding-followed : Bindable t m v n → (b : ℕ) (x : BindingRead) → b < m .bindings .count → x ≡ bindingOf t b
+      → Followable t v n × (m .paths .start ≡ pathsAt t) × (m .steps .start ≡ stepsAt t) × (x .path < paths t)
+  binding-followed w b x h e =
+      let k = bindings-count (w .mapped) in
+      let p = ap (λ (y : BindingRead). y .path) e in
+      (w .followable, sym (paths-start (w .mapped)), sym (steps-start (w .mapped)), omega (arith, w .binding-path b (omega arith)))
 
-  pub ready-path : (p : ℕ) → p < m .paths .count → Ready t (mapOf t) v n × (m .paths .start ≡ pathsAt t) × (m .steps .start ≡ stepsAt t) × (p < paths t)
-  ready-path p h = (ready-own, sym (paths-start (ready .mapped)), sym (steps-start (ready .mapped)), omega (arith, h, paths-count (ready .mapped)))
+  module _ (ready : Ready t m v n) where
+    pub ready-ruled : Ruled t m
+    ready-ruled = record { mapped = ready .mapped; rules = ready .sound .is-ruled }
 
-  pub found-within : (p : ℕ) (x : Position) → follow v (pathAt t p) panelRoot ≡ some (placed x) → Within v (placed x)
-  found-within p x e =
-      let laid = ready .opened .laid in
-      let shaped = ready .panel .is-shaped in
-      follow-within laid shaped (pathAt t p) panelRoot (placed x) (root-within laid shaped) e
+    pub followable : Followable t v n
+    followable = record {
+      mapped = mapped-own (ready .mapped);
+      path-steps = λ p h. ready .sound .is-ruled .path-steps p h .inside;
+      opened = ready .opened;
+      shaped = ready .panel .is-shaped;
+    }
+
+    pub bindable : Bindable t m v n
+    bindable = record { followable = followable; mapped = ready .mapped; binding-path = ready .sound .is-ruled .binding-path }
+
+    pub ready-path : (p : ℕ) → p < m .paths .count → Followable t v n × (m .paths .start ≡ pathsAt t) × (m .steps .start ≡ stepsAt t) × (p < paths t)
+    ready-path p h = (followable, sym (paths-start (ready .mapped)), sym (steps-start (ready .mapped)), omega (arith, h, paths-count (ready .mapped)))

@@ -7,14 +7,15 @@ use lib.Dec.{ltb, leb}
 use Rattle.base_words.specs.Words.{pick}
 use Rattle.spec_rules.specs.Kinds.{listRecord, pairRecord, listStep}
 use Rattle.spec_rules.specs.PanelFile.{records, recordCount, part}
+use Rattle.spec_rules.specs.TreeReader.{paths, steps, bindings, bindingPath, pathFirst, pathCount}
 use Rattle.spec_rules.specs.Walking.{Position as Place}
 use Rattle.spec_accepted.specs.TreeFacts.{TreeSound}
-use Rattle.spec_accepted.specs.PanelFacts.{PanelAccepted}
+use Rattle.spec_accepted.specs.PanelFacts.{PanelShaped, PanelAccepted}
 use Rattle.format_panel.specs.Opened.{Opened}
 use Rattle.format_panel.specs.declared.Map.{Map as PanelMap}
 use Rattle.format_panel.specs.declared.records.Record.{Record}
 use Rattle.format_tree.specs.declared.layout.Map.{Map}
-use Rattle.format_tree.specs.Reading.{Mapped}
+use Rattle.format_tree.specs.Reading.{mapOf, Mapped}
 use Rattle.walk.specs.declared.follow.Position.{Position}
 use Rattle.walk.specs.declared.follow.Found.{Found}
 use Rattle.walk.specs.declared.follow.Found.the-variants.{At, Stuck}
@@ -40,6 +41,19 @@ tailIn x r i = pick (leb i (x .count)) (some (record { place = r; dropped = i })
 pub record Within (v : List ℕ) (x : Place) : Type 0 where
   pub place-in : x .place < records v
   pub dropped-in : x .dropped ≤ recordCount v (x .place)
+
+-- what following a path asks: the steps of each path are of their section, and the panel is opened, with the parts of each record in theirs
+pub record Followable (t v : List ℕ) (n : PanelMap) : Type 0 where
+  pub mapped : Mapped t (mapOf t)
+  pub path-steps : (p : ℕ) → p < paths t → pathFirst t p + pathCount t p ≤ steps t
+  pub opened : Opened v n
+  pub shaped : PanelShaped v
+
+-- and what writing bindings asks besides: the path of each binding is of its section
+pub record Bindable (t : List ℕ) (m : Map) (v : List ℕ) (n : PanelMap) : Type 0 where
+  pub followable : Followable t v n
+  pub mapped : Mapped t m
+  pub binding-path : (b : ℕ) → b < bindings t → bindingPath t b < paths t
 
 -- an accepted tree and an accepted panel, each with its map
 pub record Ready (t : List ℕ) (m : Map) (v : List ℕ) (n : PanelMap) : Type 0 where

@@ -45,9 +45,9 @@ abbrev pub casesWalk : List ℕ → List ℕ → Test → ℕ → ℕ → ℕ �
 casesWalk t v x first cases default f = walkCases (casesFor f t first cases) x v (λ u. walk (defaultFor f default) v)
 
 -- where a choice leads, of whatever run of cases and whatever test it was made
-abbrev pub TurnsBy : Chosen → ℕ → Next → Type 0
-TurnsBy chosen default r =
-    (t v : List ℕ) (x : Test) (first cases : ℕ) → chosen ≡ chosenOf t (firstCase t x first cases)
+abbrev pub TurnsBy : List ℕ → Chosen → ℕ → Next → Type 0
+TurnsBy t chosen default r =
+    (v : List ℕ) (x : Test) (first cases : ℕ) → chosen ≡ chosenOf (firstCase t x first cases)
     → Turns t v (caseChildren t first cases ++ defaultChild default) (casesWalk t v x first cases default) r
 
 abbrev pub switchWalk : List ℕ → List ℕ → ℕ → ℕ → ℕ → ℕ → (ℕ → Tree) → Walked

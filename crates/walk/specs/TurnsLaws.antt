@@ -28,7 +28,7 @@ use Rattle.format_tree.specs.NodesLaws.{SwitchNode, ListSwitchNode, LeafNode, H
 use Rattle.walk.specs.declared.nodes.Reached.{Reached}
 use Rattle.walk.specs.declared.nodes.Next.{Next}
 use Rattle.walk.specs.declared.choose.Chosen.{Chosen}
-use Rattle.walk.specs.declared.choose.Chosen.the-variants.{Child, Nothing}
+use Rattle.walk.specs.declared.choose.Chosen.the-variants.{At, Nothing}
 use Rattle.walk.specs.Choices.{askedBy, AllKind, firstCase, firstNumbered, firstText, chosenOf, textTest}
 use Rattle.walk.specs.ChoicesLaws.{asked-is, constr-asked, text-asked, ofKind, shown-constr, shown-other, shown-text, test-kind, numbered-constr, text-first}
 use Rattle.walk.specs.Turns.{Leads, Turns, TurnsBy, casesWalk, defaultWalk, switchWalk, listWalk, tailsWalk, lengthWalk, GoesOn, Steps, Arrives}
@@ -87,21 +87,22 @@ leads-right cs ds (Next.End Reached.Stuck) h = tt
 
 -- ---- a run of cases and what comes where none holds
 module _ (t v : List ℕ) (x : Test) (i n : ℕ) (rest : List ℕ) (o : (ℕ → Tree) → Walked) where
-  pub turns-case : (c : ℕ) → chosenOf t (firstCase t x i n) ≡ Child c
+  pub turns-case : (place c : ℕ) → chosenOf (firstCase t x i n) ≡ At place → c ≡ caseChild t place
       → Turns t v (caseChildren t i n ++ rest) (λ f. walkCases (casesFor f t i n) x v (λ u. o f)) (Next.Node c)
-  turns-case c e = go (firstCase t x i n) refl
+  turns-case place c e child = go (firstCase t x i n) refl
     where
       go : (q : Option ℕ) → firstCase t x i n ≡ q → Turns t v (caseChildren t i n ++ rest) (λ f. walkCases (casesFor f t i n) x v (λ u. o f)) (Next.Node c)
-      go none q = let y : Nothing ≡ Child c = rw q at e in let z : _≡_ {A = ℕ} 0 1 = cc in absurd (omega arith)
+      go none q = let y : Nothing ≡ At place = rw q at e in let z : _≡_ {A = ℕ} 0 1 = cc in absurd (omega arith)
       go (some j) q =
-          let y : Child (caseChild t j) ≡ Child c = rw q at e in
-          let child : c ≡ caseChild t j = cc in
+          let y : At j ≡ At place = rw q at e in
+          let same : place ≡ j = cc in
+          let its : c ≡ caseChild t j = child ∙ ap (caseChild t) same in
           record {
-            means = λ f. ap (λ (k : ℕ). walk (f k) v) child ∙ sym (walk-run f t v x (o f) i n ∙ rw q);
-            leads = rw child (isIn-left (caseChild t j) (caseChildren t i n) rest (first-listed t x i n j q));
+            means = λ f. ap (λ (k : ℕ). walk (f k) v) its ∙ sym (walk-run f t v x (o f) i n ∙ rw q);
+            leads = rw its (isIn-left (caseChild t j) (caseChildren t i n) rest (first-listed t x i n j q));
           }
 
-  pub turns-past : (r : Next) → chosenOf t (firstCase t x i n) ≡ Nothing → Turns t v rest o r
+  pub turns-past : (r : Next) → chosenOf (firstCase t x i n) ≡ Nothing → Turns t v rest o r
       → Turns t v (caseChildren t i n ++ rest) (λ f. walkCases (casesFor f t i n) x v (λ u. o f)) r
   turns-past r e w = go (firstCase t x i n) refl
     where
@@ -110,7 +111,7 @@ module _ (t v : List ℕ) (x : Test) (i n : ℕ) (rest : List ℕ) (o : (ℕ →
         means = λ f. w .means f ∙ sym (walk-run f t v x (o f) i n ∙ rw q);
         leads = leads-right (caseChildren t i n) rest r (w .leads);
       }
-      go (some j) q = let y : Child (caseChild t j) ≡ Nothing = rw q at e in let z : _≡_ {A = ℕ} 0 1 = cc in absurd (omega arith)
+      go (some j) q = let y : At j ≡ Nothing = rw q at e in let z : _≡_ {A = ℕ} 0 1 = cc in absurd (omega arith)
 
 -- ---- a list switch
 module _ (t v : List ℕ) (long first tails d : ℕ) where
@@ -146,13 +147,13 @@ module _ (t v : List ℕ) (long first cases tails d : ℕ) where
       → Leads (caseChildren t first (cases + tails) ++ defaultChild d) r
   same-children r h = rw (caseChildren-add t first cases tails (defaultChild d)) at h
 
-  pub turns-length : (c : ℕ) → chosenOf t (firstCase t (ListOf long) first cases) ≡ Child c
+  pub turns-length : (place c : ℕ) → chosenOf (firstCase t (ListOf long) first cases) ≡ At place → c ≡ caseChild t place
       → Turns t v (caseChildren t first (cases + tails) ++ defaultChild d) (lengthWalk t v long first cases tails d) (Next.Node c)
-  turns-length c e =
-      let w = turns-case t v (ListOf long) first cases (caseChildren t (first + cases) tails ++ defaultChild d) (tailsWalk t v long (first + cases) tails d) c e in
+  turns-length place c e child =
+      let w = turns-case t v (ListOf long) first cases (caseChildren t (first + cases) tails ++ defaultChild d) (tailsWalk t v long (first + cases) tails d) place c e child in
       record { means = w .means; leads = same-children (Next.Node c) (w .leads) }
 
-  pub turns-no-length : (r : Next) → chosenOf t (firstCase t (ListOf long) first cases) ≡ Nothing
+  pub turns-no-length : (r : Next) → chosenOf (firstCase t (ListOf long) first cases) ≡ Nothing
       → Turns t v (caseChildren t (first + cases) tails ++ defaultChild d) (tailsWalk t v long (first + cases) tails d) r
       → Turns t v (caseChildren t first (cases + tails) ++ defaultChild d) (lengthWalk t v long first cases tails d) r
   turns-no-length r e w =
@@ -235,17 +236,17 @@ module _ (t v : List ℕ) (path first cases d : ℕ) where
       leads = w .leads;
     }
 
-    module _ (asks : x .kind ≡ askedBy (testOf t first)) (alike : AllKind t (caseKind t first) first cases) (chosen : Chosen) (r : Next) (by : TurnsBy chosen d r) where
-      pub switch-constr : askedBy (testOf t first) ≡ constructorRecord → chosen ≡ chosenOf t (firstNumbered t (x .a) first cases)
+    module _ (asks : x .kind ≡ askedBy (testOf t first)) (alike : AllKind t (caseKind t first) first cases) (chosen : Chosen) (r : Next) (by : TurnsBy t chosen d r) where
+      pub switch-constr : askedBy (testOf t first) ≡ constructorRecord → chosen ≡ chosenOf (firstNumbered t (x .a) first cases)
           → Turns t v (caseChildren t first cases ++ defaultChild d) (switchWalk t v path first cases d) r
       unfolding testKind
       switch-constr five e =
           let zero = constr-asked t first known five in
           switch-turns (Constr (x .a)) (shown-constr v p x is (asks ∙ five)) (sym zero) r
-          (by t v (Constr (x .a)) first cases (e ∙ ap (chosenOf t) (numbered-constr t first cases (x .a) (rw zero at alike))))
+          (by v (Constr (x .a)) first cases (e ∙ ap chosenOf (numbered-constr t first cases (x .a) (rw zero at alike))))
 
       pub switch-text : (n : PanelMap) → Opened v n → (askedBy (testOf t first) ≡ constructorRecord → ⊥)
-          → chosen ≡ chosenOf t (firstText t (textAt v (n .«pool_at» + x .first) (x .count)) first cases)
+          → chosen ≡ chosenOf (firstText t (textAt v (n .«pool_at» + x .first) (x .count)) first cases)
           → Turns t v (caseChildren t first cases ++ defaultChild d) (switchWalk t v path first cases d) r
       switch-text n opened other e = let texts = text-asked t first known other in go (texts .0) (texts .1) (texts .2)
         where
@@ -256,7 +257,7 @@ module _ (t v : List ℕ) (path first cases d : ℕ) where
               → Turns t v (caseChildren t first cases ++ defaultChild d) (switchWalk t v path first cases d) r
           go integer k a =
               switch-turns (textTest integer w) (shown-text v p x is n opened integer (asks ∙ a)) (text-kind integer w ∙ sym k) r
-              (by t v (textTest integer w) first cases (e ∙ ap (chosenOf t) (text-first t first cases integer w (rw k at alike))))
+              (by v (textTest integer w) first cases (e ∙ ap chosenOf (text-first t first cases integer w (rw k at alike))))
 
 -- ---- a node of a file
 module _ (t v : List ℕ) (sound : TreeSound t) (k : ℕ) (h : k < nodes t) where

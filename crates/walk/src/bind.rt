@@ -13,7 +13,7 @@ ghost use Prim.Native.Nat.{_+_, _*_, _<_, _≤_};
 ghost use lib.ListN.{length};
 ghost use Rattle.base_words.specs.Stored.{stored};
 ghost use Rattle.spec_rules.specs.TreeReader.{bindingsFrom};
-ghost use Rattle.walk.specs.Positions.{Ready};
+ghost use Rattle.walk.specs.Positions.{Bindable};
 ghost use Rattle.walk.specs.Bindings.{Binds};
 
 fn put_bound(bound: &mut [u16], at: usize, name: u16, record: u16, dropped: u16)
@@ -35,7 +35,7 @@ pub fn bind(
     count: usize,
     bound: &mut [u16],
 ) -> bool
-    requires { ⌜ Ready (now t) m (now v) n × (first + count ≤ m .bindings .count) × (3 * count ≤ length (now bound)) ⌝ }
+    requires { ⌜ Bindable (now t) m (now v) n × (first + count ≤ m .bindings .count) × (3 * count ≤ length (now bound)) ⌝ }
     ensures { λ r. ⌜ Binds (now (v .entry)) (bindingsFrom (now (t .entry)) first count) (now (bound .entry)) (now (bound .exit)) r ⌝ }
 {
     let mut i: usize = 0;

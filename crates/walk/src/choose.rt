@@ -1,5 +1,5 @@
 // The case of a run that is chosen by what a part shows. The cases of a run are of one kind, so that a search reads no more of a
-// case than what it compares. Rests on the cases of a tree file.
+// case than what it compares, and answers the case's place; its child is taken from there. Rests on the cases of a tree file.
 use base_numbers::record_kinds;
 use base_words::same_text;
 use format_tree::layout::Map;
@@ -13,7 +13,7 @@ ghost use lib.ListN.{length};
 ghost use Rattle.base_words.specs.Words.{textAt, sameText};
 ghost use Rattle.spec_rules.specs.Building.{Tree};
 ghost use Rattle.spec_rules.specs.Splitting.{ListWithTail};
-ghost use Rattle.spec_rules.specs.TreeReader.{caseKind, caseText, casesFor};
+ghost use Rattle.spec_rules.specs.TreeReader.{caseKind, caseText, caseChild, casesFor};
 ghost use Rattle.spec_rules.specs.Walking.{tailNumber, largestTail};
 ghost use Rattle.format_tree.specs.Reading.{Mapped, Ruled};
 ghost use Rattle.walk.specs.Choices.{askedBy, AllKind, AllText, firstNumbered, firstText, chosenOf};
@@ -21,9 +21,18 @@ ghost use Rattle.walk.specs.Choices.{askedBy, AllKind, AllText, firstNum
 // A switch asks no length: no record is of this kind.
 const NO_RECORD: u8 = record_kinds::CONSTRUCTOR + 1;
 
+// A place in the section of cases.
 pub enum Chosen {
-    Child(usize),
+    At(usize),
     Nothing,
+}
+
+// The child of the case at a place: the one step from a case to its child.
+pub fn child_of(tree: &[u8], map: Map, place: usize) -> usize
+    requires { ⌜ Mapped (now tree) map × (place < map .cases .count) ⌝ }
+    ensures { λ r. ⌜ r ≡ caseChild (now (tree .entry)) place ⌝ }
+{
+    case_child(tree, map, place) as usize
 }
 
 // The kind of record that a switch asks for whose first case has this test.
@@ -46,16 +55,16 @@ pub fn asked_by(test: Test) -> u8
     }
 }
 
-// The child of the first of the n cases from i on that has this number.
+// The first of the n cases from i on that has this number.
 pub fn numbered_case(t: &[u8], m: Map, i: usize, n: usize, number: usize) -> Chosen
     requires { ⌜ Mapped (now t) m × (i + n ≤ m .cases .count) ⌝ }
-    ensures { λ r. ⌜ r ≡ chosenOf (now (t .entry)) (firstNumbered (now (t .entry)) number i n) ⌝ }
+    ensures { λ r. ⌜ r ≡ chosenOf (firstNumbered (now (t .entry)) number i n) ⌝ }
 {
     let end = i + n;
     let mut j = i;
     while j < end {
         if number == case_number(t, m, j) as usize {
-            return Chosen::Child(case_child(t, m, j) as usize);
+            return Chosen::At(j);
         }
         j += 1;
     }
@@ -83,7 +92,7 @@ fn is_text(t: &[u8], m: Map, v: &[u8], j: usize, i: usize, count: usize) -> bool
     texts_same(t, v, i, count, m.pool.start + start, len)
 }
 
-// The child of the first of the n cases from i on whose text is the count bytes of v from `start` on.
+// The first of the n cases from i on whose text is the count bytes of v from `start` on.
 pub fn text_case(
     t: &[u8],
     m: Map,
@@ -94,13 +103,13 @@ pub fn text_case(
     count: usize,
 ) -> Chosen
     requires { ⌜ Ruled (now t) m × (i + n ≤ m .cases .count) × AllText (now t) i n × (start + count ≤ length (now v)) ⌝ }
-    ensures { λ r. ⌜ r ≡ chosenOf (now (t .entry)) (firstText (now (t .entry)) (textAt (now (v .entry)) start count) i n) ⌝ }
+    ensures { λ r. ⌜ r ≡ chosenOf (firstText (now (t .entry)) (textAt (now (v .entry)) start count) i n) ⌝ }
 {
     let end = i + n;
     let mut j = i;
     while j < end {
         if is_text(t, m, v, j, start, count) {
-            return Chosen::Child(case_child(t, m, j) as usize);
+            return Chosen::At(j);
         }
         j += 1;
     }

@@ -17,8 +17,7 @@ ghost use Rattle.spec_rules.specs.Walking.{panelRoot, takeStep};
 ghost use Rattle.spec_rules.specs.Walking.{follow as Walking·follow};
 ghost use Rattle.spec_accepted.specs.PanelFacts.{PanelShaped};
 ghost use Rattle.format_panel.specs.Opened.{Opened};
-ghost use Rattle.format_tree.specs.Reading.{mapOf};
-ghost use Rattle.walk.specs.Positions.{placed, foundOf, leftBy, partIn, tailIn, Ready, Within};
+ghost use Rattle.walk.specs.Positions.{placed, foundOf, leftBy, partIn, tailIn, Followable, Within};
 
 pub struct Position {
     pub record: usize,
@@ -91,7 +90,7 @@ fn take_step(v: &[u8], n: PanelMap, s: Step, p: Position) -> Found
 // Where path p of the tree leads from the panel's root. Of the tree's map it takes the two starts that it reads from:
 // a call stores what it hands on, and there is one for each switch and each binding.
 pub fn follow(t: &[u8], paths_at: usize, steps_at: usize, v: &[u8], n: PanelMap, p: usize) -> Found
-    requires { ⌜ Ready (now t) (mapOf (now t)) (now v) n × («paths_at» ≡ pathsAt (now t)) × («steps_at» ≡ stepsAt (now t)) × (p < paths (now t)) ⌝ }
+    requires { ⌜ Followable (now t) (now v) n × («paths_at» ≡ pathsAt (now t)) × («steps_at» ≡ stepsAt (now t)) × (p < paths (now t)) ⌝ }
     ensures { λ r. ⌜ r ≡ foundOf (Walking·follow (now (v .entry)) (pathAt (now (t .entry)) p) panelRoot) ⌝ }
 {
     let path = path_from(t, paths_at, p);

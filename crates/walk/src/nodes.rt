@@ -2,6 +2,7 @@
 // tail number not above it. Else the default; with none, No leaf." A hoist is passed over; a wrong kind is stuck before any case.
 use crate::choose::Chosen;
 use crate::choose::asked_by;
+use crate::choose::child_of;
 use crate::choose::largest_tail;
 use crate::choose::numbered_case;
 use crate::choose::text_case;
@@ -20,7 +21,7 @@ ghost use Prim.Native.Nat.{ℕ, _+_, _<_, _≤_};
 ghost use Rattle.spec_rules.specs.TreeReader.{caseKind, caseChildren, defaultChild};
 ghost use Rattle.format_tree.specs.Reading.{Mapped, testOf};
 ghost use Rattle.walk.specs.Positions.{Ready};
-ghost use Rattle.walk.specs.Choices.{AllKind};
+ghost use Rattle.walk.specs.Choices.{AllKind, ChosenIn};
 ghost use Rattle.walk.specs.Turns.{Turns, TurnsBy, defaultWalk, switchWalk, listWalk, tailsWalk, lengthWalk, Steps, Arrives};
 
 // A leaf's three numbers are wider than they need be: as u16 they are stored one by one and read back as one word, which a processor waits for.
@@ -48,12 +49,13 @@ fn default_of(default: u16) -> Next
     Next::Node(default as usize - 1)
 }
 
-// The child that was chosen, else the default.
-fn chosen_or(chosen: Chosen, default: u16) -> Next
-    ensures { λ r. ⌜ TurnsBy chosen default r ⌝ }
+// The child of the case that was chosen, else the default.
+fn chosen_or(tree: &[u8], map: Map, chosen: Chosen, default: u16) -> Next
+    requires { ⌜ Mapped (now tree) map × ChosenIn (map .cases .count) chosen ⌝ }
+    ensures { λ r. ⌜ TurnsBy (now (tree .entry)) chosen default r ⌝ }
 {
     match chosen {
-        Chosen::Child(c) => Next::Node(c),
+        Chosen::At(place) => Next::Node(child_of(tree, map, place)),
         Chosen::Nothing => default_of(default),
     }
 }
@@ -83,14 +85,12 @@ fn from_switch(
         return Next::End(Reached::Stuck);
     }
     if asked == record_kinds::CONSTRUCTOR {
-        return chosen_or(
-            numbered_case(t, m, first as usize, cases as usize, x.a),
-            default,
-        );
+        let chosen = numbered_case(t, m, first as usize, cases as usize, x.a);
+        return chosen_or(t, m, chosen, default);
     }
     let start = n.pool_at + x.first;
     let chosen = text_case(t, m, v, first as usize, cases as usize, start, x.count);
-    chosen_or(chosen, default)
+    chosen_or(t, m, chosen, default)
 }
 
 // Past the cases of the exact length.
@@ -102,7 +102,8 @@ fn from_tails(t: &[u8], m: Map, length: usize, first: usize, tails: usize, defau
     if k == 0 {
         return default_of(default);
     }
-    chosen_or(numbered_case(t, m, first, tails, k - 1), default)
+    let chosen = numbered_case(t, m, first, tails, k - 1);
+    chosen_or(t, m, chosen, default)
 }
 
 fn from_length(
@@ -117,10 +118,10 @@ fn from_length(
     requires { ⌜ Mapped (now t) m × (first + (cases + tails) ≤ m .cases .count) × AllKind (now t) 3 first cases × AllKind (now t) 4 (first + cases) tails ⌝ }
     ensures { λ r. ⌜ ((v : List ℕ) → Turns (now (t .entry)) v (caseChildren (now (t .entry)) first (cases + tails) ++ defaultChild default) (lengthWalk (now (t .entry)) v length first cases tails default) r) ⌝ }
 {
-    let Chosen::Child(c) = numbered_case(t, m, first, cases, length) else {
+    let Chosen::At(place) = numbered_case(t, m, first, cases, length) else {
         return from_tails(t, m, length, first + cases, tails, default);
     };
-    Next::Node(c)
+    Next::Node(child_of(t, m, place))
 }
 
 fn from_list_switch(

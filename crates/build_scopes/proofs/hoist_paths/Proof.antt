@@ -74,8 +74,9 @@ returns : tie.Need-returns Inv-loop μ-loop
 returns c =
     let s = c .before .before .before .before .before .before .before .before .before .before .before .before .before in
     let a = s .args in
+    let m = c .before .before .before .before .mark in
     let l = c .before .loop in
-    λ h. scoped-end (h .tree) (a .clauses) (l .c) (l .x) (omega (arith, c .loop-test .left)) (l .inv .1 h)
+    λ h. record { scopes = scoped-end (h .tree) (a .clauses) (l .c) (l .x) (omega (arith, c .loop-test .left)) (l .inv .1 h); sets-marked = m .ensures h }
 
 pub hoist-paths-spec : {M : Type 1} → statement M
 hoist-paths-spec =

@@ -2,6 +2,7 @@
 use borrow.Author.Needs.{needs}
 use Rattle.format_tree.specs.ReadingLaws.{bindings-count}
 use Rattle.walk.specs.AnswersLaws.{gives-no-leaf, gives-stuck, gives-unbound, gives-leaf}
+use Rattle.walk.specs.FollowLaws.{bindable}
 use Rattle.walk.specs.Turns.{Arrives}
 use Rattle.walk.specs.declared.nodes.Reached.{Reached}
 use native.Mathlib.Omega.{arith}
@@ -31,7 +32,7 @@ bind-requires : tie.Need-bind-requires
 bind-requires c κs =
     let s = start (c .before .before) in
     let w = arrived (c .before .before) in
-    (s .pre .0, omega (arith, w .holds .0, bindings-count (s .pre .0 .mapped)), omega (arith, w .holds .1, s .pre .1))
+    (bindable (s .pre .0), omega (arith, w .holds .0, bindings-count (s .pre .0 .mapped)), omega (arith, w .holds .1, s .pre .1))
 
 cast-t14 : tie.Need-cast-t14
 cast-t14 c = omega (arith, arrived (c .before .before .before .before .before .before) .holds .2)

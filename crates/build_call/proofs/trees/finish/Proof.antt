@@ -12,7 +12,7 @@ use Rattle.build_call.specs.CountsLaws.{times-most}
 use Rattle.spec_accepted.specs.SheetFacts.{Accepted, accepted-sheet}
 use Rattle.format_sheet.specs.SectionsLaws.{Mapped, mapped}
 use Rattle.build_call.specs.AnswersLaws.{gives-refusal}
-use Rattle.build_call.specs.RawLaws.{end-12, end-13, hoists-counted, raw-over, scopes-asked, hoistable}
+use Rattle.build_call.specs.RawLaws.{end-12, end-13, hoists-counted, raw-over, fitting}
 use borrow.Author.Needs.{needs}
 use Rattle.build_call.proofs.trees.finish.Statement.{statement}
 use Rattle.build_call.proofs.trees.finish.Tie as tie
@@ -58,16 +58,11 @@ returns-2 c =
     let s = c .before .before .before .before .before .before .before .before in
     rw (c .refused2 .ensures) (gives-refusal (s .args .s .now) _ _ 13 0 (end-13 (s .args .s .now) (omega (arith, c .before .before .if1 .left, s .pre .0 .2 .nodes-are, counted s (c .before .before .before .hoists .result) (c .before .before .before .hoists .ensures))) (raw-over (ok s) _ _ _ _ _ (s .pre .0 .2) (c .before .if2 .taken))) (s .pre .1 .1))
 
-get-hoist-paths-requires : tie.Need-get-hoist-paths-requires
-get-hoist-paths-requires c κs =
-    let s = c .before .before .before .before .before .before .before in
-    (scopes-asked (ok s) _ _ _ _ _ (s .pre .0 .2) (c .if2 .left), omega (arith, its s .of-clauses, ok s .is-counted .clauses-most))
-
-write-hoisted-requires : tie.Need-write-hoisted-requires
-write-hoisted-requires c κs =
-    let s = c .before .before .before .before .before .before .before .before .before in
-    let fit : nodesIn (rawTree (s .args .s .now)) + hoistsOf (s .args .s .now) ≤ nodesMost = omega (arith, c .before .before .before .if1 .left, s .pre .0 .2 .nodes-are, counted s (c .before .before .before .before .hoists .result) (c .before .before .before .before .hoists .ensures)) in
-    ((s .pre .0 .0, s .pre .0 .1, hoistable (ok s) _ _ _ _ _ (c .before .get-hoist-paths .result) (s .pre .0 .2) fit (c .before .before .if2 .left) _ (its s .of-clauses) (c .before .get-hoist-paths .ensures)), s .pre .1)
+hoist-tree-requires : tie.Need-hoist-tree-requires
+hoist-tree-requires c κs =
+    let s = c .before .before .before .before .before .before .before .before in
+    let fit : nodesIn (rawTree (s .args .s .now)) + hoistsOf (s .args .s .now) ≤ nodesMost = omega (arith, c .before .before .if1 .left, s .pre .0 .2 .nodes-are, counted s (c .before .before .before .hoists .result) (c .before .before .before .hoists .ensures)) in
+    ((s .pre .0 .0, s .pre .0 .1, fitting (ok s) _ _ _ _ _ (s .pre .0 .2) fit (c .before .if2 .left)), s .pre .1)
 
 same-length : tie.Need-same-length
 same-length c = search needs
@@ -85,7 +80,6 @@ finish-spec =
     returns
     refused-requires-2
     returns-2
-    get-hoist-paths-requires
-    write-hoisted-requires
+    hoist-tree-requires
     same-length
     returns-3)

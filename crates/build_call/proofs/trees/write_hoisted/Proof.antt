@@ -33,14 +33,14 @@ all c more e = all-bindings (ok c) _ _ _ _ _ (c .pre .0 .2) _ more (its c .of-cl
 hoist-bindings-requires : tie.Need-hoist-bindings-requires
 hoist-bindings-requires c κs =
     let s = c .before .before .before .before in
-    (s .pre .0 .2 .long, omega (arith, its s .of-clauses, ok s .is-counted .clauses-most))
+    (s .pre .0 .2 .fitting .long, omega (arith, its s .of-clauses, ok s .is-counted .clauses-most))
 
 add-if1 : tie.Need-add-if1
 add-if1 c =
     let s = c .before .before .before .before .before in
     let bytes = bytes-of-fits (s .args .w .now) (c .before .before .shared-slice-known3 .given) in
     let f : ℕ → ℕ = λ k. leafBindings (s .args .w .now) (getD (s .args .x .leaf) k 0) in
-    omega (arith, s .pre .0 .2 .bindings-are, s .pre .0 .2 .bindings-most, c .hoist-bindings .ensures, its s .of-clauses, ok s .is-counted .clauses-most, sum-most f 65535 0 (s .args .m .counts .clauses) (λ k. leaf-most (s .args .w .now) (getD (s .args .x .leaf) k 0) bytes))
+    omega (arith, s .pre .0 .2 .fitting .bindings-are, s .pre .0 .2 .fitting .bindings-most, c .hoist-bindings .ensures, its s .of-clauses, ok s .is-counted .clauses-most, sum-most f 65535 0 (s .args .m .counts .clauses) (λ k. leaf-most (s .args .w .now) (getD (s .args .x .leaf) k 0) bytes))
 
 refused-requires : tie.Need-refused-requires
 refused-requires c κs = search needs
@@ -48,7 +48,7 @@ refused-requires c κs = search needs
 returns : tie.Need-returns
 returns c =
     let s = c .before .before .before .before .before .before .before in
-    rw (c .refused .ensures) (gives-refusal (s .args .s .now) _ _ 13 0 (end-13 (s .args .s .now) (s .pre .0 .2 .nodes-fit) (omega (arith, c .before .if1 .taken, all s (c .before .before .hoist-bindings .result) (c .before .before .hoist-bindings .ensures)))) (s .pre .1 .1))
+    rw (c .refused .ensures) (gives-refusal (s .args .s .now) _ _ 13 0 (end-13 (s .args .s .now) (s .pre .0 .2 .fitting .nodes-fit) (omega (arith, c .before .if1 .taken, all s (c .before .before .hoist-bindings .result) (c .before .before .hoist-bindings .ensures)))) (s .pre .1 .1))
 
 cast-t14 : tie.Need-cast-t14
 cast-t14 c = search needs
@@ -57,7 +57,7 @@ returns-2 : tie.Need-returns-2
 returns-2 c =
     let s = c .before .before .before .before .before .before .before in
     let fit : length (bindingsIn (rawTree (s .args .s .now))) + hoistBindings (s .args .s .now) ≤ bindingsMost = omega (arith, c .before .if1 .left, all s (c .before .before .hoist-bindings .result) (c .before .before .hoist-bindings .ensures)) in
-    gives-refusal (s .args .s .now) _ _ 14 _ (end-14 (s .args .s .now) (s .pre .0 .2 .nodes-fit) fit _ (idle-found (ok s) _ _ _ _ _ (s .pre .0 .2) (c .if2 .taken))) (s .pre .1 .1)
+    gives-refusal (s .args .s .now) _ _ 14 _ (end-14 (s .args .s .now) (s .pre .0 .2 .fitting .nodes-fit) fit _ (idle-found (ok s) _ _ _ _ _ (s .pre .0 .2) (c .if2 .taken))) (s .pre .1 .1)
 
 write-tree-requires : tie.Need-write-tree-requires
 write-tree-requires c κs =

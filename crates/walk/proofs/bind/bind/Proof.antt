@@ -5,7 +5,7 @@ use mathlib.Core.List.{List}
 use Rattle.format_tree.specs.declared.reading.Binding.{Binding}
 use Rattle.walk.specs.declared.follow.Found.the-variants.{At}
 use Rattle.walk.specs.BindingsLaws.{left, bindings-start, binding-stuck, there-on, words-on, there-end, words-end}
-use Rattle.walk.specs.FollowLaws.{found-some, found-none, found-within, ready-path, binding-path-in, dropped-small}
+use Rattle.walk.specs.FollowLaws.{found-some, found-none, found-within, binding-followed, dropped-small}
 use Rattle.walk.specs.Bindings.{isThere, wordsAfter}
 use Rattle.walk.specs.Positions.{placed}
 use Rattle.spec_rules.specs.Walking.{panelRoot, follow, bound as boundAll}
@@ -48,8 +48,7 @@ follow-requires : tie.Need-follow-requires Inv-loop μ-loop
 follow-requires c κs =
     let back3 = c .before .before .before in
     let back7 = back3 .before .before .before .before in
-    let ready = back7 .pre .0 in
-    ready-path ready (c .before .binding-at .result .path) (binding-path-in (ready .mapped) (ready .sound .is-ruled) (back7 .args .first + back3 .loop .i) (c .before .binding-at .result) (omega (arith, back7 .pre .1, c .before .before .loop-test .taken)) (c .before .binding-at .ensures))
+    binding-followed (back7 .pre .0) (back7 .args .first + back3 .loop .i) (c .before .binding-at .result) (omega (arith, back7 .pre .1, c .before .before .loop-test .taken)) (c .before .binding-at .ensures)
 
 enum-known-p : tie.Need-enum-known-p Inv-loop μ-loop
 enum-known-p c = search needs
@@ -99,14 +98,14 @@ cast-put-bound c =
     let back9 = back7 .before .before in
     let back13 = back9 .before .before .before .before in
     let a = back13 .args in
-    let ready = back13 .pre .0 in
+    let w = back13 .pre .0 .followable in
     let l = back9 .loop in
     let b = back7 .binding-at .result in
     let p = back3 .p .given .0 .0 in
     let r : back5 .follow .result ≡ At p = back3 .p .given .1 in
     let found = found-some (follow (a .v .now) (pathAt (a .t .now) (b .path)) panelRoot) p (sym (back5 .follow .ensures) ∙ r) in
-    let within = found-within ready (b .path) p found in
-    omega (arith, within .place-in, ready .opened .laid .records-most)
+    let within = found-within w (b .path) p found in
+    omega (arith, within .place-in, w .opened .laid .records-most)
 
 cast-put-bound-2 : tie.Need-cast-put-bound-2 Inv-loop μ-loop
 cast-put-bound-2 c =
@@ -116,14 +115,14 @@ cast-put-bound-2 c =
     let back10 = back8 .before .before in
     let back14 = back10 .before .before .before .before in
     let a = back14 .args in
-    let ready = back14 .pre .0 in
+    let w = back14 .pre .0 .followable in
     let l = back10 .loop in
     let b = back8 .binding-at .result in
     let p = back4 .p .given .0 .0 in
     let r : back6 .follow .result ≡ At p = back4 .p .given .1 in
     let found = found-some (follow (a .v .now) (pathAt (a .t .now) (b .path)) panelRoot) p (sym (back6 .follow .ensures) ∙ r) in
-    let within = found-within ready (b .path) p found in
-    omega (arith, dropped-small (ready .opened .laid) (ready .panel .is-shaped) (placed p) within)
+    let within = found-within w (b .path) p found in
+    omega (arith, dropped-small (w .opened .laid) (w .shaped) (placed p) within)
 
 put-bound-requires : tie.Need-put-bound-requires Inv-loop μ-loop
 put-bound-requires c κs =
@@ -147,13 +146,13 @@ loop-again c =
     let back13 = back12 .before in
     let back17 = back13 .before .before .before .before in
     let a = back17 .args in
-    let ready = back17 .pre .0 in
+    let w = back17 .pre .0 .followable in
     let l = back13 .loop in
     let b = back11 .binding-at .result in
     let p = back7 .p .given .0 .0 in
     let r : back9 .follow .result ≡ At p = back7 .p .given .1 in
     let found = found-some (follow (a .v .now) (pathAt (a .t .now) (b .path)) panelRoot) p (sym (back9 .follow .ensures) ∙ r) in
-    let within = found-within ready (b .path) p found in
+    let within = found-within w (b .path) p found in
     let path = ap (λ (x : Binding). x .path) (back11 .binding-at .ensures) in
     let name = ap (λ (x : Binding). x .name) (back11 .binding-at .ensures) in
     let there = ap (λ (k : ℕ). follow (a .v .now) (pathAt (a .t .now) k) panelRoot) (sym path) ∙ found in

@@ -1,5 +1,4 @@
 -- `walk::choose::numbered_case` meets its contract: the loop's invariant is that the first case of the number among those left is the first among all.
-use Rattle.walk.specs.declared.choose.Chosen.the-variants.{Child}
 use Rattle.walk.specs.ChoicesLaws.{run-start}
 use Rattle.spec_rules.specs.SearchingLaws.{lowest-found, lowest-on, lowest-end}
 use Rattle.walk.specs.Choices.{firstNumbered, chosenOf}
@@ -31,22 +30,14 @@ case-number-requires c κs = search needs
 cast-if1 : tie.Need-cast-if1 Inv-loop μ-loop
 cast-if1 c = search needs
 
-case-child-requires : tie.Need-case-child-requires Inv-loop μ-loop
-case-child-requires c κs = search needs
-
-cast-t12 : tie.Need-cast-t12 Inv-loop μ-loop
-cast-t12 c = search needs
-
 returns : tie.Need-returns Inv-loop μ-loop
 returns c =
     let back3 = c .before .before .before in
-    let back4 = back3 .before in
-    let a = back4 .before .before .args in
-    let l = back4 .loop in
+    let a = back3 .before .before .args in
+    let l = back3 .loop in
     let f : ℕ → Bool = λ k. eqb (a .number) (caseNumber (a .t .now) k) in
-    let e = eq-eqb (a .number) (caseNumber (a .t .now) (l .j)) (c .before .if1 .taken ∙ c .before .before .case-number .ensures) in
-    ap Child (c .case-child .ensures)
-    ∙ ap (chosenOf (a .t .now)) (sym (lowest-found f (l .j) (a .i + a .n) (back3 .loop-test .taken) e) ∙ l .inv .2)
+    let e = eq-eqb (a .number) (caseNumber (a .t .now) (l .j)) (c .if1 .taken ∙ c .before .case-number .ensures) in
+    ap chosenOf (sym (lowest-found f (l .j) (a .i + a .n) (c .before .before .loop-test .taken) e) ∙ l .inv .2)
 
 add-j : tie.Need-add-j Inv-loop μ-loop
 add-j c = search needs
@@ -69,7 +60,7 @@ returns-2 c =
     let a = back3 .args in
     let l = c .before .loop in
     let f : ℕ → Bool = λ k. eqb (a .number) (caseNumber (a .t .now) k) in
-    ap (chosenOf (a .t .now)) (sym (lowest-end f (l .j) (a .i + a .n) (c .loop-test .left)) ∙ l .inv .2)
+    ap chosenOf (sym (lowest-end f (l .j) (a .i + a .n) (c .loop-test .left)) ∙ l .inv .2)
 
 pub numbered-case-spec : {M : Type 1} → statement M
 numbered-case-spec =
@@ -81,8 +72,6 @@ numbered-case-spec =
     loop-holds
     case-number-requires
     cast-if1
-    case-child-requires
-    cast-t12
     returns
     add-j
     loop-less

@@ -1,5 +1,4 @@
 -- `walk::choose::text_case` meets its contract: the loop's invariant is that the first case of the text among those left is the first among all.
-use Rattle.walk.specs.declared.choose.Chosen.the-variants.{Child}
 use Rattle.walk.specs.ChoicesLaws.{run-start}
 use Rattle.spec_rules.specs.SearchingLaws.{lowest-found, lowest-on, lowest-end}
 use Rattle.walk.specs.Choices.{firstText, chosenOf}
@@ -34,22 +33,14 @@ is-text-requires c κs =
     let text = back4 .pre .2 (l .j) (l .inv .0) (c .loop-test .taken) in
     (back4 .pre .0, omega (arith, c .loop-test .taken, back4 .pre .1), text .0, text .1, back4 .pre .3)
 
-case-child-requires : tie.Need-case-child-requires Inv-loop μ-loop
-case-child-requires c κs = search needs
-
-cast-t13 : tie.Need-cast-t13 Inv-loop μ-loop
-cast-t13 c = search needs
-
 returns : tie.Need-returns Inv-loop μ-loop
 returns c =
     let back3 = c .before .before .before in
-    let back4 = back3 .before in
-    let a = back4 .before .before .before .args in
-    let l = back4 .loop in
+    let a = back3 .before .before .before .args in
+    let l = back3 .loop in
     let f : ℕ → Bool = λ k. sameText (textAt (a .v .now) (a .start) (a .count)) (caseText (a .t .now) k) in
-    let e = sym (c .before .before .is-text .ensures) ∙ c .before .if1 .taken in
-    ap Child (c .case-child .ensures)
-    ∙ ap (chosenOf (a .t .now)) (sym (lowest-found f (l .j) (a .i + a .n) (back3 .loop-test .taken) e) ∙ l .inv .2)
+    let e = sym (c .before .is-text .ensures) ∙ c .if1 .taken in
+    ap chosenOf (sym (lowest-found f (l .j) (a .i + a .n) (c .before .before .loop-test .taken) e) ∙ l .inv .2)
 
 add-j : tie.Need-add-j Inv-loop μ-loop
 add-j c = search needs
@@ -71,7 +62,7 @@ returns-2 c =
     let a = c .before .before .before .before .args in
     let l = c .before .loop in
     let f : ℕ → Bool = λ k. sameText (textAt (a .v .now) (a .start) (a .count)) (caseText (a .t .now) k) in
-    ap (chosenOf (a .t .now)) (sym (lowest-end f (l .j) (a .i + a .n) (c .loop-test .left)) ∙ l .inv .2)
+    ap chosenOf (sym (lowest-end f (l .j) (a .i + a .n) (c .loop-test .left)) ∙ l .inv .2)
 
 pub text-case-spec : {M : Type 1} → statement M
 text-case-spec =
@@ -82,8 +73,6 @@ text-case-spec =
     add-end
     loop-holds
     is-text-requires
-    case-child-requires
-    cast-t13
     returns
     add-j
     loop-less

@@ -37,7 +37,7 @@ loop-holds c =
     let w = back5 .pre .0 in
     let x = c .before .before .path-from .result in (
       search needs,
-      root-within (w .opened .laid) (w .panel .is-shaped),
+      root-within (w .opened .laid) (w .shaped),
       path-start (a .v .now) (a .t .now) (x .first) (x .count) (a .p) panelRoot
           (ap (λ (y : Path). y .first) (c .before .before .path-from .ensures))
           (ap (λ (y : Path). y .count) (c .before .before .path-from .ensures)),
@@ -50,7 +50,7 @@ add-step-from c =
     let a = back7 .args in
     let w = back7 .pre .0 in
     let x = back4 .path-from .result in
-    omega (arith, path-run (w .mapped) (w .sound .is-ruled) (a .p) x (back7 .pre .3) (back4 .path-from .ensures), w .mapped)
+    omega (arith, path-run w (a .p) x (back7 .pre .3) (back4 .path-from .ensures), w .mapped)
 
 step-from-requires : tie.Need-step-from-requires Inv-loop μ-loop
 step-from-requires c κs =
@@ -59,13 +59,13 @@ step-from-requires c κs =
     let a = back7 .args in
     let w = back7 .pre .0 in
     let x = back4 .path-from .result in
-    (w .mapped, back7 .pre .2, omega (arith, path-run (w .mapped) (w .sound .is-ruled) (a .p) x (back7 .pre .3) (back4 .path-from .ensures)))
+    (w .mapped, back7 .pre .2, omega (arith, path-run w (a .p) x (back7 .pre .3) (back4 .path-from .ensures)))
 
 take-step-requires : tie.Need-take-step-requires Inv-loop μ-loop
 take-step-requires c κs =
     let back8 = c .before .before .before .before .before .before .before .before in
     let w = back8 .pre .0 in
-    (w .opened, w .panel .is-shaped, c .before .before .loop .inv .1)
+    (w .opened, w .shaped, c .before .before .loop .inv .1)
 
 enum-known-next : tie.Need-enum-known-next Inv-loop μ-loop
 enum-known-next c = search needs
@@ -115,7 +115,7 @@ loop-again c =
     let r : back3 .take-step .result ≡ At y = c .before .next .given .1 in
     let e = sym u ∙ found-some q y (sym (back3 .take-step .ensures) ∙ r) in (
       search needs,
-      step-within (w .opened .laid) (w .panel .is-shaped) (stepAt (a .t .now) (x .first + l .k)) (placed (l .at)) (placed y) (l .inv .1) e,
+      step-within (w .opened .laid) (w .shaped) (stepAt (a .t .now) (x .first + l .k)) (placed (l .at)) (placed y) (l .inv .1) e,
       path-on (a .v .now) (a .t .now) (x .first) (x .count) (l .k) (placed (l .at)) (placed y) (back5 .loop-test .taken) e ∙ l .inv .2,
     )
 

@@ -2,7 +2,7 @@
 use borrow.Author.Needs.{needs}
 use Rattle.format_panel.specs.declared.records.Record.{Record}
 use Rattle.walk.specs.TurnsLaws.{list-no-part, list-wrong-kind, list-turns}
-use Rattle.walk.specs.FollowLaws.{found-some, found-none, found-within, ready-path}
+use Rattle.walk.specs.FollowLaws.{found-some, found-none, found-within, followable, ready-path}
 use Rattle.walk.specs.Positions.{placed}
 use Rattle.spec_rules.specs.TreeReader.{pathAt}
 use Rattle.spec_rules.specs.Walking.{panelRoot, follow}
@@ -37,7 +37,7 @@ record-at-requires c κs =
     let p = c .before .p .given .0 .0 in
     let r : back3 .follow .result ≡ At p = c .before .p .given .1 in
     let found = found-some (follow (a .v .now) (pathAt (a .t .now) (a .path)) panelRoot) p (sym (back3 .follow .ensures) ∙ r) in
-    let within = found-within ready (a .path) p found in
+    let within = found-within (followable ready) (a .path) p found in
     (ready .opened .laid, within .place-in)
 
 returns-2 : tie.Need-returns-2
@@ -50,7 +50,7 @@ returns-2 c =
     let p = back4 .p .given .0 .0 in
     let r : back6 .follow .result ≡ At p = back4 .p .given .1 in
     let found = found-some (follow (a .v .now) (pathAt (a .t .now) (a .path)) panelRoot) p (sym (back6 .follow .ensures) ∙ r) in
-    let within = found-within ready (a .path) p found in
+    let within = found-within (followable ready) (a .path) p found in
     list-wrong-kind (a .t .now) (a .v .now) (a .path) (a .first) (a .cases) (a .tails) (a .default) (placed p)
     (c .before .before .record-at .result) found (c .before .before .record-at .ensures) (c .if1 .taken)
 
@@ -65,7 +65,7 @@ sub-from-length c =
     let p = back6 .p .given .0 .0 in
     let r : back8 .follow .result ≡ At p = back6 .p .given .1 in
     let found = found-some (follow (a .v .now) (pathAt (a .t .now) (a .path)) panelRoot) p (sym (back8 .follow .ensures) ∙ r) in
-    let within = found-within ready (a .path) p found in
+    let within = found-within (followable ready) (a .path) p found in
     omega (arith, within .dropped-in, ap (λ (x : Record). x .count) (back4 .record-at .ensures))
 
 from-length-requires : tie.Need-from-length-requires
@@ -85,7 +85,7 @@ returns-3 c =
     let p = back7 .p .given .0 .0 in
     let r : back9 .follow .result ≡ At p = back7 .p .given .1 in
     let found = found-some (follow (a .v .now) (pathAt (a .t .now) (a .path)) panelRoot) p (sym (back9 .follow .ensures) ∙ r) in
-    let within = found-within ready (a .path) p found in
+    let within = found-within (followable ready) (a .path) p found in
     list-turns (a .t .now) (a .v .now) (a .path) (a .first) (a .cases) (a .tails) (a .default) (placed p) (back5 .record-at .result)
     (c .from-length .result) found (back5 .record-at .ensures) (back3 .if1 .left) (c .from-length .ensures (a .v .now))
 

@@ -1,8 +1,8 @@
 -- `walk::nodes::from_switch` meets its contract: one law of the walk at a switch for each way out.
 use Rattle.walk.specs.TurnsLaws.{switch-no-part, switch-wrong-kind, switch-constr, switch-text}
-use Rattle.walk.specs.ChoicesLaws.{texts-asked, text-inside}
+use Rattle.walk.specs.ChoicesLaws.{texts-asked, text-inside, chosen-in}
 use Rattle.walk.specs.Choices.{askedBy}
-use Rattle.walk.specs.FollowLaws.{found-some, found-none, found-within, ready-path, ready-ruled}
+use Rattle.walk.specs.FollowLaws.{found-some, found-none, found-within, followable, ready-path, ready-ruled}
 use Rattle.walk.specs.Positions.{placed}
 use Rattle.walk.specs.declared.follow.Found.the-variants.{At}
 use Rattle.spec_rules.specs.TreeReader.{pathAt}
@@ -40,7 +40,7 @@ record-at-requires c κs =
     let p = c .before .p .given .0 .0 in
     let r : back3 .follow .result ≡ At p = c .before .p .given .1 in
     let found = found-some (follow (a .v .now) (pathAt (a .t .now) (a .path)) panelRoot) p (sym (back3 .follow .ensures) ∙ r) in
-    (ready .opened .laid, found-within ready (a .path) p found .place-in)
+    (ready .opened .laid, found-within (followable ready) (a .path) p found .place-in)
 
 returns-2 : tie.Need-returns-2
 returns-2 c =
@@ -62,7 +62,11 @@ numbered-case-requires c κs =
     (start .pre .0 .mapped, start .pre .3)
 
 chosen-or-requires : tie.Need-chosen-or-requires
-chosen-or-requires c κs = search needs
+chosen-or-requires c κs =
+    let back6 = c .before .before .before .before .before .before in
+    let start = back6 .before .before .before .before .before .before in
+    let a = start .args in
+    (start .pre .0 .mapped, chosen-in _ (a .first) (a .cases) _ (c .numbered-case .result) (start .pre .3) (c .numbered-case .ensures))
 
 returns-3 : tie.Need-returns-3
 returns-3 c =
@@ -96,7 +100,7 @@ add-start c =
     let found = found-some (follow (a .v .now) (pathAt (a .t .now) (a .path)) panelRoot) p (sym (back9 .follow .ensures) ∙ r) in
     let asked = back10 .asked-by .ensures ∙ ap askedBy (start .pre .6) in
     let texts = texts-asked (a .t .now) (a .first) (start .pre .4) (λ e. c .before .before .if2 .left (asked ∙ e)) (a .cases) (start .pre .5) in
-    let inside = text-inside (a .v .now) (placed p) (back5 .record-at .result) (back5 .record-at .ensures) (a .n) (ready .opened) (ready .panel .is-shaped) (found-within ready (a .path) p found .place-in) (omega (arith, back3 .if1 .left, asked, texts .0)) in
+    let inside = text-inside (a .v .now) (placed p) (back5 .record-at .result) (back5 .record-at .ensures) (a .n) (ready .opened) (ready .panel .is-shaped) (found-within (followable ready) (a .path) p found .place-in) (omega (arith, back3 .if1 .left, asked, texts .0)) in
     omega (arith, inside, ready .opened .laid .length-most)
 
 text-case-requires : tie.Need-text-case-requires
@@ -114,11 +118,15 @@ text-case-requires c κs =
     let found = found-some (follow (a .v .now) (pathAt (a .t .now) (a .path)) panelRoot) p (sym (back9 .follow .ensures) ∙ r) in
     let asked = back10 .asked-by .ensures ∙ ap askedBy (start .pre .6) in
     let texts = texts-asked (a .t .now) (a .first) (start .pre .4) (λ e. c .before .before .if2 .left (asked ∙ e)) (a .cases) (start .pre .5) in
-    let inside = text-inside (a .v .now) (placed p) (back5 .record-at .result) (back5 .record-at .ensures) (a .n) (ready .opened) (ready .panel .is-shaped) (found-within ready (a .path) p found .place-in) (omega (arith, back3 .if1 .left, asked, texts .0)) in
+    let inside = text-inside (a .v .now) (placed p) (back5 .record-at .result) (back5 .record-at .ensures) (a .n) (ready .opened) (ready .panel .is-shaped) (found-within (followable ready) (a .path) p found .place-in) (omega (arith, back3 .if1 .left, asked, texts .0)) in
     (ready-ruled ready, start .pre .3, texts .1, inside)
 
 chosen-or-requires-2 : tie.Need-chosen-or-requires-2
-chosen-or-requires-2 c κs = search needs
+chosen-or-requires-2 c κs =
+    let back7 = c .before .before .before .before .before .before .before in
+    let start = back7 .before .before .before .before .before .before .before in
+    let a = start .args in
+    (start .pre .0 .mapped, chosen-in _ (a .first) (a .cases) _ (c .text-case .result) (start .pre .3) (c .text-case .ensures))
 
 returns-4 : tie.Need-returns-4
 returns-4 c =

@@ -1,6 +1,6 @@
 -- `walk::nodes::from_tails` meets its contract: one law of the walk past the exact lengths for each way out.
 use Rattle.walk.specs.TurnsLaws.{turns-no-tail, turns-tail}
-use Rattle.walk.specs.ChoicesLaws.{numbered-tail}
+use Rattle.walk.specs.ChoicesLaws.{numbered-tail, chosen-in}
 use Rattle.walk.specs.Choices.{chosenOf}
 use Rattle.spec_rules.specs.Splitting.{ListWithTail}
 use Prim.Native.Nat.{_-_}
@@ -29,7 +29,10 @@ numbered-case-requires : tie.Need-numbered-case-requires
 numbered-case-requires c κs = search needs
 
 chosen-or-requires : tie.Need-chosen-or-requires
-chosen-or-requires c κs = search needs
+chosen-or-requires c κs =
+    let start = c .before .before .before .before in
+    let a = start .args in
+    (start .pre .0, chosen-in _ (a .first) (a .tails) _ (c .numbered-case .result) (start .pre .1) (c .numbered-case .ensures))
 
 returns-2 : tie.Need-returns-2
 returns-2 c =
@@ -37,9 +40,9 @@ returns-2 c =
     let start = back3 .before .before in
     let a = start .args in
     let k = back3 .largest-tail .result in
-    let chosen = c .before .numbered-case .ensures ∙ ap (chosenOf (a .t .now)) (numbered-tail (a .t .now) (a .first) (a .tails) (k - 1) (start .pre .2)) in
+    let chosen = c .before .numbered-case .ensures ∙ ap chosenOf (numbered-tail (a .t .now) (a .first) (a .tails) (k - 1) (start .pre .2)) in
     λ v. turns-tail (a .t .now) v (a .length) (a .first) (a .tails) (a .default) (c .chosen-or .result) k (back3 .largest-tail .ensures)
-    (c .before .before .if1 .left) (c .chosen-or .ensures (a .t .now) v (ListWithTail (k - 1)) (a .first) (a .tails) chosen)
+    (c .before .before .if1 .left) (c .chosen-or .ensures v (ListWithTail (k - 1)) (a .first) (a .tails) chosen)
 
 pub from-tails-spec : {M : Type 1} → statement M
 from-tails-spec =
