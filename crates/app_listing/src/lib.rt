@@ -20,14 +20,14 @@ pub enum Listed {
     Refused,
 }
 
-pub fn listing(t: &[u8], out: &mut [u8]) -> Listed
-    ensures { λ r. ⌜ callOf r (now (out .exit)) ≡ listingCall (now (t .entry)) (length (now (out .entry))) ⌝ }
+pub fn listing(tree: &[u8], out: &mut [u8]) -> Listed
+    ensures { λ r. ⌜ callOf r (now (out .exit)) ≡ listingCall (now (tree .entry)) (length (now (out .entry))) ⌝ }
 {
     zero_all(out);
-    let Checked::Accepted(m) = check(t) else {
+    let Checked::Accepted(m) = check(tree) else {
         return Listed::Refused;
     };
-    let end = put_listing(out, t, m);
+    let end = put_listing(out, tree, m);
     if out.len() < end {
         zero_all(out);
         return Listed::Full;

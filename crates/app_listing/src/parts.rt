@@ -33,11 +33,11 @@ fn put_constr_step(out: &mut [u8], at: usize, index: u16, flag: u8) -> usize
     put_text(out, end, b"_false")
 }
 
-fn put_step(out: &mut [u8], at: usize, t: &[u8], m: Map, i: usize) -> usize
-    requires { ⌜ Ruled (now t) m × (i < m .steps .count) ⌝ }
-    ensures { λ r. ⌜ Writes (now (out .entry)) (now (out .exit)) at r (stepText (stepAt (now (t .entry)) i)) ⌝ }
+fn put_step(out: &mut [u8], at: usize, tree: &[u8], m: Map, i: usize) -> usize
+    requires { ⌜ Ruled (now tree) m × (i < m .steps .count) ⌝ }
+    ensures { λ r. ⌜ Writes (now (out .entry)) (now (out .exit)) at r (stepText (stepAt (now (tree .entry)) i)) ⌝ }
 {
-    let step = step_at(t, m, i);
+    let step = step_at(tree, m, i);
     let kind = step.kind;
     match kind {
         step_kinds::PAIR => put_numbered(out, at, b"pair_", step.index),
@@ -49,32 +49,32 @@ fn put_step(out: &mut [u8], at: usize, t: &[u8], m: Map, i: usize) -> usize
 }
 
 // The n steps from i on, each behind its `.`.
-fn put_more_steps(out: &mut [u8], at: usize, t: &[u8], m: Map, i: usize, n: usize) -> usize
-    requires { ⌜ Ruled (now t) m × (i + n ≤ m .steps .count) ⌝ }
-    ensures { λ r. ⌜ Writes (now (out .entry)) (now (out .exit)) at r (moreSteps (stepsFrom (now (t .entry)) i n)) ⌝ }
+fn put_more_steps(out: &mut [u8], at: usize, tree: &[u8], m: Map, i: usize, n: usize) -> usize
+    requires { ⌜ Ruled (now tree) m × (i + n ≤ m .steps .count) ⌝ }
+    ensures { λ r. ⌜ Writes (now (out .entry)) (now (out .exit)) at r (moreSteps (stepsFrom (now (tree .entry)) i n)) ⌝ }
 {
     let mut end = at;
     let mut j = 0;
     while j < n {
         let dot = put(out, end, b'.');
-        end = put_step(out, dot, t, m, i + j);
+        end = put_step(out, dot, tree, m, i + j);
         j += 1;
     }
     end
 }
 
-pub fn put_path(out: &mut [u8], at: usize, t: &[u8], m: Map, p: usize) -> usize
-    requires { ⌜ Ruled (now t) m × (p < m .paths .count) ⌝ }
-    ensures { λ r. ⌜ Writes (now (out .entry)) (now (out .exit)) at r (pathText (pathAt (now (t .entry)) p)) ⌝ }
+pub fn put_path(out: &mut [u8], at: usize, tree: &[u8], m: Map, p: usize) -> usize
+    requires { ⌜ Ruled (now tree) m × (p < m .paths .count) ⌝ }
+    ensures { λ r. ⌜ Writes (now (out .entry)) (now (out .exit)) at r (pathText (pathAt (now (tree .entry)) p)) ⌝ }
 {
-    let path = path_at(t, m, p);
+    let path = path_at(tree, m, p);
     let first = path.first as usize;
     let count = path.count as usize;
     if count == 0 {
         return put(out, at, b'.');
     }
-    let end = put_step(out, at, t, m, first);
-    put_more_steps(out, end, t, m, first + 1, count - 1)
+    let end = put_step(out, at, tree, m, first);
+    put_more_steps(out, end, tree, m, first + 1, count - 1)
 }
 
 // ---- cases
@@ -100,9 +100,9 @@ fn put_text_test(out: &mut [u8], at: usize, integer: bool, text: &[u8]) -> usize
     put(out, end, b')')
 }
 
-fn put_test(out: &mut [u8], at: usize, t: &[u8], m: Map, test: Test) -> usize
-    requires { ⌜ Mapped (now t) m × TestInside m test ⌝ }
-    ensures { λ r. ⌜ Writes (now (out .entry)) (now (out .exit)) at r (testRead (now (t .entry)) test) ⌝ }
+fn put_test(out: &mut [u8], at: usize, tree: &[u8], m: Map, test: Test) -> usize
+    requires { ⌜ Mapped (now tree) m × TestInside m test ⌝ }
+    ensures { λ r. ⌜ Writes (now (out .entry)) (now (out .exit)) at r (testRead (now (tree .entry)) test) ⌝ }
 {
     match test {
         Test::Constr(number) => put_number_test(out, at, b"Constr(", number),
@@ -113,33 +113,33 @@ fn put_test(out: &mut [u8], at: usize, t: &[u8], m: Map, test: Test) -> usize
         } => {
             let from = m.pool.start + start as usize;
             let to = from + count as usize;
-            put_text_test(out, at, integer, &t[from..to])
+            put_text_test(out, at, integer, &tree[from..to])
         }
         Test::List(number) => put_number_test(out, at, b"List(", number),
         Test::Tailed(number) => put_number_test(out, at, b"ListWithTail(", number),
     }
 }
 
-fn put_case(out: &mut [u8], at: usize, t: &[u8], m: Map, i: usize) -> usize
-    requires { ⌜ Ruled (now t) m × (i < m .cases .count) ⌝ }
-    ensures { λ r. ⌜ Writes (now (out .entry)) (now (out .exit)) at r (caseLine (now (t .entry)) i) ⌝ }
+fn put_case(out: &mut [u8], at: usize, tree: &[u8], m: Map, i: usize) -> usize
+    requires { ⌜ Ruled (now tree) m × (i < m .cases .count) ⌝ }
+    ensures { λ r. ⌜ Writes (now (out .entry)) (now (out .exit)) at r (caseLine (now (tree .entry)) i) ⌝ }
 {
-    let case = case_at(t, m, i);
+    let case = case_at(tree, m, i);
     let test = case.test;
     let space = put(out, at, b' ');
-    let end = put_test(out, space, t, m, test);
+    let end = put_test(out, space, tree, m, test);
     let colon = put(out, end, b':');
     put_decimal(out, colon, case.child)
 }
 
-pub fn put_cases(out: &mut [u8], at: usize, t: &[u8], m: Map, i: usize, n: usize) -> usize
-    requires { ⌜ Ruled (now t) m × (i + n ≤ m .cases .count) ⌝ }
-    ensures { λ r. ⌜ Writes (now (out .entry)) (now (out .exit)) at r (casesText (now (t .entry)) i n) ⌝ }
+pub fn put_cases(out: &mut [u8], at: usize, tree: &[u8], m: Map, i: usize, n: usize) -> usize
+    requires { ⌜ Ruled (now tree) m × (i + n ≤ m .cases .count) ⌝ }
+    ensures { λ r. ⌜ Writes (now (out .entry)) (now (out .exit)) at r (casesText (now (tree .entry)) i n) ⌝ }
 {
     let mut end = at;
     let mut j = 0;
     while j < n {
-        end = put_case(out, end, t, m, i + j);
+        end = put_case(out, end, tree, m, i + j);
         j += 1;
     }
     end
@@ -157,24 +157,24 @@ pub fn put_default(out: &mut [u8], at: usize, default: u16) -> usize
 
 // ---- bindings
 
-fn put_binding(out: &mut [u8], at: usize, t: &[u8], m: Map, b: usize) -> usize
-    requires { ⌜ Ruled (now t) m × (b < m .bindings .count) ⌝ }
-    ensures { λ r. ⌜ Writes (now (out .entry)) (now (out .exit)) at r (bindingLine (now (t .entry)) b) ⌝ }
+fn put_binding(out: &mut [u8], at: usize, tree: &[u8], m: Map, b: usize) -> usize
+    requires { ⌜ Ruled (now tree) m × (b < m .bindings .count) ⌝ }
+    ensures { λ r. ⌜ Writes (now (out .entry)) (now (out .exit)) at r (bindingLine (now (tree .entry)) b) ⌝ }
 {
-    let binding = binding_at(t, m, b);
+    let binding = binding_at(tree, m, b);
     let name = put_numbered(out, at, b" n", binding.name);
     let equals = put(out, name, b'=');
-    put_path(out, equals, t, m, binding.path as usize)
+    put_path(out, equals, tree, m, binding.path as usize)
 }
 
-pub fn put_bindings(out: &mut [u8], at: usize, t: &[u8], m: Map, b: usize, n: usize) -> usize
-    requires { ⌜ Ruled (now t) m × (b + n ≤ m .bindings .count) ⌝ }
-    ensures { λ r. ⌜ Writes (now (out .entry)) (now (out .exit)) at r (bindingsText (now (t .entry)) b n) ⌝ }
+pub fn put_bindings(out: &mut [u8], at: usize, tree: &[u8], m: Map, b: usize, n: usize) -> usize
+    requires { ⌜ Ruled (now tree) m × (b + n ≤ m .bindings .count) ⌝ }
+    ensures { λ r. ⌜ Writes (now (out .entry)) (now (out .exit)) at r (bindingsText (now (tree .entry)) b n) ⌝ }
 {
     let mut end = at;
     let mut j = 0;
     while j < n {
-        end = put_binding(out, end, t, m, b + j);
+        end = put_binding(out, end, tree, m, b + j);
         j += 1;
     }
     end

@@ -15,6 +15,7 @@ pub mod sheet_starts;
 pub mod step_kinds;
 pub mod tree;
 pub mod tree_starts;
+pub mod tree_trailer;
 pub mod type_fields;
 pub mod type_flags;
 pub mod type_kinds;

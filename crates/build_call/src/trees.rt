@@ -41,14 +41,14 @@ pub fn refused(number: u16) -> Built
 fn write_tree(
     s: &[u8],
     m: Map,
-    t: &[u8],
+    table: &[u8],
     w: &[u8],
     nodes: usize,
     cases: usize,
     x: Scopes,
     tree: &mut [u8],
 ) -> Built
-    requires { ⌜ SheetAccepts (now s) m × Tabled (now s) (now t) × Whole (now s) (now w) nodes cases x ⌝ }
+    requires { ⌜ SheetAccepts (now s) m × Tabled (now s) (now table) × Whole (now s) (now w) nodes cases x ⌝ }
     requires { ⌜ (treeRoom ≤ length (now tree)) × (now tree ≡ zeros (length (now tree))) ⌝ }
     ensures { λ r. ⌜ Gives (now (s .entry)) (treeEnd (now (s .entry))) (now (tree .entry)) (now (tree .exit)) r ⌝ }
 {
@@ -57,7 +57,7 @@ fn write_tree(
     let second = NODE_SIZE * f.nodes;
     let third = second + CASE_SIZE * f.cases;
     let fourth = third + BINDING_SIZE * f.bindings;
-    let end = put_tail(s, m, t, &classes, f.paths, tree, second, third, fourth);
+    let end = put_tail(s, m, table, &classes, f.paths, tree, second, third, fourth);
     Built::Tree {
         length: end as u16,
         nodes: f.nodes as u16,
@@ -69,7 +69,7 @@ fn write_tree(
 fn write_hoisted(
     s: &[u8],
     m: Map,
-    t: &[u8],
+    table: &[u8],
     w: &[u8],
     nodes: usize,
     cases: usize,
@@ -77,7 +77,7 @@ fn write_hoisted(
     x: Scopes,
     tree: &mut [u8],
 ) -> Built
-    requires { ⌜ SheetAccepts (now s) m × Tabled (now s) (now t) × Hoistable (now s) (now w) nodes cases bindings x ⌝ }
+    requires { ⌜ SheetAccepts (now s) m × Tabled (now s) (now table) × Hoistable (now s) (now w) nodes cases bindings x ⌝ }
     requires { ⌜ (treeRoom ≤ length (now tree)) × (now tree ≡ zeros (length (now tree))) ⌝ }
     ensures { λ r. ⌜ Gives (now (s .entry)) (treeEnd (now (s .entry))) (now (tree .entry)) (now (tree .exit)) r ⌝ }
 {
@@ -92,14 +92,14 @@ fn write_hoisted(
             place: idle as u16,
         };
     }
-    write_tree(s, m, t, w, nodes, cases, x, tree)
+    write_tree(s, m, table, w, nodes, cases, x, tree)
 }
 
 // Its scopes, over a table with room for the nodes: `sets` then has the clauses with a leaf at or below each of them.
 fn hoist_with(
     s: &[u8],
     m: Map,
-    t: &[u8],
+    table: &[u8],
     w: &[u8],
     nodes: usize,
     cases: usize,
@@ -107,42 +107,42 @@ fn hoist_with(
     sets: &mut [u32],
     tree: &mut [u8],
 ) -> Built
-    requires { ⌜ SheetAccepts (now s) m × Tabled (now s) (now t) × Fitting (now s) (now w) nodes cases bindings × (nodes ≤ length (now sets)) ⌝ }
+    requires { ⌜ SheetAccepts (now s) m × Tabled (now s) (now table) × Fitting (now s) (now w) nodes cases bindings × (nodes ≤ length (now sets)) ⌝ }
     requires { ⌜ (treeRoom ≤ length (now tree)) × (now tree ≡ zeros (length (now tree))) ⌝ }
     ensures { λ r. ⌜ Gives (now (s .entry)) (treeEnd (now (s .entry))) (now (tree .entry)) (now (tree .exit)) r ⌝ }
 {
     let x = get_hoist_paths(w, nodes, m.counts.clauses, sets);
-    write_hoisted(s, m, t, w, nodes, cases, bindings, x, tree)
+    write_hoisted(s, m, table, w, nodes, cases, bindings, x, tree)
 }
 
 // The table is a small one where that is enough.
 fn hoist_tree(
     s: &[u8],
     m: Map,
-    t: &[u8],
+    table: &[u8],
     w: &[u8],
     nodes: usize,
     cases: usize,
     bindings: usize,
     tree: &mut [u8],
 ) -> Built
-    requires { ⌜ SheetAccepts (now s) m × Tabled (now s) (now t) × Fitting (now s) (now w) nodes cases bindings ⌝ }
+    requires { ⌜ SheetAccepts (now s) m × Tabled (now s) (now table) × Fitting (now s) (now w) nodes cases bindings ⌝ }
     requires { ⌜ (treeRoom ≤ length (now tree)) × (now tree ≡ zeros (length (now tree))) ⌝ }
     ensures { λ r. ⌜ Gives (now (s .entry)) (treeEnd (now (s .entry))) (now (tree .entry)) (now (tree .exit)) r ⌝ }
 {
     if nodes <= NODES_FEW {
         let mut sets = [0u32; NODES_FEW];
-        return hoist_with(s, m, t, w, nodes, cases, bindings, &mut sets, tree);
+        return hoist_with(s, m, table, w, nodes, cases, bindings, &mut sets, tree);
     }
     let mut sets = [0u32; NODES_MOST];
-    hoist_with(s, m, t, w, nodes, cases, bindings, &mut sets, tree)
+    hoist_with(s, m, table, w, nodes, cases, bindings, &mut sets, tree)
 }
 
 // The tree in the arena, with the counts of its building: 12, 13, or on to its scopes.
 pub fn finish(
     s: &[u8],
     m: Map,
-    t: &[u8],
+    table: &[u8],
     w: &[u8],
     nodes: usize,
     cases: usize,
@@ -150,7 +150,7 @@ pub fn finish(
     leaves: [u8; CLAUSES_MOST],
     tree: &mut [u8],
 ) -> Built
-    requires { ⌜ SheetAccepts (now s) m × Tabled (now s) (now t) × Raw (now s) (now w) nodes cases bindings leaves ⌝ }
+    requires { ⌜ SheetAccepts (now s) m × Tabled (now s) (now table) × Raw (now s) (now w) nodes cases bindings leaves ⌝ }
     requires { ⌜ (treeRoom ≤ length (now tree)) × (now tree ≡ zeros (length (now tree))) ⌝ }
     ensures { λ r. ⌜ Gives (now (s .entry)) (treeEnd (now (s .entry))) (now (tree .entry)) (now (tree .exit)) r ⌝ }
 {
@@ -162,7 +162,7 @@ pub fn finish(
     if BINDINGS_MOST < bindings {
         return refused(refusals::BINDINGS);
     }
-    hoist_tree(s, m, t, w, nodes, cases, bindings, tree)
+    hoist_tree(s, m, table, w, nodes, cases, bindings, tree)
 }
 
 // The tree of an accepted sheet, on buffers that are large enough, the tree's all zero.
@@ -170,9 +170,9 @@ pub fn build_tree(s: &[u8], m: Map, tree: &mut [u8], work: &mut [u8]) -> Built
     requires { ⌜ SheetAccepts (now s) m × (treeRoom ≤ length (now tree)) × (workRoom ≤ length (now work)) × (now tree ≡ zeros (length (now tree))) ⌝ }
     ensures { λ r. ⌜ Gives (now (s .entry)) (treeEnd (now (s .entry))) (now (tree .entry)) (now (tree .exit)) r ⌝ }
 {
-    let mut t = [0u8; TABLE];
-    fill(s, m, &mut t);
-    let built = raw::build_tree(s, m, &t, work);
+    let mut table = [0u8; TABLE];
+    fill(s, m, &mut table);
+    let built = raw::build_tree(s, m, &table, work);
     if !built.fits {
         return refused(refusals::NODES);
     }
@@ -181,7 +181,7 @@ pub fn build_tree(s: &[u8], m: Map, tree: &mut [u8], work: &mut [u8]) -> Built
     finish(
         s,
         m,
-        &t,
+        &table,
         work,
         tops.nodes,
         tops.cases,

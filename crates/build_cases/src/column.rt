@@ -36,20 +36,20 @@ fn keep_test(list: &mut [u8; CLAUSES_MOST], count: usize, held: Held) -> usize
 
 // The tests of the first n of these rows in the column of a class, top down, in the list; how many there are.
 pub fn column_tests<'a>(
-    t: &[u8],
+    table: &[u8],
     rows: &'a [u8; CLAUSES_MOST],
     n: usize,
     opened: &'a [u8; PATTERNS_MOST],
     class: usize,
     list: &mut [u8; CLAUSES_MOST],
 ) -> usize
-    requires { ⌜ WholeRows (asRows (now rows) n) × All (InTable (now t) class) (take n (now rows)) × (length (now list) ≡ clausesMost) ⌝ }
-    ensures { λ r. ⌜ HoldsRows (asRows (now (list .exit)) r) (heldTests (heldIn (now (t .entry)) (now (opened .entry)) class) (take n (now (rows .entry)))) ⌝ }
+    requires { ⌜ WholeRows (asRows (now rows) n) × All (InTable (now table) class) (take n (now rows)) × (length (now list) ≡ clausesMost) ⌝ }
+    ensures { λ r. ⌜ HoldsRows (asRows (now (list .exit)) r) (heldTests (heldIn (now (table .entry)) (now (opened .entry)) class) (take n (now (rows .entry)))) ⌝ }
 {
     let mut count: usize = 0;
     let mut i: usize = 0;
     while i < n {
-        count = keep_test(list, count, test_at(t, opened, wide(rows[i]), class));
+        count = keep_test(list, count, test_at(table, opened, wide(rows[i]), class));
         i += 1;
     }
     count

@@ -73,7 +73,7 @@ fn meet_both(
 pub fn meet_cases<'a>(
     s: &[u8],
     m: Map,
-    t: &[u8],
+    table: &[u8],
     rows: &'a [u8; CLAUSES_MOST],
     n: usize,
     opened: &'a [u8; PATTERNS_MOST],
@@ -81,11 +81,11 @@ pub fn meet_cases<'a>(
     work: &mut [u8],
     first: usize,
 ) -> Meeting
-    requires { ⌜ Ready (now s) m (now t) × WholeRows (asRows (now rows) n) × All (λ c. c < clauses (now s)) (take n (now rows)) × (class < patternsMost) ⌝ }
+    requires { ⌜ Ready (now s) m (now table) × WholeRows (asRows (now rows) n) × All (λ c. c < clauses (now s)) (take n (now rows)) × (class < patternsMost) ⌝ }
     requires { ⌜ (arenaEnd ≤ length (now work)) × (first ≤ casesMost) ⌝ }
     ensures { λ r. ⌜ MeetsTo (now (s .entry)) (columnOf (now (s .entry)) (heldTests (liveIn (now (s .entry)) (now (opened .entry)) class) (take n (now (rows .entry))))) first (now (work .entry)) (now (work .exit)) r ⌝ }
 {
     let mut tests = [0u8; CLAUSES_MOST];
-    let k = column_tests(t, rows, n, opened, class, &mut tests);
+    let k = column_tests(table, rows, n, opened, class, &mut tests);
     meet_both(s, m, &tests, k, work, first)
 }

@@ -9,6 +9,7 @@ use base_numbers::sheet::CLAUSES_MOST;
 use base_numbers::sheet::PATTERNS_MOST;
 ghost use mathlib.Core.Path.{_≡_};
 ghost use Prim.Native.Nat.{_+_, _≤_};
+ghost use Rattle.spec_rules.specs.Kinds.{hoistNode};
 ghost use Rattle.spec_rules.specs.Limits.{clausesMost};
 ghost use Rattle.build_file_nodes.specs.Model.{nodeIn, placesOf, reachOf, outOf, BoundAsked, boundOut, HoistsAsked, hoistsOut, NextHoist};
 
@@ -38,7 +39,7 @@ fn put_hoist(
     f: Tops,
 ) -> Tops
     requires { ⌜ BoundAsked (now w) leaf start (now tree) (reachOf (now number) (now list) f) ⌝ }
-    ensures { λ r. ⌜ outOf (now (tree .exit)) (reachOf (now (number .exit)) (now (list .exit)) r) ≡ boundOut (now (w .entry)) start leaf 3 (f .nodes + 1) (outOf (now (tree .entry)) (reachOf (now (number .entry)) (now (list .entry)) f)) ⌝ }
+    ensures { λ r. ⌜ outOf (now (tree .exit)) (reachOf (now (number .exit)) (now (list .exit)) r) ≡ boundOut (now (w .entry)) start leaf hoistNode (f .nodes + 1) (outOf (now (tree .entry)) (reachOf (now (number .entry)) (now (list .entry)) f)) ⌝ }
 {
     let child = (f.nodes + 1) as u16;
     put_bound(

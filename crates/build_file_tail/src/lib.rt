@@ -3,10 +3,8 @@
 mod records;
 mod steps;
 
-use base_numbers::WORD_SIZE;
-use base_numbers::tree::TREE_STARTS;
 use base_numbers::tree::TREE_TRAILER;
-use base_numbers::tree_starts;
+use base_numbers::tree_trailer;
 use base_words::put_word;
 use format_sheet::Map;
 use records::put_paths;
@@ -57,19 +55,19 @@ fn put_trailer(
     ensures { λ _. ⌜ now (tree .exit) ≡ stored (now (tree .entry)) at (trailerBytes cases bindings paths steps pool at) ⌝ }
 {
     put_number(tree, at, 0);
-    put_number(tree, at + WORD_SIZE * tree_starts::CASES, cases);
-    put_number(tree, at + WORD_SIZE * tree_starts::BINDINGS, bindings);
-    put_number(tree, at + WORD_SIZE * tree_starts::PATHS, paths);
-    put_number(tree, at + WORD_SIZE * tree_starts::STEPS, steps);
-    put_number(tree, at + WORD_SIZE * tree_starts::POOL, pool);
-    put_number(tree, at + WORD_SIZE * TREE_STARTS, at + TREE_TRAILER);
+    put_number(tree, at + tree_trailer::CASES, cases);
+    put_number(tree, at + tree_trailer::BINDINGS, bindings);
+    put_number(tree, at + tree_trailer::PATHS, paths);
+    put_number(tree, at + tree_trailer::STEPS, steps);
+    put_number(tree, at + tree_trailer::POOL, pool);
+    put_number(tree, at + tree_trailer::LENGTH, at + TREE_TRAILER);
 }
 
 // All that follows the bindings: the paths of the first `count` classes, their steps, the pool and the trailer; where the file ends.
 pub fn put_tail(
     s: &[u8],
     m: Map,
-    t: &[u8],
+    table: &[u8],
     classes: &[u8],
     count: usize,
     tree: &mut [u8],
@@ -77,11 +75,11 @@ pub fn put_tail(
     bindings: usize,
     paths: usize,
 ) -> usize
-    requires { ⌜ TailReady (now s) m (now t) (now classes) count (now tree) cases bindings paths ⌝ }
+    requires { ⌜ TailReady (now s) m (now table) (now classes) count (now tree) cases bindings paths ⌝ }
     ensures { λ r. ⌜ Puts (now (tree .entry)) (now (tree .exit)) paths r (tailBytes (pool (now (s .entry))) (usedPaths (now (s .entry)) (now (classes .entry)) 0 count) cases bindings paths) ⌝ }
 {
-    let steps = put_paths(t, classes, count, tree, paths);
-    let pool = put_all_steps(s, m, t, classes, count, tree, steps);
+    let steps = put_paths(table, classes, count, tree, paths);
+    let pool = put_all_steps(s, m, table, classes, count, tree, steps);
     let end = copy_pool(s, m, tree, pool);
     put_trailer(tree, end, cases, bindings, paths, steps, pool);
     end + TREE_TRAILER

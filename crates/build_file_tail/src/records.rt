@@ -34,15 +34,15 @@ fn put_path(tree: &mut [u8], at: usize, first: u16, count: u16)
     put_word(tree, at + 2, count);
 }
 
-pub fn put_paths(t: &[u8], classes: &[u8], count: usize, tree: &mut [u8], at: usize) -> usize
-    requires { ⌜ (length (now t) ≡ tableSize) × Used patternsMost (now classes) count × (at + pathSize * count ≤ length (now tree)) ⌝ }
-    requires { ⌜ together (map (countIn (now t)) (textAt (now classes) 0 count)) < treeRoom ⌝ }
-    ensures { λ r. ⌜ Puts (now (tree .entry)) (now (tree .exit)) at r (pathRecords 0 (map (countIn (now (t .entry))) (textAt (now (classes .entry)) 0 count))) ⌝ }
+pub fn put_paths(table: &[u8], classes: &[u8], count: usize, tree: &mut [u8], at: usize) -> usize
+    requires { ⌜ (length (now table) ≡ tableSize) × Used patternsMost (now classes) count × (at + pathSize * count ≤ length (now tree)) ⌝ }
+    requires { ⌜ together (map (countIn (now table)) (textAt (now classes) 0 count)) < treeRoom ⌝ }
+    ensures { λ r. ⌜ Puts (now (tree .entry)) (now (tree .exit)) at r (pathRecords 0 (map (countIn (now (table .entry))) (textAt (now (classes .entry)) 0 count))) ⌝ }
 {
     let mut first: u16 = 0;
     let mut i: usize = 0;
     while i < count {
-        let steps = wide(t[DEPTH + build_table::at(classes, i)]);
+        let steps = wide(table[DEPTH + build_table::at(classes, i)]);
         put_path(tree, at + PATH_SIZE * i, first, steps);
         first += steps;
         i += 1;

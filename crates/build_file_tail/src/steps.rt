@@ -56,35 +56,35 @@ fn put_fields(tree: &mut [u8], at: usize, kind: u8, flag: u8, index: u16, tipo: 
 }
 
 // The step to p itself, if there is one, so that it ends at `end`; where it starts.
-fn put_step(s: &[u8], m: Map, t: &[u8], p: usize, tree: &mut [u8], end: usize) -> usize
-    requires { ⌜ Checked (now s) m × Tabled (now s) (now t) × (p < patterns (now s)) ⌝ }
+fn put_step(s: &[u8], m: Map, table: &[u8], p: usize, tree: &mut [u8], end: usize) -> usize
+    requires { ⌜ Checked (now s) m × Tabled (now s) (now table) × (p < patterns (now s)) ⌝ }
     requires { ⌜ (length (pathSteps (ownSteps (stepOf (now s) p))) ≤ end) × (end ≤ length (now tree)) ⌝ }
     ensures { λ r. ⌜ Puts (now (tree .entry)) (now (tree .exit)) r end (pathSteps (ownSteps (stepOf (now (s .entry)) p))) ⌝ }
 {
-    let step = t[STEP + p];
+    let step = table[STEP + p];
     if step == SAME {
         return end;
     }
-    let above = build_table::at(t, ABOVE + p);
-    let tipo = wide(t[TYPE + above]);
+    let above = build_table::at(table, ABOVE + p);
+    let tipo = wide(table[TYPE + above]);
     let flag = flag_of(step, type_at(s, m, tipo as usize));
     let start = end - STEP_SIZE;
-    put_fields(tree, start, step, flag, wide(t[INDEX + p]), tipo);
+    put_fields(tree, start, step, flag, wide(table[INDEX + p]), tipo);
     start
 }
 
 // The steps of the class's path.
-fn put_steps(s: &[u8], m: Map, t: &[u8], class: usize, tree: &mut [u8], at: usize) -> usize
-    requires { ⌜ Checked (now s) m × Tabled (now s) (now t) × (class < patterns (now s)) ⌝ }
+fn put_steps(s: &[u8], m: Map, table: &[u8], class: usize, tree: &mut [u8], at: usize) -> usize
+    requires { ⌜ Checked (now s) m × Tabled (now s) (now table) × (class < patterns (now s)) ⌝ }
     requires { ⌜ at + length (pathSteps (pathOf (now s) class)) ≤ length (now tree) ⌝ }
     ensures { λ r. ⌜ Puts (now (tree .entry)) (now (tree .exit)) at r (pathSteps (pathOf (now (s .entry)) class)) ⌝ }
 {
-    let end = at + STEP_SIZE * build_table::at(t, DEPTH + class);
+    let end = at + STEP_SIZE * build_table::at(table, DEPTH + class);
     let mut p = class;
     let mut to = end;
     while at < to {
-        to = put_step(s, m, t, p, tree, to);
-        p = build_table::at(t, ABOVE + p);
+        to = put_step(s, m, table, p, tree, to);
+        p = build_table::at(table, ABOVE + p);
     }
     end
 }
@@ -93,20 +93,20 @@ fn put_steps(s: &[u8], m: Map, t: &[u8], class: usize, tree: &mut [u8], at: usiz
 pub fn put_all_steps(
     s: &[u8],
     m: Map,
-    t: &[u8],
+    table: &[u8],
     classes: &[u8],
     count: usize,
     tree: &mut [u8],
     at: usize,
 ) -> usize
-    requires { ⌜ Checked (now s) m × Tabled (now s) (now t) × Used (patterns (now s)) (now classes) count ⌝ }
+    requires { ⌜ Checked (now s) m × Tabled (now s) (now table) × Used (patterns (now s)) (now classes) count ⌝ }
     requires { ⌜ at + length (stepsBytes (usedPaths (now s) (now classes) 0 count)) ≤ length (now tree) ⌝ }
     ensures { λ r. ⌜ Puts (now (tree .entry)) (now (tree .exit)) at r (stepsBytes (usedPaths (now (s .entry)) (now (classes .entry)) 0 count)) ⌝ }
 {
     let mut end = at;
     let mut i: usize = 0;
     while i < count {
-        end = put_steps(s, m, t, build_table::at(classes, i), tree, end);
+        end = put_steps(s, m, table, build_table::at(classes, i), tree, end);
         i += 1;
     }
     end

@@ -28,15 +28,22 @@ ghost use Rattle.build_matrix.specs.Ready.{Ready};
 ghost use Rattle.build_leaves.specs.Bindings.{bound, boundOne, boundAll, ownOf, Room, Started, Entries, Parts, Gives, LeafAsked};
 
 // The binding of pattern p, behind the `top` bindings there are.
-fn put_binding(s: &[u8], records: usize, t: &[u8], p: usize, work: &mut [u8], top: usize) -> usize
-    requires { ⌜ Accepted (now s) × Tabled (now s) (now t) × (records ≡ patternsAt (now s)) × (p < patterns (now s)) × Room (now work) top ⌝ }
+fn put_binding(
+    s: &[u8],
+    records: usize,
+    table: &[u8],
+    p: usize,
+    work: &mut [u8],
+    top: usize,
+) -> usize
+    requires { ⌜ Accepted (now s) × Tabled (now s) (now table) × (records ≡ patternsAt (now s)) × (p < patterns (now s)) × Room (now work) top ⌝ }
     ensures { λ r. ⌜ bound (now (work .exit)) r ≡ boundOne (now (s .entry)) (bound (now (work .entry)) top) p ⌝ }
 {
     if top >= BINDINGS_MOST {
         return BINDINGS_MOST + 1;
     }
     let r = pattern_in(s, records, p);
-    let class = at(t, CLASS + p);
+    let class = at(table, CLASS + p);
     writing::put_binding(work, top, r.a as u16, class as u16);
     top + 1
 }
@@ -50,8 +57,8 @@ struct Given {
 
 // What a constructor, pair or tuple gives: what its children give, but a test nothing until it is opened. A test is what its children
 // are inside of.
-fn parts_given(s: &[u8], list: usize, t: &[u8], p: usize, first: usize, count: usize) -> Given
-    requires { ⌜ Accepted (now s) × Tabled (now s) (now t) × (list ≡ childrenAt (now s)) × Parts (now s) p first count ⌝ }
+fn parts_given(s: &[u8], list: usize, table: &[u8], p: usize, first: usize, count: usize) -> Given
+    requires { ⌜ Accepted (now s) × Tabled (now s) (now table) × (list ≡ childrenAt (now s)) × Parts (now s) p first count ⌝ }
     ensures { λ r. ⌜ Gives (now (s .entry)) p r ⌝ }
 {
     let nothing = Given {
@@ -62,7 +69,7 @@ fn parts_given(s: &[u8], list: usize, t: &[u8], p: usize, first: usize, count: u
     if count == 0 {
         return nothing;
     }
-    if at(t, OWNER + child_in(s, list, first)) == p + 1 {
+    if at(table, OWNER + child_in(s, list, first)) == p + 1 {
         return nothing;
     }
     Given {
@@ -73,8 +80,8 @@ fn parts_given(s: &[u8], list: usize, t: &[u8], p: usize, first: usize, count: u
 }
 
 // One decision over kinds 0 to 9.
-fn gives(s: &[u8], records: usize, list: usize, t: &[u8], p: usize) -> Given
-    requires { ⌜ Started (now s) (now t) records list × (p < patterns (now s)) ⌝ }
+fn gives(s: &[u8], records: usize, list: usize, table: &[u8], p: usize) -> Given
+    requires { ⌜ Started (now s) (now table) records list × (p < patterns (now s)) ⌝ }
     ensures { λ r. ⌜ Gives (now (s .entry)) p r ⌝ }
 {
     let r = pattern_in(s, records, p);
@@ -93,7 +100,7 @@ fn gives(s: &[u8], records: usize, list: usize, t: &[u8], p: usize) -> Given
         pattern_kinds::CONSTRUCTOR | pattern_kinds::PAIR | pattern_kinds::TUPLE => parts_given(
             s,
             list,
-            t,
+            table,
             p,
             r.first,
             r.count,
@@ -110,17 +117,17 @@ fn gives(s: &[u8], records: usize, list: usize, t: &[u8], p: usize) -> Given
 fn put_own(
     s: &[u8],
     records: usize,
-    t: &[u8],
+    table: &[u8],
     p: usize,
     named: bool,
     work: &mut [u8],
     top: usize,
 ) -> usize
-    requires { ⌜ Accepted (now s) × Tabled (now s) (now t) × (records ≡ patternsAt (now s)) × (p < patterns (now s)) × Room (now work) top ⌝ }
+    requires { ⌜ Accepted (now s) × Tabled (now s) (now table) × (records ≡ patternsAt (now s)) × (p < patterns (now s)) × Room (now work) top ⌝ }
     ensures { λ r. ⌜ bound (now (work .exit)) r ≡ boundAll (now (s .entry)) (bound (now (work .entry)) top) (ownOf named p) ⌝ }
 {
     if named {
-        return put_binding(s, records, t, p, work, top);
+        return put_binding(s, records, table, p, work, top);
     }
     top
 }
@@ -130,20 +137,20 @@ fn put_bindings(
     s: &[u8],
     records: usize,
     list: usize,
-    t: &[u8],
+    table: &[u8],
     p: usize,
     work: &mut [u8],
     top: usize,
 ) -> usize
-    requires { ⌜ Started (now s) (now t) records list × (p < patterns (now s)) × Room (now work) top ⌝ }
+    requires { ⌜ Started (now s) (now table) records list × (p < patterns (now s)) × Room (now work) top ⌝ }
     ensures { λ r. ⌜ bound (now (work .exit)) r ≡ boundAll (now (s .entry)) (bound (now (work .entry)) top) (bindsOf (now (s .entry)) p) ⌝ }
 {
-    let g = gives(s, records, list, t, p);
-    let next = put_own(s, records, t, p, g.named, work, top);
+    let g = gives(s, records, list, table, p);
+    let next = put_own(s, records, table, p, g.named, work, top);
     if g.count == 0 {
         return next;
     }
-    put_all_bindings(s, records, list, t, p, g.first, g.count, work, next)
+    put_all_bindings(s, records, list, table, p, g.first, g.count, work, next)
 }
 
 // The bindings of n children of `parent` from entry j on. A child has a larger number than its parent, so that the two functions end.
@@ -151,21 +158,21 @@ fn put_all_bindings(
     s: &[u8],
     records: usize,
     list: usize,
-    t: &[u8],
+    table: &[u8],
     parent: usize,
     j: usize,
     n: usize,
     work: &mut [u8],
     top: usize,
 ) -> usize
-    requires { ⌜ Started (now s) (now t) records list × Entries (now s) parent j n × Room (now work) top ⌝ }
+    requires { ⌜ Started (now s) (now table) records list × Entries (now s) parent j n × Room (now work) top ⌝ }
     ensures { λ r. ⌜ bound (now (work .exit)) r ≡ boundAll (now (s .entry)) (bound (now (work .entry)) top) (bindsOfEach (now (s .entry)) j n) ⌝ }
 {
     let mut next = top;
     let mut k: usize = 0;
     while k < n {
         let q = child_in(s, list, j + k);
-        next = put_bindings(s, records, list, t, q, work, next);
+        next = put_bindings(s, records, list, table, q, work, next);
         k += 1;
     }
     next
@@ -173,26 +180,26 @@ fn put_all_bindings(
 
 // The bindings of clause c's root. They are put as put_bindings puts them, and not by a call of it: the loop over children alone calls
 // it, so that it is compiled into that loop, and a call is made only for a pattern with something inside.
-fn put_root(s: &[u8], m: Map, t: &[u8], c: usize, work: &mut [u8], top: usize) -> usize
-    requires { ⌜ Ready (now s) m (now t) × (c < clauses (now s)) × Room (now work) top ⌝ }
+fn put_root(s: &[u8], m: Map, table: &[u8], c: usize, work: &mut [u8], top: usize) -> usize
+    requires { ⌜ Ready (now s) m (now table) × (c < clauses (now s)) × Room (now work) top ⌝ }
     ensures { λ r. ⌜ bound (now (work .exit)) r ≡ boundAll (now (s .entry)) (bound (now (work .entry)) top) (bindsOf (now (s .entry)) (root (now (s .entry)) c)) ⌝ }
 {
     let records = m.at.patterns;
     let list = m.at.children;
     let p = root_at(s, m, c);
-    let g = gives(s, records, list, t, p);
-    let own = put_own(s, records, t, p, g.named, work, top);
+    let g = gives(s, records, list, table, p);
+    let own = put_own(s, records, table, p, g.named, work, top);
     if g.count == 0 {
         return own;
     }
-    put_all_bindings(s, records, list, t, p, g.first, g.count, work, own)
+    put_all_bindings(s, records, list, table, p, g.first, g.count, work, own)
 }
 
 // What clause c's test in the column of the class opened, if it was opened as that column was tested, after `time` others.
 fn put_opened(
     s: &[u8],
     m: Map,
-    t: &[u8],
+    table: &[u8],
     opened: &[u8; PATTERNS_MOST],
     c: usize,
     time: usize,
@@ -200,10 +207,10 @@ fn put_opened(
     work: &mut [u8],
     top: usize,
 ) -> usize
-    requires { ⌜ Ready (now s) m (now t) × (c < clauses (now s)) × (class < patternsMost) × (time < patternsMost) × Room (now work) top ⌝ }
+    requires { ⌜ Ready (now s) m (now table) × (c < clauses (now s)) × (class < patternsMost) × (time < patternsMost) × Room (now work) top ⌝ }
     ensures { λ r. ⌜ bound (now (work .exit)) r ≡ boundAll (now (s .entry)) (bound (now (work .entry)) top) (numbersHeld (now (s .entry)) (openedTest (now (s .entry)) (now (opened .entry)) c time class)) ⌝ }
 {
-    let cell = at(t, CELL + PATTERNS_MOST * c + class);
+    let cell = at(table, CELL + PATTERNS_MOST * c + class);
     if cell == 0 {
         return top;
     }
@@ -219,7 +226,7 @@ fn put_opened(
         s,
         m.at.patterns,
         m.at.children,
-        t,
+        table,
         p,
         run.first,
         run.count,
@@ -240,7 +247,7 @@ fn class_at(list: &[u8; PATTERNS_MOST], i: usize) -> usize
 pub fn leaf_bindings<'a>(
     s: &[u8],
     m: Map,
-    t: &[u8],
+    table: &[u8],
     c: usize,
     tested: &'a [u8; PATTERNS_MOST],
     n: usize,
@@ -248,14 +255,14 @@ pub fn leaf_bindings<'a>(
     work: &mut [u8],
     top: usize,
 ) -> usize
-    requires { ⌜ Ready (now s) m (now t) × LeafAsked (now s) c (now tested) n × Room (now work) top ⌝ }
+    requires { ⌜ Ready (now s) m (now table) × LeafAsked (now s) c (now tested) n × Room (now work) top ⌝ }
     ensures { λ r. ⌜ bound (now (work .exit)) r ≡ boundAll (now (s .entry)) (bound (now (work .entry)) top) (leafNumbers (now (s .entry)) (now (opened .entry)) (take n (now (tested .entry))) c) ⌝ }
 {
-    let mut next = put_root(s, m, t, c, work, top);
+    let mut next = put_root(s, m, table, c, work, top);
     let mut time: usize = 0;
     while time < n {
         let class = class_at(tested, time);
-        next = put_opened(s, m, t, opened, c, time, class, work, next);
+        next = put_opened(s, m, table, opened, c, time, class, work, next);
         time += 1;
     }
     next

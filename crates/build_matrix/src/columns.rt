@@ -104,7 +104,7 @@ pub fn put_rest(
     n: usize,
     class: usize,
 ) -> usize
-    requires { ⌜ Whole (asClasses (now list) count) × Whole (asClasses (now cs) n) × (isIn class (take n (now cs)) ≡ true) × (count + n ≤ 193) ⌝ }
+    requires { ⌜ Whole (asClasses (now list) count) × Whole (asClasses (now cs) n) × (isIn class (take n (now cs)) ≡ true) × (count + n ≤ patternsMost + 1) ⌝ }
     ensures { λ r. ⌜ Holds (asClasses (now (list .exit)) r) (take count (now (list .entry)) ++ withoutClass class (take n (now (cs .entry)))) ⌝ }
 {
     let place = place_of(cs, n, class);
@@ -113,9 +113,9 @@ pub fn put_rest(
 }
 
 // The class put into its place among sorted ones, once.
-fn put(t: &[u8], list: &mut [u8; PATTERNS_MOST], count: usize, class: usize) -> usize
-    requires { ⌜ Puts (now t) (asClasses (now list) count) class ⌝ }
-    ensures { λ r. ⌜ Holds (asClasses (now (list .exit)) r) (putClass (firstIn (now (t .entry))) class (take count (now (list .entry)))) ⌝ }
+fn put(table: &[u8], list: &mut [u8; PATTERNS_MOST], count: usize, class: usize) -> usize
+    requires { ⌜ Puts (now table) (asClasses (now list) count) class ⌝ }
+    ensures { λ r. ⌜ Holds (asClasses (now (list .exit)) r) (putClass (firstIn (now (table .entry))) class (take count (now (list .entry)))) ⌝ }
 {
     let mut i: usize = 0;
     while i < count {
@@ -123,7 +123,7 @@ fn put(t: &[u8], list: &mut [u8; PATTERNS_MOST], count: usize, class: usize) -> 
         if other == class {
             return count;
         }
-        if before(t, class, other) {
+        if before(table, class, other) {
             return insert(list, count, i, class);
         }
         i += 1;
@@ -149,12 +149,12 @@ fn itself_or_inside(test: bool, class: usize, first: usize, count: usize) -> Giv
 }
 
 // One decision over kinds 0 to 9.
-fn gives(s: &[u8], m: Map, t: &[u8], p: usize) -> Given
-    requires { ⌜ Ready (now s) m (now t) × (p < patterns (now s)) ⌝ }
+fn gives(s: &[u8], m: Map, table: &[u8], p: usize) -> Given
+    requires { ⌜ Ready (now s) m (now table) × (p < patterns (now s)) ⌝ }
     ensures { λ r. ⌜ Gives (now (s .entry)) p r ⌝ }
 {
     let r = pattern_at(s, m, p);
-    let class = at(t, CLASS + p);
+    let class = at(table, CLASS + p);
     let kind = r.kind;
     match kind {
         pattern_kinds::DISCARD | pattern_kinds::VARIABLE => Given::Nothing,
@@ -167,7 +167,7 @@ fn gives(s: &[u8], m: Map, t: &[u8], p: usize) -> Given
         | pattern_kinds::LIST
         | pattern_kinds::LIST_WITH_TAIL => Given::Itself(class),
         pattern_kinds::CONSTRUCTOR => itself_or_inside(
-            is_test(s, m, t, p),
+            is_test(s, m, table, p),
             class,
             r.first,
             r.count,
@@ -180,20 +180,20 @@ fn gives(s: &[u8], m: Map, t: &[u8], p: usize) -> Given
 pub fn map_pattern_to_row(
     s: &[u8],
     m: Map,
-    t: &[u8],
+    table: &[u8],
     list: &mut [u8; PATTERNS_MOST],
     count: usize,
     p: usize,
 ) -> usize
-    requires { ⌜ Ready (now s) m (now t) × Listed (now s) (asClasses (now list) count) × (p < patterns (now s)) × Roomy (now s) (testsOf (now s) p) (asClasses (now list) count) ⌝ }
+    requires { ⌜ Ready (now s) m (now table) × Listed (now s) (asClasses (now list) count) × (p < patterns (now s)) × Roomy (now s) (testsOf (now s) p) (asClasses (now list) count) ⌝ }
     ensures { λ r. ⌜ Holds (asClasses (now (list .exit)) r) (putTests (now (s .entry)) (testsOf (now (s .entry)) p) (take count (now (list .entry)))) ⌝ }
 {
-    let given = gives(s, m, t, p);
+    let given = gives(s, m, table, p);
     match given {
         Given::Nothing => count,
-        Given::Itself(class) => put(t, list, count, class),
+        Given::Itself(class) => put(table, list, count, class),
         Given::Inside { first, count: n } => {
-            map_patterns_to_row(s, m, t, list, count, p, first, n)
+            map_patterns_to_row(s, m, table, list, count, p, first, n)
         }
     }
 }
@@ -202,38 +202,38 @@ pub fn map_pattern_to_row(
 fn map_patterns_to_row(
     s: &[u8],
     m: Map,
-    t: &[u8],
+    table: &[u8],
     list: &mut [u8; PATTERNS_MOST],
     count: usize,
     parent: usize,
     j: usize,
     n: usize,
 ) -> usize
-    requires { ⌜ Ready (now s) m (now t) × Listed (now s) (asClasses (now list) count) × Children (now s) parent j n × Roomy (now s) (testsOfEach (now s) j n) (asClasses (now list) count) ⌝ }
+    requires { ⌜ Ready (now s) m (now table) × Listed (now s) (asClasses (now list) count) × Children (now s) parent j n × Roomy (now s) (testsOfEach (now s) j n) (asClasses (now list) count) ⌝ }
     ensures { λ r. ⌜ Holds (asClasses (now (list .exit)) r) (putTests (now (s .entry)) (testsOfEach (now (s .entry)) j n) (take count (now (list .entry)))) ⌝ }
 {
     if n == 0 {
         return count;
     }
-    let rest = map_patterns_to_row(s, m, t, list, count, parent, j + 1, n - 1);
-    map_pattern_to_row(s, m, t, list, rest, child_at(s, m, j))
+    let rest = map_patterns_to_row(s, m, table, list, count, parent, j + 1, n - 1);
+    map_pattern_to_row(s, m, table, list, rest, child_at(s, m, j))
 }
 
 // The columns that test p opens to put among those in the list: those of its children, which a text has not.
 pub fn open(
     s: &[u8],
     m: Map,
-    t: &[u8],
+    table: &[u8],
     list: &mut [u8; PATTERNS_MOST],
     count: usize,
     p: usize,
 ) -> usize
-    requires { ⌜ Ready (now s) m (now t) × Listed (now s) (asClasses (now list) count) × TestKnown (now s) p × Roomy (now s) (openedTests (now s) p) (asClasses (now list) count) ⌝ }
+    requires { ⌜ Ready (now s) m (now table) × Listed (now s) (asClasses (now list) count) × TestKnown (now s) p × Roomy (now s) (openedTests (now s) p) (asClasses (now list) count) ⌝ }
     ensures { λ r. ⌜ Holds (asClasses (now (list .exit)) r) (putTests (now (s .entry)) (openedTests (now (s .entry)) p) (take count (now (list .entry)))) ⌝ }
 {
     let r = pattern_at(s, m, p);
     if r.kind < pattern_kinds::LIST {
         return count;
     }
-    map_patterns_to_row(s, m, t, list, count, p, r.first, r.count)
+    map_patterns_to_row(s, m, table, list, count, p, r.first, r.count)
 }

@@ -10,6 +10,7 @@ use format_sheet::records::pattern_at;
 ghost use mathlib.Core.Path.{_≡_};
 ghost use Prim.Native.Nat.{_+_, _≤_};
 ghost use Rattle.base_words.specs.Words.{sameText};
+ghost use Rattle.spec_rules.specs.Kinds.{byteStringPattern, integerPattern};
 ghost use Rattle.spec_rules.specs.SheetFile.{poolSize, poolText};
 ghost use Rattle.build_table.specs.Tabled.{Checked};
 ghost use Rattle.build_matrix.specs.Ready.{TestKnown};
@@ -47,7 +48,7 @@ fn text_pattern(kind: u8) -> u8
 }
 
 fn covers_text(s: &[u8], m: Map, r: PatternRecord, kind: u8, start: u16, count: u16) -> bool
-    requires { ⌜ Checked (now s) m × (start + count ≤ poolSize (now s)) × ((3 ≤ r .kind) → (r .kind ≤ 4) → r .first + r .count ≤ poolSize (now s)) ⌝ }
+    requires { ⌜ Checked (now s) m × (start + count ≤ poolSize (now s)) × ((integerPattern ≤ r .kind) → (r .kind ≤ byteStringPattern) → r .first + r .count ≤ poolSize (now s)) ⌝ }
     ensures { λ x. ⌜ x ≡ coversText (now (s .entry)) r kind start count ⌝ }
 {
     if r.kind != text_pattern(kind) {

@@ -20,11 +20,11 @@ ghost use Rattle.build_matrix.specs.Lists.{asClasses, asRows, Whole, Who
 ghost use Rattle.build_matrix.specs.Reading.{heldIn, InTable, hasTest, bettered, kept};
 
 // What clause c's row has in the column of this class: its test there, if it is not opened and the test that it is inside of is.
-pub fn test_at(t: &[u8], opened: &[u8; PATTERNS_MOST], c: usize, class: usize) -> Held
-    requires { ⌜ InTable (now t) class c ⌝ }
-    ensures { λ r. ⌜ r ≡ heldIn (now (t .entry)) (now (opened .entry)) class c ⌝ }
+pub fn test_at(table: &[u8], opened: &[u8; PATTERNS_MOST], c: usize, class: usize) -> Held
+    requires { ⌜ InTable (now table) class c ⌝ }
+    ensures { λ r. ⌜ r ≡ heldIn (now (table .entry)) (now (opened .entry)) class c ⌝ }
 {
-    let cell = at(t, CELL + PATTERNS_MOST * c + class);
+    let cell = at(table, CELL + PATTERNS_MOST * c + class);
     if cell == 0 {
         return Held::Wildcard;
     }
@@ -32,7 +32,7 @@ pub fn test_at(t: &[u8], opened: &[u8; PATTERNS_MOST], c: usize, class: usize) -
     if opened[p] != 0 {
         return Held::Wildcard;
     }
-    let owner = at(t, OWNER + p);
+    let owner = at(table, OWNER + p);
     if owner == 0 {
         return Held::Test(p);
     }
@@ -53,18 +53,18 @@ fn has_test(held: Held) -> bool
 
 // The first n of these rows before the column's first wildcard.
 fn occurrence(
-    t: &[u8],
+    table: &[u8],
     rows: &[u8; CLAUSES_MOST],
     n: usize,
     opened: &[u8; PATTERNS_MOST],
     class: usize,
 ) -> usize
-    requires { ⌜ WholeRows (asRows (now rows) n) × All (InTable (now t) class) (take n (now rows)) ⌝ }
-    ensures { λ r. ⌜ r ≡ countOf (heldIn (now (t .entry)) (now (opened .entry)) class) (take n (now (rows .entry))) ⌝ }
+    requires { ⌜ WholeRows (asRows (now rows) n) × All (InTable (now table) class) (take n (now rows)) ⌝ }
+    ensures { λ r. ⌜ r ≡ countOf (heldIn (now (table .entry)) (now (opened .entry)) class) (take n (now (rows .entry))) ⌝ }
 {
     let mut i: usize = 0;
     while i < n {
-        if !has_test(test_at(t, opened, wide(rows[i]), class)) {
+        if !has_test(test_at(table, opened, wide(rows[i]), class)) {
             return i;
         }
         i += 1;
@@ -93,15 +93,15 @@ fn better_of(best: Best, class: usize, amount: usize) -> Best
 
 // The column to test: of the first k columns the one with the most of the first n rows before its first wildcard.
 pub fn highest_occurrence<'a>(
-    t: &[u8],
+    table: &[u8],
     rows: &'a [u8; CLAUSES_MOST],
     n: usize,
     columns: &'a [u8; PATTERNS_MOST],
     k: usize,
     opened: &'a [u8; PATTERNS_MOST],
 ) -> Choice
-    requires { ⌜ WholeRows (asRows (now rows) n) × Whole (asClasses (now columns) k) × All (λ c. All (InTable (now t) c) (take n (now rows))) (take k (now columns)) ⌝ }
-    ensures { λ r. ⌜ r ≡ bestOf (λ c. countOf (heldIn (now (t .entry)) (now (opened .entry)) c) (take n (now (rows .entry)))) Leaf 0 (take k (now (columns .entry))) ⌝ }
+    requires { ⌜ WholeRows (asRows (now rows) n) × Whole (asClasses (now columns) k) × All (λ c. All (InTable (now table) c) (take n (now rows))) (take k (now columns)) ⌝ }
+    ensures { λ r. ⌜ r ≡ bestOf (λ c. countOf (heldIn (now (table .entry)) (now (opened .entry)) c) (take n (now (rows .entry)))) Leaf 0 (take k (now (columns .entry))) ⌝ }
 {
     let mut best = Best {
         choice: Choice::Leaf,
@@ -110,7 +110,7 @@ pub fn highest_occurrence<'a>(
     let mut i: usize = 0;
     while i < k {
         let class = wide(columns[i]);
-        best = better_of(best, class, occurrence(t, rows, n, opened, class));
+        best = better_of(best, class, occurrence(table, rows, n, opened, class));
         i += 1;
     }
     best.choice
@@ -137,21 +137,21 @@ fn keep_wild(list: &mut [u8; CLAUSES_MOST], count: usize, c: u8, held: Held) -> 
 
 // The first n of these rows, those with a wildcard in the column, in the list; how many there are.
 pub fn wild_rows<'a>(
-    t: &[u8],
+    table: &[u8],
     rows: &'a [u8; CLAUSES_MOST],
     n: usize,
     opened: &'a [u8; PATTERNS_MOST],
     class: usize,
     list: &mut [u8; CLAUSES_MOST],
 ) -> usize
-    requires { ⌜ WholeRows (asRows (now rows) n) × All (InTable (now t) class) (take n (now rows)) × (length (now list) ≡ clausesMost) ⌝ }
-    ensures { λ r. ⌜ HoldsRows (asRows (now (list .exit)) r) (wildOf (heldIn (now (t .entry)) (now (opened .entry)) class) (take n (now (rows .entry)))) ⌝ }
+    requires { ⌜ WholeRows (asRows (now rows) n) × All (InTable (now table) class) (take n (now rows)) × (length (now list) ≡ clausesMost) ⌝ }
+    ensures { λ r. ⌜ HoldsRows (asRows (now (list .exit)) r) (wildOf (heldIn (now (table .entry)) (now (opened .entry)) class) (take n (now (rows .entry)))) ⌝ }
 {
     let mut count: usize = 0;
     let mut i: usize = 0;
     while i < n {
         let c = rows[i];
-        count = keep_wild(list, count, c, test_at(t, opened, wide(c), class));
+        count = keep_wild(list, count, c, test_at(table, opened, wide(c), class));
         i += 1;
     }
     count

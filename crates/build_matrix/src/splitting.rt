@@ -57,8 +57,8 @@ fn all_rows(n: usize) -> PerRow
 }
 
 // The columns of all clauses.
-fn first_columns(s: &[u8], m: Map, t: &[u8]) -> Classes
-    requires { ⌜ Ready (now s) m (now t) ⌝ }
+fn first_columns(s: &[u8], m: Map, table: &[u8]) -> Classes
+    requires { ⌜ Ready (now s) m (now table) ⌝ }
     ensures { λ r. ⌜ Holds r (putTests (now (s .entry)) (gather (rootTests (now (s .entry))) (upFrom 0 (clauses (now (s .entry))))) []) ⌝ }
 {
     let mut list = [0u8; PATTERNS_MOST];
@@ -66,18 +66,18 @@ fn first_columns(s: &[u8], m: Map, t: &[u8]) -> Classes
     let mut c = m.counts.clauses;
     while 0 < c {
         c -= 1;
-        count = map_pattern_to_row(s, m, t, &mut list, count, root_at(s, m, c));
+        count = map_pattern_to_row(s, m, table, &mut list, count, root_at(s, m, c));
     }
     Classes { list, count }
 }
 
 // The matrix of the clauses.
-pub fn first_matrix(s: &[u8], m: Map, t: &[u8]) -> Matrix
-    requires { ⌜ Ready (now s) m (now t) ⌝ }
+pub fn first_matrix(s: &[u8], m: Map, table: &[u8]) -> Matrix
+    requires { ⌜ Ready (now s) m (now table) ⌝ }
     ensures { λ r. ⌜ StandsFor r (firstNumbered (now (s .entry))) ⌝ }
 {
     let rows = all_rows(m.counts.clauses);
-    let columns = first_columns(s, m, t);
+    let columns = first_columns(s, m, table);
     Matrix {
         rows,
         columns,
@@ -88,7 +88,7 @@ pub fn first_matrix(s: &[u8], m: Map, t: &[u8]) -> Matrix
 
 // The default of the column of a class: the rows with a wildcard there, the other columns, and this one tested; what is opened stays.
 pub fn default_matrix<'a, 'b>(
-    t: &[u8],
+    table: &[u8],
     rows: &'a [u8; CLAUSES_MOST],
     columns: &'a [u8; PATTERNS_MOST],
     tested: &'b mut [u8; PATTERNS_MOST],
@@ -98,11 +98,11 @@ pub fn default_matrix<'a, 'b>(
     new_rows: &'b mut [u8; CLAUSES_MOST],
     new_columns: &'b mut [u8; PATTERNS_MOST],
 ) -> Sizes
-    requires { ⌜ Splits (now t) (matrixOf (now rows) (now columns) (now tested) (now opened) n) class ⌝ }
+    requires { ⌜ Splits (now table) (matrixOf (now rows) (now columns) (now tested) (now opened) n) class ⌝ }
     requires { ⌜ (length (now «new_rows») ≡ clausesMost) × (length (now «new_columns») ≡ patternsMost) ⌝ }
-    ensures { λ r. ⌜ StandsFor (matrixOf (now («new_rows» .exit)) (now («new_columns» .exit)) (now (tested .exit)) (now (opened .entry)) r) (defaultRead (now (t .entry)) class (inNumbers (matrixOf (now (rows .entry)) (now (columns .entry)) (now (tested .entry)) (now (opened .entry)) n))) ⌝ }
+    ensures { λ r. ⌜ StandsFor (matrixOf (now («new_rows» .exit)) (now («new_columns» .exit)) (now (tested .exit)) (now (opened .entry)) r) (defaultRead (now (table .entry)) class (inNumbers (matrixOf (now (rows .entry)) (now (columns .entry)) (now (tested .entry)) (now (opened .entry)) n))) ⌝ }
 {
-    let count = wild_rows(t, rows, n.rows, opened, class, new_rows);
+    let count = wild_rows(table, rows, n.rows, opened, class, new_rows);
     let rest = put_rest(new_columns, 0, columns, n.columns, class);
     push(tested, n.tested, class);
     Sizes {
@@ -157,7 +157,7 @@ fn join_row(
 fn join_rows<'a, 'b>(
     s: &[u8],
     m: Map,
-    t: &[u8],
+    table: &[u8],
     from: &'a [u8; CLAUSES_MOST],
     n: usize,
     opened: &'a [u8; PATTERNS_MOST],
@@ -166,7 +166,7 @@ fn join_rows<'a, 'b>(
     rows: &'b mut [u8; CLAUSES_MOST],
     opens: &'b mut [u8; CLAUSES_MOST],
 ) -> Counts
-    requires { ⌜ Ready (now s) m (now t) × WholeRows (asRows (now from) n) × All (λ c. c < clauses (now s)) (take n (now from)) × (class < patternsMost) × InPool (now s) test ⌝ }
+    requires { ⌜ Ready (now s) m (now table) × WholeRows (asRows (now from) n) × All (λ c. c < clauses (now s)) (take n (now from)) × (class < patternsMost) × InPool (now s) test ⌝ }
     requires { ⌜ (length (now rows) ≡ clausesMost) × (length (now opens) ≡ clausesMost) ⌝ }
     ensures { λ r. ⌜ JoinsTo (asRows (now (rows .exit)) (r .rows)) (asRows (now (opens .exit)) (r .opens)) (joinOf (joinsTest (now (s .entry)) test) (liveIn (now (s .entry)) (now (opened .entry)) class) (take n (now (from .entry)))) (opensOf (joinsTest (now (s .entry)) test) (liveIn (now (s .entry)) (now (opened .entry)) class) (take n (now (from .entry)))) ⌝ }
 {
@@ -174,7 +174,7 @@ fn join_rows<'a, 'b>(
     let mut i: usize = 0;
     while i < n {
         let c = from[i];
-        let held = test_at(t, opened, wide(c), class);
+        let held = test_at(table, opened, wide(c), class);
         o = join_row(s, m, rows, opens, o, c, held, test);
         i += 1;
     }
@@ -198,12 +198,12 @@ fn mark(opened: &mut [u8; PATTERNS_MOST], opens: &[u8; CLAUSES_MOST], n: usize, 
 fn open_all(
     s: &[u8],
     m: Map,
-    t: &[u8],
+    table: &[u8],
     opens: &[u8; CLAUSES_MOST],
     n: usize,
     list: &mut [u8; PATTERNS_MOST],
 ) -> usize
-    requires { ⌜ Ready (now s) m (now t) × WholeRows (asRows (now opens) n) × All (TestKnown (now s)) (take n (now opens)) × (length (putTests (now s) (gather (openedTests (now s)) (take n (now opens))) []) ≤ patternsMost) ⌝ }
+    requires { ⌜ Ready (now s) m (now table) × WholeRows (asRows (now opens) n) × All (TestKnown (now s)) (take n (now opens)) × (length (putTests (now s) (gather (openedTests (now s)) (take n (now opens))) []) ≤ patternsMost) ⌝ }
     requires { ⌜ length (now list) ≡ patternsMost ⌝ }
     ensures { λ r. ⌜ Holds (asClasses (now (list .exit)) r) (putTests (now (s .entry)) (gather (openedTests (now (s .entry))) (take n (now (opens .entry)))) []) ⌝ }
 {
@@ -211,7 +211,7 @@ fn open_all(
     let mut i = n;
     while 0 < i {
         i -= 1;
-        count = open(s, m, t, list, count, wide(opens[i]));
+        count = open(s, m, table, list, count, wide(opens[i]));
     }
     count
 }
@@ -221,7 +221,7 @@ fn open_all(
 pub fn case_matrix<'a, 'b>(
     s: &[u8],
     m: Map,
-    t: &[u8],
+    table: &[u8],
     rows: &'a [u8; CLAUSES_MOST],
     columns: &'a [u8; PATTERNS_MOST],
     tested: &'b mut [u8; PATTERNS_MOST],
@@ -232,14 +232,25 @@ pub fn case_matrix<'a, 'b>(
     new_rows: &'b mut [u8; CLAUSES_MOST],
     new_columns: &'b mut [u8; PATTERNS_MOST],
 ) -> Sizes
-    requires { ⌜ Ready (now s) m (now t) × WholeMatrix (matrixOf (now rows) (now columns) (now tested) (now opened) n) × SoundOf (now s) (inNumbers (matrixOf (now rows) (now columns) (now tested) (now opened) n)) × (isIn class (take (n .columns) (now columns)) ≡ true) × InPool (now s) test ⌝ }
+    requires { ⌜ Ready (now s) m (now table) × WholeMatrix (matrixOf (now rows) (now columns) (now tested) (now opened) n) × SoundOf (now s) (inNumbers (matrixOf (now rows) (now columns) (now tested) (now opened) n)) × (isIn class (take (n .columns) (now columns)) ≡ true) × InPool (now s) test ⌝ }
     requires { ⌜ (length (now «new_rows») ≡ clausesMost) × (length (now «new_columns») ≡ patternsMost) ⌝ }
     ensures { λ r. ⌜ StandsFor (matrixOf (now («new_rows» .exit)) (now («new_columns» .exit)) (now (tested .exit)) (now (opened .exit)) r) (caseNumbered (now (s .entry)) class (meant (now (s .entry)) test) (inNumbers (matrixOf (now (rows .entry)) (now (columns .entry)) (now (tested .entry)) (now (opened .entry)) n))) ⌝ }
 {
     let mut opens = [0u8; CLAUSES_MOST];
     let k = n.rows;
-    let o = join_rows(s, m, t, rows, k, opened, class, test, new_rows, &mut opens);
-    let front = open_all(s, m, t, &opens, o.opens, new_columns);
+    let o = join_rows(
+        s,
+        m,
+        table,
+        rows,
+        k,
+        opened,
+        class,
+        test,
+        new_rows,
+        &mut opens,
+    );
+    let front = open_all(s, m, table, &opens, o.opens, new_columns);
     let all = put_rest(new_columns, front, columns, n.columns, class);
     push(tested, n.tested, class);
     let time = n.tested + 1;

@@ -28,6 +28,7 @@ ghost use Prim.Native.Nat.{_<_, _≤_, _+_, _*_, _-_};
 ghost use lib.ListN.{length, take};
 ghost use Rattle.base_words.specs.Words.{pick};
 ghost use Rattle.base_words.specs.Stored.{stored};
+ghost use Rattle.spec_rules.specs.Kinds.{listSwitchNode, switchNode};
 ghost use Rattle.spec_rules.specs.Limits.{patternsMost, nodesMost, nodeSize};
 ghost use Rattle.spec_rules.specs.TreeFile.{firstOf, nodeBytes};
 ghost use Rattle.build_table.specs.Standing.{sheetPaths};
@@ -55,7 +56,7 @@ fn first_of(count: usize, first: usize) -> usize
 fn put_leaf<'a>(
     s: &[u8],
     m: Map,
-    t: &[u8],
+    table: &[u8],
     clause: usize,
     tested: &'a [u8; PATTERNS_MOST],
     time: usize,
@@ -63,10 +64,20 @@ fn put_leaf<'a>(
     work: &mut [u8],
     tops: Tops,
 ) -> Tops
-    requires { ⌜ Ready (now s) m (now t) × LeafAsked (now s) clause (now tested) time × Roomy (now work) tops × (tops .nodes < nodesMost) ⌝ }
+    requires { ⌜ Ready (now s) m (now table) × LeafAsked (now s) clause (now tested) time × Roomy (now work) tops × (tops .nodes < nodesMost) ⌝ }
     ensures { λ r. ⌜ Put (sheetPaths (now (s .entry))) (now (work .entry)) (now (work .exit)) (clauseLeaf (now (s .entry)) (now (opened .entry)) (take time (now (tested .entry))) clause) tops r ⌝ }
 {
-    let top = leaf_bindings(s, m, t, clause, tested, time, opened, work, tops.bindings);
+    let top = leaf_bindings(
+        s,
+        m,
+        table,
+        clause,
+        tested,
+        time,
+        opened,
+        work,
+        tops.bindings,
+    );
     let count = top - tops.bindings;
     let first = first_of(count, tops.bindings);
     put_node(
@@ -90,7 +101,7 @@ fn put_leaf<'a>(
 }
 
 fn switch_kind(list: bool) -> u8
-    ensures { λ r. ⌜ r ≡ pick list 1 0 ⌝ }
+    ensures { λ r. ⌜ r ≡ pick list listSwitchNode switchNode ⌝ }
 {
     if list {
         node_kinds::LIST_SWITCH
@@ -103,7 +114,7 @@ fn switch_kind(list: bool) -> u8
 fn put_switch(work: &mut [u8], k: usize, class: usize, first: usize, met: CasesMet, default: usize)
     requires { ⌜ (arenaEnd ≤ length (now work)) × (k < nodesMost) × (class < patternsMost) × (default ≤ nodesMost + 1) ⌝ }
     requires { ⌜ (first ≤ met .mid) × (met .mid ≤ met .end) × (met .end < casesMost) ⌝ }
-    ensures { λ _. ⌜ now (work .exit) ≡ stored (now (work .entry)) (nodeSize * k) (nodeBytes (pick (met .list) 1 0) class first (met .mid - first) (met .end - met .mid) default) ⌝ }
+    ensures { λ _. ⌜ now (work .exit) ≡ stored (now (work .entry)) (nodeSize * k) (nodeBytes (pick (met .list) listSwitchNode switchNode) class first (met .mid - first) (met .end - met .mid) default) ⌝ }
 {
     let kind = switch_kind(met.list);
     let cases = met.mid - first;
@@ -124,7 +135,7 @@ fn put_switch(work: &mut [u8], k: usize, class: usize, first: usize, met: CasesM
 fn build_case<'a>(
     s: &[u8],
     m: Map,
-    t: &[u8],
+    table: &[u8],
     rows: &'a [u8; CLAUSES_MOST],
     columns: &'a [u8; PATTERNS_MOST],
     tested: &mut [u8; PATTERNS_MOST],
@@ -135,7 +146,7 @@ fn build_case<'a>(
     w: &mut [u8],
     tops: Tops,
 ) -> Built
-    requires { ⌜ AskedCase (now s) m (now t) (matrixOf (now rows) (now columns) (now tested) (now opened) n) k test (now w) tops ⌝ }
+    requires { ⌜ AskedCase (now s) m (now table) (matrixOf (now rows) (now columns) (now tested) (now opened) n) k test (now w) tops ⌝ }
     ensures { λ r. ⌜ Builds (sheetPaths (now (s .entry))) (now (w .entry)) (now (w .exit)) (caseTree (now (s .entry)) k (inNumbers (matrixOf (now (rows .entry)) (now (columns .entry)) (now (tested .entry)) (now (opened .entry)) n)) (meant (now (s .entry)) test)) tops r × StillTested (n .tested) (now (tested .entry)) (now (tested .exit)) ⌝ }
 {
     let mut some = [0u8; CLAUSES_MOST];
@@ -144,7 +155,7 @@ fn build_case<'a>(
     let y = case_matrix(
         s,
         m,
-        t,
+        table,
         rows,
         columns,
         tested,
@@ -155,14 +166,14 @@ fn build_case<'a>(
         &mut some,
         &mut rest,
     );
-    do_build_tree(s, m, t, &some, &rest, tested, &more, y, w, tops)
+    do_build_tree(s, m, table, &some, &rest, tested, &more, y, w, tops)
 }
 
 // The cases whose records stand from number `first` on, up to the number of cases there are: each gets its child's number and its tree.
 fn build_cases<'a>(
     s: &[u8],
     m: Map,
-    t: &[u8],
+    table: &[u8],
     rows: &'a [u8; CLAUSES_MOST],
     columns: &'a [u8; PATTERNS_MOST],
     tested: &mut [u8; PATTERNS_MOST],
@@ -173,7 +184,7 @@ fn build_cases<'a>(
     first: usize,
     from: Tops,
 ) -> Built
-    requires { ⌜ AskedColumn (now s) m (now t) (matrixOf (now rows) (now columns) (now tested) (now opened) n) k ⌝ }
+    requires { ⌜ AskedColumn (now s) m (now table) (matrixOf (now rows) (now columns) (now tested) (now opened) n) k ⌝ }
     requires { ⌜ AskedCases (now s) k (inNumbers (matrixOf (now rows) (now columns) (now tested) (now opened) n)) first (now w) from ⌝ }
     ensures { λ r. ⌜ BuildsCases (sheetPaths (now (s .entry))) (caseTree (now (s .entry)) k (inNumbers (matrixOf (now (rows .entry)) (now (columns .entry)) (now (tested .entry)) (now (opened .entry)) n))) (caseList (now (s .entry)) k (inNumbers (matrixOf (now (rows .entry)) (now (columns .entry)) (now (tested .entry)) (now (opened .entry)) n))) first (now (w .entry)) (now (w .exit)) from r × StillTested (n .tested) (now (tested .entry)) (now (tested .exit)) ⌝ }
 {
@@ -184,7 +195,20 @@ fn build_cases<'a>(
         let case = case_at(w, first + i);
         let test = case.test;
         put_child(w, first + i, tops.nodes as u16);
-        let built = build_case(s, m, t, rows, columns, tested, opened, n, k, test, w, tops);
+        let built = build_case(
+            s,
+            m,
+            table,
+            rows,
+            columns,
+            tested,
+            opened,
+            n,
+            k,
+            test,
+            w,
+            tops,
+        );
         if !built.fits {
             return built;
         }
@@ -198,7 +222,7 @@ fn build_cases<'a>(
 fn build_switch<'a>(
     s: &[u8],
     m: Map,
-    t: &[u8],
+    table: &[u8],
     rows: &'a [u8; CLAUSES_MOST],
     columns: &'a [u8; PATTERNS_MOST],
     tested: &mut [u8; PATTERNS_MOST],
@@ -208,38 +232,61 @@ fn build_switch<'a>(
     w: &mut [u8],
     tops: Tops,
 ) -> Built
-    requires { ⌜ AskedColumn (now s) m (now t) (matrixOf (now rows) (now columns) (now tested) (now opened) n) k × Roomy (now w) tops × (tops .nodes < nodesMost) ⌝ }
+    requires { ⌜ AskedColumn (now s) m (now table) (matrixOf (now rows) (now columns) (now tested) (now opened) n) k × Roomy (now w) tops × (tops .nodes < nodesMost) ⌝ }
     ensures { λ r. ⌜ Builds (sheetPaths (now (s .entry))) (now (w .entry)) (now (w .exit)) (treeAt (now (s .entry)) (inNumbers (matrixOf (now (rows .entry)) (now (columns .entry)) (now (tested .entry)) (now (opened .entry)) n))) tops r × StillTested (n .tested) (now (tested .entry)) (now (tested .exit)) ⌝ }
 {
     let first = tops.cases;
-    let meeting = meet_cases(s, m, t, rows, n.rows, opened, k, w, first);
+    let meeting = meet_cases(s, m, table, rows, n.rows, opened, k, w, first);
     let Meeting::Met(met) = meeting else {
         return Built { fits: false, tops };
     };
     let mut from = tops;
     from.nodes += 1;
     from.cases = met.end;
-    let built = build_cases(s, m, t, rows, columns, tested, opened, n, k, w, first, from);
+    let built = build_cases(
+        s,
+        m,
+        table,
+        rows,
+        columns,
+        tested,
+        opened,
+        n,
+        k,
+        w,
+        first,
+        from,
+    );
     if !built.fits {
         return built;
     }
     let next = built.tops;
     let mut wild = [0u8; CLAUSES_MOST];
     let mut rest = [0u8; PATTERNS_MOST];
-    let d = default_matrix(t, rows, columns, tested, opened, n, k, &mut wild, &mut rest);
+    let d = default_matrix(
+        table,
+        rows,
+        columns,
+        tested,
+        opened,
+        n,
+        k,
+        &mut wild,
+        &mut rest,
+    );
     if d.rows == 0 {
         put_switch(w, tops.nodes, k, first, met, 0);
         return built;
     }
     put_switch(w, tops.nodes, k, first, met, next.nodes + 1);
-    do_build_tree(s, m, t, &wild, &rest, tested, opened, d, w, next)
+    do_build_tree(s, m, table, &wild, &rest, tested, opened, d, w, next)
 }
 
 // The tree of the matrix of these parts, which has a row, from the tops on.
 pub fn do_build_tree<'a>(
     s: &[u8],
     m: Map,
-    t: &[u8],
+    table: &[u8],
     rows: &'a [u8; CLAUSES_MOST],
     columns: &'a [u8; PATTERNS_MOST],
     tested: &mut [u8; PATTERNS_MOST],
@@ -248,19 +295,29 @@ pub fn do_build_tree<'a>(
     w: &mut [u8],
     tops: Tops,
 ) -> Built
-    requires { ⌜ Asked (now s) m (now t) (matrixOf (now rows) (now columns) (now tested) (now opened) n) (now w) tops ⌝ }
+    requires { ⌜ Asked (now s) m (now table) (matrixOf (now rows) (now columns) (now tested) (now opened) n) (now w) tops ⌝ }
     ensures { λ r. ⌜ Builds (sheetPaths (now (s .entry))) (now (w .entry)) (now (w .exit)) (treeAt (now (s .entry)) (inNumbers (matrixOf (now (rows .entry)) (now (columns .entry)) (now (tested .entry)) (now (opened .entry)) n))) tops r × StillTested (n .tested) (now (tested .entry)) (now (tested .exit)) ⌝ }
 {
     if tops.nodes == NODES_MOST {
         return Built { fits: false, tops };
     }
-    let choice = highest_occurrence(t, rows, n.rows, columns, n.columns, opened);
+    let choice = highest_occurrence(table, rows, n.rows, columns, n.columns, opened);
     let Choice::Column(k) = choice else {
-        let next = put_leaf(s, m, t, wide(rows[0]), tested, n.tested, opened, w, tops);
+        let next = put_leaf(
+            s,
+            m,
+            table,
+            wide(rows[0]),
+            tested,
+            n.tested,
+            opened,
+            w,
+            tops,
+        );
         return Built {
             fits: true,
             tops: next,
         };
     };
-    build_switch(s, m, t, rows, columns, tested, opened, n, k, w, tops)
+    build_switch(s, m, table, rows, columns, tested, opened, n, k, w, tops)
 }

@@ -14,11 +14,11 @@ ghost use Rattle.build_arena.specs.Arena.{arenaEnd};
 ghost use Rattle.build_nodes.specs.Raw.{BuildsRaw};
 
 // By the sheet's table.
-pub fn build_tree(s: &[u8], m: Map, t: &[u8], work: &mut [u8]) -> Built
-    requires { ⌜ Ready (now s) m (now t) × (arenaEnd ≤ length (now work)) ⌝ }
+pub fn build_tree(s: &[u8], m: Map, table: &[u8], work: &mut [u8]) -> Built
+    requires { ⌜ Ready (now s) m (now table) × (arenaEnd ≤ length (now work)) ⌝ }
     ensures { λ r. ⌜ BuildsRaw (now (s .entry)) (now (work .exit)) r ⌝ }
 {
-    let x = first_matrix(s, m, t);
+    let x = first_matrix(s, m, table);
     let none = Tops {
         nodes: 0,
         cases: 0,
@@ -34,7 +34,7 @@ pub fn build_tree(s: &[u8], m: Map, t: &[u8], work: &mut [u8]) -> Built
     do_build_tree(
         s,
         m,
-        t,
+        table,
         &x.rows.list,
         &x.columns.list,
         &mut tested,

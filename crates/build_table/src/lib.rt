@@ -21,6 +21,7 @@ ghost use Prim.Native.Nat.{ℕ, _+_, _<_, _≤_};
 ghost use lib.Dec.{eqb};
 ghost use lib.ListN.{length, getD};
 ghost use Rattle.base_words.specs.Words.{both, zeros};
+ghost use Rattle.spec_rules.specs.Kinds.{constructorPattern, dataType, listWithTailPattern};
 ghost use Rattle.spec_rules.specs.Limits.{patternsMost, depthMost};
 ghost use Rattle.spec_rules.specs.SheetFile.{patterns, clauses};
 ghost use Rattle.spec_rules.specs.Patterns.{ListWithRest, Constructor};
@@ -57,32 +58,32 @@ pub const TABLE: usize = CELL + PATTERNS_MOST * CLAUSES_MOST;
 pub const SAME: u8 = step_kinds::LISTTAIL + 1;
 
 // A byte as an index.
-pub fn at(t: &[u8], i: usize) -> usize
-    requires { ⌜ i < length (now t) ⌝ }
-    ensures { λ r. ⌜ r ≡ getD (now (t .entry)) i 0 ⌝ }
+pub fn at(table: &[u8], i: usize) -> usize
+    requires { ⌜ i < length (now table) ⌝ }
+    ensures { λ r. ⌜ r ≡ getD (now (table .entry)) i 0 ⌝ }
 {
-    t[i] as usize
+    table[i] as usize
 }
 
 // What pattern p gives to its child q.
-fn put_child(t: &mut [u8], p: usize, q: usize, step: u8, index: usize, tipo: usize, owner: u8)
-    requires { ⌜ (length (now t) ≡ tableSize) × (p < patternsMost) × (q < patternsMost) × (index < 256) × (tipo < 256) ⌝ }
-    ensures { λ _. ⌜ now (t .exit) ≡ placed (now (t .entry)) p q step index tipo owner ⌝ }
+fn put_child(table: &mut [u8], p: usize, q: usize, step: u8, index: usize, tipo: usize, owner: u8)
+    requires { ⌜ (length (now table) ≡ tableSize) × (p < patternsMost) × (q < patternsMost) × (index < 256) × (tipo < 256) ⌝ }
+    ensures { λ _. ⌜ now (table .exit) ≡ placed (now (table .entry)) p q step index tipo owner ⌝ }
 {
-    let clause = t[CLAUSE + p];
-    t[ABOVE + q] = p as u8;
-    t[STEP + q] = step;
-    t[INDEX + q] = index as u8;
-    t[TYPE + q] = tipo as u8;
-    t[OWNER + q] = owner;
-    t[CLAUSE + q] = clause;
+    let clause = table[CLAUSE + p];
+    table[ABOVE + q] = p as u8;
+    table[STEP + q] = step;
+    table[INDEX + q] = index as u8;
+    table[TYPE + q] = tipo as u8;
+    table[OWNER + q] = owner;
+    table[CLAUSE + q] = clause;
 }
 
 // The n first children of p, with their types at entry e and each `stride` further on.
 fn put_children(
     s: &[u8],
     m: Map,
-    t: &mut [u8],
+    table: &mut [u8],
     p: usize,
     n: usize,
     step: u8,
@@ -90,14 +91,14 @@ fn put_children(
     stride: usize,
     owner: u8,
 )
-    requires { ⌜ Checked (now s) m × (length (now t) ≡ tableSize) × Parts (now s) p n e stride ⌝ }
-    ensures { λ _. ⌜ now (t .exit) ≡ placedEach (now (s .entry)) (now (t .entry)) p step e stride owner 0 n ⌝ }
+    requires { ⌜ Checked (now s) m × (length (now table) ≡ tableSize) × Parts (now s) p n e stride ⌝ }
+    ensures { λ _. ⌜ now (table .exit) ≡ placedEach (now (s .entry)) (now (table .entry)) p step e stride owner 0 n ⌝ }
 {
     let r = pattern_at(s, m, p);
     let mut i: usize = 0;
     while i < n {
         put_child(
-            t,
+            table,
             p,
             child_at(s, m, r.first + i),
             step,
@@ -111,7 +112,7 @@ fn put_children(
 
 // Whether a type has one constructor.
 fn one_constructor(ty: TypeRecord) -> bool
-    ensures { λ r. ⌜ r ≡ both (eqb (ty .kind) 5) (eqb (ty .count) 1) ⌝ }
+    ensures { λ r. ⌜ r ≡ both (eqb (ty .kind) dataType) (eqb (ty .count) 1) ⌝ }
 {
     if ty.kind != type_kinds::DATA {
         return false;
@@ -123,24 +124,34 @@ fn one_constructor(ty: TypeRecord) -> bool
 fn place_fields(
     s: &[u8],
     m: Map,
-    t: &mut [u8],
+    table: &mut [u8],
     p: usize,
     r: PatternRecord,
     ty: TypeRecord,
     owner: u8,
 )
-    requires { ⌜ Reading (now s) m (now t) p r ty owner × (r .kind ≡ 7) ⌝ }
-    ensures { λ _. ⌜ now (t .exit) ≡ placedBelow (now (s .entry)) (now (t .entry)) p Constructor ⌝ }
+    requires { ⌜ Reading (now s) m (now table) p r ty owner × (r .kind ≡ constructorPattern) ⌝ }
+    ensures { λ _. ⌜ now (table .exit) ≡ placedBelow (now (s .entry)) (now (table .entry)) p Constructor ⌝ }
 {
     let c = constructor_at(s, m, ty.first + r.a);
     if one_constructor(ty) {
-        put_children(s, m, t, p, r.count, step_kinds::CONSTR, c.first, 1, owner);
+        put_children(
+            s,
+            m,
+            table,
+            p,
+            r.count,
+            step_kinds::CONSTR,
+            c.first,
+            1,
+            owner,
+        );
         return;
     }
     put_children(
         s,
         m,
-        t,
+        table,
         p,
         r.count,
         step_kinds::CONSTR,
@@ -154,37 +165,47 @@ fn place_fields(
 fn place_tailed(
     s: &[u8],
     m: Map,
-    t: &mut [u8],
+    table: &mut [u8],
     p: usize,
     r: PatternRecord,
     ty: TypeRecord,
     tipo: usize,
 )
-    requires { ⌜ Reading (now s) m (now t) p r ty (ownerOf (now s) p) × (r .kind ≡ 6) × (tipo ≡ typeOf (now s) p) ⌝ }
-    ensures { λ _. ⌜ now (t .exit) ≡ placedBelow (now (s .entry)) (now (t .entry)) p ListWithRest ⌝ }
+    requires { ⌜ Reading (now s) m (now table) p r ty (ownerOf (now s) p) × (r .kind ≡ listWithTailPattern) × (tipo ≡ typeOf (now s) p) ⌝ }
+    ensures { λ _. ⌜ now (table .exit) ≡ placedBelow (now (s .entry)) (now (table .entry)) p ListWithRest ⌝ }
 {
     let n = r.count - 1;
     let tail = child_at(s, m, r.first + n);
-    put_children(s, m, t, p, n, step_kinds::LIST, ty.first, 0, (p + 1) as u8);
-    put_child(t, p, tail, step_kinds::LISTTAIL, n, tipo, (p + 1) as u8);
+    put_children(
+        s,
+        m,
+        table,
+        p,
+        n,
+        step_kinds::LIST,
+        ty.first,
+        0,
+        (p + 1) as u8,
+    );
+    put_child(table, p, tail, step_kinds::LISTTAIL, n, tipo, (p + 1) as u8);
 }
 
 // What pattern p gives to its children: one decision over kinds 0 to 9.
-fn place_children(s: &[u8], m: Map, t: &mut [u8], p: usize)
-    requires { ⌜ Checked (now s) m × (length (now t) ≡ tableSize) × (p < patterns (now s)) × Placed (now s) (now t) p ⌝ }
-    ensures { λ _. ⌜ now (t .exit) ≡ placedBelow (now (s .entry)) (now (t .entry)) p (kindOf (now (s .entry)) p) ⌝ }
+fn place_children(s: &[u8], m: Map, table: &mut [u8], p: usize)
+    requires { ⌜ Checked (now s) m × (length (now table) ≡ tableSize) × (p < patterns (now s)) × Placed (now s) (now table) p ⌝ }
+    ensures { λ _. ⌜ now (table .exit) ≡ placedBelow (now (s .entry)) (now (table .entry)) p (kindOf (now (s .entry)) p) ⌝ }
 {
     let r = pattern_at(s, m, p);
-    let tipo = at(t, TYPE + p);
-    let owner = t[OWNER + p];
+    let tipo = at(table, TYPE + p);
+    let owner = table[OWNER + p];
     let ty = type_at(s, m, tipo);
     let kind = r.kind;
     match kind {
-        pattern_kinds::ASSIGN => put_child(t, p, child_at(s, m, r.first), SAME, 0, tipo, owner),
+        pattern_kinds::ASSIGN => put_child(table, p, child_at(s, m, r.first), SAME, 0, tipo, owner),
         pattern_kinds::LIST => put_children(
             s,
             m,
-            t,
+            table,
             p,
             r.count,
             step_kinds::LIST,
@@ -192,12 +213,12 @@ fn place_children(s: &[u8], m: Map, t: &mut [u8], p: usize)
             0,
             (p + 1) as u8,
         ),
-        pattern_kinds::LIST_WITH_TAIL => place_tailed(s, m, t, p, r, ty, tipo),
-        pattern_kinds::CONSTRUCTOR => place_fields(s, m, t, p, r, ty, owner),
+        pattern_kinds::LIST_WITH_TAIL => place_tailed(s, m, table, p, r, ty, tipo),
+        pattern_kinds::CONSTRUCTOR => place_fields(s, m, table, p, r, ty, owner),
         pattern_kinds::PAIR => put_children(
             s,
             m,
-            t,
+            table,
             p,
             r.count,
             step_kinds::PAIR,
@@ -208,7 +229,7 @@ fn place_children(s: &[u8], m: Map, t: &mut [u8], p: usize)
         pattern_kinds::TUPLE => put_children(
             s,
             m,
-            t,
+            table,
             p,
             r.count,
             step_kinds::TUPLE,
@@ -221,33 +242,33 @@ fn place_children(s: &[u8], m: Map, t: &mut [u8], p: usize)
 }
 
 // Whether the same step leads to a and to b, from patterns of the same class and type.
-fn same_step(t: &[u8], a: usize, b: usize) -> bool
-    requires { ⌜ (length (now t) ≡ tableSize) × (a < patternsMost) × (b < patternsMost) × (aboveIn (now t) a < patternsMost) × (aboveIn (now t) b < patternsMost) ⌝ }
-    ensures { λ r. ⌜ r ≡ sameStepIn (now (t .entry)) a b ⌝ }
+fn same_step(table: &[u8], a: usize, b: usize) -> bool
+    requires { ⌜ (length (now table) ≡ tableSize) × (a < patternsMost) × (b < patternsMost) × (aboveIn (now table) a < patternsMost) × (aboveIn (now table) b < patternsMost) ⌝ }
+    ensures { λ r. ⌜ r ≡ sameStepIn (now (table .entry)) a b ⌝ }
 {
-    if t[STEP + a] != t[STEP + b] {
+    if table[STEP + a] != table[STEP + b] {
         return false;
     }
-    if t[INDEX + a] != t[INDEX + b] {
+    if table[INDEX + a] != table[INDEX + b] {
         return false;
     }
-    let x = at(t, ABOVE + a);
-    let y = at(t, ABOVE + b);
-    if t[CLASS + x] != t[CLASS + y] {
+    let x = at(table, ABOVE + a);
+    let y = at(table, ABOVE + b);
+    if table[CLASS + x] != table[CLASS + y] {
         return false;
     }
-    t[TYPE + x] == t[TYPE + y]
+    table[TYPE + x] == table[TYPE + y]
 }
 
 // The lowest pattern that the same step leads to; none is below `from`.
-fn class_of(t: &[u8], p: usize, from: usize) -> usize
-    requires { ⌜ (length (now t) ≡ tableSize) × (p < patternsMost) × ((q : ℕ) → q ≤ p → aboveIn (now t) q < patternsMost) ⌝ }
-    requires { ⌜ (from ≤ p) × ((q : ℕ) → q < from → sameStepIn (now t) q p ≡ false) ⌝ }
-    ensures { λ r. ⌜ r ≡ classIn (now (t .entry)) p ⌝ }
+fn class_of(table: &[u8], p: usize, from: usize) -> usize
+    requires { ⌜ (length (now table) ≡ tableSize) × (p < patternsMost) × ((q : ℕ) → q ≤ p → aboveIn (now table) q < patternsMost) ⌝ }
+    requires { ⌜ (from ≤ p) × ((q : ℕ) → q < from → sameStepIn (now table) q p ≡ false) ⌝ }
+    ensures { λ r. ⌜ r ≡ classIn (now (table .entry)) p ⌝ }
 {
     let mut q = from;
     while q < p {
-        if same_step(t, q, p) {
+        if same_step(table, q, p) {
             return q;
         }
         q += 1;
@@ -256,46 +277,46 @@ fn class_of(t: &[u8], p: usize, from: usize) -> usize
 }
 
 // The class of p, and how many steps its path has. What a step from a path leads to comes after the lowest pattern with that path.
-fn put_class(t: &mut [u8], p: usize)
-    requires { ⌜ Ranged (now t) p ⌝ }
-    ensures { λ _. ⌜ now (t .exit) ≡ classed (now (t .entry)) p ⌝ }
+fn put_class(table: &mut [u8], p: usize)
+    requires { ⌜ Ranged (now table) p ⌝ }
+    ensures { λ _. ⌜ now (table .exit) ≡ classed (now (table .entry)) p ⌝ }
 {
-    let above = at(t, ABOVE + p);
-    let class = t[CLASS + above];
-    let depth = t[DEPTH + above];
-    if t[STEP + p] == SAME {
-        t[CLASS + p] = class;
-        t[DEPTH + p] = depth;
+    let above = at(table, ABOVE + p);
+    let class = table[CLASS + above];
+    let depth = table[DEPTH + above];
+    if table[STEP + p] == SAME {
+        table[CLASS + p] = class;
+        table[DEPTH + p] = depth;
         return;
     }
-    let first = class_of(t, p, class as usize);
-    t[CLASS + p] = first as u8;
-    t[DEPTH + p] = depth + 1;
+    let first = class_of(table, p, class as usize);
+    table[CLASS + p] = first as u8;
+    table[DEPTH + p] = depth + 1;
 }
 
 // The indices of the steps to p: those of the pattern above, and its own.
-fn put_indices(t: &mut [u8], p: usize)
-    requires { ⌜ RowBelow (now t) p ⌝ }
-    ensures { λ _. ⌜ now (t .exit) ≡ indexed (now (t .entry)) p ⌝ }
+fn put_indices(table: &mut [u8], p: usize)
+    requires { ⌜ RowBelow (now table) p ⌝ }
+    ensures { λ _. ⌜ now (table .exit) ≡ indexed (now (table .entry)) p ⌝ }
 {
-    let above = at(t, ABOVE + p);
-    let depth = at(t, DEPTH + above);
-    let own = t[INDEX + p];
+    let above = at(table, ABOVE + p);
+    let depth = at(table, DEPTH + above);
+    let own = table[INDEX + p];
     let mut i: usize = 0;
     while i < depth {
-        t[INDICES + DEPTH_MOST * p + i] = t[INDICES + DEPTH_MOST * above + i];
+        table[INDICES + DEPTH_MOST * p + i] = table[INDICES + DEPTH_MOST * above + i];
         i += 1;
     }
-    t[INDICES + DEPTH_MOST * p + depth] = own;
+    table[INDICES + DEPTH_MOST * p + depth] = own;
 }
 
 // Whether pattern p stands in a column: an integer, byte string, list, or constructor of a several-constructor type.
-pub fn is_test(s: &[u8], m: Map, t: &[u8], p: usize) -> bool
-    requires { ⌜ Checked (now s) m × (length (now t) ≡ tableSize) × (p < patterns (now s)) × (getD (now t) (typeAt + p) 0 ≡ typeOf (now s) p) ⌝ }
+pub fn is_test(s: &[u8], m: Map, table: &[u8], p: usize) -> bool
+    requires { ⌜ Checked (now s) m × (length (now table) ≡ tableSize) × (p < patterns (now s)) × (getD (now table) (typeAt + p) 0 ≡ typeOf (now s) p) ⌝ }
     ensures { λ r. ⌜ r ≡ isTest (now (s .entry)) p ⌝ }
 {
     let r = pattern_at(s, m, p);
-    let ty = type_at(s, m, at(t, TYPE + p));
+    let ty = type_at(s, m, at(table, TYPE + p));
     let kind = r.kind;
     match kind {
         pattern_kinds::INTEGER
@@ -308,78 +329,78 @@ pub fn is_test(s: &[u8], m: Map, t: &[u8], p: usize) -> bool
 }
 
 // Pattern p in its clause's column, if it is a test.
-fn put_test(s: &[u8], m: Map, t: &mut [u8], p: usize)
-    requires { ⌜ Checked (now s) m × (length (now t) ≡ tableSize) × (p < patterns (now s)) × Placed (now s) (now t) p × Classed (now s) (now t) p ⌝ }
-    ensures { λ _. ⌜ now (t .exit) ≡ tested (now (t .entry)) (isTest (now (s .entry)) p) p ⌝ }
+fn put_test(s: &[u8], m: Map, table: &mut [u8], p: usize)
+    requires { ⌜ Checked (now s) m × (length (now table) ≡ tableSize) × (p < patterns (now s)) × Placed (now s) (now table) p × Classed (now s) (now table) p ⌝ }
+    ensures { λ _. ⌜ now (table .exit) ≡ tested (now (table .entry)) (isTest (now (s .entry)) p) p ⌝ }
 {
-    if is_test(s, m, t, p) {
-        let clause = at(t, CLAUSE + p);
-        let class = at(t, CLASS + p);
-        t[CELL + PATTERNS_MOST * clause + class] = (p + 1) as u8;
+    if is_test(s, m, table, p) {
+        let clause = at(table, CLAUSE + p);
+        let class = at(table, CLASS + p);
+        table[CELL + PATTERNS_MOST * clause + class] = (p + 1) as u8;
     }
 }
 
 // The root of clause c.
-fn put_root(t: &mut [u8], r: usize, c: usize, tipo: usize)
-    requires { ⌜ (length (now t) ≡ tableSize) × (r < patternsMost) × (c < 256) × (tipo < 256) ⌝ }
-    ensures { λ _. ⌜ now (t .exit) ≡ rooted (now (t .entry)) r c tipo ⌝ }
+fn put_root(table: &mut [u8], r: usize, c: usize, tipo: usize)
+    requires { ⌜ (length (now table) ≡ tableSize) × (r < patternsMost) × (c < 256) × (tipo < 256) ⌝ }
+    ensures { λ _. ⌜ now (table .exit) ≡ rooted (now (table .entry)) r c tipo ⌝ }
 {
-    t[STEP + r] = SAME;
-    t[TYPE + r] = tipo as u8;
-    t[CLAUSE + r] = c as u8;
+    table[STEP + r] = SAME;
+    table[TYPE + r] = tipo as u8;
+    table[CLAUSE + r] = c as u8;
 }
 
 // The root of each clause.
-fn put_roots(s: &[u8], m: Map, t: &mut [u8])
-    requires { ⌜ Checked (now s) m × (length (now t) ≡ tableSize) ⌝ }
-    ensures { λ _. ⌜ now (t .exit) ≡ rootedEach (now (s .entry)) (now (t .entry)) 0 (clauses (now (s .entry))) ⌝ }
+fn put_roots(s: &[u8], m: Map, table: &mut [u8])
+    requires { ⌜ Checked (now s) m × (length (now table) ≡ tableSize) ⌝ }
+    ensures { λ _. ⌜ now (table .exit) ≡ rootedEach (now (s .entry)) (now (table .entry)) 0 (clauses (now (s .entry))) ⌝ }
 {
     let mut c: usize = 0;
     while c < m.counts.clauses {
-        put_root(t, root_at(s, m, c), c, m.subject);
+        put_root(table, root_at(s, m, c), c, m.subject);
         c += 1;
     }
 }
 
 // Pattern p, whose own fields are set: its class, its indices, its cell, and what it gives to its children.
-fn fill_at(s: &[u8], m: Map, t: &mut [u8], p: usize)
-    requires { ⌜ Checked (now s) m × (p < patterns (now s)) × Filled (now s) (now t) p p p p ⌝ }
-    ensures { λ _. ⌜ Filled (now (s .entry)) (now (t .exit)) (p + 1) (p + 1) (p + 1) (p + 1) ⌝ }
+fn fill_at(s: &[u8], m: Map, table: &mut [u8], p: usize)
+    requires { ⌜ Checked (now s) m × (p < patterns (now s)) × Filled (now s) (now table) p p p p ⌝ }
+    ensures { λ _. ⌜ Filled (now (s .entry)) (now (table .exit)) (p + 1) (p + 1) (p + 1) (p + 1) ⌝ }
 {
-    put_class(t, p);
-    put_indices(t, p);
-    put_test(s, m, t, p);
-    place_children(s, m, t, p);
+    put_class(table, p);
+    put_indices(table, p);
+    put_test(s, m, table, p);
+    place_children(s, m, table, p);
 }
 
 // The table of a checked sheet, in bytes that are all zero.
-pub fn fill(s: &[u8], m: Map, t: &mut [u8])
-    requires { ⌜ Checked (now s) m × (now t ≡ zeros tableSize) ⌝ }
-    ensures { λ _. ⌜ Tabled (now (s .entry)) (now (t .exit)) ⌝ }
+pub fn fill(s: &[u8], m: Map, table: &mut [u8])
+    requires { ⌜ Checked (now s) m × (now table ≡ zeros tableSize) ⌝ }
+    ensures { λ _. ⌜ Tabled (now (s .entry)) (now (table .exit)) ⌝ }
 {
-    put_roots(s, m, t);
+    put_roots(s, m, table);
     let mut p: usize = 0;
     while p < m.counts.patterns {
-        fill_at(s, m, t, p);
+        fill_at(s, m, table, p);
         p += 1;
     }
 }
 
 // Whether the path of a comes before that of b, by their indices.
-pub fn before(t: &[u8], a: usize, b: usize) -> bool
-    requires { ⌜ (length (now t) ≡ tableSize) × (a < patternsMost) × (b < patternsMost) ⌝ }
-    requires { ⌜ (getD (now t) (depthAt + a) 0 < depthMost) × (getD (now t) (depthAt + b) 0 < depthMost) ⌝ }
-    ensures { λ r. ⌜ r ≡ firstBefore (indicesIn (now (t .entry)) a) (indicesIn (now (t .entry)) b) ⌝ }
+pub fn before(table: &[u8], a: usize, b: usize) -> bool
+    requires { ⌜ (length (now table) ≡ tableSize) × (a < patternsMost) × (b < patternsMost) ⌝ }
+    requires { ⌜ (getD (now table) (depthAt + a) 0 < depthMost) × (getD (now table) (depthAt + b) 0 < depthMost) ⌝ }
+    ensures { λ r. ⌜ r ≡ firstBefore (indicesIn (now (table .entry)) a) (indicesIn (now (table .entry)) b) ⌝ }
 {
-    let x = at(t, DEPTH + a);
-    let y = at(t, DEPTH + b);
+    let x = at(table, DEPTH + a);
+    let y = at(table, DEPTH + b);
     let mut i: usize = 0;
     while i < x {
         if i == y {
             return false;
         }
-        let p = t[INDICES + DEPTH_MOST * a + i];
-        let q = t[INDICES + DEPTH_MOST * b + i];
+        let p = table[INDICES + DEPTH_MOST * a + i];
+        let q = table[INDICES + DEPTH_MOST * b + i];
         if p < q {
             return true;
         }

@@ -19,10 +19,10 @@ fn pack(a: u16, b: u16, c: u16, d: u16) -> u64
 
 // Built: bits 16 to 31 are the length of the tree file, 32 to 47 its nodes, 48 to 63 its bindings.
 #[no_mangle]
-pub extern "C" fn dewmycel_build(s: &[u8], tree: &mut [u8], work: &mut [u8]) -> u64
-    ensures { λ r. ⌜ BuildFace r (now (tree .exit)) (now (work .exit)) (buildCall (now (s .entry)) (length (now (tree .entry))) (length (now (work .entry)))) ⌝ }
+pub extern "C" fn dewmycel_build(sheet: &[u8], tree: &mut [u8], work: &mut [u8]) -> u64
+    ensures { λ r. ⌜ BuildFace r (now (tree .exit)) (now (work .exit)) (buildCall (now (sheet .entry)) (length (now (tree .entry))) (length (now (work .entry)))) ⌝ }
 {
-    match crate::build(s, tree, work) {
+    match crate::build(sheet, tree, work) {
         Built::Tree {
             length,
             nodes,
@@ -34,10 +34,10 @@ pub extern "C" fn dewmycel_build(s: &[u8], tree: &mut [u8], work: &mut [u8]) -> 
 
 // Fits: all 0.
 #[no_mangle]
-pub extern "C" fn dewmycel_fit(s: &[u8], v: &[u8]) -> u64
-    ensures { λ r. ⌜ r ≡ packedFit (fitCall (now (s .entry)) (now (v .entry))) ⌝ }
+pub extern "C" fn dewmycel_fit(sheet: &[u8], panel: &[u8]) -> u64
+    ensures { λ r. ⌜ r ≡ packedFit (fitCall (now (sheet .entry)) (now (panel .entry))) ⌝ }
 {
-    match crate::fit(s, v) {
+    match crate::fit(sheet, panel) {
         Fitted::Fits => 0,
         Fitted::Refused { number, place } => pack(number, place, 0, 0),
     }
@@ -45,10 +45,10 @@ pub extern "C" fn dewmycel_fit(s: &[u8], v: &[u8]) -> u64
 
 // At a leaf bit 48 is 1, bits 16 to 31 are the clause, 32 to 47 the number of bindings; No leaf: all 0.
 #[no_mangle]
-pub extern "C" fn dewmycel_walk(t: &[u8], v: &[u8], bound: &mut [u16]) -> u64
-    ensures { λ r. ⌜ WalkFace r (now (bound .exit)) (walkCall (now (t .entry)) (now (v .entry)) (length (now (bound .entry)))) ⌝ }
+pub extern "C" fn dewmycel_walk(tree: &[u8], panel: &[u8], bound: &mut [u16]) -> u64
+    ensures { λ r. ⌜ WalkFace r (now (bound .exit)) (walkCall (now (tree .entry)) (now (panel .entry)) (length (now (bound .entry)))) ⌝ }
 {
-    match crate::walk(t, v, bound) {
+    match crate::walk(tree, panel, bound) {
         Walked::Leaf { clause, count } => pack(0, clause, count, 1),
         Walked::NoLeaf => 0,
         Walked::Refused { number, place } => pack(number, place, 0, 0),
@@ -57,10 +57,10 @@ pub extern "C" fn dewmycel_walk(t: &[u8], v: &[u8], bound: &mut [u16]) -> u64
 
 // Bits 16 to 31 are where the text starts in the panel, 32 to 47 its length.
 #[no_mangle]
-pub extern "C" fn dewmycel_text(v: &[u8], r: u16, dropped: u16) -> u64
-    ensures { λ res. ⌜ res ≡ packedText (textCall (now (v .entry)) r dropped) ⌝ }
+pub extern "C" fn dewmycel_text(panel: &[u8], record: u16, dropped: u16) -> u64
+    ensures { λ res. ⌜ res ≡ packedText (textCall (now (panel .entry)) «record» dropped) ⌝ }
 {
-    match crate::text(v, r, dropped) {
+    match crate::text(panel, record, dropped) {
         Located::At { start, count } => pack(0, start as u16, count as u16, 0),
         Located::Refused { number, place } => pack(number, place, 0, 0),
     }

@@ -10,36 +10,36 @@ ghost use lib.ListN.{length};
 ghost use Rattle.dewmycel.specs.Contracts.{BuildFits, FitFits, WalkFits, TextFits, PartFits};
 
 // The tree of a sheet, written as its file: refusals 1, 2 to 11, 12 to 14; else the file's length, its nodes and its bindings.
-pub fn build(s: &[u8], tree: &mut [u8], work: &mut [u8]) -> Built
-    ensures { λ r. ⌜ BuildFits (now (s .entry)) (length (now (tree .entry))) (length (now (work .entry))) r (now (tree .exit)) (now (work .exit)) ⌝ }
+pub fn build(sheet: &[u8], tree: &mut [u8], work: &mut [u8]) -> Built
+    ensures { λ r. ⌜ BuildFits (now (sheet .entry)) (length (now (tree .entry))) (length (now (work .entry))) r (now (tree .exit)) (now (work .exit)) ⌝ }
 {
-    build_call::build(s, tree, work)
+    build_call::build(sheet, tree, work)
 }
 
 // The fit check of a sheet and a panel: refusals 2 to 11, 21 to 24, 25.
-pub fn fit(s: &[u8], v: &[u8]) -> Fitted
-    ensures { λ r. ⌜ FitFits (now (s .entry)) (now (v .entry)) r ⌝ }
+pub fn fit(sheet: &[u8], panel: &[u8]) -> Fitted
+    ensures { λ r. ⌜ FitFits (now (sheet .entry)) (now (panel .entry)) r ⌝ }
 {
-    format_panel::fit(s, v)
+    format_panel::fit(sheet, panel)
 }
 
 // The walk of a tree on a panel: refusals 1, 31, 21 to 24, 32; at a leaf its clause, and (name, record, dropped) for each binding.
-pub fn walk(t: &[u8], v: &[u8], bound: &mut [u16]) -> Walked
-    ensures { λ r. ⌜ WalkFits (now (t .entry)) (now (v .entry)) (length (now (bound .entry))) r (now (bound .exit)) ⌝ }
+pub fn walk(tree: &[u8], panel: &[u8], bound: &mut [u16]) -> Walked
+    ensures { λ r. ⌜ WalkFits (now (tree .entry)) (now (panel .entry)) (length (now (bound .entry))) r (now (bound .exit)) ⌝ }
 {
-    walk::walk(t, v, bound)
+    walk::walk(tree, panel, bound)
 }
 
 // The text of a position: refusals 21 to 24, 33; where its bytes stand in the panel.
-pub fn text(v: &[u8], r: u16, dropped: u16) -> Located
-    ensures { λ res. ⌜ TextFits (now (v .entry)) r dropped res ⌝ }
+pub fn text(panel: &[u8], record: u16, dropped: u16) -> Located
+    ensures { λ res. ⌜ TextFits (now (panel .entry)) «record» dropped res ⌝ }
 {
-    format_panel::text(v, r, dropped)
+    format_panel::text(panel, record, dropped)
 }
 
 // The twin of text: that part of the caller's panel itself, empty if refused.
-pub fn text_part<'a>(v: &'a [u8], r: u16, dropped: u16) -> &'a [u8]
-    ensures { λ res. ⌜ PartFits (now (v .entry)) r dropped (now res) ⌝ }
+pub fn text_part<'a>(panel: &'a [u8], record: u16, dropped: u16) -> &'a [u8]
+    ensures { λ res. ⌜ PartFits (now (panel .entry)) «record» dropped (now res) ⌝ }
 {
-    format_panel::text_part(v, r, dropped)
+    format_panel::text_part(panel, record, dropped)
 }

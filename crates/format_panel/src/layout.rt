@@ -14,7 +14,7 @@ use base_words::word_at;
 ghost use mathlib.Core.Path.{_≡_};
 ghost use Prim.Native.Nat.{_<_, _≤_};
 ghost use lib.ListN.{length};
-ghost use Rattle.spec_rules.specs.Limits.{panelTrailer};
+ghost use Rattle.spec_rules.specs.Limits.{panelTrailer, panelStarts};
 ghost use Rattle.spec_rules.specs.SheetRefusals.{wholeRecords};
 ghost use Rattle.spec_rules.specs.PanelFile.{panelStart, panelLengthFits, panelLayoutFits};
 ghost use Rattle.spec_accepted.specs.PanelFacts.{PanelLaid};
@@ -36,7 +36,7 @@ pub(crate) fn length_fits(v: &[u8]) -> bool
 
 // Start k of the trailer.
 fn start(v: &[u8], k: usize) -> usize
-    requires { ⌜ (panelTrailer ≤ length (now v)) × (k < 3) ⌝ }
+    requires { ⌜ (panelTrailer ≤ length (now v)) × (k < panelStarts) ⌝ }
     ensures { λ r. ⌜ r ≡ panelStart (now (v .entry)) k ⌝ }
 {
     word_at(v, v.len() - PANEL_TRAILER + WORD_SIZE * k) as usize

@@ -7,6 +7,7 @@
 // nothing is copied for a record or a part. The text call adds one record to the check. Fitting reads each record and each part
 // once, with its type and its type entry; its calls are at most 544 deep, one for each of 511 parts and 32 levels.
 ghost use mathlib.Core.Path.{_≡_};
+ghost use Rattle.spec_rules.specs.RefusalNumbers.{noTextRefusal};
 ghost use Rattle.spec_rules.specs.Calls.{textPart};
 ghost use Rattle.format_panel.specs.Answers.{checked, located, fitted, Accepts, SheetAccepts};
 
@@ -86,7 +87,7 @@ pub fn check(v: &[u8]) -> Checked
 
 // 33: the position is not an integer or byte string of the panel with 0 dropped.
 fn not_text() -> Located
-    ensures { λ r. ⌜ r ≡ Located.Refused 33 0 ⌝ }
+    ensures { λ r. ⌜ r ≡ Located.Refused noTextRefusal 0 ⌝ }
 {
     Located::Refused {
         number: refusals::NO_TEXT,

@@ -16,6 +16,7 @@ ghost use mathlib.Core.Path.{_≡_};
 ghost use Prim.Native.Nat.{_+_, _<_, _≤_};
 ghost use lib.Dec.{eqb};
 ghost use Rattle.base_words.specs.Words.{both};
+ghost use Rattle.spec_rules.specs.Kinds.{dataType};
 ghost use Rattle.spec_rules.specs.SheetFile.{types, constructors, patterns, clauses, patternKind};
 ghost use Rattle.spec_rules.specs.Patterns.{patternKindOf, pattern, along, fits as Fits, fitAll};
 ghost use Rattle.spec_rules.specs.SheetRefusals.{misfit, lowestMisfit};
@@ -65,7 +66,7 @@ fn asks_parts(r: PatternRecord, ty: TypeRecord, kind: u8) -> Question
 
 // Of a constructor: the type has it, with as many fields.
 fn asks_fields(s: &[u8], m: Map, r: PatternRecord, ty: TypeRecord) -> Question
-    requires { ⌜ Laid (now s) × (m ≡ mapOf (now s)) × (ty .kind ≡ 5 → ty .first + ty .count ≤ constructors (now s)) ⌝ }
+    requires { ⌜ Laid (now s) × (m ≡ mapOf (now s)) × (ty .kind ≡ dataType → ty .first + ty .count ≤ constructors (now s)) ⌝ }
     ensures { λ x. ⌜ x ≡ argumentsFit (now (s .entry)) r ty ⌝ }
 {
     if ty.kind != type_kinds::DATA {

@@ -26,7 +26,7 @@ ghost use mathlib.Core.Path.{_≡_};
 ghost use mathlib.Core.Bool.{true};
 ghost use Prim.Native.Nat.{_<_, _≤_};
 ghost use lib.ListN.{length};
-ghost use Rattle.spec_rules.specs.Limits.{sheetTrailer};
+ghost use Rattle.spec_rules.specs.Limits.{sheetTrailer, sheetStarts};
 ghost use Rattle.spec_rules.specs.SheetFile.{sheetStart, subject};
 ghost use Rattle.spec_rules.specs.SheetRefusals.{lengthFits, wholeRecords};
 ghost use Rattle.format_sheet.specs.Sections.{startsOf, startsFit, countsBetween, fewEnough};
@@ -48,7 +48,7 @@ pub(crate) fn length_fits(s: &[u8]) -> bool
 
 // Start k of the trailer.
 fn start(s: &[u8], k: usize) -> usize
-    requires { ⌜ (sheetTrailer ≤ length (now s)) × (k < 7) ⌝ }
+    requires { ⌜ (sheetTrailer ≤ length (now s)) × (k < sheetStarts) ⌝ }
     ensures { λ r. ⌜ r ≡ sheetStart (now (s .entry)) k ⌝ }
 {
     word_at(s, s.len() - SHEET_TRAILER + WORD_SIZE * k) as usize

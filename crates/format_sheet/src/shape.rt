@@ -20,6 +20,7 @@ use base_numbers::sheet::TAILED_CHILDREN_LEAST;
 ghost use mathlib.Core.Path.{_≡_};
 ghost use Prim.Native.Nat.{_+_, _-_, _<_, _≤_};
 ghost use lib.Dec.{leb};
+ghost use Rattle.spec_rules.specs.Kinds.{variablePattern};
 ghost use Rattle.spec_rules.specs.Searching.{every};
 ghost use Rattle.spec_rules.specs.SheetFile.{patterns, children, clauses, patternsAt, childrenAt, patternKind, child};
 ghost use Rattle.spec_rules.specs.Patterns.{patternKindOf};
@@ -82,7 +83,7 @@ fn fields_fit(r: PatternRecord, children: usize, pool: usize) -> bool
 fn tail_fits(s: &[u8], m: Map, first: usize, count: usize) -> bool
     requires { ⌜ Laid (now s) × (m ≡ mapOf (now s)) × ChildrenKnown (now s) ⌝ }
     requires { ⌜ (2 ≤ count) × (first + count ≤ children (now s)) ⌝ }
-    ensures { λ r. ⌜ r ≡ leb (patternKind (now (s .entry)) (child (now (s .entry)) (first + (count - 1)))) 1 ⌝ }
+    ensures { λ r. ⌜ r ≡ leb (patternKind (now (s .entry)) (child (now (s .entry)) (first + (count - 1)))) variablePattern ⌝ }
 {
     let last = child_at(s, m, first + (count - 1));
     let tail = pattern_at(s, m, last);

@@ -37,22 +37,22 @@ pub struct Map {
 }
 
 // Start k of the trailer.
-fn start(t: &[u8], k: usize) -> usize
-    requires { ⌜ (14 ≤ length (now t)) × (k < 6) ⌝ }
-    ensures { λ r. ⌜ r ≡ treeStart (now (t .entry)) k ⌝ }
+fn start(tree: &[u8], k: usize) -> usize
+    requires { ⌜ (14 ≤ length (now tree)) × (k < 6) ⌝ }
+    ensures { λ r. ⌜ r ≡ treeStart (now (tree .entry)) k ⌝ }
 {
-    word_at(t, t.len() - TRAILER + 2 * k) as usize
+    word_at(tree, tree.len() - TRAILER + 2 * k) as usize
 }
 
 // "the length true"
-pub fn length_true(t: &[u8]) -> bool
-    ensures { λ r. ⌜ r ≡ lengthTrue (now (t .entry)) ⌝ }
+pub fn length_true(tree: &[u8]) -> bool
+    ensures { λ r. ⌜ r ≡ lengthTrue (now (tree .entry)) ⌝ }
 {
-    let n = t.len();
+    let n = tree.len();
     if n < TRAILER {
         return false;
     }
-    word_at(t, n - 2) as usize == n
+    word_at(tree, n - 2) as usize == n
 }
 
 fn whole_records(size: usize, from: usize, to: usize) -> bool
@@ -66,16 +66,16 @@ fn whole_records(size: usize, from: usize, to: usize) -> bool
 }
 
 // "starts rising from 0, whole records"
-pub fn starts_rise(t: &[u8]) -> bool
-    requires { ⌜ 14 ≤ length (now t) ⌝ }
-    ensures { λ r. ⌜ r ≡ startsRise (now (t .entry)) ⌝ }
+pub fn starts_rise(tree: &[u8]) -> bool
+    requires { ⌜ 14 ≤ length (now tree) ⌝ }
+    ensures { λ r. ⌜ r ≡ startsRise (now (tree .entry)) ⌝ }
 {
-    let nodes = start(t, 0);
-    let cases = start(t, 1);
-    let bindings = start(t, 2);
-    let paths = start(t, 3);
-    let steps = start(t, 4);
-    let pool = start(t, 5);
+    let nodes = start(tree, 0);
+    let cases = start(tree, 1);
+    let bindings = start(tree, 2);
+    let paths = start(tree, 3);
+    let steps = start(tree, 4);
+    let pool = start(tree, 5);
     if nodes != 0 {
         return false;
     }
@@ -94,7 +94,7 @@ pub fn starts_rise(t: &[u8]) -> bool
     if !whole_records(STEP_SIZE, steps, pool) {
         return false;
     }
-    whole_records(1, pool, t.len() - TRAILER)
+    whole_records(1, pool, tree.len() - TRAILER)
 }
 
 fn section_of(start: usize, end: usize, size: usize) -> Section
@@ -108,22 +108,22 @@ fn section_of(start: usize, end: usize, size: usize) -> Section
 }
 
 // The sections of a file whose starts rise.
-pub fn sections(t: &[u8]) -> Map
-    requires { ⌜ TreeLaid (now t) ⌝ }
-    ensures { λ r. ⌜ r ≡ mapOf (now (t .entry)) ⌝ }
+pub fn sections(tree: &[u8]) -> Map
+    requires { ⌜ TreeLaid (now tree) ⌝ }
+    ensures { λ r. ⌜ r ≡ mapOf (now (tree .entry)) ⌝ }
 {
-    let nodes_at = start(t, 0);
-    let cases_at = start(t, 1);
-    let bindings_at = start(t, 2);
-    let paths_at = start(t, 3);
-    let steps_at = start(t, 4);
-    let pool_at = start(t, 5);
+    let nodes_at = start(tree, 0);
+    let cases_at = start(tree, 1);
+    let bindings_at = start(tree, 2);
+    let paths_at = start(tree, 3);
+    let steps_at = start(tree, 4);
+    let pool_at = start(tree, 5);
     let nodes = section_of(nodes_at, cases_at, NODE_SIZE);
     let cases = section_of(cases_at, bindings_at, CASE_SIZE);
     let bindings = section_of(bindings_at, paths_at, BINDING_SIZE);
     let paths = section_of(paths_at, steps_at, PATH_SIZE);
     let steps = section_of(steps_at, pool_at, STEP_SIZE);
-    let pool = section_of(pool_at, t.len() - TRAILER, 1);
+    let pool = section_of(pool_at, tree.len() - TRAILER, 1);
     Map {
         nodes,
         cases,

@@ -24,40 +24,40 @@ pub enum Checked {
     Refused,
 }
 
-fn records_keep_rules(t: &[u8], m: Map) -> bool
-    requires { ⌜ Mapped (now t) m ⌝ }
-    ensures { λ r. ⌜ r ≡ recordsKeepRules (now (t .entry)) ⌝ }
+fn records_keep_rules(tree: &[u8], m: Map) -> bool
+    requires { ⌜ Mapped (now tree) m ⌝ }
+    ensures { λ r. ⌜ r ≡ recordsKeepRules (now (tree .entry)) ⌝ }
 {
-    if !nodes_keep_rules(t, m) {
+    if !nodes_keep_rules(tree, m) {
         return false;
     }
-    if !cases_keep_rules(t, m) {
+    if !cases_keep_rules(tree, m) {
         return false;
     }
-    if !bindings_keep_rules(t, m) {
+    if !bindings_keep_rules(tree, m) {
         return false;
     }
-    if !paths_keep_rules(t, m) {
+    if !paths_keep_rules(tree, m) {
         return false;
     }
-    steps_keep_rules(t, m)
+    steps_keep_rules(tree, m)
 }
 
 // The map of a file that keeps every rule.
-pub fn check(t: &[u8]) -> Checked
-    ensures { λ r. ⌜ r ≡ checked (now (t .entry)) ⌝ }
+pub fn check(tree: &[u8]) -> Checked
+    ensures { λ r. ⌜ r ≡ checked (now (tree .entry)) ⌝ }
 {
-    if !length_true(t) {
+    if !length_true(tree) {
         return Checked::Refused;
     }
-    if !starts_rise(t) {
+    if !starts_rise(tree) {
         return Checked::Refused;
     }
-    let m = sections(t);
-    if !records_keep_rules(t, m) {
+    let m = sections(tree);
+    if !records_keep_rules(tree, m) {
         return Checked::Refused;
     }
-    if !nodes_in_pre_order(t, m) {
+    if !nodes_in_pre_order(tree, m) {
         return Checked::Refused;
     }
     Checked::Accepted(m)

@@ -25,21 +25,21 @@ enum Children {
     Nothing,
 }
 
-fn children_of(t: &[u8], m: Map, k: usize) -> Children
-    requires { ⌜ Ruled (now t) m × (k < m .nodes .count) ⌝ }
-    ensures { λ r. ⌜ ChildrenAre (now (t .entry)) m k r ⌝ }
+fn children_of(tree: &[u8], m: Map, k: usize) -> Children
+    requires { ⌜ Ruled (now tree) m × (k < m .nodes .count) ⌝ }
+    ensures { λ r. ⌜ ChildrenAre (now (tree .entry)) m k r ⌝ }
 {
-    let kind = node_kind(t, m, k);
+    let kind = node_kind(tree, m, k);
     if kind == 2 {
         return Children::Nothing;
     }
-    let tails = node_word(t, m, k, 3) as usize;
+    let tails = node_word(tree, m, k, 3) as usize;
     if kind == 3 {
         return Children::One(tails);
     }
-    let first = node_word(t, m, k, 1) as usize;
-    let cases = node_word(t, m, k, 2) as usize;
-    let default = node_word(t, m, k, 4) as usize;
+    let first = node_word(tree, m, k, 1) as usize;
+    let cases = node_word(tree, m, k, 2) as usize;
+    let default = node_word(tree, m, k, 4) as usize;
     Children::Cases {
         first,
         count: cases + tails,
@@ -48,60 +48,60 @@ fn children_of(t: &[u8], m: Map, k: usize) -> Children
 }
 
 // The last child of a switch with n cases from i on and this default.
-fn last_of_switch(t: &[u8], m: Map, i: usize, n: usize, default: usize) -> usize
-    requires { ⌜ Mapped (now t) m × (1 ≤ n) × (i + n ≤ m .cases .count) ⌝ }
-    ensures { λ r. ⌜ ((k : ℕ) → r ≡ lastFrom k (caseChildren (now (t .entry)) i n ++ defaultChild default)) ⌝ }
+fn last_of_switch(tree: &[u8], m: Map, i: usize, n: usize, default: usize) -> usize
+    requires { ⌜ Mapped (now tree) m × (1 ≤ n) × (i + n ≤ m .cases .count) ⌝ }
+    ensures { λ r. ⌜ ((k : ℕ) → r ≡ lastFrom k (caseChildren (now (tree .entry)) i n ++ defaultChild default)) ⌝ }
 {
     if 0 < default {
         return default - 1;
     }
-    case_child(t, m, i + n - 1) as usize
+    case_child(tree, m, i + n - 1) as usize
 }
 
 // The last child of node k; k itself where it has none.
-fn last_child(t: &[u8], m: Map, k: usize) -> usize
-    requires { ⌜ Ruled (now t) m × (k < m .nodes .count) ⌝ }
-    ensures { λ r. ⌜ r ≡ lastChild (now (t .entry)) k ⌝ }
+fn last_child(tree: &[u8], m: Map, k: usize) -> usize
+    requires { ⌜ Ruled (now tree) m × (k < m .nodes .count) ⌝ }
+    ensures { λ r. ⌜ r ≡ lastChild (now (tree .entry)) k ⌝ }
 {
-    let children = children_of(t, m, k);
+    let children = children_of(tree, m, k);
     match children {
         Children::Cases {
             first,
             count,
             default,
-        } => last_of_switch(t, m, first, count, default),
+        } => last_of_switch(tree, m, first, count, default),
         Children::One(child) => child,
         Children::Nothing => k,
     }
 }
 
 // The number after the last node of the subtree of k.
-fn end_of(t: &[u8], m: Map, k: usize) -> usize
-    requires { ⌜ Ruled (now t) m × (k < m .nodes .count) ⌝ }
-    ensures { λ r. ⌜ r ≡ endOf (now (t .entry)) k ⌝ }
+fn end_of(tree: &[u8], m: Map, k: usize) -> usize
+    requires { ⌜ Ruled (now tree) m × (k < m .nodes .count) ⌝ }
+    ensures { λ r. ⌜ r ≡ endOf (now (tree .entry)) k ⌝ }
 {
     let mut at = k;
-    let mut last = last_child(t, m, k);
+    let mut last = last_child(tree, m, k);
     while at < last {
         at = last;
-        last = last_child(t, m, at);
+        last = last_child(tree, m, at);
     }
     at + 1
 }
 
 // The children of the n cases from i on: the first is node k + 1, each later one is where the one before it ends.
-fn cases_follow(t: &[u8], m: Map, k: usize, i: usize, n: usize) -> bool
-    requires { ⌜ Ruled (now t) m × (k < m .nodes .count) × (1 ≤ n) × (i + n ≤ m .cases .count) ⌝ }
-    ensures { λ r. ⌜ r ≡ chained (now (t .entry)) (k + 1) (caseChildren (now (t .entry)) i n) ⌝ }
+fn cases_follow(tree: &[u8], m: Map, k: usize, i: usize, n: usize) -> bool
+    requires { ⌜ Ruled (now tree) m × (k < m .nodes .count) × (1 ≤ n) × (i + n ≤ m .cases .count) ⌝ }
+    ensures { λ r. ⌜ r ≡ chained (now (tree .entry)) (k + 1) (caseChildren (now (tree .entry)) i n) ⌝ }
 {
-    let mut before = case_child(t, m, i) as usize;
+    let mut before = case_child(tree, m, i) as usize;
     if before != k + 1 {
         return false;
     }
     let mut j = 1;
     while j < n {
-        let child = case_child(t, m, i + j) as usize;
-        if child != end_of(t, m, before) {
+        let child = case_child(tree, m, i + j) as usize;
+        if child != end_of(tree, m, before) {
             return false;
         }
         before = child;
@@ -111,43 +111,43 @@ fn cases_follow(t: &[u8], m: Map, k: usize, i: usize, n: usize) -> bool
 }
 
 // The same with the default after the cases.
-fn switch_follows(t: &[u8], m: Map, k: usize, i: usize, n: usize, default: usize) -> bool
-    requires { ⌜ Ruled (now t) m × (k < m .nodes .count) × (1 ≤ n) × (i + n ≤ m .cases .count) ⌝ }
-    ensures { λ r. ⌜ r ≡ chained (now (t .entry)) (k + 1) (caseChildren (now (t .entry)) i n ++ defaultChild default) ⌝ }
+fn switch_follows(tree: &[u8], m: Map, k: usize, i: usize, n: usize, default: usize) -> bool
+    requires { ⌜ Ruled (now tree) m × (k < m .nodes .count) × (1 ≤ n) × (i + n ≤ m .cases .count) ⌝ }
+    ensures { λ r. ⌜ r ≡ chained (now (tree .entry)) (k + 1) (caseChildren (now (tree .entry)) i n ++ defaultChild default) ⌝ }
 {
-    if !cases_follow(t, m, k, i, n) {
+    if !cases_follow(tree, m, k, i, n) {
         return false;
     }
     if default == 0 {
         return true;
     }
-    let before = case_child(t, m, i + n - 1) as usize;
-    default - 1 == end_of(t, m, before)
+    let before = case_child(tree, m, i + n - 1) as usize;
+    default - 1 == end_of(tree, m, before)
 }
 
-fn children_follow(t: &[u8], m: Map, k: usize) -> bool
-    requires { ⌜ Ruled (now t) m × (k < m .nodes .count) ⌝ }
-    ensures { λ r. ⌜ r ≡ childrenFollow (now (t .entry)) k ⌝ }
+fn children_follow(tree: &[u8], m: Map, k: usize) -> bool
+    requires { ⌜ Ruled (now tree) m × (k < m .nodes .count) ⌝ }
+    ensures { λ r. ⌜ r ≡ childrenFollow (now (tree .entry)) k ⌝ }
 {
-    let children = children_of(t, m, k);
+    let children = children_of(tree, m, k);
     match children {
         Children::Cases {
             first,
             count,
             default,
-        } => switch_follows(t, m, k, first, count, default),
+        } => switch_follows(tree, m, k, first, count, default),
         Children::One(child) => child == k + 1,
         Children::Nothing => true,
     }
 }
 
-fn all_follow(t: &[u8], m: Map) -> bool
-    requires { ⌜ Ruled (now t) m ⌝ }
-    ensures { λ r. ⌜ r ≡ every (childrenFollow (now (t .entry))) 0 (m .nodes .count) ⌝ }
+fn all_follow(tree: &[u8], m: Map) -> bool
+    requires { ⌜ Ruled (now tree) m ⌝ }
+    ensures { λ r. ⌜ r ≡ every (childrenFollow (now (tree .entry))) 0 (m .nodes .count) ⌝ }
 {
     let mut k = 0;
     while k < m.nodes.count {
-        if !children_follow(t, m, k) {
+        if !children_follow(tree, m, k) {
             return false;
         }
         k += 1;
@@ -155,16 +155,16 @@ fn all_follow(t: &[u8], m: Map) -> bool
     true
 }
 
-pub fn nodes_in_pre_order(t: &[u8], m: Map) -> bool
-    requires { ⌜ Ruled (now t) m ⌝ }
-    ensures { λ r. ⌜ r ≡ nodesInPreOrder (now (t .entry)) ⌝ }
+pub fn nodes_in_pre_order(tree: &[u8], m: Map) -> bool
+    requires { ⌜ Ruled (now tree) m ⌝ }
+    ensures { λ r. ⌜ r ≡ nodesInPreOrder (now (tree .entry)) ⌝ }
 {
     let count = m.nodes.count;
     if count == 0 {
         return false;
     }
-    if !all_follow(t, m) {
+    if !all_follow(tree, m) {
         return false;
     }
-    end_of(t, m, 0) == count
+    end_of(tree, m, 0) == count
 }

@@ -79,73 +79,73 @@ pub struct Step {
     pub of: u16,
 }
 
-pub fn node_kind(t: &[u8], m: Map, k: usize) -> u8
-    requires { ⌜ Mapped (now t) m × (k < m .nodes .count) ⌝ }
-    ensures { λ r. ⌜ r ≡ nodeKind (now (t .entry)) k ⌝ }
+pub fn node_kind(tree: &[u8], m: Map, k: usize) -> u8
+    requires { ⌜ Mapped (now tree) m × (k < m .nodes .count) ⌝ }
+    ensures { λ r. ⌜ r ≡ nodeKind (now (tree .entry)) k ⌝ }
 {
-    t[NODE_SIZE * k]
+    tree[NODE_SIZE * k]
 }
 
-pub fn node_zero(t: &[u8], m: Map, k: usize) -> u8
-    requires { ⌜ Mapped (now t) m × (k < m .nodes .count) ⌝ }
-    ensures { λ r. ⌜ r ≡ nodeZero (now (t .entry)) k ⌝ }
+pub fn node_zero(tree: &[u8], m: Map, k: usize) -> u8
+    requires { ⌜ Mapped (now tree) m × (k < m .nodes .count) ⌝ }
+    ensures { λ r. ⌜ r ≡ nodeZero (now (tree .entry)) k ⌝ }
 {
-    t[NODE_SIZE * k + 1]
+    tree[NODE_SIZE * k + 1]
 }
 
 // The node's word i of five.
-pub fn node_word(t: &[u8], m: Map, k: usize, i: usize) -> u16
-    requires { ⌜ Mapped (now t) m × (k < m .nodes .count) × (i < 5) ⌝ }
-    ensures { λ r. ⌜ r ≡ nodeWord (now (t .entry)) k i ⌝ }
+pub fn node_word(tree: &[u8], m: Map, k: usize, i: usize) -> u16
+    requires { ⌜ Mapped (now tree) m × (k < m .nodes .count) × (i < 5) ⌝ }
+    ensures { λ r. ⌜ r ≡ nodeWord (now (tree .entry)) k i ⌝ }
 {
-    word_at(t, NODE_SIZE * k + 2 + 2 * i)
+    word_at(tree, NODE_SIZE * k + 2 + 2 * i)
 }
 
-pub fn case_kind(t: &[u8], m: Map, i: usize) -> u8
-    requires { ⌜ Mapped (now t) m × (i < m .cases .count) ⌝ }
-    ensures { λ r. ⌜ r ≡ caseKind (now (t .entry)) i ⌝ }
+pub fn case_kind(tree: &[u8], m: Map, i: usize) -> u8
+    requires { ⌜ Mapped (now tree) m × (i < m .cases .count) ⌝ }
+    ensures { λ r. ⌜ r ≡ caseKind (now (tree .entry)) i ⌝ }
 {
     let at = m.cases.start + CASE_SIZE * i;
-    t[at]
+    tree[at]
 }
 
-pub fn case_zero(t: &[u8], m: Map, i: usize) -> u8
-    requires { ⌜ Mapped (now t) m × (i < m .cases .count) ⌝ }
-    ensures { λ r. ⌜ r ≡ caseZero (now (t .entry)) i ⌝ }
+pub fn case_zero(tree: &[u8], m: Map, i: usize) -> u8
+    requires { ⌜ Mapped (now tree) m × (i < m .cases .count) ⌝ }
+    ensures { λ r. ⌜ r ≡ caseZero (now (tree .entry)) i ⌝ }
 {
     let at = m.cases.start + CASE_SIZE * i + 1;
-    t[at]
+    tree[at]
 }
 
-pub fn case_number(t: &[u8], m: Map, i: usize) -> u16
-    requires { ⌜ Mapped (now t) m × (i < m .cases .count) ⌝ }
-    ensures { λ r. ⌜ r ≡ caseNumber (now (t .entry)) i ⌝ }
+pub fn case_number(tree: &[u8], m: Map, i: usize) -> u16
+    requires { ⌜ Mapped (now tree) m × (i < m .cases .count) ⌝ }
+    ensures { λ r. ⌜ r ≡ caseNumber (now (tree .entry)) i ⌝ }
 {
-    word_at(t, m.cases.start + CASE_SIZE * i + 2)
+    word_at(tree, m.cases.start + CASE_SIZE * i + 2)
 }
 
-pub fn case_length(t: &[u8], m: Map, i: usize) -> u16
-    requires { ⌜ Mapped (now t) m × (i < m .cases .count) ⌝ }
-    ensures { λ r. ⌜ r ≡ caseLength (now (t .entry)) i ⌝ }
+pub fn case_length(tree: &[u8], m: Map, i: usize) -> u16
+    requires { ⌜ Mapped (now tree) m × (i < m .cases .count) ⌝ }
+    ensures { λ r. ⌜ r ≡ caseLength (now (tree .entry)) i ⌝ }
 {
-    word_at(t, m.cases.start + CASE_SIZE * i + 4)
+    word_at(tree, m.cases.start + CASE_SIZE * i + 4)
 }
 
-pub fn case_child(t: &[u8], m: Map, i: usize) -> u16
-    requires { ⌜ Mapped (now t) m × (i < m .cases .count) ⌝ }
-    ensures { λ r. ⌜ r ≡ caseChild (now (t .entry)) i ⌝ }
+pub fn case_child(tree: &[u8], m: Map, i: usize) -> u16
+    requires { ⌜ Mapped (now tree) m × (i < m .cases .count) ⌝ }
+    ensures { λ r. ⌜ r ≡ caseChild (now (tree .entry)) i ⌝ }
 {
-    word_at(t, m.cases.start + CASE_SIZE * i + 6)
+    word_at(tree, m.cases.start + CASE_SIZE * i + 6)
 }
 
 // What case i asks; its kind is known.
-pub fn test_at(t: &[u8], m: Map, i: usize) -> Test
-    requires { ⌜ Mapped (now t) m × (i < m .cases .count) × (caseKind (now t) i ≤ 4) ⌝ }
-    ensures { λ r. ⌜ r ≡ testOf (now (t .entry)) i ⌝ }
+pub fn test_at(tree: &[u8], m: Map, i: usize) -> Test
+    requires { ⌜ Mapped (now tree) m × (i < m .cases .count) × (caseKind (now tree) i ≤ 4) ⌝ }
+    ensures { λ r. ⌜ r ≡ testOf (now (tree .entry)) i ⌝ }
 {
-    let kind = case_kind(t, m, i);
-    let a = case_number(t, m, i);
-    let b = case_length(t, m, i);
+    let kind = case_kind(tree, m, i);
+    let a = case_number(tree, m, i);
+    let b = case_length(tree, m, i);
     match kind {
         0 => Test::Constr(a),
         1 => Test::Text {
@@ -164,112 +164,112 @@ pub fn test_at(t: &[u8], m: Map, i: usize) -> Test
 }
 
 // Case i, of a known kind.
-pub fn case_at(t: &[u8], m: Map, i: usize) -> Case
-    requires { ⌜ Mapped (now t) m × (i < m .cases .count) × (caseKind (now t) i ≤ 4) ⌝ }
-    ensures { λ r. ⌜ r ≡ caseOf (now (t .entry)) i ⌝ }
+pub fn case_at(tree: &[u8], m: Map, i: usize) -> Case
+    requires { ⌜ Mapped (now tree) m × (i < m .cases .count) × (caseKind (now tree) i ≤ 4) ⌝ }
+    ensures { λ r. ⌜ r ≡ caseOf (now (tree .entry)) i ⌝ }
 {
-    let test = test_at(t, m, i);
-    let child = case_child(t, m, i);
+    let test = test_at(tree, m, i);
+    let child = case_child(tree, m, i);
     Case { test, child }
 }
 
-fn switch_at(t: &[u8], m: Map, k: usize) -> Node
-    requires { ⌜ Ruled (now t) m × (k < m .nodes .count) × (nodeKind (now t) k ≡ 0) ⌝ }
-    ensures { λ r. ⌜ r ≡ nodeOf (now (t .entry)) k ⌝ }
+fn switch_at(tree: &[u8], m: Map, k: usize) -> Node
+    requires { ⌜ Ruled (now tree) m × (k < m .nodes .count) × (nodeKind (now tree) k ≡ 0) ⌝ }
+    ensures { λ r. ⌜ r ≡ nodeOf (now (tree .entry)) k ⌝ }
 {
-    let first = node_word(t, m, k, 1);
+    let first = node_word(tree, m, k, 1);
     Node::Switch {
-        path: node_word(t, m, k, 0),
+        path: node_word(tree, m, k, 0),
         first,
-        cases: node_word(t, m, k, 2),
-        default: node_word(t, m, k, 4),
-        test: test_at(t, m, first as usize),
+        cases: node_word(tree, m, k, 2),
+        default: node_word(tree, m, k, 4),
+        test: test_at(tree, m, first as usize),
     }
 }
 
 // Each kind reads its own words: a walk passes most nodes for one of them.
-pub fn node_at(t: &[u8], m: Map, k: usize) -> Node
-    requires { ⌜ Ruled (now t) m × (k < m .nodes .count) ⌝ }
-    ensures { λ r. ⌜ r ≡ nodeOf (now (t .entry)) k ⌝ }
+pub fn node_at(tree: &[u8], m: Map, k: usize) -> Node
+    requires { ⌜ Ruled (now tree) m × (k < m .nodes .count) ⌝ }
+    ensures { λ r. ⌜ r ≡ nodeOf (now (tree .entry)) k ⌝ }
 {
-    let kind = node_kind(t, m, k);
+    let kind = node_kind(tree, m, k);
     match kind {
-        0 => switch_at(t, m, k),
+        0 => switch_at(tree, m, k),
         1 => Node::ListSwitch {
-            path: node_word(t, m, k, 0),
-            first: node_word(t, m, k, 1),
-            cases: node_word(t, m, k, 2),
-            tails: node_word(t, m, k, 3),
-            default: node_word(t, m, k, 4),
+            path: node_word(tree, m, k, 0),
+            first: node_word(tree, m, k, 1),
+            cases: node_word(tree, m, k, 2),
+            tails: node_word(tree, m, k, 3),
+            default: node_word(tree, m, k, 4),
         },
         2 => Node::Leaf {
-            clause: node_word(t, m, k, 0),
-            first: node_word(t, m, k, 1),
-            count: node_word(t, m, k, 2),
+            clause: node_word(tree, m, k, 0),
+            first: node_word(tree, m, k, 1),
+            count: node_word(tree, m, k, 2),
         },
         _ => Node::Hoist {
-            clause: node_word(t, m, k, 0),
-            first: node_word(t, m, k, 1),
-            count: node_word(t, m, k, 2),
-            child: node_word(t, m, k, 3),
+            clause: node_word(tree, m, k, 0),
+            first: node_word(tree, m, k, 1),
+            count: node_word(tree, m, k, 2),
+            child: node_word(tree, m, k, 3),
         },
     }
 }
 
-pub fn binding_at(t: &[u8], m: Map, b: usize) -> Binding
-    requires { ⌜ Mapped (now t) m × (b < m .bindings .count) ⌝ }
-    ensures { λ r. ⌜ r ≡ bindingOf (now (t .entry)) b ⌝ }
+pub fn binding_at(tree: &[u8], m: Map, b: usize) -> Binding
+    requires { ⌜ Mapped (now tree) m × (b < m .bindings .count) ⌝ }
+    ensures { λ r. ⌜ r ≡ bindingOf (now (tree .entry)) b ⌝ }
 {
     let at = m.bindings.start + BINDING_SIZE * b;
-    let name = word_at(t, at);
-    let path = word_at(t, at + 2);
+    let name = word_at(tree, at);
+    let path = word_at(tree, at + 2);
     Binding { name, path }
 }
 
 // Path p, by the start of the paths alone: a caller who hands on no more of the map stores no more of it.
-pub fn path_from(t: &[u8], start: usize, p: usize) -> Path
-    requires { ⌜ Mapped (now t) (mapOf (now t)) × (start ≡ pathsAt (now t)) × (p < paths (now t)) ⌝ }
-    ensures { λ r. ⌜ r ≡ pathOf (now (t .entry)) p ⌝ }
+pub fn path_from(tree: &[u8], start: usize, p: usize) -> Path
+    requires { ⌜ Mapped (now tree) (mapOf (now tree)) × (start ≡ pathsAt (now tree)) × (p < paths (now tree)) ⌝ }
+    ensures { λ r. ⌜ r ≡ pathOf (now (tree .entry)) p ⌝ }
 {
     let at = start + PATH_SIZE * p;
-    let first = word_at(t, at);
-    let count = word_at(t, at + 2);
+    let first = word_at(tree, at);
+    let count = word_at(tree, at + 2);
     Path { first, count }
 }
 
-pub fn path_at(t: &[u8], m: Map, p: usize) -> Path
-    requires { ⌜ Mapped (now t) m × (p < m .paths .count) ⌝ }
-    ensures { λ r. ⌜ r ≡ pathOf (now (t .entry)) p ⌝ }
+pub fn path_at(tree: &[u8], m: Map, p: usize) -> Path
+    requires { ⌜ Mapped (now tree) m × (p < m .paths .count) ⌝ }
+    ensures { λ r. ⌜ r ≡ pathOf (now (tree .entry)) p ⌝ }
 {
-    path_from(t, m.paths.start, p)
+    path_from(tree, m.paths.start, p)
 }
 
-pub fn step_kind(t: &[u8], m: Map, i: usize) -> u8
-    requires { ⌜ Mapped (now t) m × (i < m .steps .count) ⌝ }
-    ensures { λ r. ⌜ r ≡ stepKind (now (t .entry)) i ⌝ }
+pub fn step_kind(tree: &[u8], m: Map, i: usize) -> u8
+    requires { ⌜ Mapped (now tree) m × (i < m .steps .count) ⌝ }
+    ensures { λ r. ⌜ r ≡ stepKind (now (tree .entry)) i ⌝ }
 {
     let at = m.steps.start + STEP_SIZE * i;
-    t[at]
+    tree[at]
 }
 
-pub fn step_flag(t: &[u8], m: Map, i: usize) -> u8
-    requires { ⌜ Mapped (now t) m × (i < m .steps .count) ⌝ }
-    ensures { λ r. ⌜ r ≡ stepFlag (now (t .entry)) i ⌝ }
+pub fn step_flag(tree: &[u8], m: Map, i: usize) -> u8
+    requires { ⌜ Mapped (now tree) m × (i < m .steps .count) ⌝ }
+    ensures { λ r. ⌜ r ≡ stepFlag (now (tree .entry)) i ⌝ }
 {
     let at = m.steps.start + STEP_SIZE * i + 1;
-    t[at]
+    tree[at]
 }
 
 // Step i, by the start of the steps alone.
-pub fn step_from(t: &[u8], start: usize, i: usize) -> Step
-    requires { ⌜ Mapped (now t) (mapOf (now t)) × (start ≡ stepsAt (now t)) × (i < steps (now t)) ⌝ }
-    ensures { λ r. ⌜ r ≡ stepOf (now (t .entry)) i ⌝ }
+pub fn step_from(tree: &[u8], start: usize, i: usize) -> Step
+    requires { ⌜ Mapped (now tree) (mapOf (now tree)) × (start ≡ stepsAt (now tree)) × (i < steps (now tree)) ⌝ }
+    ensures { λ r. ⌜ r ≡ stepOf (now (tree .entry)) i ⌝ }
 {
     let at = start + STEP_SIZE * i;
-    let kind = t[at];
-    let flag = t[at + 1];
-    let index = word_at(t, at + 2);
-    let of = word_at(t, at + 4);
+    let kind = tree[at];
+    let flag = tree[at + 1];
+    let index = word_at(tree, at + 2);
+    let of = word_at(tree, at + 4);
     Step {
         kind,
         flag,
@@ -278,9 +278,9 @@ pub fn step_from(t: &[u8], start: usize, i: usize) -> Step
     }
 }
 
-pub fn step_at(t: &[u8], m: Map, i: usize) -> Step
-    requires { ⌜ Mapped (now t) m × (i < m .steps .count) ⌝ }
-    ensures { λ r. ⌜ r ≡ stepOf (now (t .entry)) i ⌝ }
+pub fn step_at(tree: &[u8], m: Map, i: usize) -> Step
+    requires { ⌜ Mapped (now tree) m × (i < m .steps .count) ⌝ }
+    ensures { λ r. ⌜ r ≡ stepOf (now (tree .entry)) i ⌝ }
 {
-    step_from(t, m.steps.start, i)
+    step_from(tree, m.steps.start, i)
 }

@@ -41,15 +41,15 @@ fn run_in(first: usize, count: usize, n: usize) -> bool
 
 // ---- nodes
 
-fn switch_parts(t: &[u8], m: Map, k: usize) -> bool
-    requires { ⌜ Mapped (now t) m × (k < m .nodes .count) ⌝ }
-    ensures { λ r. ⌜ r ≡ switchParts (now (t .entry)) k ⌝ }
+fn switch_parts(tree: &[u8], m: Map, k: usize) -> bool
+    requires { ⌜ Mapped (now tree) m × (k < m .nodes .count) ⌝ }
+    ensures { λ r. ⌜ r ≡ switchParts (now (tree .entry)) k ⌝ }
 {
-    let path = node_word(t, m, k, 0) as usize;
-    let first = node_word(t, m, k, 1) as usize;
-    let cases = node_word(t, m, k, 2) as usize;
-    let tails = node_word(t, m, k, 3) as usize;
-    let default = node_word(t, m, k, 4) as usize;
+    let path = node_word(tree, m, k, 0) as usize;
+    let first = node_word(tree, m, k, 1) as usize;
+    let cases = node_word(tree, m, k, 2) as usize;
+    let tails = node_word(tree, m, k, 3) as usize;
+    let default = node_word(tree, m, k, 4) as usize;
     if m.paths.count <= path {
         return false;
     }
@@ -60,13 +60,13 @@ fn switch_parts(t: &[u8], m: Map, k: usize) -> bool
 }
 
 // Each of the n cases from i on is of this kind.
-fn cases_of_kind(t: &[u8], m: Map, kind: u8, i: usize, n: usize) -> bool
-    requires { ⌜ Mapped (now t) m × (i + n ≤ m .cases .count) ⌝ }
-    ensures { λ r. ⌜ r ≡ every (isKind (now (t .entry)) kind) i n ⌝ }
+fn cases_of_kind(tree: &[u8], m: Map, kind: u8, i: usize, n: usize) -> bool
+    requires { ⌜ Mapped (now tree) m × (i + n ≤ m .cases .count) ⌝ }
+    ensures { λ r. ⌜ r ≡ every (isKind (now (tree .entry)) kind) i n ⌝ }
 {
     let mut j = 0;
     while j < n {
-        if case_kind(t, m, i + j) != kind {
+        if case_kind(tree, m, i + j) != kind {
             return false;
         }
         j += 1;
@@ -74,124 +74,124 @@ fn cases_of_kind(t: &[u8], m: Map, kind: u8, i: usize, n: usize) -> bool
     true
 }
 
-fn switch_cases(t: &[u8], m: Map, k: usize) -> bool
-    requires { ⌜ Mapped (now t) m × (k < m .nodes .count) × (switchParts (now t) k ≡ true) ⌝ }
-    ensures { λ r. ⌜ r ≡ switchCases (now (t .entry)) k ⌝ }
+fn switch_cases(tree: &[u8], m: Map, k: usize) -> bool
+    requires { ⌜ Mapped (now tree) m × (k < m .nodes .count) × (switchParts (now tree) k ≡ true) ⌝ }
+    ensures { λ r. ⌜ r ≡ switchCases (now (tree .entry)) k ⌝ }
 {
-    let first = node_word(t, m, k, 1) as usize;
-    let cases = node_word(t, m, k, 2) as usize;
-    let tails = node_word(t, m, k, 3) as usize;
+    let first = node_word(tree, m, k, 1) as usize;
+    let cases = node_word(tree, m, k, 2) as usize;
+    let tails = node_word(tree, m, k, 3) as usize;
     if cases < 1 {
         return false;
     }
     if tails != 0 {
         return false;
     }
-    let kind = case_kind(t, m, first);
+    let kind = case_kind(tree, m, first);
     if 2 < kind {
         return false;
     }
-    cases_of_kind(t, m, kind, first, cases)
+    cases_of_kind(tree, m, kind, first, cases)
 }
 
-fn list_switch_cases(t: &[u8], m: Map, k: usize) -> bool
-    requires { ⌜ Mapped (now t) m × (k < m .nodes .count) × (switchParts (now t) k ≡ true) ⌝ }
-    ensures { λ r. ⌜ r ≡ listSwitchCases (now (t .entry)) k ⌝ }
+fn list_switch_cases(tree: &[u8], m: Map, k: usize) -> bool
+    requires { ⌜ Mapped (now tree) m × (k < m .nodes .count) × (switchParts (now tree) k ≡ true) ⌝ }
+    ensures { λ r. ⌜ r ≡ listSwitchCases (now (tree .entry)) k ⌝ }
 {
-    let first = node_word(t, m, k, 1) as usize;
-    let cases = node_word(t, m, k, 2) as usize;
-    let tails = node_word(t, m, k, 3) as usize;
+    let first = node_word(tree, m, k, 1) as usize;
+    let cases = node_word(tree, m, k, 2) as usize;
+    let tails = node_word(tree, m, k, 3) as usize;
     if cases + tails < 1 {
         return false;
     }
-    if !cases_of_kind(t, m, 3, first, cases) {
+    if !cases_of_kind(tree, m, 3, first, cases) {
         return false;
     }
-    cases_of_kind(t, m, 4, first + cases, tails)
+    cases_of_kind(tree, m, 4, first + cases, tails)
 }
 
-fn binding_parts(t: &[u8], m: Map, k: usize) -> bool
-    requires { ⌜ Mapped (now t) m × (k < m .nodes .count) ⌝ }
-    ensures { λ r. ⌜ r ≡ bindingParts (now (t .entry)) k ⌝ }
+fn binding_parts(tree: &[u8], m: Map, k: usize) -> bool
+    requires { ⌜ Mapped (now tree) m × (k < m .nodes .count) ⌝ }
+    ensures { λ r. ⌜ r ≡ bindingParts (now (tree .entry)) k ⌝ }
 {
-    let first = node_word(t, m, k, 1) as usize;
-    let count = node_word(t, m, k, 2) as usize;
+    let first = node_word(tree, m, k, 1) as usize;
+    let count = node_word(tree, m, k, 2) as usize;
     if NODE_BINDINGS_MOST < count {
         return false;
     }
     run_in(first, count, m.bindings.count)
 }
 
-fn switch_keeps_rules(t: &[u8], m: Map, k: usize) -> bool
-    requires { ⌜ Mapped (now t) m × (k < m .nodes .count) ⌝ }
-    ensures { λ r. ⌜ r ≡ nodeOfKind (now (t .entry)) k Switch ⌝ }
+fn switch_keeps_rules(tree: &[u8], m: Map, k: usize) -> bool
+    requires { ⌜ Mapped (now tree) m × (k < m .nodes .count) ⌝ }
+    ensures { λ r. ⌜ r ≡ nodeOfKind (now (tree .entry)) k Switch ⌝ }
 {
-    if !switch_parts(t, m, k) {
+    if !switch_parts(tree, m, k) {
         return false;
     }
-    switch_cases(t, m, k)
+    switch_cases(tree, m, k)
 }
 
-fn list_switch_keeps_rules(t: &[u8], m: Map, k: usize) -> bool
-    requires { ⌜ Mapped (now t) m × (k < m .nodes .count) ⌝ }
-    ensures { λ r. ⌜ r ≡ nodeOfKind (now (t .entry)) k List-switch ⌝ }
+fn list_switch_keeps_rules(tree: &[u8], m: Map, k: usize) -> bool
+    requires { ⌜ Mapped (now tree) m × (k < m .nodes .count) ⌝ }
+    ensures { λ r. ⌜ r ≡ nodeOfKind (now (tree .entry)) k List-switch ⌝ }
 {
-    if !switch_parts(t, m, k) {
+    if !switch_parts(tree, m, k) {
         return false;
     }
-    list_switch_cases(t, m, k)
+    list_switch_cases(tree, m, k)
 }
 
-fn leaf_keeps_rules(t: &[u8], m: Map, k: usize) -> bool
-    requires { ⌜ Mapped (now t) m × (k < m .nodes .count) ⌝ }
-    ensures { λ r. ⌜ r ≡ nodeOfKind (now (t .entry)) k Leaf ⌝ }
+fn leaf_keeps_rules(tree: &[u8], m: Map, k: usize) -> bool
+    requires { ⌜ Mapped (now tree) m × (k < m .nodes .count) ⌝ }
+    ensures { λ r. ⌜ r ≡ nodeOfKind (now (tree .entry)) k Leaf ⌝ }
 {
-    if !binding_parts(t, m, k) {
+    if !binding_parts(tree, m, k) {
         return false;
     }
-    if node_word(t, m, k, 3) != 0 {
+    if node_word(tree, m, k, 3) != 0 {
         return false;
     }
-    node_word(t, m, k, 4) == 0
+    node_word(tree, m, k, 4) == 0
 }
 
-fn hoist_keeps_rules(t: &[u8], m: Map, k: usize) -> bool
-    requires { ⌜ Mapped (now t) m × (k < m .nodes .count) ⌝ }
-    ensures { λ r. ⌜ r ≡ nodeOfKind (now (t .entry)) k Hoist-node ⌝ }
+fn hoist_keeps_rules(tree: &[u8], m: Map, k: usize) -> bool
+    requires { ⌜ Mapped (now tree) m × (k < m .nodes .count) ⌝ }
+    ensures { λ r. ⌜ r ≡ nodeOfKind (now (tree .entry)) k Hoist-node ⌝ }
 {
-    if !binding_parts(t, m, k) {
+    if !binding_parts(tree, m, k) {
         return false;
     }
-    let child = node_word(t, m, k, 3) as usize;
+    let child = node_word(tree, m, k, 3) as usize;
     if m.nodes.count <= child {
         return false;
     }
-    node_word(t, m, k, 4) == 0
+    node_word(tree, m, k, 4) == 0
 }
 
-fn node_keeps_rules(t: &[u8], m: Map, k: usize) -> bool
-    requires { ⌜ Mapped (now t) m × (k < m .nodes .count) ⌝ }
-    ensures { λ r. ⌜ r ≡ nodeKeepsRules (now (t .entry)) k ⌝ }
+fn node_keeps_rules(tree: &[u8], m: Map, k: usize) -> bool
+    requires { ⌜ Mapped (now tree) m × (k < m .nodes .count) ⌝ }
+    ensures { λ r. ⌜ r ≡ nodeKeepsRules (now (tree .entry)) k ⌝ }
 {
-    if node_zero(t, m, k) != 0 {
+    if node_zero(tree, m, k) != 0 {
         return false;
     }
-    match node_kind(t, m, k) {
-        0 => switch_keeps_rules(t, m, k),
-        1 => list_switch_keeps_rules(t, m, k),
-        2 => leaf_keeps_rules(t, m, k),
-        3 => hoist_keeps_rules(t, m, k),
+    match node_kind(tree, m, k) {
+        0 => switch_keeps_rules(tree, m, k),
+        1 => list_switch_keeps_rules(tree, m, k),
+        2 => leaf_keeps_rules(tree, m, k),
+        3 => hoist_keeps_rules(tree, m, k),
         _ => false,
     }
 }
 
-pub fn nodes_keep_rules(t: &[u8], m: Map) -> bool
-    requires { ⌜ Mapped (now t) m ⌝ }
-    ensures { λ r. ⌜ r ≡ every (nodeKeepsRules (now (t .entry))) 0 (m .nodes .count) ⌝ }
+pub fn nodes_keep_rules(tree: &[u8], m: Map) -> bool
+    requires { ⌜ Mapped (now tree) m ⌝ }
+    ensures { λ r. ⌜ r ≡ every (nodeKeepsRules (now (tree .entry))) 0 (m .nodes .count) ⌝ }
 {
     let mut k = 0;
     while k < m.nodes.count {
-        if !node_keeps_rules(t, m, k) {
+        if !node_keeps_rules(tree, m, k) {
             return false;
         }
         k += 1;
@@ -201,13 +201,13 @@ pub fn nodes_keep_rules(t: &[u8], m: Map) -> bool
 
 // ---- cases
 
-fn case_of_kind(t: &[u8], m: Map, i: usize) -> bool
-    requires { ⌜ Mapped (now t) m × (i < m .cases .count) ⌝ }
-    ensures { λ r. ⌜ r ≡ caseOfKind (now (t .entry)) i (caseKindOf (caseKind (now (t .entry)) i)) ⌝ }
+fn case_of_kind(tree: &[u8], m: Map, i: usize) -> bool
+    requires { ⌜ Mapped (now tree) m × (i < m .cases .count) ⌝ }
+    ensures { λ r. ⌜ r ≡ caseOfKind (now (tree .entry)) i (caseKindOf (caseKind (now (tree .entry)) i)) ⌝ }
 {
-    let number = case_number(t, m, i) as usize;
-    let length = case_length(t, m, i) as usize;
-    match case_kind(t, m, i) {
+    let number = case_number(tree, m, i) as usize;
+    let length = case_length(tree, m, i) as usize;
+    match case_kind(tree, m, i) {
         0 => length == 0,
         1 => run_in(number, length, m.pool.count),
         2 => run_in(number, length, m.pool.count),
@@ -217,27 +217,27 @@ fn case_of_kind(t: &[u8], m: Map, i: usize) -> bool
     }
 }
 
-fn case_keeps_rules(t: &[u8], m: Map, i: usize) -> bool
-    requires { ⌜ Mapped (now t) m × (i < m .cases .count) ⌝ }
-    ensures { λ r. ⌜ r ≡ caseKeepsRules (now (t .entry)) i ⌝ }
+fn case_keeps_rules(tree: &[u8], m: Map, i: usize) -> bool
+    requires { ⌜ Mapped (now tree) m × (i < m .cases .count) ⌝ }
+    ensures { λ r. ⌜ r ≡ caseKeepsRules (now (tree .entry)) i ⌝ }
 {
-    if case_zero(t, m, i) != 0 {
+    if case_zero(tree, m, i) != 0 {
         return false;
     }
-    if !case_of_kind(t, m, i) {
+    if !case_of_kind(tree, m, i) {
         return false;
     }
-    let child = case_child(t, m, i) as usize;
+    let child = case_child(tree, m, i) as usize;
     child < m.nodes.count
 }
 
-pub fn cases_keep_rules(t: &[u8], m: Map) -> bool
-    requires { ⌜ Mapped (now t) m ⌝ }
-    ensures { λ r. ⌜ r ≡ every (caseKeepsRules (now (t .entry))) 0 (m .cases .count) ⌝ }
+pub fn cases_keep_rules(tree: &[u8], m: Map) -> bool
+    requires { ⌜ Mapped (now tree) m ⌝ }
+    ensures { λ r. ⌜ r ≡ every (caseKeepsRules (now (tree .entry))) 0 (m .cases .count) ⌝ }
 {
     let mut i = 0;
     while i < m.cases.count {
-        if !case_keeps_rules(t, m, i) {
+        if !case_keeps_rules(tree, m, i) {
             return false;
         }
         i += 1;
@@ -247,22 +247,22 @@ pub fn cases_keep_rules(t: &[u8], m: Map) -> bool
 
 // ---- bindings, paths and steps
 
-fn binding_keeps_rules(t: &[u8], m: Map, b: usize) -> bool
-    requires { ⌜ Mapped (now t) m × (b < m .bindings .count) ⌝ }
-    ensures { λ r. ⌜ r ≡ bindingKeepsRules (now (t .entry)) b ⌝ }
+fn binding_keeps_rules(tree: &[u8], m: Map, b: usize) -> bool
+    requires { ⌜ Mapped (now tree) m × (b < m .bindings .count) ⌝ }
+    ensures { λ r. ⌜ r ≡ bindingKeepsRules (now (tree .entry)) b ⌝ }
 {
-    let binding = binding_at(t, m, b);
+    let binding = binding_at(tree, m, b);
     let path = binding.path as usize;
     path < m.paths.count
 }
 
-pub fn bindings_keep_rules(t: &[u8], m: Map) -> bool
-    requires { ⌜ Mapped (now t) m ⌝ }
-    ensures { λ r. ⌜ r ≡ every (bindingKeepsRules (now (t .entry))) 0 (m .bindings .count) ⌝ }
+pub fn bindings_keep_rules(tree: &[u8], m: Map) -> bool
+    requires { ⌜ Mapped (now tree) m ⌝ }
+    ensures { λ r. ⌜ r ≡ every (bindingKeepsRules (now (tree .entry))) 0 (m .bindings .count) ⌝ }
 {
     let mut b = 0;
     while b < m.bindings.count {
-        if !binding_keeps_rules(t, m, b) {
+        if !binding_keeps_rules(tree, m, b) {
             return false;
         }
         b += 1;
@@ -270,23 +270,23 @@ pub fn bindings_keep_rules(t: &[u8], m: Map) -> bool
     true
 }
 
-fn path_keeps_rules(t: &[u8], m: Map, p: usize) -> bool
-    requires { ⌜ Mapped (now t) m × (p < m .paths .count) ⌝ }
-    ensures { λ r. ⌜ r ≡ pathKeepsRules (now (t .entry)) p ⌝ }
+fn path_keeps_rules(tree: &[u8], m: Map, p: usize) -> bool
+    requires { ⌜ Mapped (now tree) m × (p < m .paths .count) ⌝ }
+    ensures { λ r. ⌜ r ≡ pathKeepsRules (now (tree .entry)) p ⌝ }
 {
-    let path = path_at(t, m, p);
+    let path = path_at(tree, m, p);
     let first = path.first as usize;
     let count = path.count as usize;
     run_in(first, count, m.steps.count)
 }
 
-pub fn paths_keep_rules(t: &[u8], m: Map) -> bool
-    requires { ⌜ Mapped (now t) m ⌝ }
-    ensures { λ r. ⌜ r ≡ every (pathKeepsRules (now (t .entry))) 0 (m .paths .count) ⌝ }
+pub fn paths_keep_rules(tree: &[u8], m: Map) -> bool
+    requires { ⌜ Mapped (now tree) m ⌝ }
+    ensures { λ r. ⌜ r ≡ every (pathKeepsRules (now (tree .entry))) 0 (m .paths .count) ⌝ }
 {
     let mut p = 0;
     while p < m.paths.count {
-        if !path_keeps_rules(t, m, p) {
+        if !path_keeps_rules(tree, m, p) {
             return false;
         }
         p += 1;
@@ -294,12 +294,12 @@ pub fn paths_keep_rules(t: &[u8], m: Map) -> bool
     true
 }
 
-fn step_keeps_rules(t: &[u8], m: Map, i: usize) -> bool
-    requires { ⌜ Mapped (now t) m × (i < m .steps .count) ⌝ }
-    ensures { λ r. ⌜ r ≡ stepKeepsRules (now (t .entry)) i ⌝ }
+fn step_keeps_rules(tree: &[u8], m: Map, i: usize) -> bool
+    requires { ⌜ Mapped (now tree) m × (i < m .steps .count) ⌝ }
+    ensures { λ r. ⌜ r ≡ stepKeepsRules (now (tree .entry)) i ⌝ }
 {
-    let kind = step_kind(t, m, i);
-    let flag = step_flag(t, m, i);
+    let kind = step_kind(tree, m, i);
+    let flag = step_flag(tree, m, i);
     if 4 < kind {
         return false;
     }
@@ -312,13 +312,13 @@ fn step_keeps_rules(t: &[u8], m: Map, i: usize) -> bool
     kind == 2
 }
 
-pub fn steps_keep_rules(t: &[u8], m: Map) -> bool
-    requires { ⌜ Mapped (now t) m ⌝ }
-    ensures { λ r. ⌜ r ≡ every (stepKeepsRules (now (t .entry))) 0 (m .steps .count) ⌝ }
+pub fn steps_keep_rules(tree: &[u8], m: Map) -> bool
+    requires { ⌜ Mapped (now tree) m ⌝ }
+    ensures { λ r. ⌜ r ≡ every (stepKeepsRules (now (tree .entry))) 0 (m .steps .count) ⌝ }
 {
     let mut i = 0;
     while i < m.steps.count {
-        if !step_keeps_rules(t, m, i) {
+        if !step_keeps_rules(tree, m, i) {
             return false;
         }
         i += 1;

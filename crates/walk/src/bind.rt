@@ -27,7 +27,7 @@ fn put_bound(bound: &mut [u16], at: usize, name: u16, record: u16, dropped: u16)
 
 // The `count` bindings from `first` on, written to the front of the buffer; all zero where one is stuck.
 pub fn bind(
-    t: &[u8],
+    tree: &[u8],
     m: Map,
     v: &[u8],
     n: PanelMap,
@@ -35,13 +35,13 @@ pub fn bind(
     count: usize,
     bound: &mut [u16],
 ) -> bool
-    requires { ⌜ Bindable (now t) m (now v) n × (first + count ≤ m .bindings .count) × (3 * count ≤ length (now bound)) ⌝ }
-    ensures { λ r. ⌜ Binds (now (v .entry)) (bindingsFrom (now (t .entry)) first count) (now (bound .entry)) (now (bound .exit)) r ⌝ }
+    requires { ⌜ Bindable (now tree) m (now v) n × (first + count ≤ m .bindings .count) × (3 * count ≤ length (now bound)) ⌝ }
+    ensures { λ r. ⌜ Binds (now (v .entry)) (bindingsFrom (now (tree .entry)) first count) (now (bound .entry)) (now (bound .exit)) r ⌝ }
 {
     let mut i: usize = 0;
     while i < count {
-        let b = binding_at(t, m, first + i);
-        let Found::At(p) = follow(t, m.paths.start, m.steps.start, v, n, b.path as usize) else {
+        let b = binding_at(tree, m, first + i);
+        let Found::At(p) = follow(tree, m.paths.start, m.steps.start, v, n, b.path as usize) else {
             zero_words(bound);
             return false;
         };

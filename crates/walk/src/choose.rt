@@ -11,6 +11,7 @@ ghost use mathlib.Core.Path.{_≡_};
 ghost use Prim.Native.Nat.{ℕ, _+_, _<_, _≤_, max};
 ghost use lib.ListN.{length};
 ghost use Rattle.base_words.specs.Words.{textAt, sameText};
+ghost use Rattle.spec_rules.specs.Kinds.{bytesCase, intCase, listWithTailCase};
 ghost use Rattle.spec_rules.specs.Building.{Tree};
 ghost use Rattle.spec_rules.specs.Splitting.{ListWithTail};
 ghost use Rattle.spec_rules.specs.TreeReader.{caseKind, caseText, caseChild, casesFor};
@@ -56,14 +57,14 @@ pub fn asked_by(test: Test) -> u8
 }
 
 // The first of the n cases from i on that has this number.
-pub fn numbered_case(t: &[u8], m: Map, i: usize, n: usize, number: usize) -> Chosen
-    requires { ⌜ Mapped (now t) m × (i + n ≤ m .cases .count) ⌝ }
-    ensures { λ r. ⌜ r ≡ chosenOf (firstNumbered (now (t .entry)) number i n) ⌝ }
+pub fn numbered_case(tree: &[u8], m: Map, i: usize, n: usize, number: usize) -> Chosen
+    requires { ⌜ Mapped (now tree) m × (i + n ≤ m .cases .count) ⌝ }
+    ensures { λ r. ⌜ r ≡ chosenOf (firstNumbered (now (tree .entry)) number i n) ⌝ }
 {
     let end = i + n;
     let mut j = i;
     while j < end {
-        if number == case_number(t, m, j) as usize {
+        if number == case_number(tree, m, j) as usize {
             return Chosen::At(j);
         }
         j += 1;
@@ -72,29 +73,29 @@ pub fn numbered_case(t: &[u8], m: Map, i: usize, n: usize, number: usize) -> Cho
 }
 
 // The count bytes of v from i on are a text of the tree's pool, the j-th and following, len of them.
-fn texts_same(t: &[u8], v: &[u8], i: usize, count: usize, j: usize, len: usize) -> bool
-    requires { ⌜ (i + count ≤ length (now v)) × (j + len ≤ length (now t)) ⌝ }
-    ensures { λ r. ⌜ r ≡ sameText (textAt (now (v .entry)) i count) (textAt (now (t .entry)) j len) ⌝ }
+fn texts_same(tree: &[u8], v: &[u8], i: usize, count: usize, j: usize, len: usize) -> bool
+    requires { ⌜ (i + count ≤ length (now v)) × (j + len ≤ length (now tree)) ⌝ }
+    ensures { λ r. ⌜ r ≡ sameText (textAt (now (v .entry)) i count) (textAt (now (tree .entry)) j len) ⌝ }
 {
     if count != len {
         return false;
     }
-    same_text(v, i, t, j, count)
+    same_text(v, i, tree, j, count)
 }
 
 // The count bytes of v from i on are the text of case j.
-fn is_text(t: &[u8], m: Map, v: &[u8], j: usize, i: usize, count: usize) -> bool
-    requires { ⌜ Ruled (now t) m × (j < m .cases .count) × (1 ≤ caseKind (now t) j) × (caseKind (now t) j ≤ 2) × (i + count ≤ length (now v)) ⌝ }
-    ensures { λ r. ⌜ r ≡ sameText (textAt (now (v .entry)) i count) (caseText (now (t .entry)) j) ⌝ }
+fn is_text(tree: &[u8], m: Map, v: &[u8], j: usize, i: usize, count: usize) -> bool
+    requires { ⌜ Ruled (now tree) m × (j < m .cases .count) × (intCase ≤ caseKind (now tree) j) × (caseKind (now tree) j ≤ bytesCase) × (i + count ≤ length (now v)) ⌝ }
+    ensures { λ r. ⌜ r ≡ sameText (textAt (now (v .entry)) i count) (caseText (now (tree .entry)) j) ⌝ }
 {
-    let start = case_number(t, m, j) as usize;
-    let len = case_length(t, m, j) as usize;
-    texts_same(t, v, i, count, m.pool.start + start, len)
+    let start = case_number(tree, m, j) as usize;
+    let len = case_length(tree, m, j) as usize;
+    texts_same(tree, v, i, count, m.pool.start + start, len)
 }
 
 // The first of the n cases from i on whose text is the count bytes of v from `start` on.
 pub fn text_case(
-    t: &[u8],
+    tree: &[u8],
     m: Map,
     v: &[u8],
     i: usize,
@@ -102,13 +103,13 @@ pub fn text_case(
     start: usize,
     count: usize,
 ) -> Chosen
-    requires { ⌜ Ruled (now t) m × (i + n ≤ m .cases .count) × AllText (now t) i n × (start + count ≤ length (now v)) ⌝ }
-    ensures { λ r. ⌜ r ≡ chosenOf (firstText (now (t .entry)) (textAt (now (v .entry)) start count) i n) ⌝ }
+    requires { ⌜ Ruled (now tree) m × (i + n ≤ m .cases .count) × AllText (now tree) i n × (start + count ≤ length (now v)) ⌝ }
+    ensures { λ r. ⌜ r ≡ chosenOf (firstText (now (tree .entry)) (textAt (now (v .entry)) start count) i n) ⌝ }
 {
     let end = i + n;
     let mut j = i;
     while j < end {
-        if is_text(t, m, v, j, start, count) {
+        if is_text(tree, m, v, j, start, count) {
             return Chosen::At(j);
         }
         j += 1;
@@ -131,14 +132,14 @@ fn larger(a: usize, b: usize) -> usize
 }
 
 // One more than the largest tail number not above n of the `tails` cases from i on; 0 where there is none.
-pub fn largest_tail(t: &[u8], m: Map, i: usize, tails: usize, n: usize) -> usize
-    requires { ⌜ Mapped (now t) m × (i + tails ≤ m .cases .count) × AllKind (now t) 4 i tails ⌝ }
-    ensures { λ r. ⌜ ((f : ℕ → Tree) → r ≡ largestTail n (casesFor f (now (t .entry)) i tails)) ⌝ }
+pub fn largest_tail(tree: &[u8], m: Map, i: usize, tails: usize, n: usize) -> usize
+    requires { ⌜ Mapped (now tree) m × (i + tails ≤ m .cases .count) × AllKind (now tree) listWithTailCase i tails ⌝ }
+    ensures { λ r. ⌜ ((f : ℕ → Tree) → r ≡ largestTail n (casesFor f (now (tree .entry)) i tails)) ⌝ }
 {
     let mut best: usize = 0;
     let mut j: usize = 0;
     while j < tails {
-        let k = case_number(t, m, i + j) as usize;
+        let k = case_number(tree, m, i + j) as usize;
         best = larger(best, tail_number(k, n));
         j += 1;
     }

@@ -89,11 +89,18 @@ fn take_step(v: &[u8], n: PanelMap, s: Step, p: Position) -> Found
 
 // Where path p of the tree leads from the panel's root. Of the tree's map it takes the two starts that it reads from:
 // a call stores what it hands on, and there is one for each switch and each binding.
-pub fn follow(t: &[u8], paths_at: usize, steps_at: usize, v: &[u8], n: PanelMap, p: usize) -> Found
-    requires { ⌜ Followable (now t) (now v) n × («paths_at» ≡ pathsAt (now t)) × («steps_at» ≡ stepsAt (now t)) × (p < paths (now t)) ⌝ }
-    ensures { λ r. ⌜ r ≡ foundOf (Walking·follow (now (v .entry)) (pathAt (now (t .entry)) p) panelRoot) ⌝ }
+pub fn follow(
+    tree: &[u8],
+    paths_at: usize,
+    steps_at: usize,
+    v: &[u8],
+    n: PanelMap,
+    p: usize,
+) -> Found
+    requires { ⌜ Followable (now tree) (now v) n × («paths_at» ≡ pathsAt (now tree)) × («steps_at» ≡ stepsAt (now tree)) × (p < paths (now tree)) ⌝ }
+    ensures { λ r. ⌜ r ≡ foundOf (Walking·follow (now (v .entry)) (pathAt (now (tree .entry)) p) panelRoot) ⌝ }
 {
-    let path = path_from(t, paths_at, p);
+    let path = path_from(tree, paths_at, p);
     let first = path.first as usize;
     let count = path.count as usize;
     let mut at = Position {
@@ -102,7 +109,7 @@ pub fn follow(t: &[u8], paths_at: usize, steps_at: usize, v: &[u8], n: PanelMap,
     };
     let mut k: usize = 0;
     while k < count {
-        let step = step_from(t, steps_at, first + k);
+        let step = step_from(tree, steps_at, first + k);
         let Found::At(next) = take_step(v, n, step, at) else {
             return Found::Stuck;
         };

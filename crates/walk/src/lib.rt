@@ -32,17 +32,17 @@ pub enum Walked {
 }
 
 // On a buffer that is all zero.
-fn walk_panel(t: &[u8], m: Map, v: &[u8], n: PanelMap, bound: &mut [u16]) -> Walked
-    requires { ⌜ Ready (now t) m (now v) n × (boundRoom ≤ length (now bound)) × (now bound ≡ zeros (length (now bound))) ⌝ }
-    ensures { λ r. ⌜ Gives (now (t .entry)) (now (v .entry)) (panelEnd (now (t .entry)) (now (v .entry))) (now (bound .entry)) (now (bound .exit)) r ⌝ }
+fn walk_panel(tree: &[u8], m: Map, v: &[u8], n: PanelMap, bound: &mut [u16]) -> Walked
+    requires { ⌜ Ready (now tree) m (now v) n × (boundRoom ≤ length (now bound)) × (now bound ≡ zeros (length (now bound))) ⌝ }
+    ensures { λ r. ⌜ Gives (now (tree .entry)) (now (v .entry)) (panelEnd (now (tree .entry)) (now (v .entry))) (now (bound .entry)) (now (bound .exit)) r ⌝ }
 {
-    match reach(t, m, v, n) {
+    match reach(tree, m, v, n) {
         Reached::Leaf {
             clause,
             first,
             count,
         } => {
-            if bind(t, m, v, n, first, count, bound) {
+            if bind(tree, m, v, n, first, count, bound) {
                 return Walked::Leaf {
                     clause: clause as u16,
                     count: count as u16,
@@ -61,19 +61,19 @@ fn walk_panel(t: &[u8], m: Map, v: &[u8], n: PanelMap, bound: &mut [u16]) -> Wal
     }
 }
 
-fn walk_tree(t: &[u8], m: Map, v: &[u8], bound: &mut [u16]) -> Walked
-    requires { ⌜ Accept (now t) m × (boundRoom ≤ length (now bound)) × (now bound ≡ zeros (length (now bound))) ⌝ }
-    ensures { λ r. ⌜ Gives (now (t .entry)) (now (v .entry)) (treeEnd (now (t .entry)) (now (v .entry))) (now (bound .entry)) (now (bound .exit)) r ⌝ }
+fn walk_tree(tree: &[u8], m: Map, v: &[u8], bound: &mut [u16]) -> Walked
+    requires { ⌜ Accept (now tree) m × (boundRoom ≤ length (now bound)) × (now bound ≡ zeros (length (now bound))) ⌝ }
+    ensures { λ r. ⌜ Gives (now (tree .entry)) (now (v .entry)) (treeEnd (now (tree .entry)) (now (v .entry))) (now (bound .entry)) (now (bound .exit)) r ⌝ }
 {
     match format_panel::check(v) {
-        format_panel::Checked::Accepted(n) => walk_panel(t, m, v, n, bound),
+        format_panel::Checked::Accepted(n) => walk_panel(tree, m, v, n, bound),
         format_panel::Checked::Refused { number, place } => Walked::Refused { number, place },
     }
 }
 
 // The walk call: its answer and every word of the buffer after it, for whatever tree, panel and buffer.
-pub fn walk(t: &[u8], v: &[u8], bound: &mut [u16]) -> Walked
-    ensures { λ r. ⌜ callOf r (now (bound .exit)) ≡ walkCall (now (t .entry)) (now (v .entry)) (length (now (bound .entry))) ⌝ }
+pub fn walk(tree: &[u8], v: &[u8], bound: &mut [u16]) -> Walked
+    ensures { λ r. ⌜ callOf r (now (bound .exit)) ≡ walkCall (now (tree .entry)) (now (v .entry)) (length (now (bound .entry))) ⌝ }
 {
     zero_words(bound);
     if bound.len() < BOUND_ROOM {
@@ -82,11 +82,11 @@ pub fn walk(t: &[u8], v: &[u8], bound: &mut [u16]) -> Walked
             place: 0,
         };
     }
-    let format_tree::Checked::Accepted(m) = format_tree::check(t) else {
+    let format_tree::Checked::Accepted(m) = format_tree::check(tree) else {
         return Walked::Refused {
             number: refusals::TREE,
             place: 0,
         };
     };
-    walk_tree(t, m, v, bound)
+    walk_tree(tree, m, v, bound)
 }

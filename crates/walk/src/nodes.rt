@@ -18,6 +18,7 @@ use format_tree::reading::node_at;
 ghost use mathlib.Core.Path.{_≡_};
 ghost use mathlib.Core.List.{List, _++_};
 ghost use Prim.Native.Nat.{ℕ, _+_, _<_, _≤_};
+ghost use Rattle.spec_rules.specs.Kinds.{bytesCase, listCase, listWithTailCase};
 ghost use Rattle.spec_rules.specs.TreeReader.{caseKind, caseChildren, defaultChild};
 ghost use Rattle.format_tree.specs.Reading.{Mapped, testOf};
 ghost use Rattle.walk.specs.Positions.{Ready};
@@ -62,7 +63,7 @@ fn chosen_or(tree: &[u8], map: Map, chosen: Chosen, default: u16) -> Next
 
 // The cases are all of the first one's kind, so that they are searched by a constructor's number, or by a text.
 fn from_switch(
-    t: &[u8],
+    tree: &[u8],
     m: Map,
     v: &[u8],
     n: PanelMap,
@@ -72,11 +73,11 @@ fn from_switch(
     default: u16,
     test: Test,
 ) -> Next
-    requires { ⌜ Ready (now t) m (now v) n × (path < m .paths .count) × (1 ≤ cases) × (first + cases ≤ m .cases .count) × (caseKind (now t) first ≤ 2) × AllKind (now t) (caseKind (now t) first) first cases × (test ≡ testOf (now t) first) ⌝ }
-    ensures { λ r. ⌜ Turns (now (t .entry)) (now (v .entry)) (caseChildren (now (t .entry)) first cases ++ defaultChild default) (switchWalk (now (t .entry)) (now (v .entry)) path first cases default) r ⌝ }
+    requires { ⌜ Ready (now tree) m (now v) n × (path < m .paths .count) × (1 ≤ cases) × (first + cases ≤ m .cases .count) × (caseKind (now tree) first ≤ bytesCase) × AllKind (now tree) (caseKind (now tree) first) first cases × (test ≡ testOf (now tree) first) ⌝ }
+    ensures { λ r. ⌜ Turns (now (tree .entry)) (now (v .entry)) (caseChildren (now (tree .entry)) first cases ++ defaultChild default) (switchWalk (now (tree .entry)) (now (v .entry)) path first cases default) r ⌝ }
 {
     let asked = asked_by(test);
-    let Found::At(p) = follow(t, m.paths.start, m.steps.start, v, n, path as usize) else {
+    let Found::At(p) = follow(tree, m.paths.start, m.steps.start, v, n, path as usize) else {
         return Next::End(Reached::Stuck);
     };
     let r = p.record;
@@ -85,29 +86,29 @@ fn from_switch(
         return Next::End(Reached::Stuck);
     }
     if asked == record_kinds::CONSTRUCTOR {
-        let chosen = numbered_case(t, m, first as usize, cases as usize, x.a);
-        return chosen_or(t, m, chosen, default);
+        let chosen = numbered_case(tree, m, first as usize, cases as usize, x.a);
+        return chosen_or(tree, m, chosen, default);
     }
     let start = n.pool_at + x.first;
-    let chosen = text_case(t, m, v, first as usize, cases as usize, start, x.count);
-    chosen_or(t, m, chosen, default)
+    let chosen = text_case(tree, m, v, first as usize, cases as usize, start, x.count);
+    chosen_or(tree, m, chosen, default)
 }
 
 // Past the cases of the exact length.
-fn from_tails(t: &[u8], m: Map, length: usize, first: usize, tails: usize, default: u16) -> Next
-    requires { ⌜ Mapped (now t) m × (first + tails ≤ m .cases .count) × AllKind (now t) 4 first tails ⌝ }
-    ensures { λ r. ⌜ ((v : List ℕ) → Turns (now (t .entry)) v (caseChildren (now (t .entry)) first tails ++ defaultChild default) (tailsWalk (now (t .entry)) v length first tails default) r) ⌝ }
+fn from_tails(tree: &[u8], m: Map, length: usize, first: usize, tails: usize, default: u16) -> Next
+    requires { ⌜ Mapped (now tree) m × (first + tails ≤ m .cases .count) × AllKind (now tree) listWithTailCase first tails ⌝ }
+    ensures { λ r. ⌜ ((v : List ℕ) → Turns (now (tree .entry)) v (caseChildren (now (tree .entry)) first tails ++ defaultChild default) (tailsWalk (now (tree .entry)) v length first tails default) r) ⌝ }
 {
-    let k = largest_tail(t, m, first, tails, length);
+    let k = largest_tail(tree, m, first, tails, length);
     if k == 0 {
         return default_of(default);
     }
-    let chosen = numbered_case(t, m, first, tails, k - 1);
-    chosen_or(t, m, chosen, default)
+    let chosen = numbered_case(tree, m, first, tails, k - 1);
+    chosen_or(tree, m, chosen, default)
 }
 
 fn from_length(
-    t: &[u8],
+    tree: &[u8],
     m: Map,
     length: usize,
     first: usize,
@@ -115,17 +116,17 @@ fn from_length(
     tails: usize,
     default: u16,
 ) -> Next
-    requires { ⌜ Mapped (now t) m × (first + (cases + tails) ≤ m .cases .count) × AllKind (now t) 3 first cases × AllKind (now t) 4 (first + cases) tails ⌝ }
-    ensures { λ r. ⌜ ((v : List ℕ) → Turns (now (t .entry)) v (caseChildren (now (t .entry)) first (cases + tails) ++ defaultChild default) (lengthWalk (now (t .entry)) v length first cases tails default) r) ⌝ }
+    requires { ⌜ Mapped (now tree) m × (first + (cases + tails) ≤ m .cases .count) × AllKind (now tree) listCase first cases × AllKind (now tree) listWithTailCase (first + cases) tails ⌝ }
+    ensures { λ r. ⌜ ((v : List ℕ) → Turns (now (tree .entry)) v (caseChildren (now (tree .entry)) first (cases + tails) ++ defaultChild default) (lengthWalk (now (tree .entry)) v length first cases tails default) r) ⌝ }
 {
-    let Chosen::At(place) = numbered_case(t, m, first, cases, length) else {
-        return from_tails(t, m, length, first + cases, tails, default);
+    let Chosen::At(place) = numbered_case(tree, m, first, cases, length) else {
+        return from_tails(tree, m, length, first + cases, tails, default);
     };
-    Next::Node(child_of(t, m, place))
+    Next::Node(child_of(tree, m, place))
 }
 
 fn from_list_switch(
-    t: &[u8],
+    tree: &[u8],
     m: Map,
     v: &[u8],
     n: PanelMap,
@@ -135,10 +136,10 @@ fn from_list_switch(
     tails: u16,
     default: u16,
 ) -> Next
-    requires { ⌜ Ready (now t) m (now v) n × (path < m .paths .count) × (first + (cases + tails) ≤ m .cases .count) × AllKind (now t) 3 first cases × AllKind (now t) 4 (first + cases) tails ⌝ }
-    ensures { λ r. ⌜ Turns (now (t .entry)) (now (v .entry)) (caseChildren (now (t .entry)) first (cases + tails) ++ defaultChild default) (listWalk (now (t .entry)) (now (v .entry)) path first cases tails default) r ⌝ }
+    requires { ⌜ Ready (now tree) m (now v) n × (path < m .paths .count) × (first + (cases + tails) ≤ m .cases .count) × AllKind (now tree) listCase first cases × AllKind (now tree) listWithTailCase (first + cases) tails ⌝ }
+    ensures { λ r. ⌜ Turns (now (tree .entry)) (now (v .entry)) (caseChildren (now (tree .entry)) first (cases + tails) ++ defaultChild default) (listWalk (now (tree .entry)) (now (v .entry)) path first cases tails default) r ⌝ }
 {
-    let Found::At(p) = follow(t, m.paths.start, m.steps.start, v, n, path as usize) else {
+    let Found::At(p) = follow(tree, m.paths.start, m.steps.start, v, n, path as usize) else {
         return Next::End(Reached::Stuck);
     };
     let r = p.record;
@@ -147,7 +148,7 @@ fn from_list_switch(
         return Next::End(Reached::Stuck);
     }
     from_length(
-        t,
+        tree,
         m,
         x.count - p.dropped,
         first as usize,
@@ -157,11 +158,11 @@ fn from_list_switch(
     )
 }
 
-fn from_node(t: &[u8], m: Map, v: &[u8], n: PanelMap, k: usize) -> Next
-    requires { ⌜ Ready (now t) m (now v) n × (k < m .nodes .count) ⌝ }
-    ensures { λ r. ⌜ Steps (now (t .entry)) (now (v .entry)) k r ⌝ }
+fn from_node(tree: &[u8], m: Map, v: &[u8], n: PanelMap, k: usize) -> Next
+    requires { ⌜ Ready (now tree) m (now v) n × (k < m .nodes .count) ⌝ }
+    ensures { λ r. ⌜ Steps (now (tree .entry)) (now (v .entry)) k r ⌝ }
 {
-    let node = node_at(t, m, k);
+    let node = node_at(tree, m, k);
     match node {
         Node::Switch {
             path,
@@ -169,14 +170,14 @@ fn from_node(t: &[u8], m: Map, v: &[u8], n: PanelMap, k: usize) -> Next
             cases,
             default,
             test,
-        } => from_switch(t, m, v, n, path, first, cases, default, test),
+        } => from_switch(tree, m, v, n, path, first, cases, default, test),
         Node::ListSwitch {
             path,
             first,
             cases,
             tails,
             default,
-        } => from_list_switch(t, m, v, n, path, first, cases, tails, default),
+        } => from_list_switch(tree, m, v, n, path, first, cases, tails, default),
         Node::Leaf {
             clause,
             first,
@@ -196,13 +197,13 @@ fn from_node(t: &[u8], m: Map, v: &[u8], n: PanelMap, k: usize) -> Next
 }
 
 // The leaf that node 0 leads to. A child's number is larger than its node's, so that the numbers end.
-pub fn reach(t: &[u8], m: Map, v: &[u8], n: PanelMap) -> Reached
-    requires { ⌜ Ready (now t) m (now v) n ⌝ }
-    ensures { λ r. ⌜ Arrives (now (t .entry)) (now (v .entry)) r ⌝ }
+pub fn reach(tree: &[u8], m: Map, v: &[u8], n: PanelMap) -> Reached
+    requires { ⌜ Ready (now tree) m (now v) n ⌝ }
+    ensures { λ r. ⌜ Arrives (now (tree .entry)) (now (v .entry)) r ⌝ }
 {
     let mut k: usize = 0;
     loop {
-        let next = from_node(t, m, v, n, k);
+        let next = from_node(tree, m, v, n, k);
         match next {
             Next::Node(c) => k = c,
             Next::End(r) => return r,

@@ -14,12 +14,12 @@ use Rattle.app_listing.proofs.lines.put_listing.Reads as put-listing-re
 use Rattle.format_tree.proofs.check.Reads as check-reads
 use Rattle.base_words.proofs.zero_all.Reads as zero-all-reads
 
-accepted : (c : tie.After-known-told) → Accept (c .before .before .before .before .before .before .before .before .before .before .args .t .now) (c .before .m .given .0 .0)
+accepted : (c : tie.After-known-told) → Accept (c .before .before .before .before .before .before .before .before .before .before .args .tree .now) (c .before .m .given .0 .0)
 accepted c =
     let a = c .before .before .before .before .before .before .before .before .before .before .args in
     let m = c .before .m .given .0 .0 in
     let e : c .before .before .before .check .result ≡ Checked.Accepted m = search needs in
-    accepted-is (a .t .now) m (bytes-of-fits (a .t .now) (c .before .before .before .before .before .before .before .before .before .shared-slice-known .given)) (sym (c .before .before .before .check .ensures) ∙ e)
+    accepted-is (a .tree .now) m (bytes-of-fits (a .tree .now) (c .before .before .before .before .before .before .before .before .before .shared-slice-known .given)) (sym (c .before .before .before .check .ensures) ∙ e)
 
 zero-all-requires : tie.Need-zero-all-requires
 zero-all-requires c κs = search needs
@@ -37,7 +37,7 @@ same-length : tie.Need-same-length
 same-length c = search needs
 
 returns : tie.Need-returns
-returns c = call-refused _ _ _ (refused-is (c .before .before .before .before .before .before .before .before .before .args .t .now) (sym (c .before .before .check .ensures) ∙ c .enum-told .given .1)) (c .before .before .before .before .before .zero-all .ensures)
+returns c = call-refused _ _ _ (refused-is (c .before .before .before .before .before .before .before .before .before .args .tree .now) (sym (c .before .before .check .ensures) ∙ c .enum-told .given .1)) (c .before .before .before .before .before .zero-all .ensures)
 
 put-listing-requires : tie.Need-put-listing-requires
 put-listing-requires c κs = record { mapped = accepted (c .before) .map-is; rules = accepted (c .before) .sound .is-ruled }

@@ -27,7 +27,7 @@ returns : tie.Need-returns
 returns c =
     let a = c .before .before .before .before .before in
     put-nothing (a .args .s .now) (bound (a .args .work .now) (a .args .top)) (numbersHeld (a .args .s .now) (openedTest (a .args .s .now) (a .args .opened .now) (a .args .c) (a .args .time) (a .args .class)))
-    (empty-cell (a .args .s .now) (a .args .t .now) (a .pre .0 .tabled) (a .args .c) (a .args .class) (a .pre .1) (a .pre .2) (c .before .at .result) (c .before .at .ensures) (a .args .opened .now) (a .args .time) (c .if1 .taken))
+    (empty-cell (a .args .s .now) (a .args .table .now) (a .pre .0 .tabled) (a .args .c) (a .args .class) (a .pre .1) (a .pre .2) (c .before .at .result) (c .before .at .ensures) (a .args .opened .now) (a .args .time) (c .if1 .taken))
 
 sub-p : tie.Need-sub-p
 sub-p c = search needs
@@ -36,7 +36,7 @@ sub-p c = search needs
 test-known : (c : tie.Else1) → c .before .at .result - 1 < patterns (c .before .before .before .before .before .args .s .now)
 test-known c =
     let a = c .before .before .before .before .before in
-    cell-known (a .args .s .now) (a .args .t .now) (a .pre .0 .tabled) (a .args .c) (a .args .class) (a .pre .1) (a .pre .2) (c .before .at .result) (c .before .at .ensures) (c .if1 .left)
+    cell-known (a .args .s .now) (a .args .table .now) (a .pre .0 .tabled) (a .args .c) (a .args .class) (a .pre .1) (a .pre .2) (c .before .at .result) (c .before .at .ensures) (c .if1 .left)
 
 element-copy-out-wide : tie.Need-element-copy-out-wide
 element-copy-out-wide c = omega (arith, test-known c, c .before .before .before .before .before .pre .0 .checked .ok .is-counted .patterns-most)
@@ -52,7 +52,7 @@ returns-2 c =
     let a = c .before .before .before .before .before .before .before .before in
     let cell = c .before .before .before .before .at in
     put-nothing (a .args .s .now) (bound (a .args .work .now) (a .args .top)) (numbersHeld (a .args .s .now) (openedTest (a .args .s .now) (a .args .opened .now) (a .args .c) (a .args .time) (a .args .class)))
-    (other-time (a .args .s .now) (a .args .t .now) (a .pre .0 .tabled) (a .args .c) (a .args .class) (a .pre .1) (a .pre .2) (cell .result) (cell .ensures) (c .before .before .before .if1 .left) (a .args .opened .now) (a .args .time)
+    (other-time (a .args .s .now) (a .args .table .now) (a .pre .0 .tabled) (a .args .c) (a .args .class) (a .pre .1) (a .pre .2) (cell .result) (cell .ensures) (c .before .before .before .if1 .left) (a .args .opened .now) (a .args .time)
     (c .before .wide .result) (c .before .wide .ensures) (c .if2 .taken))
 
 children-of-requires : tie.Need-children-of-requires
@@ -63,7 +63,7 @@ held-is : (c : tie.Else2) → numbersHeld (c .before .before .before .before .be
 held-is c =
     let a = c .before .before .before .before .before .before .before .before in
     let cell = c .before .before .before .before .at in
-    same-time (a .args .s .now) (a .args .t .now) (a .pre .0 .tabled) (a .args .c) (a .args .class) (a .pre .1) (a .pre .2) (cell .result) (cell .ensures) (c .before .before .before .if1 .left) (a .args .opened .now) (a .args .time)
+    same-time (a .args .s .now) (a .args .table .now) (a .pre .0 .tabled) (a .args .c) (a .args .class) (a .pre .1) (a .pre .2) (cell .result) (cell .ensures) (c .before .before .before .if1 .left) (a .args .opened .now) (a .args .time)
     (c .before .wide .result) (c .before .wide .ensures) (c .if2 .left)
 
 returns-3 : tie.Need-returns-3

@@ -26,7 +26,7 @@ filled-as : {s t u : List ℕ} {n : ℕ} → u ≡ t → Filled s t n n n n → 
 filled-as e f = rw e f
 
 -- the table is as long as it has to be
-long : (c : tie.Start Inv-loop μ-loop) → length (c .args .t .now) ≡ tableSize
+long : (c : tie.Start Inv-loop μ-loop) → length (c .args .table .now) ≡ tableSize
 long c = ap length (c .pre .1) ∙ length-replicate {A = ℕ} tableSize 0
 
 put-roots-requires : tie.Need-put-roots-requires Inv-loop μ-loop
@@ -69,7 +69,7 @@ returns : tie.Need-returns Inv-loop μ-loop
 returns c =
     let start = c .before .before .before .before .before .before .before .before .before in
     let l = c .before .before .loop in
-    all-filled (start .pre .0 .ok) (l .t) (l .p) (omega (arith, its start .of-patterns)) (l .inv .1)
+    all-filled (start .pre .0 .ok) (l .table) (l .p) (omega (arith, its start .of-patterns)) (l .inv .1)
 
 pub fill-spec : {M : Type 1} → statement M
 fill-spec =

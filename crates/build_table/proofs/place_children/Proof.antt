@@ -17,9 +17,9 @@ its-type c = c .before .before .at .ensures ∙ c .before .before .before .befor
 
 reading : (c : tie.After-type-at)
     → Reading (c .before .before .before .before .before .before .before .args .s .now) (c .before .before .before .before .before .before .before .args .m)
-    (c .before .before .before .before .before .before .before .args .t .now) (c .before .before .before .before .before .before .before .args .p)
+    (c .before .before .before .before .before .before .before .args .table .now) (c .before .before .before .before .before .before .before .args .p)
     (c .before .before .before .before .pattern-at .result) (c .type-at .result)
-    (getD (c .before .before .before .before .before .before .before .args .t .now) (192 + c .before .before .before .before .before .before .before .args .p) 0)
+    (getD (c .before .before .before .before .before .before .before .args .table .now) (192 + c .before .before .before .before .before .before .before .args .p) 0)
 reading c =
     let start = c .before .before .before .before .before .before .before in
     record {

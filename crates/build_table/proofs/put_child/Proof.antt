@@ -12,50 +12,50 @@ add-clause c = search needs
 slice-read-clause : tie.Need-slice-read-clause
 slice-read-clause c = search needs
 
-cast-t : tie.Need-cast-t
-cast-t c = search needs
+cast-table : tie.Need-cast-table
+cast-table c = search needs
 
-add-t : tie.Need-add-t
-add-t c = search needs
+add-table : tie.Need-add-table
+add-table c = search needs
 
-slice-write-t : tie.Need-slice-write-t
-slice-write-t c = search needs
+slice-write-table : tie.Need-slice-write-table
+slice-write-table c = search needs
 
-add-t-2 : tie.Need-add-t-2
-add-t-2 c = search needs
+add-table-2 : tie.Need-add-table-2
+add-table-2 c = search needs
 
-slice-write-t-2 : tie.Need-slice-write-t-2
-slice-write-t-2 c = simp length-set (omega arith)
+slice-write-table-2 : tie.Need-slice-write-table-2
+slice-write-table-2 c = simp length-set (omega arith)
 
-cast-t-2 : tie.Need-cast-t-2
-cast-t-2 c = search needs
+cast-table-2 : tie.Need-cast-table-2
+cast-table-2 c = search needs
 
-add-t-3 : tie.Need-add-t-3
-add-t-3 c = search needs
+add-table-3 : tie.Need-add-table-3
+add-table-3 c = search needs
 
-slice-write-t-3 : tie.Need-slice-write-t-3
-slice-write-t-3 c = simp length-set (omega arith)
+slice-write-table-3 : tie.Need-slice-write-table-3
+slice-write-table-3 c = simp length-set (omega arith)
 
-cast-t-3 : tie.Need-cast-t-3
-cast-t-3 c = search needs
+cast-table-3 : tie.Need-cast-table-3
+cast-table-3 c = search needs
 
-add-t-4 : tie.Need-add-t-4
-add-t-4 c = search needs
+add-table-4 : tie.Need-add-table-4
+add-table-4 c = search needs
 
-slice-write-t-4 : tie.Need-slice-write-t-4
-slice-write-t-4 c = simp length-set (omega arith)
+slice-write-table-4 : tie.Need-slice-write-table-4
+slice-write-table-4 c = simp length-set (omega arith)
 
-add-t-5 : tie.Need-add-t-5
-add-t-5 c = search needs
+add-table-5 : tie.Need-add-table-5
+add-table-5 c = search needs
 
-slice-write-t-5 : tie.Need-slice-write-t-5
-slice-write-t-5 c = simp length-set (omega arith)
+slice-write-table-5 : tie.Need-slice-write-table-5
+slice-write-table-5 c = simp length-set (omega arith)
 
-add-t-6 : tie.Need-add-t-6
-add-t-6 c = search needs
+add-table-6 : tie.Need-add-table-6
+add-table-6 c = search needs
 
-slice-write-t-6 : tie.Need-slice-write-t-6
-slice-write-t-6 c = simp length-set (omega arith)
+slice-write-table-6 : tie.Need-slice-write-table-6
+slice-write-table-6 c = simp length-set (omega arith)
 
 same-length : tie.Need-same-length
 same-length c = simp length-set
@@ -70,20 +70,20 @@ put-child-spec =
     (tie.spec
     add-clause
     slice-read-clause
-    cast-t
-    add-t
-    slice-write-t
-    add-t-2
-    slice-write-t-2
-    cast-t-2
-    add-t-3
-    slice-write-t-3
-    cast-t-3
-    add-t-4
-    slice-write-t-4
-    add-t-5
-    slice-write-t-5
-    add-t-6
-    slice-write-t-6
+    cast-table
+    add-table
+    slice-write-table
+    add-table-2
+    slice-write-table-2
+    cast-table-2
+    add-table-3
+    slice-write-table-3
+    cast-table-3
+    add-table-4
+    slice-write-table-4
+    add-table-5
+    slice-write-table-5
+    add-table-6
+    slice-write-table-6
     same-length
     returns)

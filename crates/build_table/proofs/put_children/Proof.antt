@@ -22,7 +22,7 @@ pattern-at-requires c κs = let start = c .before .before in (start .pre .0 .ok 
 loop-holds : tie.Need-loop-holds Inv-loop μ-loop
 loop-holds c =
     let a = c .before .before .before .args in
-    (omega arith, c .before .before .before .pre .1, ap (placedEach (a .s .now) (a .t .now) (a .p) (a .step) (a .e) (a .stride) (a .owner) 0) (sub-zero (a .n)))
+    (omega arith, c .before .before .before .pre .1, ap (placedEach (a .s .now) (a .table .now) (a .p) (a .step) (a .e) (a .stride) (a .owner) 0) (sub-zero (a .n)))
 
 add-child-at : tie.Need-add-child-at Inv-loop μ-loop
 add-child-at c =
@@ -74,8 +74,8 @@ loop-again c =
     let u = c .before .before .put-child in
     let taken = c .before .before .before .before .before .before .before .loop-test .taken in (
       omega arith,
-      ap length (u .ensures) ∙ length-placed (l .t) (a .p) (q .result) (a .step) (l .i) (v .result) (a .owner) ∙ l .inv .1,
-      placedEach-on (a .s .now) (a .p) (a .step) (a .e) (a .stride) (a .owner) (a .n) (l .t) (u .last .0) (l .i) (q .result) (v .result) (r .result) taken (r .ensures) (q .ensures) (v .ensures) (u .ensures)
+      ap length (u .ensures) ∙ length-placed (l .table) (a .p) (q .result) (a .step) (l .i) (v .result) (a .owner) ∙ l .inv .1,
+      placedEach-on (a .s .now) (a .p) (a .step) (a .e) (a .stride) (a .owner) (a .n) (l .table) (u .last .0) (l .i) (q .result) (v .result) (r .result) taken (r .ensures) (q .ensures) (v .ensures) (u .ensures)
           ∙ l .inv .2,
     )
 
@@ -86,7 +86,7 @@ returns : tie.Need-returns Inv-loop μ-loop
 returns c =
     let a = c .before .before .before .before .before .args in
     let l = c .before .loop in
-    sym (placedEach-end (a .s .now) (a .p) (a .step) (a .e) (a .stride) (a .owner) (a .n) (l .t) (l .i) (omega arith)) ∙ l .inv .2
+    sym (placedEach-end (a .s .now) (a .p) (a .step) (a .e) (a .stride) (a .owner) (a .n) (l .table) (l .i) (omega arith)) ∙ l .inv .2
 
 pub put-children-spec : {M : Type 1} → statement M
 put-children-spec =

@@ -10,13 +10,13 @@ use Rattle.build_table.proofs.put_class.Statement.{statement}
 use Rattle.build_table.proofs.put_class.Tie as tie
 
 -- the path of the pattern above has room for a step more
-deep : (c : tie.Start) (above : ℕ) → above ≡ aboveIn (c .args .t .now) (c .args .p) → getD (c .args .t .now) (depthAt + above) 0 + 1 < 12
+deep : (c : tie.Start) (above : ℕ) → above ≡ aboveIn (c .args .table .now) (c .args .p) → getD (c .args .table .now) (depthAt + above) 0 + 1 < 12
 deep c above e = rw e (c .pre .depth)
 
 -- the search for the class may begin at the class above
-low : (c : tie.Start) (above : ℕ) → above ≡ aboveIn (c .args .t .now) (c .args .p)
-    → (getD (c .args .t .now) (classAt + above) 0 ≤ c .args .p)
-    × ((q : ℕ) → q < getD (c .args .t .now) (classAt + above) 0 → sameStepIn (c .args .t .now) q (c .args .p) ≡ false)
+low : (c : tie.Start) (above : ℕ) → above ≡ aboveIn (c .args .table .now) (c .args .p)
+    → (getD (c .args .table .now) (classAt + above) 0 ≤ c .args .p)
+    × ((q : ℕ) → q < getD (c .args .table .now) (classAt + above) 0 → sameStepIn (c .args .table .now) q (c .args .p) ≡ false)
 low c above e = rw e (c .pre .class-below, c .pre .none-below)
 
 add-at : tie.Need-add-at
@@ -43,23 +43,23 @@ add-if1 c = search needs
 slice-read-if1 : tie.Need-slice-read-if1
 slice-read-if1 c = search needs
 
-add-t : tie.Need-add-t
-add-t c = search needs
+add-table : tie.Need-add-table
+add-table c = search needs
 
-slice-write-t : tie.Need-slice-write-t
-slice-write-t c = search needs
+slice-write-table : tie.Need-slice-write-table
+slice-write-table c = search needs
 
-add-t-2 : tie.Need-add-t-2
-add-t-2 c = search needs
+add-table-2 : tie.Need-add-table-2
+add-table-2 c = search needs
 
-slice-write-t-2 : tie.Need-slice-write-t-2
-slice-write-t-2 c = simp length-set (omega arith)
+slice-write-table-2 : tie.Need-slice-write-table-2
+slice-write-table-2 c = simp length-set (omega arith)
 
 same-length : tie.Need-same-length
 same-length c = simp length-set
 
 returns : tie.Need-returns
-returns c = let start = c .before .before .before .before .before .before .before in classed-same (start .args .t .now) (start .args .p) (c .before .before .before .before .at .result) (c .before .before .before .before .at .ensures) (c .if1 .taken)
+returns c = let start = c .before .before .before .before .before .before .before in classed-same (start .args .table .now) (start .args .p) (c .before .before .before .before .at .result) (c .before .before .before .before .at .ensures) (c .if1 .taken)
 
 cast-class-of : tie.Need-cast-class-of
 cast-class-of c = let start = c .before .before .before .before .before .before .before .before in omega (arith, low start (c .before .before .before .before .before .at .result) (c .before .before .before .before .before .at .ensures) .0, start .pre .known)
@@ -67,29 +67,29 @@ cast-class-of c = let start = c .before .before .before .before .before .before 
 class-of-requires : tie.Need-class-of-requires
 class-of-requires c κs = let start = c .before .before .before .before .before .before .before .before in ((start .pre .long, start .pre .known, start .pre .above), low start (c .before .before .before .before .before .at .result) (c .before .before .before .before .before .at .ensures))
 
-cast-t : tie.Need-cast-t
-cast-t c = let start = c .before .before .before .before .before .before .before .before .before in omega (arith, c .class-of .ensures, classIn-most (start .args .t .now) (start .args .p), start .pre .known)
+cast-table : tie.Need-cast-table
+cast-table c = let start = c .before .before .before .before .before .before .before .before .before in omega (arith, c .class-of .ensures, classIn-most (start .args .table .now) (start .args .p), start .pre .known)
 
-add-t-3 : tie.Need-add-t-3
-add-t-3 c = search needs
+add-table-3 : tie.Need-add-table-3
+add-table-3 c = search needs
 
-slice-write-t-3 : tie.Need-slice-write-t-3
-slice-write-t-3 c = search needs
+slice-write-table-3 : tie.Need-slice-write-table-3
+slice-write-table-3 c = search needs
 
-add-t-4 : tie.Need-add-t-4
-add-t-4 c = let start = c .before .before .before .before .before .before .before .before .before in omega (arith, deep start (c .before .before .before .before .before .before .at .result) (c .before .before .before .before .before .before .at .ensures))
+add-table-4 : tie.Need-add-table-4
+add-table-4 c = let start = c .before .before .before .before .before .before .before .before .before in omega (arith, deep start (c .before .before .before .before .before .before .at .result) (c .before .before .before .before .before .before .at .ensures))
 
-add-t-5 : tie.Need-add-t-5
-add-t-5 c = search needs
+add-table-5 : tie.Need-add-table-5
+add-table-5 c = search needs
 
-slice-write-t-4 : tie.Need-slice-write-t-4
-slice-write-t-4 c = simp length-set (omega arith)
+slice-write-table-4 : tie.Need-slice-write-table-4
+slice-write-table-4 c = simp length-set (omega arith)
 
 same-length-2 : tie.Need-same-length-2
 same-length-2 c = simp length-set
 
 returns-2 : tie.Need-returns-2
-returns-2 c = let start = c .before .before .before .before .before .before .before .before .before in classed-step (start .args .t .now) (start .args .p) (c .before .before .before .before .before .before .at .result) (c .before .before .before .before .before .before .at .ensures) (c .before .before .if1 .left) (c .class-of .result) (c .class-of .ensures)
+returns-2 c = let start = c .before .before .before .before .before .before .before .before .before in classed-step (start .args .table .now) (start .args .p) (c .before .before .before .before .before .before .at .result) (c .before .before .before .before .before .before .at .ensures) (c .before .before .if1 .left) (c .class-of .result) (c .class-of .ensures)
 
 pub put-class-spec : {M : Type 1} → statement M
 put-class-spec =
@@ -103,19 +103,19 @@ put-class-spec =
     slice-read-depth
     add-if1
     slice-read-if1
-    add-t
-    slice-write-t
-    add-t-2
-    slice-write-t-2
+    add-table
+    slice-write-table
+    add-table-2
+    slice-write-table-2
     same-length
     returns
     cast-class-of
     class-of-requires
-    cast-t
-    add-t-3
-    slice-write-t-3
-    add-t-4
-    add-t-5
-    slice-write-t-4
+    cast-table
+    add-table-3
+    slice-write-table-3
+    add-table-4
+    add-table-5
+    slice-write-table-4
     same-length-2
     returns-2)

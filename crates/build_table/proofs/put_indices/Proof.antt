@@ -38,31 +38,31 @@ slice-read-own : tie.Need-slice-read-own Inv-loop μ-loop
 slice-read-own c = search needs
 
 loop-holds : tie.Need-loop-holds Inv-loop μ-loop
-loop-holds c = let start = c .before .before .before .before .before .before in (omega arith, start .pre .ranged .long, sym (stored-nil (start .args .t .now) (1536 + 12 * start .args .p)))
+loop-holds c = let start = c .before .before .before .before .before .before in (omega arith, start .pre .ranged .long, sym (stored-nil (start .args .table .now) (1536 + 12 * start .args .p)))
 
-mul-t : tie.Need-mul-t Inv-loop μ-loop
-mul-t c = let w = row (c .before .before .before) in omega arith
+mul-table : tie.Need-mul-table Inv-loop μ-loop
+mul-table c = let w = row (c .before .before .before) in omega arith
 
-add-t : tie.Need-add-t Inv-loop μ-loop
-add-t c = let w = row (c .before .before .before) in omega arith
+add-table : tie.Need-add-table Inv-loop μ-loop
+add-table c = let w = row (c .before .before .before) in omega arith
 
-add-t-2 : tie.Need-add-t-2 Inv-loop μ-loop
-add-t-2 c = let w = row (c .before .before .before) in omega arith
+add-table-2 : tie.Need-add-table-2 Inv-loop μ-loop
+add-table-2 c = let w = row (c .before .before .before) in omega arith
 
-slice-read-t : tie.Need-slice-read-t Inv-loop μ-loop
-slice-read-t c = let w = row (c .before .before .before .before) in omega arith
+slice-read-table : tie.Need-slice-read-table Inv-loop μ-loop
+slice-read-table c = let w = row (c .before .before .before .before) in omega arith
 
-mul-t-2 : tie.Need-mul-t-2 Inv-loop μ-loop
-mul-t-2 c = let w = row (c .before .before .before .before) in omega arith
+mul-table-2 : tie.Need-mul-table-2 Inv-loop μ-loop
+mul-table-2 c = let w = row (c .before .before .before .before) in omega arith
 
-add-t-3 : tie.Need-add-t-3 Inv-loop μ-loop
-add-t-3 c = let w = row (c .before .before .before .before) in omega arith
+add-table-3 : tie.Need-add-table-3 Inv-loop μ-loop
+add-table-3 c = let w = row (c .before .before .before .before) in omega arith
 
-add-t-4 : tie.Need-add-t-4 Inv-loop μ-loop
-add-t-4 c = let w = row (c .before .before .before .before) in omega arith
+add-table-4 : tie.Need-add-table-4 Inv-loop μ-loop
+add-table-4 c = let w = row (c .before .before .before .before) in omega arith
 
-slice-write-t : tie.Need-slice-write-t Inv-loop μ-loop
-slice-write-t c = let w = row (c .before .before .before .before) in omega arith
+slice-write-table : tie.Need-slice-write-table Inv-loop μ-loop
+slice-write-table c = let w = row (c .before .before .before .before) in omega arith
 
 add-i : tie.Need-add-i Inv-loop μ-loop
 add-i c = search needs
@@ -75,19 +75,19 @@ loop-again c =
     let start = c .before .before .before .before .before .before .before .before .before in
     let w = row (c .before .before .before .before) in
     let l = c .before .before .loop in
-    (omega arith, simp length-set (l .inv .1), copied-more (start .args .t .now) (1536 + 12 * c .before .before .before .before .before .before .at .result) (1536 + 12 * start .args .p) (c .before .before .before .before .at2 .result) (start .pre .ranged .long) (omega arith) (omega arith) (l .t) (l .i) (c .before .loop-test .taken) (l .inv .2))
+    (omega arith, simp length-set (l .inv .1), copied-more (start .args .table .now) (1536 + 12 * c .before .before .before .before .before .before .at .result) (1536 + 12 * start .args .p) (c .before .before .before .before .at2 .result) (start .pre .ranged .long) (omega arith) (omega arith) (l .table) (l .i) (c .before .loop-test .taken) (l .inv .2))
 
-mul-t-3 : tie.Need-mul-t-3 Inv-loop μ-loop
-mul-t-3 c = let w = row (c .before .before .before) in omega arith
+mul-table-3 : tie.Need-mul-table-3 Inv-loop μ-loop
+mul-table-3 c = let w = row (c .before .before .before) in omega arith
 
-add-t-5 : tie.Need-add-t-5 Inv-loop μ-loop
-add-t-5 c = let w = row (c .before .before .before) in omega arith
+add-table-5 : tie.Need-add-table-5 Inv-loop μ-loop
+add-table-5 c = let w = row (c .before .before .before) in omega arith
 
-add-t-6 : tie.Need-add-t-6 Inv-loop μ-loop
-add-t-6 c = let w = row (c .before .before .before) in omega arith
+add-table-6 : tie.Need-add-table-6 Inv-loop μ-loop
+add-table-6 c = let w = row (c .before .before .before) in omega arith
 
-slice-write-t-2 : tie.Need-slice-write-t-2 Inv-loop μ-loop
-slice-write-t-2 c = let w = row (c .before .before .before) in omega arith
+slice-write-table-2 : tie.Need-slice-write-table-2 Inv-loop μ-loop
+slice-write-table-2 c = let w = row (c .before .before .before) in omega arith
 
 same-length : tie.Need-same-length Inv-loop μ-loop
 same-length c = let start = c .before .before .before .before .before .before .before .before in simp length-set (c .before .loop .inv .1 ∙ sym (start .pre .ranged .long))
@@ -97,7 +97,7 @@ returns c =
     let start = c .before .before .before .before .before .before .before .before in
     let w = row (c .before .before .before) in
     let l = c .before .loop in
-    copied-all (start .args .t .now) (1536 + 12 * c .before .before .before .before .before .at .result) (1536 + 12 * start .args .p) (c .before .before .before .at2 .result) (start .pre .ranged .long) (omega arith) (omega arith) (l .t) (l .i) _ (omega arith) (l .inv .2)
+    copied-all (start .args .table .now) (1536 + 12 * c .before .before .before .before .before .at .result) (1536 + 12 * start .args .p) (c .before .before .before .at2 .result) (start .pre .ranged .long) (omega arith) (omega arith) (l .table) (l .i) _ (omega arith) (l .inv .2)
     ∙ indexed-is (start .pre) (c .before .before .before .before .before .at .ensures) (c .before .before .before .at2 .ensures)
 
 pub put-indices-spec : {M : Type 1} → statement M
@@ -113,20 +113,20 @@ put-indices-spec =
     add-own
     slice-read-own
     loop-holds
-    mul-t
-    add-t
-    add-t-2
-    slice-read-t
-    mul-t-2
-    add-t-3
-    add-t-4
-    slice-write-t
+    mul-table
+    add-table
+    add-table-2
+    slice-read-table
+    mul-table-2
+    add-table-3
+    add-table-4
+    slice-write-table
     add-i
     loop-less
     loop-again
-    mul-t-3
-    add-t-5
-    add-t-6
-    slice-write-t-2
+    mul-table-3
+    add-table-5
+    add-table-6
+    slice-write-table-2
     same-length
     returns)

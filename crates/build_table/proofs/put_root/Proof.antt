@@ -6,29 +6,29 @@ use borrow.Author.Needs.{needs}
 use Rattle.build_table.proofs.put_root.Statement.{statement}
 use Rattle.build_table.proofs.put_root.Tie as tie
 
-add-t : tie.Need-add-t
-add-t c = search needs
+add-table : tie.Need-add-table
+add-table c = search needs
 
-slice-write-t : tie.Need-slice-write-t
-slice-write-t c = search needs
+slice-write-table : tie.Need-slice-write-table
+slice-write-table c = search needs
 
-cast-t : tie.Need-cast-t
-cast-t c = search needs
+cast-table : tie.Need-cast-table
+cast-table c = search needs
 
-add-t-2 : tie.Need-add-t-2
-add-t-2 c = search needs
+add-table-2 : tie.Need-add-table-2
+add-table-2 c = search needs
 
-slice-write-t-2 : tie.Need-slice-write-t-2
-slice-write-t-2 c = simp length-set (omega arith)
+slice-write-table-2 : tie.Need-slice-write-table-2
+slice-write-table-2 c = simp length-set (omega arith)
 
-cast-t-2 : tie.Need-cast-t-2
-cast-t-2 c = search needs
+cast-table-2 : tie.Need-cast-table-2
+cast-table-2 c = search needs
 
-add-t-3 : tie.Need-add-t-3
-add-t-3 c = search needs
+add-table-3 : tie.Need-add-table-3
+add-table-3 c = search needs
 
-slice-write-t-3 : tie.Need-slice-write-t-3
-slice-write-t-3 c = simp length-set (omega arith)
+slice-write-table-3 : tie.Need-slice-write-table-3
+slice-write-table-3 c = simp length-set (omega arith)
 
 same-length : tie.Need-same-length
 same-length c = simp length-set
@@ -41,13 +41,13 @@ pub put-root-spec : {M : Type 1} → statement M
 put-root-spec =
     tie.close
     (tie.spec
-    add-t
-    slice-write-t
-    cast-t
-    add-t-2
-    slice-write-t-2
-    cast-t-2
-    add-t-3
-    slice-write-t-3
+    add-table
+    slice-write-table
+    cast-table
+    add-table-2
+    slice-write-table-2
+    cast-table-2
+    add-table-3
+    slice-write-table-3
     same-length
     returns)

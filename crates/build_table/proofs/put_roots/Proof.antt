@@ -22,7 +22,7 @@ its : (c : tie.Start Inv-loop μ-loop) → Mapped (c .args .s .now) (c .args .m)
 its c = mapped (c .args .s .now) (c .args .m) (c .pre .0 .is-map)
 
 loop-holds : tie.Need-loop-holds Inv-loop μ-loop
-loop-holds c = let start = c .before .before in (omega arith, start .pre .1, ap (rootedEach (start .args .s .now) (start .args .t .now) 0) (sub-zero (clauses (start .args .s .now))))
+loop-holds c = let start = c .before .before in (omega arith, start .pre .1, ap (rootedEach (start .args .s .now) (start .args .table .now) 0) (sub-zero (clauses (start .args .s .now))))
 
 root-at-requires : tie.Need-root-at-requires Inv-loop μ-loop
 root-at-requires c κs = let start = c .before .before .before .before .before .before in (start .pre .0 .ok .is-laid, start .pre .0 .is-map, omega (arith, its start .of-clauses))
@@ -53,8 +53,8 @@ loop-again c =
     let u = c .before .before .put-root in
     let below : l .c < clauses (start .args .s .now) = omega (arith, its start .of-clauses) in (
       omega arith,
-      ap length (u .ensures) ∙ length-rooted (l .t) (r .result) (l .c) (start .args .m .subject) ∙ l .inv .1,
-      rootedEach-on (start .args .s .now) (clauses (start .args .s .now)) (l .t) (u .last .0) (l .c) (r .result) (start .args .m .subject) below (r .ensures) (its start .of-subject) (u .ensures)
+      ap length (u .ensures) ∙ length-rooted (l .table) (r .result) (l .c) (start .args .m .subject) ∙ l .inv .1,
+      rootedEach-on (start .args .s .now) (clauses (start .args .s .now)) (l .table) (u .last .0) (l .c) (r .result) (start .args .m .subject) below (r .ensures) (its start .of-subject) (u .ensures)
           ∙ l .inv .2,
     )
 
@@ -65,7 +65,7 @@ returns : tie.Need-returns Inv-loop μ-loop
 returns c =
     let start = c .before .before .before .before .before in
     let l = c .before .before .loop in
-    sym (rootedEach-end (start .args .s .now) (clauses (start .args .s .now)) (l .t) (l .c) (omega (arith, its start .of-clauses))) ∙ l .inv .2
+    sym (rootedEach-end (start .args .s .now) (clauses (start .args .s .now)) (l .table) (l .c) (omega (arith, its start .of-clauses))) ∙ l .inv .2
 
 pub put-roots-spec : {M : Type 1} → statement M
 put-roots-spec =

@@ -28,35 +28,35 @@ add-at-2 c = search needs
 at-requires-2 : tie.Need-at-requires-2
 at-requires-2 c κs = search needs
 
-add-t : tie.Need-add-t
-add-t c = let start = c .before .before .before .before .before .before .before .before .before in omega (arith, start .pre .2, start .pre .0 .ok .is-counted .patterns-most)
+add-table : tie.Need-add-table
+add-table c = let start = c .before .before .before .before .before .before .before .before .before in omega (arith, start .pre .2, start .pre .0 .ok .is-counted .patterns-most)
 
-cast-t : tie.Need-cast-t
-cast-t c = let start = c .before .before .before .before .before .before .before .before .before in omega (arith, start .pre .2, start .pre .0 .ok .is-counted .patterns-most)
+cast-table : tie.Need-cast-table
+cast-table c = let start = c .before .before .before .before .before .before .before .before .before in omega (arith, start .pre .2, start .pre .0 .ok .is-counted .patterns-most)
 
-mul-t : tie.Need-mul-t
-mul-t c = omega (arith, inside c)
+mul-table : tie.Need-mul-table
+mul-table c = omega (arith, inside c)
 
-add-t-2 : tie.Need-add-t-2
-add-t-2 c = omega (arith, inside c)
+add-table-2 : tie.Need-add-table-2
+add-table-2 c = omega (arith, inside c)
 
-add-t-3 : tie.Need-add-t-3
-add-t-3 c = omega (arith, inside c)
+add-table-3 : tie.Need-add-table-3
+add-table-3 c = omega (arith, inside c)
 
-slice-write-t : tie.Need-slice-write-t
-slice-write-t c = let start = c .before .before .before .before .before .before .before .before .before in omega (arith, inside c, start .pre .1)
+slice-write-table : tie.Need-slice-write-table
+slice-write-table c = let start = c .before .before .before .before .before .before .before .before .before in omega (arith, inside c, start .pre .1)
 
 same-length : tie.Need-same-length
 same-length c = search needs
 
 returns : tie.Need-returns
-returns c = let start = c .before .before .before .before .before .before .before .before .before in tested-yes (start .args .t .now) (start .args .p) (isTest (start .args .s .now) (start .args .p)) (c .before .before .before .before .before .is-test .result) (c .before .before .at .result) (c .at2 .result) (c .before .before .before .before .before .is-test .ensures) (c .before .before .before .before .if1 .taken) (c .before .before .at .ensures) (c .at2 .ensures)
+returns c = let start = c .before .before .before .before .before .before .before .before .before in tested-yes (start .args .table .now) (start .args .p) (isTest (start .args .s .now) (start .args .p)) (c .before .before .before .before .before .is-test .result) (c .before .before .at .result) (c .at2 .result) (c .before .before .before .before .before .is-test .ensures) (c .before .before .before .before .if1 .taken) (c .before .before .at .ensures) (c .at2 .ensures)
 
 same-length-2 : tie.Need-same-length-2
 same-length-2 c = search needs
 
 returns-2 : tie.Need-returns-2
-returns-2 c = let start = c .before .before .before .before .before in tested-no (start .args .t .now) (start .args .p) (isTest (start .args .s .now) (start .args .p)) (c .before .is-test .result) (c .before .is-test .ensures) (c .if1 .left)
+returns-2 c = let start = c .before .before .before .before .before in tested-no (start .args .table .now) (start .args .p) (isTest (start .args .s .now) (start .args .p)) (c .before .is-test .result) (c .before .is-test .ensures) (c .if1 .left)
 
 pub put-test-spec : {M : Type 1} → statement M
 put-test-spec =
@@ -67,12 +67,12 @@ put-test-spec =
     at-requires
     add-at-2
     at-requires-2
-    add-t
-    cast-t
-    mul-t
-    add-t-2
-    add-t-3
-    slice-write-t
+    add-table
+    cast-table
+    mul-table
+    add-table-2
+    add-table-3
+    slice-write-table
     same-length
     returns
     same-length-2

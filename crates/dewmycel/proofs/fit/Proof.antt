@@ -8,7 +8,7 @@ fit-requires : tie.Need-fit-requires
 fit-requires c κs = search needs
 
 returns : tie.Need-returns
-returns c = fitted-verdict (c .before .before .before .args .s .now) (c .before .before .before .args .v .now) (c .fit .result) (c .fit .ensures)
+returns c = fitted-verdict (c .before .before .before .args .sheet .now) (c .before .before .before .args .panel .now) (c .fit .result) (c .fit .ensures)
 
 pub fit-spec : {M : Type 1} → statement M
 fit-spec = tie.close (tie.spec fit-requires returns)

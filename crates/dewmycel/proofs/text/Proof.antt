@@ -8,7 +8,7 @@ text-requires : tie.Need-text-requires
 text-requires c κs = search needs
 
 returns : tie.Need-returns
-returns c = located-span (c .before .before .args .v .now) (c .before .before .args .r) (c .before .before .args .dropped) (c .text .result) (c .text .ensures)
+returns c = located-span (c .before .before .args .panel .now) (c .before .before .args .«record») (c .before .before .args .dropped) (c .text .result) (c .text .ensures)
 
 pub text-spec : {M : Type 1} → statement M
 text-spec = tie.close (tie.spec text-requires returns)

@@ -23,7 +23,7 @@ returns c =
     let back3 = c .before .before .before in
     let back8 = back3 .before .before .before .before .before in
     let a = back8 .args in
-    call-no-room (a .t .now) (a .v .now) (a .bound .now) (back3 .zero-words .last .0)
+    call-no-room (a .tree .now) (a .v .now) (a .bound .now) (back3 .zero-words .last .0)
     (omega (arith, c .if1 .taken, back3 .zero-words .kept .0)) (back3 .zero-words .ensures)
 
 check-requires : tie.Need-check-requires
@@ -46,9 +46,9 @@ returns-2 c =
     let back6 = back3 .before .before .before in
     let back11 = back6 .before .before .before .before .before in
     let a = back11 .args in
-    call-no-tree (a .t .now) (a .v .now) (a .bound .now) (back6 .zero-words .last .0)
+    call-no-tree (a .tree .now) (a .v .now) (a .bound .now) (back6 .zero-words .last .0)
     (omega (arith, back3 .if1 .left, back6 .zero-words .kept .0))
-    (refused-is (a .t .now) (sym (c .before .before .check .ensures) ∙ c .enum-told .given .1)) (back6 .zero-words .ensures)
+    (refused-is (a .tree .now) (sym (c .before .before .check .ensures) ∙ c .enum-told .given .1)) (back6 .zero-words .ensures)
 
 walk-tree-requires : tie.Need-walk-tree-requires
 walk-tree-requires c κs =
@@ -60,7 +60,7 @@ walk-tree-requires c κs =
     let a = back13 .args in
     let m = c .before .before .m .given .0 .0 in
     let e : back4 .check .result ≡ Checked.Accepted m = c .before .before .m .given .1 in
-    let w = accepted-is (a .t .now) m (bytes-of-fits (a .t .now) (back12 .shared-slice-known .given)) (sym (back4 .check .ensures) ∙ e) in
+    let w = accepted-is (a .tree .now) m (bytes-of-fits (a .tree .now) (back12 .shared-slice-known .given)) (sym (back4 .check .ensures) ∙ e) in
     (w, back5 .if1 .left, back8 .zero-words .ensures ∙ ap zeros (sym (back8 .zero-words .kept .0)))
 
 same-length-3 : tie.Need-same-length-3
@@ -79,8 +79,8 @@ returns-3 c =
     let a = back16 .args in
     let m = back5 .m .given .0 .0 in
     let e : back7 .check .result ≡ Checked.Accepted m = back5 .m .given .1 in
-    let w = accepted-is (a .t .now) m (bytes-of-fits (a .t .now) (back15 .shared-slice-known .given)) (sym (back7 .check .ensures) ∙ e) in
-    call-walks (a .t .now) (a .v .now) (a .bound .now) (c .before .before .walk-tree .last .1 .1 .1 .0)
+    let w = accepted-is (a .tree .now) m (bytes-of-fits (a .tree .now) (back15 .shared-slice-known .given)) (sym (back7 .check .ensures) ∙ e) in
+    call-walks (a .tree .now) (a .v .now) (a .bound .now) (c .before .before .walk-tree .last .1 .1 .1 .0)
     (omega (arith, back8 .if1 .left, back11 .zero-words .kept .0)) (w .fits) (back11 .zero-words .last .0)
     (c .before .before .walk-tree .result) (back11 .zero-words .kept .0) (c .before .before .walk-tree .ensures)
 

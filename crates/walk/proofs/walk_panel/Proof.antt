@@ -25,7 +25,7 @@ leafAt c = let g = c .clause .given .0 in Reached.Leaf (g .0) (g .1 .0) (g .1 .1
 abbrev start : tie.After-clause → tie.Start
 start c = c .before .before .before .before .before .before
 
-arrived : (c : tie.After-clause) → Arrives (start c .args .t .now) (start c .args .v .now) (leafAt c)
+arrived : (c : tie.After-clause) → Arrives (start c .args .tree .now) (start c .args .v .now) (leafAt c)
 arrived c = let e : c .before .before .reach .result ≡ leafAt c = c .clause .given .1 in rw e at (c .before .before .reach .ensures)
 
 bind-requires : tie.Need-bind-requires
@@ -51,7 +51,7 @@ returns c =
     let leaf = bound .before .before .before in
     let a = start leaf .args in
     let g = leaf .clause .given .0 in
-    gives-leaf (a .t .now) (a .v .now) (a .bound .now) (start leaf .pre .2) (g .0) (g .1 .0) (g .1 .1 .0)
+    gives-leaf (a .tree .now) (a .v .now) (a .bound .now) (start leaf .pre .2) (g .0) (g .1 .0) (g .1 .1 .0)
     (bound .bind .last .1 .1 .1 .1 .1 .1 .0) (arrived leaf) (bound .bind .result) (start leaf .pre .1) (bound .bind .ensures) (c .if1 .taken)
 
 enum-told : tie.Need-enum-told
@@ -71,22 +71,22 @@ returns-2 c =
     let leaf = bound .before .before .before in
     let a = start leaf .args in
     let g = leaf .clause .given .0 in
-    gives-unbound (a .t .now) (a .v .now) (a .bound .now) (start leaf .pre .2) (g .0) (g .1 .0) (g .1 .1 .0)
+    gives-unbound (a .tree .now) (a .v .now) (a .bound .now) (start leaf .pre .2) (g .0) (g .1 .0) (g .1 .1 .0)
     (bound .bind .last .1 .1 .1 .1 .1 .1 .0) (arrived leaf) (bound .bind .result) (bound .bind .ensures) (c .if1 .left)
 
 returns-3 : tie.Need-returns-3
 returns-3 c =
     let back6 = c .before .before .before .before .before .before in
     let a = back6 .args in
-    let w : Arrives (a .t .now) (a .v .now) Reached.NoLeaf = rw (c .enum-told .given .1) at (c .before .before .reach .ensures) in
-    gives-no-leaf (a .t .now) (a .v .now) (a .bound .now) (back6 .pre .2) w
+    let w : Arrives (a .tree .now) (a .v .now) Reached.NoLeaf = rw (c .enum-told .given .1) at (c .before .before .reach .ensures) in
+    gives-no-leaf (a .tree .now) (a .v .now) (a .bound .now) (back6 .pre .2) w
 
 returns-4 : tie.Need-returns-4
 returns-4 c =
     let back6 = c .before .before .before .before .before .before in
     let a = back6 .args in
-    let w : Arrives (a .t .now) (a .v .now) Reached.Stuck = rw (c .enum-told2 .given .1) at (c .before .before .reach .ensures) in
-    gives-stuck (a .t .now) (a .v .now) (a .bound .now) (back6 .pre .2) w
+    let w : Arrives (a .tree .now) (a .v .now) Reached.Stuck = rw (c .enum-told2 .given .1) at (c .before .before .reach .ensures) in
+    gives-stuck (a .tree .now) (a .v .now) (a .bound .now) (back6 .pre .2) w
 
 pub walk-panel-spec : {M : Type 1} → statement M
 walk-panel-spec =

@@ -38,7 +38,7 @@ returns c =
     let n = back5 .n .given .0 .0 in
     let e : back7 .check .result ≡ Checked.Accepted n = back5 .n .given .1 in
     let w = accepts (a .v .now) n (sym (back7 .check .ensures) ∙ e) in
-    gives-panel (a .t .now) (a .v .now) (a .bound .now) (c .before .before .walk-panel .last .1 .1 .1 .1 .0)
+    gives-panel (a .tree .now) (a .v .now) (a .bound .now) (c .before .before .walk-panel .last .1 .1 .1 .1 .0)
     (c .before .before .walk-panel .result) (w .verdict) (c .before .before .walk-panel .ensures)
 
 returns-2 : tie.Need-returns-2
@@ -48,7 +48,7 @@ returns-2 c =
     let a = back7 .args in
     let g = c .before .number .given .0 in
     let e : back3 .check .result ≡ Checked.Refused (g .0) (g .1 .0) = c .before .number .given .1 in
-    gives-panel-refused (a .t .now) (a .v .now) (a .bound .now) (back7 .pre .2) (g .0) (g .1 .0)
+    gives-panel-refused (a .tree .now) (a .v .now) (a .bound .now) (back7 .pre .2) (g .0) (g .1 .0)
     (refuses-by (a .v .now) (g .0) (g .1 .0) (sym (back3 .check .ensures) ∙ e))
 
 pub walk-tree-spec : {M : Type 1} → statement M

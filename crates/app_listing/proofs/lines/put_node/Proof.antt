@@ -88,7 +88,7 @@ same-length c = search needs
 returns : tie.Need-returns
 returns c =
     writes-as (writes-then (c .before .before .before .before .before .before .put-text .ensures) (c .before .before .put-switch .ensures))
-    (ap (nodeRead (c .before .before .before .before .before .before .before .before .before .before .before .before .before .before .args .t .now)) (sym (is-switch (c .before .before .before .before .before .before .before .before .before))))
+    (ap (nodeRead (c .before .before .before .before .before .before .before .before .before .before .before .before .before .before .args .tree .now)) (sym (is-switch (c .before .before .before .before .before .before .before .before .before))))
 
 same-length-2 : tie.Need-same-length-2
 same-length-2 c = search needs
@@ -96,7 +96,7 @@ same-length-2 c = search needs
 returns-2 : tie.Need-returns-2
 returns-2 c =
     writes-as (writes-then (c .before .before .before .before .before .before .put-text2 .ensures) (c .before .before .put-switch2 .ensures))
-    (ap (nodeRead (c .before .before .before .before .before .before .before .before .before .before .before .before .before .before .args .t .now)) (sym (is-list-switch (c .before .before .before .before .before .before .before .before .before))))
+    (ap (nodeRead (c .before .before .before .before .before .before .before .before .before .before .before .before .before .before .args .tree .now)) (sym (is-list-switch (c .before .before .before .before .before .before .before .before .before))))
 
 same-length-3 : tie.Need-same-length-3
 same-length-3 c = search needs
@@ -104,7 +104,7 @@ same-length-3 c = search needs
 returns-3 : tie.Need-returns-3
 returns-3 c =
     writes-as (c .before .before .put-leaf .ensures)
-    (ap (nodeRead (c .before .before .before .before .before .before .before .before .before .args .t .now)) (sym (is-leaf (c .before .before .before .before))))
+    (ap (nodeRead (c .before .before .before .before .before .before .before .before .before .args .tree .now)) (sym (is-leaf (c .before .before .before .before))))
 
 same-length-4 : tie.Need-same-length-4
 same-length-4 c = search needs
@@ -112,7 +112,7 @@ same-length-4 c = search needs
 returns-4 : tie.Need-returns-4
 returns-4 c =
     writes-as (c .before .before .put-hoist .ensures)
-    (ap (nodeRead (c .before .before .before .before .before .before .before .before .before .args .t .now)) (sym (is-hoist (c .before .before .before .before))))
+    (ap (nodeRead (c .before .before .before .before .before .before .before .before .before .args .tree .now)) (sym (is-hoist (c .before .before .before .before))))
 
 pub put-node-spec : {M : Type 1} → statement M
 put-node-spec =

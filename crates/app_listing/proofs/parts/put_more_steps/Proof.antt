@@ -21,7 +21,7 @@ abbrev μ-loop : tie.MeasureT-loop
 μ-loop out₀ at t m i n end₀ j₀ out end j = n - j
 
 loop-holds : tie.Need-loop-holds Inv-loop μ-loop
-loop-holds c = (search needs, begun _ _ _ _ (run-start (λ k m. moreSteps (stepsFrom (c .before .before .args .t .now) k m)) _ _))
+loop-holds c = (search needs, begun _ _ _ _ (run-start (λ k m. moreSteps (stepsFrom (c .before .before .args .tree .now) k m)) _ _))
 
 put-requires : tie.Need-put-requires Inv-loop μ-loop
 put-requires c κs = search needs

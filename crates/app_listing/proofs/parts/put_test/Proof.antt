@@ -77,7 +77,7 @@ returns c =
     let a = c .before .before .before .before .before .before .before .before .before .before .args in
     let g = c .before .before .before .before .before .before .test .given .0 in
     let e : a .test ≡ Test.Constr (g .0) = search needs in
-    writes-as (c .before .before .put-number-test .ensures) (ap (testRead (a .t .now)) (sym e))
+    writes-as (c .before .before .put-number-test .ensures) (ap (testRead (a .tree .now)) (sym e))
 
 same-length-2 : tie.Need-same-length-2
 same-length-2 c = search needs
@@ -87,7 +87,7 @@ returns-2 c =
     let w = c .before .before .before .before .before .before .before .before .before .before .before in
     let g = c .before .before .before .before .before .before .before .test2 .given .0 in
     let e : w .args .test ≡ Test.Text (g .0) (g .1 .0) (g .1 .1 .0) = search needs in
-    writes-as (c .before .before .put-text-test .ensures) (text-read (w .pre .0) (g .1 .0) (g .1 .1 .0) (g .0) ∙ ap (testRead (w .args .t .now)) (sym e))
+    writes-as (c .before .before .put-text-test .ensures) (text-read (w .pre .0) (g .1 .0) (g .1 .1 .0) (g .0) ∙ ap (testRead (w .args .tree .now)) (sym e))
 
 same-length-3 : tie.Need-same-length-3
 same-length-3 c = search needs
@@ -97,7 +97,7 @@ returns-3 c =
     let a = c .before .before .before .before .before .before .before .before .before .before .args in
     let g = c .before .before .before .before .before .before .test3 .given .0 in
     let e : a .test ≡ Test.List (g .0) = search needs in
-    writes-as (c .before .before .put-number-test2 .ensures) (ap (testRead (a .t .now)) (sym e))
+    writes-as (c .before .before .put-number-test2 .ensures) (ap (testRead (a .tree .now)) (sym e))
 
 same-length-4 : tie.Need-same-length-4
 same-length-4 c = search needs
@@ -107,7 +107,7 @@ returns-4 c =
     let a = c .before .before .before .before .before .before .before .before .before .before .args in
     let g = c .before .before .before .before .before .before .test4 .given .0 in
     let e : a .test ≡ Test.Tailed (g .0) = search needs in
-    writes-as (c .before .before .put-number-test3 .ensures) (ap (testRead (a .t .now)) (sym e))
+    writes-as (c .before .before .put-number-test3 .ensures) (ap (testRead (a .tree .now)) (sym e))
 
 pub put-test-spec : {M : Type 1} → statement M
 put-test-spec =

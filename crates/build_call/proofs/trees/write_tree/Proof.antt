@@ -94,7 +94,7 @@ put-tail-requires c κs =
     let s = c .before .before .before .before .before .before .before .before .before .before .before .before .before .before in
     let write-nodes = c .before .before .before .before .before .before .before .write-nodes in
     let f = told s _ _ (write-nodes .result) (write-nodes .ensures) in
-    tail-is-ready (ok s) _ _ _ _ (s .pre .0 .2) (s .pre .0 .0 .verdict) _ _ _ _ f (s .args .m) (s .args .t .now) (record { is-map = s .pre .0 .0 .map; ok = ok s }) (s .pre .0 .1) (omega (arith, s .pre .1 .0, write-nodes .kept .1 .1 .1 .1 .1 .0))
+    tail-is-ready (ok s) _ _ _ _ (s .pre .0 .2) (s .pre .0 .0 .verdict) _ _ _ _ f (s .args .m) (s .args .table .now) (record { is-map = s .pre .0 .0 .map; ok = ok s }) (s .pre .0 .1) (omega (arith, s .pre .1 .0, write-nodes .kept .1 .1 .1 .1 .1 .0))
 
 cast-t23 : tie.Need-cast-t23
 cast-t23 c =

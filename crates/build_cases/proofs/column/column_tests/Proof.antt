@@ -38,7 +38,7 @@ test-at-requires c κs =
     let s = c .before .before .before .before .before .before in
     let a = s .args in
     let l = c .before .before .before .before .loop in
-    rw (c .wide .ensures) (all-at (InTable (a .t .now) (a .class)) (a .rows .now) (a .n) (l .i) (c .before .before .before .loop-test .taken) (omega (arith, s .pre .0 .long, s .pre .0 .most)) (s .pre .1))
+    rw (c .wide .ensures) (all-at (InTable (a .table .now) (a .class)) (a .rows .now) (a .n) (l .i) (c .before .before .before .loop-test .taken) (omega (arith, s .pre .0 .long, s .pre .0 .most)) (s .pre .1))
 
 keep-test-requires : tie.Need-keep-test-requires Inv-loop μ-loop
 keep-test-requires c κs =
@@ -46,10 +46,10 @@ keep-test-requires c κs =
     let a = s .args in
     let l = c .before .before .before .before .before .loop in
     let row = getD (a .rows .now) (l .i) 0 in
-    let there : InTable (a .t .now) (a .class) row = all-at (InTable (a .t .now) (a .class)) (a .rows .now) (a .n) (l .i) (c .before .before .before .before .loop-test .taken) (omega (arith, s .pre .0 .long, s .pre .0 .most)) (s .pre .1) in (
+    let there : InTable (a .table .now) (a .class) row = all-at (InTable (a .table .now) (a .class)) (a .rows .now) (a .n) (l .i) (c .before .before .before .before .loop-test .taken) (omega (arith, s .pre .0 .long, s .pre .0 .most)) (s .pre .1) in (
       l .inv .2,
       omega (arith, l .inv .1, (c .before .before .before .before .loop-test .taken), s .pre .0 .most),
-      held-small (a .t .now) (a .opened .now) (a .class) row (c .test-at .result) there (c .test-at .ensures ∙ ap (heldIn (a .t .now) (a .opened .now) (a .class)) (c .before .wide .ensures)),
+      held-small (a .table .now) (a .opened .now) (a .class) row (c .test-at .result) there (c .test-at .ensures ∙ ap (heldIn (a .table .now) (a .opened .now) (a .class)) (c .before .wide .ensures)),
     )
 
 add-i : tie.Need-add-i Inv-loop μ-loop
@@ -63,7 +63,7 @@ loop-again c =
     let s = c .before .before .before .before .before .before .before .before in
     let a = s .args in
     let l = c .before .before .before .before .before .before .loop in
-    let held = heldIn (a .t .now) (a .opened .now) (a .class) in
+    let held = heldIn (a .table .now) (a .opened .now) (a .class) in
     let row = getD (a .rows .now) (l .i) 0 in
     let read = c .before .test-at in
     let one : held row ≡ read .result = sym (read .ensures ∙ ap held (c .before .before .wide .ensures)) in
@@ -82,7 +82,7 @@ returns c =
     let a = s .args in
     let l = c .before .loop in
     holds-rows-same (l .inv .2)
-    (tests-end (heldIn (a .t .now) (a .opened .now) (a .class)) (take (l .count) (l .list)) (slice (l .i) (a .n) (a .rows .now)) (slice-end (a .rows .now) (l .i) (a .n) (omega (arith, l .inv .0, c .loop-test .left))) ∙ l .inv .3)
+    (tests-end (heldIn (a .table .now) (a .opened .now) (a .class)) (take (l .count) (l .list)) (slice (l .i) (a .n) (a .rows .now)) (slice-end (a .rows .now) (l .i) (a .n) (omega (arith, l .inv .0, c .loop-test .left))) ∙ l .inv .3)
 
 pub column-tests-spec : {M : Type 1} → statement M
 column-tests-spec =

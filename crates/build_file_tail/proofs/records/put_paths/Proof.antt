@@ -15,7 +15,7 @@ abbrev μ-loop : tie.MeasureT-loop
 loop-holds : tie.Need-loop-holds Inv-loop μ-loop
 loop-holds c =
     let a = c .before .before .before .args in
-    (omega arith, recorded-none (a .t .now) (a .classes .now) (a .tree .now) (a .at) (a .count))
+    (omega arith, recorded-none (a .table .now) (a .classes .now) (a .tree .now) (a .at) (a .count))
 
 at-requires : tie.Need-at-requires Inv-loop μ-loop
 at-requires c κs = let start = c .before .before .before .before .before in omega (arith, start .pre .0 .1 .inside)
@@ -47,7 +47,7 @@ add-first c =
     let start = c .before .before .before .before .before .before .before .before .before .before .before .before in
     let a = start .args in
     let l = c .before .before .before .before .before .before .before .before .loop in
-    omega (arith, start .pre .1, recorded-small (a .t .now) (a .classes .now) (a .tree .now) (a .at) (a .count) (l .inv .1) (start .pre .0 .1 .inside) (c .before .before .before .before .before .before .before .loop-test .taken) (c .before .before .before .before .before .before .at .result) (c .before .before .before .before .wide .result) (c .before .before .before .before .before .before .at .ensures) (c .before .before .before .before .wide .ensures))
+    omega (arith, start .pre .1, recorded-small (a .table .now) (a .classes .now) (a .tree .now) (a .at) (a .count) (l .inv .1) (start .pre .0 .1 .inside) (c .before .before .before .before .before .before .before .loop-test .taken) (c .before .before .before .before .before .before .at .result) (c .before .before .before .before .wide .result) (c .before .before .before .before .before .before .at .ensures) (c .before .before .before .before .wide .ensures))
 
 add-i : tie.Need-add-i Inv-loop μ-loop
 add-i c = search needs
@@ -61,7 +61,7 @@ loop-again c =
     let a = start .args in
     let l = c .before .before .before .before .before .before .before .before .loop in
     let taken = c .before .before .before .before .before .before .before .loop-test .taken in
-    (omega arith, recorded-more (a .t .now) (a .classes .now) (a .tree .now) (a .at) (a .count) (l .inv .1) (start .pre .0 .1 .inside) taken (c .before .before .before .before .before .before .at .result) (c .before .before .before .before .wide .result) (c .before .before .before .before .before .before .at .ensures) (c .before .before .before .before .wide .ensures) (c .before .before .put-path .ensures))
+    (omega arith, recorded-more (a .table .now) (a .classes .now) (a .tree .now) (a .at) (a .count) (l .inv .1) (start .pre .0 .1 .inside) taken (c .before .before .before .before .before .before .at .result) (c .before .before .before .before .wide .result) (c .before .before .before .before .before .before .at .ensures) (c .before .before .before .before .wide .ensures) (c .before .before .put-path .ensures))
 
 mul-result : tie.Need-mul-result Inv-loop μ-loop
 mul-result c = let start = c .before .before .before .before .before in omega (arith, start .pre .0 .2)
@@ -76,7 +76,7 @@ returns : tie.Need-returns Inv-loop μ-loop
 returns c =
     let a = c .before .before .before .before .before .args in
     let l = c .before .loop in
-    recorded-all (a .t .now) (a .classes .now) (a .tree .now) (a .at) (a .count) (l .inv .1) (l .inv .0) (c .loop-test .left)
+    recorded-all (a .table .now) (a .classes .now) (a .tree .now) (a .at) (a .count) (l .inv .1) (l .inv .0) (c .loop-test .left)
 
 pub put-paths-spec : {M : Type 1} → statement M
 put-paths-spec =

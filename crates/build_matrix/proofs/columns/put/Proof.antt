@@ -38,7 +38,7 @@ returns c =
     let l = c .before .before .before .before .loop in
     let seen = c .before .wide in
     let other : seen .result ≡ getD (a .list .now) (l .i) 0 = seen .ensures ∙ ap (λ (x : List ℕ). getD x (l .i) 0) (l .inv .0) in
-    rw (l .inv .0) (holds-same (s .pre .whole) (sym (put-there (firstIn (a .t .now)) (a .class) (a .list .now) (a .count) (l .i) (omega (arith, s .pre .whole .long, s .pre .whole .most)) (l .inv .2) (c .before .before .before .loop-test .taken) (sym other ∙ c .if1 .taken))))
+    rw (l .inv .0) (holds-same (s .pre .whole) (sym (put-there (firstIn (a .table .now)) (a .class) (a .list .now) (a .count) (l .i) (omega (arith, s .pre .whole .long, s .pre .whole .most)) (l .inv .2) (c .before .before .before .loop-test .taken) (sym other ∙ c .if1 .taken))))
 
 before-requires : tie.Need-before-requires Inv-loop μ-loop
 before-requires c κs =
@@ -47,7 +47,7 @@ before-requires c κs =
     let l = c .before .before .before .before .loop in
     let seen = c .before .wide in
     let other : seen .result ≡ getD (a .list .now) (l .i) 0 = seen .ensures ∙ ap (λ (x : List ℕ). getD x (l .i) 0) (l .inv .0) in
-    let ranked : Ranked (a .t .now) (seen .result) = rw other (all-at (Ranked (a .t .now)) (a .list .now) (a .count) (l .i) (c .before .before .before .loop-test .taken) (omega (arith, s .pre .whole .long, s .pre .whole .most)) (s .pre .each)) in
+    let ranked : Ranked (a .table .now) (seen .result) = rw other (all-at (Ranked (a .table .now)) (a .list .now) (a .count) (l .i) (c .before .before .before .loop-test .taken) (omega (arith, s .pre .whole .long, s .pre .whole .most)) (s .pre .each)) in
     ((s .pre .long, s .pre .ranked .known, ranked .known), (s .pre .ranked .depth, ranked .depth))
 
 insert-requires : tie.Need-insert-requires Inv-loop μ-loop
@@ -58,8 +58,8 @@ insert-requires c κs =
     let seen = c .before .before .before .before .wide in
     let other : seen .result ≡ getD (a .list .now) (l .i) 0 = seen .ensures ∙ ap (λ (x : List ℕ). getD x (l .i) 0) (l .inv .0) in
     let less = c .before .before .before2 in
-    let told : firstIn (a .t .now) (a .class) (getD (a .list .now) (l .i) 0) ≡ less .result = ap (firstIn (a .t .now) (a .class)) (sym other) ∙ sym (less .ensures) in
-    let e = put-before (firstIn (a .t .now)) (a .class) (a .list .now) (a .count) (l .i) (omega (arith, s .pre .whole .long, s .pre .whole .most)) (l .inv .2) (c .before .before .before .before .before .before .loop-test .taken) (λ x. c .before .before .before .if1 .left (other ∙ x)) (told ∙ c .before .if2 .taken) in
+    let told : firstIn (a .table .now) (a .class) (getD (a .list .now) (l .i) 0) ≡ less .result = ap (firstIn (a .table .now) (a .class)) (sym other) ∙ sym (less .ensures) in
+    let e = put-before (firstIn (a .table .now)) (a .class) (a .list .now) (a .count) (l .i) (omega (arith, s .pre .whole .long, s .pre .whole .most)) (l .inv .2) (c .before .before .before .before .before .before .loop-test .taken) (λ x. c .before .before .before .if1 .left (other ∙ x)) (told ∙ c .before .if2 .taken) in
     (rw (l .inv .0) (s .pre .whole), l .inv .1, omega (arith, insert-room (a .list .now) (a .count) (l .i) (a .class) (l .inv .1) (omega (arith, s .pre .whole .long, s .pre .whole .most)), ap length e, s .pre .room), s .pre .ranked .known)
 
 returns-2 : tie.Need-returns-2 Inv-loop μ-loop
@@ -70,8 +70,8 @@ returns-2 c =
     let seen = c .before .before .before .before .before .wide in
     let other : seen .result ≡ getD (a .list .now) (l .i) 0 = seen .ensures ∙ ap (λ (x : List ℕ). getD x (l .i) 0) (l .inv .0) in
     let less = c .before .before .before .before2 in
-    let told : firstIn (a .t .now) (a .class) (getD (a .list .now) (l .i) 0) ≡ less .result = ap (firstIn (a .t .now) (a .class)) (sym other) ∙ sym (less .ensures) in
-    holds-same (c .insert .ensures) (ap (λ (x : List ℕ). take (l .i) x ++ a .class ∷ slice (l .i) (a .count) x) (l .inv .0) ∙ sym (put-before (firstIn (a .t .now)) (a .class) (a .list .now) (a .count) (l .i) (omega (arith, s .pre .whole .long, s .pre .whole .most)) (l .inv .2) (c .before .before .before .before .before .before .before .loop-test .taken) (λ x. c .before .before .before .before .if1 .left (other ∙ x)) (told ∙ c .before .before .if2 .taken)))
+    let told : firstIn (a .table .now) (a .class) (getD (a .list .now) (l .i) 0) ≡ less .result = ap (firstIn (a .table .now) (a .class)) (sym other) ∙ sym (less .ensures) in
+    holds-same (c .insert .ensures) (ap (λ (x : List ℕ). take (l .i) x ++ a .class ∷ slice (l .i) (a .count) x) (l .inv .0) ∙ sym (put-before (firstIn (a .table .now)) (a .class) (a .list .now) (a .count) (l .i) (omega (arith, s .pre .whole .long, s .pre .whole .most)) (l .inv .2) (c .before .before .before .before .before .before .before .loop-test .taken) (λ x. c .before .before .before .before .if1 .left (other ∙ x)) (told ∙ c .before .before .if2 .taken)))
 
 add-i : tie.Need-add-i Inv-loop μ-loop
 add-i c = search needs
@@ -87,15 +87,15 @@ loop-again c =
     let seen = c .before .before .before .wide in
     let other : seen .result ≡ getD (a .list .now) (l .i) 0 = seen .ensures ∙ ap (λ (x : List ℕ). getD x (l .i) 0) (l .inv .0) in
     let less = c .before .before2 in
-    let told : firstIn (a .t .now) (a .class) (getD (a .list .now) (l .i) 0) ≡ less .result = ap (firstIn (a .t .now) (a .class)) (sym other) ∙ sym (less .ensures) in
-    (l .inv .0, search needs, put-behind (firstIn (a .t .now)) (a .class) (a .list .now) (a .count) (l .i) (omega (arith, s .pre .whole .long, s .pre .whole .most)) (l .inv .2) (c .before .before .before .before .before .loop-test .taken) (λ x. c .before .before .if1 .left (other ∙ x)) (told ∙ c .if2 .left))
+    let told : firstIn (a .table .now) (a .class) (getD (a .list .now) (l .i) 0) ≡ less .result = ap (firstIn (a .table .now) (a .class)) (sym other) ∙ sym (less .ensures) in
+    (l .inv .0, search needs, put-behind (firstIn (a .table .now)) (a .class) (a .list .now) (a .count) (l .i) (omega (arith, s .pre .whole .long, s .pre .whole .most)) (l .inv .2) (c .before .before .before .before .before .loop-test .taken) (λ x. c .before .before .if1 .left (other ∙ x)) (told ∙ c .if2 .left))
 
 insert-requires-2 : tie.Need-insert-requires-2 Inv-loop μ-loop
 insert-requires-2 c κs =
     let s = c .before .before .before .before in
     let a = s .args in
     let l = c .before .before .loop in
-    let e = put-last (firstIn (a .t .now)) (a .class) (a .list .now) (a .count) (l .i) (omega (arith, s .pre .whole .long, s .pre .whole .most)) (l .inv .2) (omega (arith, l .inv .1, c .before .loop-test .left)) in
+    let e = put-last (firstIn (a .table .now)) (a .class) (a .list .now) (a .count) (l .i) (omega (arith, s .pre .whole .long, s .pre .whole .most)) (l .inv .2) (omega (arith, l .inv .1, c .before .loop-test .left)) in
     (rw (l .inv .0) (s .pre .whole), l .inv .1, omega (arith, insert-room (a .list .now) (a .count) (l .i) (a .class) (l .inv .1) (omega (arith, s .pre .whole .long, s .pre .whole .most)), ap length e, s .pre .room), s .pre .ranked .known)
 
 returns-3 : tie.Need-returns-3 Inv-loop μ-loop
@@ -103,7 +103,7 @@ returns-3 c =
     let s = c .before .before .before .before .before in
     let a = s .args in
     let l = c .before .before .before .loop in
-    holds-same (c .insert2 .ensures) (ap (λ (x : List ℕ). take (l .i) x ++ a .class ∷ slice (l .i) (a .count) x) (l .inv .0) ∙ sym (put-last (firstIn (a .t .now)) (a .class) (a .list .now) (a .count) (l .i) (omega (arith, s .pre .whole .long, s .pre .whole .most)) (l .inv .2) (omega (arith, l .inv .1, c .before .before .loop-test .left))))
+    holds-same (c .insert2 .ensures) (ap (λ (x : List ℕ). take (l .i) x ++ a .class ∷ slice (l .i) (a .count) x) (l .inv .0) ∙ sym (put-last (firstIn (a .table .now)) (a .class) (a .list .now) (a .count) (l .i) (omega (arith, s .pre .whole .long, s .pre .whole .most)) (l .inv .2) (omega (arith, l .inv .1, c .before .before .loop-test .left))))
 
 pub put-spec : {M : Type 1} → statement M
 put-spec =

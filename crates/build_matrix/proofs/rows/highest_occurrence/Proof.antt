@@ -36,7 +36,7 @@ occurrence-requires c κs =
     let s = c .before .before .before .before .before in
     let a = s .args in
     let l = c .before .before .before .loop in
-    (s .pre .0, rw (c .wide .ensures) (all-at (λ k. All (InTable (a .t .now) k) (take (a .n) (a .rows .now))) (a .columns .now) (a .k) (l .i) (c .before .before .loop-test .taken) (omega (arith, s .pre .1 .long, s .pre .1 .most)) (s .pre .2)))
+    (s .pre .0, rw (c .wide .ensures) (all-at (λ k. All (InTable (a .table .now) k) (take (a .n) (a .rows .now))) (a .columns .now) (a .k) (l .i) (c .before .before .loop-test .taken) (omega (arith, s .pre .1 .long, s .pre .1 .most)) (s .pre .2)))
 
 better-of-requires : tie.Need-better-of-requires Inv-loop μ-loop
 better-of-requires c κs = search needs
@@ -52,7 +52,7 @@ loop-again c =
     let s = c .before .before .before .before .before .before .before in
     let a = s .args in
     let l = c .before .before .before .before .before .loop in
-    let counts : ℕ → ℕ = λ k. countOf (heldIn (a .t .now) (a .opened .now) k) (take (a .n) (a .rows .now)) in
+    let counts : ℕ → ℕ = λ k. countOf (heldIn (a .table .now) (a .opened .now) k) (take (a .n) (a .rows .now)) in
     let k = getD (a .columns .now) (l .i) 0 in
     let class = c .before .before .wide in
     let amount = c .before .occurrence in (
@@ -67,7 +67,7 @@ returns c =
     let s = c .before .before .before in
     let a = s .args in
     let l = c .before .loop in
-    best-end (λ k. countOf (heldIn (a .t .now) (a .opened .now) k) (take (a .n) (a .rows .now))) (l .best) (slice (l .i) (a .k) (a .columns .now)) (slice-end (a .columns .now) (l .i) (a .k) (omega (arith, l .inv .0, c .loop-test .left))) ∙ l .inv .1
+    best-end (λ k. countOf (heldIn (a .table .now) (a .opened .now) k) (take (a .n) (a .rows .now))) (l .best) (slice (l .i) (a .k) (a .columns .now)) (slice-end (a .columns .now) (l .i) (a .k) (omega (arith, l .inv .0, c .loop-test .left))) ∙ l .inv .1
 
 pub highest-occurrence-spec : {M : Type 1} → statement M
 highest-occurrence-spec =

@@ -32,7 +32,7 @@ test-at-requires c κs =
     let s = c .before .before .before .before .before in
     let a = s .args in
     let l = c .before .before .before .loop in
-    rw (c .wide .ensures) (all-at (InTable (a .t .now) (a .class)) (a .rows .now) (a .n) (l .i) (omega (arith, c .before .before .loop-test .taken)) (omega (arith, s .pre .0 .long, s .pre .0 .most)) (s .pre .1))
+    rw (c .wide .ensures) (all-at (InTable (a .table .now) (a .class)) (a .rows .now) (a .n) (l .i) (omega (arith, c .before .before .loop-test .taken)) (omega (arith, s .pre .0 .long, s .pre .0 .most)) (s .pre .1))
 
 has-test-requires : tie.Need-has-test-requires Inv-loop μ-loop
 has-test-requires c κs = search needs
@@ -42,7 +42,7 @@ returns c =
     let s = c .before .before .before .before .before .before .before .before in
     let a = s .args in
     let l = c .before .before .before .before .before .before .loop in
-    let held = heldIn (a .t .now) (a .opened .now) (a .class) in
+    let held = heldIn (a .table .now) (a .opened .now) (a .class) in
     let told : hasTest (held (getD (a .rows .now) (l .i) 0)) ≡ c .before .has-test .result =
     sym (c .before .has-test .ensures ∙ ap hasTest (c .before .before .test-at .ensures ∙ ap held (c .before .before .before .wide .ensures)))
     in
@@ -59,7 +59,7 @@ loop-again c =
     let s = c .before .before .before .before .before .before .before .before in
     let a = s .args in
     let l = c .before .before .before .before .before .before .loop in
-    let held = heldIn (a .t .now) (a .opened .now) (a .class) in
+    let held = heldIn (a .table .now) (a .opened .now) (a .class) in
     let told : hasTest (held (getD (a .rows .now) (l .i) 0)) ≡ c .before .has-test .result =
     sym (c .before .has-test .ensures ∙ ap hasTest (c .before .before .test-at .ensures ∙ ap held (c .before .before .before .wide .ensures)))
     in
@@ -69,7 +69,7 @@ returns-2 : tie.Need-returns-2 Inv-loop μ-loop
 returns-2 c =
     let a = c .before .before .before .args in
     let l = c .before .loop in
-    sym (count-end (heldIn (a .t .now) (a .opened .now) (a .class)) (a .rows .now) (a .n) (l .i) (l .inv .1) (omega (arith, l .inv .0, c .loop-test .left)))
+    sym (count-end (heldIn (a .table .now) (a .opened .now) (a .class)) (a .rows .now) (a .n) (l .i) (l .inv .1) (omega (arith, l .inv .0, c .loop-test .left)))
 
 pub occurrence-spec : {M : Type 1} → statement M
 occurrence-spec =

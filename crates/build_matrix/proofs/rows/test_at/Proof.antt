@@ -18,7 +18,7 @@ at-requires : tie.Need-at-requires
 at-requires c κs = search needs
 
 returns : tie.Need-returns
-returns c = let a = c .before .before .before .args in held-none (a .t .now) (a .opened .now) (a .class) (a .c) (c .before .at .result) (c .before .at .ensures) (c .if1 .taken)
+returns c = let a = c .before .before .before .args in held-none (a .table .now) (a .opened .now) (a .class) (a .c) (c .before .at .result) (c .before .at .ensures) (c .if1 .taken)
 
 sub-p : tie.Need-sub-p
 sub-p c = search needs
@@ -31,7 +31,7 @@ returns-2 c =
     let s = c .before .before .before .before .before in
     let a = s .args in
     let at = c .before .before .before .at in
-    held-opened (a .t .now) (a .opened .now) (a .class) (a .c) (at .result) (at .ensures) (c .before .before .if1 .left) (c .if2 .taken)
+    held-opened (a .table .now) (a .opened .now) (a .class) (a .c) (at .result) (at .ensures) (c .before .before .if1 .left) (c .if2 .taken)
 
 add-at-3 : tie.Need-add-at-3
 add-at-3 c = search needs
@@ -47,7 +47,7 @@ returns-3 c =
     let a = s .args in
     let at = c .before .before .before .before .before .at in
     let owner = c .before .at2 in
-    held-free (a .t .now) (a .opened .now) (a .class) (a .c) (at .result) (at .ensures) (c .before .before .before .before .if1 .left) (c .before .before .if2 .left)
+    held-free (a .table .now) (a .opened .now) (a .class) (a .c) (at .result) (at .ensures) (c .before .before .before .before .if1 .left) (c .before .before .if2 .left)
     (owner .result) (owner .ensures) (c .if3 .taken)
 
 sub-if4 : tie.Need-sub-if4
@@ -56,7 +56,7 @@ sub-if4 c = search needs
 element-copy-out-if4 : tie.Need-element-copy-out-if4
 element-copy-out-if4 c =
     let s = c .before .before .before .before .before .before .before in
-    omega (arith, owner-most (s .args .t .now) (s .args .class) (s .args .c) (s .pre) (c .before .before .before .before .before .at .result) (c .before .before .before .before .before .at .ensures) (c .before .at2 .result) (c .before .at2 .ensures), c .if3 .left)
+    omega (arith, owner-most (s .args .table .now) (s .args .class) (s .args .c) (s .pre) (c .before .before .before .before .before .at .result) (c .before .before .before .before .before .at .ensures) (c .before .at2 .result) (c .before .at2 .ensures), c .if3 .left)
 
 returns-4 : tie.Need-returns-4
 returns-4 c =
@@ -64,7 +64,7 @@ returns-4 c =
     let a = s .args in
     let at = c .before .before .before .before .before .before .before .at in
     let owner = c .before .before .before .at2 in
-    held-shut (a .t .now) (a .opened .now) (a .class) (a .c) (at .result) (at .ensures) (c .before .before .before .before .before .before .if1 .left)
+    held-shut (a .table .now) (a .opened .now) (a .class) (a .c) (at .result) (at .ensures) (c .before .before .before .before .before .before .if1 .left)
     (c .before .before .before .before .if2 .left) (owner .result) (owner .ensures) (c .before .before .if3 .left) (c .if4 .taken)
 
 returns-5 : tie.Need-returns-5
@@ -73,7 +73,7 @@ returns-5 c =
     let a = s .args in
     let at = c .before .before .before .before .before .before .before .at in
     let owner = c .before .before .before .at2 in
-    held-inside (a .t .now) (a .opened .now) (a .class) (a .c) (at .result) (at .ensures) (c .before .before .before .before .before .before .if1 .left)
+    held-inside (a .table .now) (a .opened .now) (a .class) (a .c) (at .result) (at .ensures) (c .before .before .before .before .before .before .if1 .left)
     (c .before .before .before .before .if2 .left) (owner .result) (owner .ensures) (c .before .before .if3 .left) (c .if4 .left)
 
 pub test-at-spec : {M : Type 1} → statement M

@@ -36,7 +36,7 @@ test-at-requires c κs =
     let s = c .before .before .before .before .before .before in
     let a = s .args in
     let l = c .before .before .before .before .loop in
-    rw (c .wide .ensures) (all-at (InTable (a .t .now) (a .class)) (a .rows .now) (a .n) (l .i) (omega (arith, c .before .before .before .loop-test .taken)) (omega (arith, s .pre .0 .long, s .pre .0 .most)) (s .pre .1))
+    rw (c .wide .ensures) (all-at (InTable (a .table .now) (a .class)) (a .rows .now) (a .n) (l .i) (omega (arith, c .before .before .before .loop-test .taken)) (omega (arith, s .pre .0 .long, s .pre .0 .most)) (s .pre .1))
 
 keep-wild-requires : tie.Need-keep-wild-requires Inv-loop μ-loop
 keep-wild-requires c κs =
@@ -55,7 +55,7 @@ loop-again c =
     let s = c .before .before .before .before .before .before .before .before in
     let a = s .args in
     let l = c .before .before .before .before .before .before .loop in
-    let held = heldIn (a .t .now) (a .opened .now) (a .class) in
+    let held = heldIn (a .table .now) (a .opened .now) (a .class) in
     let row = getD (a .rows .now) (l .i) 0 in
     let i-in : l .i < a .n = c .before .before .before .before .before .loop-test .taken in
     let one : held row ≡ c .before .test-at .result = sym (c .before .test-at .ensures ∙ ap held (c .before .before .wide .ensures)) in
@@ -73,7 +73,7 @@ returns c =
     let a = c .before .before .before .args in
     let l = c .before .loop in
     holds-rows-same (l .inv .2)
-    (wild-end (heldIn (a .t .now) (a .opened .now) (a .class)) (take (l .count) (l .list)) (slice (l .i) (a .n) (a .rows .now)) (slice-end (a .rows .now) (l .i) (a .n) (omega (arith, l .inv .0, c .loop-test .left))) ∙ l .inv .3)
+    (wild-end (heldIn (a .table .now) (a .opened .now) (a .class)) (take (l .count) (l .list)) (slice (l .i) (a .n) (a .rows .now)) (slice-end (a .rows .now) (l .i) (a .n) (omega (arith, l .inv .0, c .loop-test .left))) ∙ l .inv .3)
 
 pub wild-rows-spec : {M : Type 1} → statement M
 wild-rows-spec =

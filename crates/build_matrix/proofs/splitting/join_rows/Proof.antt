@@ -60,7 +60,7 @@ join-row-requires c κs =
     let low = all-at (λ k. k < clauses (a .s .now)) (a .from .now) (a .n) (l .i) (c .before .before .before .before .before .loop-test .taken) (omega (arith, s .pre .0 .1 .long, s .pre .0 .1 .most)) (s .pre .0 .2) in
     let read = c .before .before .test-at in
     let held : read .result ≡ liveIn (a .s .now) (a .opened .now) (a .class) row =
-    read .ensures ∙ ap (heldIn (a .t .now) (a .opened .now) (a .class)) (c .before .before .before .wide .ensures) ∙ held-read (s .pre .0 .0) row (a .class) low (s .pre .0 .3) (a .opened .now)
+    read .ensures ∙ ap (heldIn (a .table .now) (a .opened .now) (a .class)) (c .before .before .before .wide .ensures) ∙ held-read (s .pre .0 .0) row (a .class) low (s .pre .0 .3) (a .opened .now)
     in (
       (s .pre .0 .0 .checked, held-live (a .s .now) (a .opened .now) (a .class) row (read .result) held, s .pre .0 .4),
       (l .inv .3, l .inv .4, omega (arith, l .inv .1, c .before .before .before .before .before .loop-test .taken, s .pre .0 .1 .most), omega (arith, l .inv .2, c .before .before .before .before .before .loop-test .taken, s .pre .0 .1 .most)),
@@ -81,7 +81,7 @@ loop-again c =
     let low = all-at (λ k. k < clauses (a .s .now)) (a .from .now) (a .n) (l .i) (c .before .before .before .before .before .before .loop-test .taken) (omega (arith, s .pre .0 .1 .long, s .pre .0 .1 .most)) (s .pre .0 .2) in
     let read = c .before .before .before .test-at in
     let held : read .result ≡ liveIn (a .s .now) (a .opened .now) (a .class) row =
-    read .ensures ∙ ap (heldIn (a .t .now) (a .opened .now) (a .class)) (c .before .before .before .before .wide .ensures) ∙ held-read (s .pre .0 .0) row (a .class) low (s .pre .0 .3) (a .opened .now)
+    read .ensures ∙ ap (heldIn (a .table .now) (a .opened .now) (a .class)) (c .before .before .before .before .wide .ensures) ∙ held-read (s .pre .0 .0) row (a .class) low (s .pre .0 .3) (a .opened .now)
     in
     let joins = joinsCase (a .s .now) (meant (a .s .now) (a .test)) in
     let live = liveIn (a .s .now) (a .opened .now) (a .class) in

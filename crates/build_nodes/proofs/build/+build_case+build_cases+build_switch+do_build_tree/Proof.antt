@@ -140,17 +140,17 @@ build-cases-μ-loop s m t rows columns tested₀ opened n k work₀ first count 
 -- ---- what is known at places of the code
 -- what is known in a turn of the loop
 turn-at : (t : ℕ) (c : build-cases-lts.In-loop (case-at-reads.Asked, case-at-reads.Learnt, put-child-reads.Asked, put-child-reads.Learnt, build-case-below t, build-case.Post) (build-cases-at t) build-cases.Post build-cases-Inv-loop build-cases-μ-loop)
-    → Turn (c .before .before .before .before .before .before .args .s .now) (c .before .before .before .before .before .before .args .m) (c .before .before .before .before .before .before .args .t .now) (matrixOf (c .before .before .before .before .before .before .args .rows .now) (c .before .before .before .before .before .before .args .columns .now) (c .before .before .before .before .before .before .args .tested .now) (c .before .before .before .before .before .before .args .opened .now) (c .before .before .before .before .before .before .args .n)) (c .before .before .before .before .before .before .args .k) (c .before .before .before .before .before .before .args .first) (c .before .before .before .before .before .before .args .w .now) (c .before .before .before .before .before .before .args .from) (c .before .loop .i) (c .before .loop .tested) (c .before .loop .w) (c .before .loop .tops)
+    → Turn (c .before .before .before .before .before .before .args .s .now) (c .before .before .before .before .before .before .args .m) (c .before .before .before .before .before .before .args .table .now) (matrixOf (c .before .before .before .before .before .before .args .rows .now) (c .before .before .before .before .before .before .args .columns .now) (c .before .before .before .before .before .before .args .tested .now) (c .before .before .before .before .before .before .args .opened .now) (c .before .before .before .before .before .before .args .n)) (c .before .before .before .before .before .before .args .k) (c .before .before .before .before .before .before .args .first) (c .before .before .before .before .before .before .args .w .now) (c .before .before .before .before .before .before .args .from) (c .before .loop .i) (c .before .loop .tested) (c .before .loop .w) (c .before .loop .tops)
 turn-at t c = record { col = c .before .before .before .before .before .before .pre .1 .0; asked = c .before .before .before .before .before .before .pre .1 .1; part = c .before .loop .inv .3; inside = c .loop-test .taken; kept = c .before .loop .inv .2 }
 
 -- what is known of a switch whose cases are met
 opened-at : (t : ℕ) (c : build-switch-lts.After-known-told (meet-cases-reads.Asked, meet-cases-reads.Learnt, build-cases-below t, build-cases.Post, default-matrix-reads.Asked, default-matrix-reads.Learnt, put-switch-reads.Asked, put-switch-reads.Learnt, do-build-tree-below t, do-build-tree.Post) (build-switch-at t) build-switch.Post)
-    → Opened (c .before .before .before .before .before .before .before .before .before .before .args .s .now) (c .before .before .before .before .before .before .before .before .before .before .args .m) (c .before .before .before .before .before .before .before .before .before .before .args .t .now) (matrixOf (c .before .before .before .before .before .before .before .before .before .before .args .rows .now) (c .before .before .before .before .before .before .before .before .before .before .args .columns .now) (c .before .before .before .before .before .before .before .before .before .before .args .tested .now) (c .before .before .before .before .before .before .before .before .before .before .args .opened .now) (c .before .before .before .before .before .before .before .before .before .before .args .n)) (c .before .before .before .before .before .before .before .before .before .before .args .k) (c .before .before .before .before .before .before .before .before .before .before .args .w .now) (c .before .before .before .before .before .before .before .before .before .before .args .tops) (c .before .before .before .before .before .meet-cases .last .1 .1 .1 .1 .1 .1 .1 .0) (c .before .meeting .given .0 .0) (record { nodes = (c .before .before .before .before .before .before .before .before .before .before .args .tops .nodes) + 1; cases = (c .before .meeting .given .0 .0) .end; bindings = c .before .before .before .before .before .before .before .before .before .before .args .tops .bindings; leaves = c .before .before .before .before .before .before .before .before .before .before .args .tops .leaves })
+    → Opened (c .before .before .before .before .before .before .before .before .before .before .args .s .now) (c .before .before .before .before .before .before .before .before .before .before .args .m) (c .before .before .before .before .before .before .before .before .before .before .args .table .now) (matrixOf (c .before .before .before .before .before .before .before .before .before .before .args .rows .now) (c .before .before .before .before .before .before .before .before .before .before .args .columns .now) (c .before .before .before .before .before .before .before .before .before .before .args .tested .now) (c .before .before .before .before .before .before .before .before .before .before .args .opened .now) (c .before .before .before .before .before .before .before .before .before .before .args .n)) (c .before .before .before .before .before .before .before .before .before .before .args .k) (c .before .before .before .before .before .before .before .before .before .before .args .w .now) (c .before .before .before .before .before .before .before .before .before .before .args .tops) (c .before .before .before .before .before .meet-cases .last .1 .1 .1 .1 .1 .1 .1 .0) (c .before .meeting .given .0 .0) (record { nodes = (c .before .before .before .before .before .before .before .before .before .before .args .tops .nodes) + 1; cases = (c .before .meeting .given .0 .0) .end; bindings = c .before .before .before .before .before .before .before .before .before .before .args .tops .bindings; leaves = c .before .before .before .before .before .before .before .before .before .before .args .tops .leaves })
 opened-at t c = opened (c .before .before .before .before .before .before .before .before .before .before .pre .1 .0) (c .before .before .before .before .before .before .before .before .before .before .pre .1 .1) (c .before .before .before .before .before .before .before .before .before .before .pre .1 .2) (c .before .before .before .before .before .meet-cases .result) (c .before .meeting .given .0 .0) (c .before .meeting .given .1) (c .before .before .before .before .before .meet-cases .ensures)
 
 -- and whose cases are built
 cased-at : (t : ℕ) (c : build-switch-lts.After-default-matrix (meet-cases-reads.Asked, meet-cases-reads.Learnt, build-cases-below t, build-cases.Post, default-matrix-reads.Asked, default-matrix-reads.Learnt, put-switch-reads.Asked, put-switch-reads.Learnt, do-build-tree-below t, do-build-tree.Post) (build-switch-at t) build-switch.Post)
-    → Cased (c .before .before .before .before .before .before .before .before .before .before .before .before .before .before .before .before .before .before .before .before .before .before .before .args .s .now) (c .before .before .before .before .before .before .before .before .before .before .before .before .before .before .before .before .before .before .before .before .before .before .before .args .m) (c .before .before .before .before .before .before .before .before .before .before .before .before .before .before .before .before .before .before .before .before .before .before .before .args .t .now) (matrixOf (c .before .before .before .before .before .before .before .before .before .before .before .before .before .before .before .before .before .before .before .before .before .before .before .args .rows .now) (c .before .before .before .before .before .before .before .before .before .before .before .before .before .before .before .before .before .before .before .before .before .before .before .args .columns .now) (c .before .before .before .before .before .before .before .before .before .before .before .before .before .before .before .before .before .before .before .before .before .before .before .args .tested .now) (c .before .before .before .before .before .before .before .before .before .before .before .before .before .before .before .before .before .before .before .before .before .before .before .args .opened .now) (c .before .before .before .before .before .before .before .before .before .before .before .before .before .before .before .before .before .before .before .before .before .before .before .args .n)) (c .before .before .before .before .before .before .before .before .before .before .before .before .before .before .before .before .before .before .before .before .before .before .before .args .k) (c .before .before .before .before .before .before .before .before .before .before .before .before .before .before .before .before .before .before .before .before .before .before .before .args .w .now) (c .before .before .before .before .before .before .before .before .before .before .before .before .before .before .before .before .before .before .before .before .before .before .before .args .tops) (c .before .before .before .before .before .before .before .before .before .before .before .before .before .before .before .before .before .before .meet-cases .last .1 .1 .1 .1 .1 .1 .1 .0) (c .before .before .before .before .before .before .before .before .before .before .before .before .before .before .meeting .given .0 .0) (record { nodes = (c .before .before .before .before .before .before .before .before .before .before .before .before .before .before .before .before .before .before .before .before .before .before .before .args .tops .nodes) + 1; cases = (c .before .before .before .before .before .before .before .before .before .before .before .before .before .before .meeting .given .0 .0) .end; bindings = c .before .before .before .before .before .before .before .before .before .before .before .before .before .before .before .before .before .before .before .before .before .before .before .args .tops .bindings; leaves = c .before .before .before .before .before .before .before .before .before .before .before .before .before .before .before .before .before .before .before .before .before .before .before .args .tops .leaves }) (c .before .before .before .before .before .before .before .before .before .build-cases .last .1 .1 .1 .1 .1 .1 .1 .1 .1 .0) (c .before .before .before .before .before .before .before .before .before .build-cases .result) (matrixOf (c .default-matrix .last .1 .1 .1 .1 .1 .1 .1 .0) (c .default-matrix .last .1 .1 .1 .1 .1 .1 .1 .1 .0) (c .default-matrix .last .1 .1 .1 .0) (c .before .before .before .before .before .before .before .before .before .before .before .before .before .before .before .before .before .before .before .before .before .before .before .args .opened .now) (c .default-matrix .result))
+    → Cased (c .before .before .before .before .before .before .before .before .before .before .before .before .before .before .before .before .before .before .before .before .before .before .before .args .s .now) (c .before .before .before .before .before .before .before .before .before .before .before .before .before .before .before .before .before .before .before .before .before .before .before .args .m) (c .before .before .before .before .before .before .before .before .before .before .before .before .before .before .before .before .before .before .before .before .before .before .before .args .table .now) (matrixOf (c .before .before .before .before .before .before .before .before .before .before .before .before .before .before .before .before .before .before .before .before .before .before .before .args .rows .now) (c .before .before .before .before .before .before .before .before .before .before .before .before .before .before .before .before .before .before .before .before .before .before .before .args .columns .now) (c .before .before .before .before .before .before .before .before .before .before .before .before .before .before .before .before .before .before .before .before .before .before .before .args .tested .now) (c .before .before .before .before .before .before .before .before .before .before .before .before .before .before .before .before .before .before .before .before .before .before .before .args .opened .now) (c .before .before .before .before .before .before .before .before .before .before .before .before .before .before .before .before .before .before .before .before .before .before .before .args .n)) (c .before .before .before .before .before .before .before .before .before .before .before .before .before .before .before .before .before .before .before .before .before .before .before .args .k) (c .before .before .before .before .before .before .before .before .before .before .before .before .before .before .before .before .before .before .before .before .before .before .before .args .w .now) (c .before .before .before .before .before .before .before .before .before .before .before .before .before .before .before .before .before .before .before .before .before .before .before .args .tops) (c .before .before .before .before .before .before .before .before .before .before .before .before .before .before .before .before .before .before .meet-cases .last .1 .1 .1 .1 .1 .1 .1 .0) (c .before .before .before .before .before .before .before .before .before .before .before .before .before .before .meeting .given .0 .0) (record { nodes = (c .before .before .before .before .before .before .before .before .before .before .before .before .before .before .before .before .before .before .before .before .before .before .before .args .tops .nodes) + 1; cases = (c .before .before .before .before .before .before .before .before .before .before .before .before .before .before .meeting .given .0 .0) .end; bindings = c .before .before .before .before .before .before .before .before .before .before .before .before .before .before .before .before .before .before .before .before .before .before .before .args .tops .bindings; leaves = c .before .before .before .before .before .before .before .before .before .before .before .before .before .before .before .before .before .before .before .before .before .before .before .args .tops .leaves }) (c .before .before .before .before .before .before .before .before .before .build-cases .last .1 .1 .1 .1 .1 .1 .1 .1 .1 .0) (c .before .before .before .before .before .before .before .before .before .build-cases .result) (matrixOf (c .default-matrix .last .1 .1 .1 .1 .1 .1 .1 .0) (c .default-matrix .last .1 .1 .1 .1 .1 .1 .1 .1 .0) (c .default-matrix .last .1 .1 .1 .0) (c .before .before .before .before .before .before .before .before .before .before .before .before .before .before .before .before .before .before .before .before .before .before .before .args .opened .now) (c .default-matrix .result))
 cased-at t c =
     record {
       begun = (opened-at t (c .before .before .before .before .before .before .before .before .before .before .before .before .before));

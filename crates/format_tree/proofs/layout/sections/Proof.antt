@@ -85,7 +85,7 @@ returns c =
     let back10 = back9 .before in
     let back11 = back10 .before in
     let back13 = back11 .before .before in
-    map-is (back13 .args .t .now) (back11 .start .result) (back10 .start2 .result) (back9 .start3 .result) (back8 .start4 .result)
+    map-is (back13 .args .tree .now) (back11 .start .result) (back10 .start2 .result) (back9 .start3 .result) (back8 .start4 .result)
     (back7 .start5 .result) (back6 .start6 .result) (back11 .start .ensures) (back10 .start2 .ensures) (back9 .start3 .ensures)
     (back8 .start4 .ensures) (back7 .start5 .ensures) (back6 .start6 .ensures) (back5 .section-of .result) (back4 .section-of2 .result)
     (back3 .section-of3 .result) (c .before .before .section-of4 .result) (c .before .section-of5 .result) (c .section-of6 .result)

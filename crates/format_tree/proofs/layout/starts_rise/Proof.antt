@@ -32,10 +32,10 @@ abbrev pool-at : tie.After-start6 → ℕ
 pool-at c = c .start6 .result
 
 read : (c : tie.After-start6)
-    → startsRise (c .before .before .before .before .before .before .before .args .t .now)
-    ≡ startsWhole (nodes-at c) (cases-at c) (bindings-at c) (paths-at c) (steps-at c) (pool-at c) (length (c .before .before .before .before .before .before .before .args .t .now) - 14)
+    → startsRise (c .before .before .before .before .before .before .before .args .tree .now)
+    ≡ startsWhole (nodes-at c) (cases-at c) (bindings-at c) (paths-at c) (steps-at c) (pool-at c) (length (c .before .before .before .before .before .before .before .args .tree .now) - 14)
 read c =
-    starts-rise-is (c .before .before .before .before .before .before .before .args .t .now)
+    starts-rise-is (c .before .before .before .before .before .before .before .args .tree .now)
     (nodes-at c) (cases-at c) (bindings-at c) (paths-at c) (steps-at c) (pool-at c)
     (c .before .before .before .before .before .start .ensures) (c .before .before .before .before .start2 .ensures) (c .before .before .before .start3 .ensures)
     (c .before .before .start4 .ensures) (c .before .start5 .ensures) (c .start6 .ensures)

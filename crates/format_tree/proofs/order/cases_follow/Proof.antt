@@ -29,7 +29,7 @@ returns c =
     let back3 = c .before .before .before in
     let w = back3 .pre .0 in
     let a = back3 .args in
-    chain-not-first (a .t .now) (a .k + 1) (a .i) (a .n) (back3 .pre .2) (λ e. c .if1 .taken (c .before .case-child .ensures ∙ e))
+    chain-not-first (a .tree .now) (a .k + 1) (a .i) (a .n) (back3 .pre .2) (λ e. c .if1 .taken (c .before .case-child .ensures ∙ e))
 
 loop-holds : tie.Need-loop-holds Inv-loop μ-loop
 loop-holds c =
@@ -40,8 +40,8 @@ loop-holds c =
       search needs,
       back3 .pre .2,
       omega (arith, case-child-in w (a .i) (omega arith)),
-      ap (λ (y : ℕ). chained (a .t .now) (endOf (a .t .now) y) (caseChildren (a .t .now) (a .i + 1) (a .n - 1))) x
-          ∙ chain-first (a .t .now) (a .k + 1) (a .i) (a .n) (back3 .pre .2) (sym x ∙ c .if1 .left),
+      ap (λ (y : ℕ). chained (a .tree .now) (endOf (a .tree .now) y) (caseChildren (a .tree .now) (a .i + 1) (a .n - 1))) x
+          ∙ chain-first (a .tree .now) (a .k + 1) (a .i) (a .n) (back3 .pre .2) (sym x ∙ c .if1 .left),
     )
 
 add-case-child : tie.Need-add-case-child Inv-loop μ-loop
@@ -68,7 +68,7 @@ returns-2 c =
     let w = back8 .pre .0 in
     let a = back8 .args in
     let l = back4 .loop in
-    chain-breaks (a .t .now) (endOf (a .t .now) (l .before)) (a .i) (l .j) (a .n) (back3 .loop-test .taken)
+    chain-breaks (a .tree .now) (endOf (a .tree .now) (l .before)) (a .i) (l .j) (a .n) (back3 .loop-test .taken)
     (λ e. c .if2 .taken (c .before .before .case-child2 .ensures ∙ e ∙ sym (c .before .end-of .ensures))) ∙ l .inv .3
 
 add-j : tie.Need-add-j Inv-loop μ-loop
@@ -89,8 +89,8 @@ loop-again c =
       search needs,
       search needs,
       omega (arith, case-child-in w (a .i + l .j) (omega arith)),
-      ap (λ (y : ℕ). chained (a .t .now) (endOf (a .t .now) y) (caseChildren (a .t .now) (a .i + (l .j + 1)) (a .n - (l .j + 1)))) x
-          ∙ chain-next (a .t .now) (endOf (a .t .now) (l .before)) (a .i) (l .j) (a .n) (back3 .loop-test .taken)
+      ap (λ (y : ℕ). chained (a .tree .now) (endOf (a .tree .now) y) (caseChildren (a .tree .now) (a .i + (l .j + 1)) (a .n - (l .j + 1)))) x
+          ∙ chain-next (a .tree .now) (endOf (a .tree .now) (l .before)) (a .i) (l .j) (a .n) (back3 .loop-test .taken)
           (sym x ∙ c .if2 .left ∙ c .before .end-of .ensures)
           ∙ l .inv .3,
     )
@@ -101,7 +101,7 @@ returns-3 c =
     let w = back5 .pre .0 in
     let a = back5 .args in
     let l = c .before .loop in
-    chain-end (a .t .now) (endOf (a .t .now) (l .before)) (a .i) (l .j) (a .n) (c .loop-test .left) ∙ l .inv .3
+    chain-end (a .tree .now) (endOf (a .tree .now) (l .before)) (a .i) (l .j) (a .n) (c .loop-test .left) ∙ l .inv .3
 
 pub cases-follow-spec : {M : Type 1} → statement M
 cases-follow-spec =

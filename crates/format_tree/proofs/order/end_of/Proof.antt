@@ -40,7 +40,7 @@ loop-again c =
     let w = back5 .pre .0 in (
       omega (arith, last-child-in w (l .at) (l .inv .0)),
       c .last-child2 .ensures,
-      end-follows w (l .at) (l .last) (endOf (back5 .args .t .now) (back5 .args .k)) (l .inv .0) (l .inv .1) (c .before .loop-test .taken)
+      end-follows w (l .at) (l .last) (endOf (back5 .args .tree .now) (back5 .args .k)) (l .inv .0) (l .inv .1) (c .before .loop-test .taken)
           (l .inv .2),
     )
 
@@ -53,7 +53,7 @@ returns : tie.Need-returns Inv-loop μ-loop
 returns c =
     let back4 = c .before .before .before .before in
     let l = c .before .loop in
-    end-reached (back4 .pre .0) (l .at) (l .last) (endOf (back4 .args .t .now) (back4 .args .k)) (l .inv .1) (c .loop-test .left) (l .inv .2)
+    end-reached (back4 .pre .0) (l .at) (l .last) (endOf (back4 .args .tree .now) (back4 .args .k)) (l .inv .1) (c .loop-test .left) (l .inv .2)
 
 pub end-of-spec : {M : Type 1} → statement M
 end-of-spec =

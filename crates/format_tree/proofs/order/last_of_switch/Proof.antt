@@ -9,7 +9,7 @@ sub-result : tie.Need-sub-result
 sub-result c = search needs
 
 returns : tie.Need-returns
-returns c = let a = c .before .before .args in λ k. last-of-default (a .t .now) (a .i) (a .n) (a .default) k (c .if1 .taken)
+returns c = let a = c .before .before .args in λ k. last-of-default (a .tree .now) (a .i) (a .n) (a .default) k (c .if1 .taken)
 
 add-case-child : tie.Need-add-case-child
 add-case-child c = search needs
@@ -27,7 +27,7 @@ returns-2 : tie.Need-returns-2
 returns-2 c =
     let back3 = c .before .before .before in
     let a = back3 .args in
-    λ k. c .case-child .ensures ∙ last-of-cases (a .t .now) (a .i) (a .n) (a .default) k (back3 .pre .1) (c .before .if1 .left)
+    λ k. c .case-child .ensures ∙ last-of-cases (a .tree .now) (a .i) (a .n) (a .default) k (back3 .pre .1) (c .before .if1 .left)
 
 pub last-of-switch-spec : {M : Type 1} → statement M
 last-of-switch-spec =

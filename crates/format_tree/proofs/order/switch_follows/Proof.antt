@@ -17,14 +17,14 @@ returns : tie.Need-returns
 returns c =
     let back3 = c .before .before .before in
     let a = back3 .args in
-    chain-before-broken (a .t .now) (a .k + 1) (a .i) (a .n) (back3 .pre .2) (a .default)
+    chain-before-broken (a .tree .now) (a .k + 1) (a .i) (a .n) (back3 .pre .2) (a .default)
     (sym (c .before .cases-follow .ensures) ∙ not-true _ (c .if1 .taken))
 
 returns-2 : tie.Need-returns-2
 returns-2 c =
     let back4 = c .before .before .before .before in
     let a = back4 .args in
-    sym (sym (c .before .before .cases-follow .ensures) ∙ not-false _ (c .before .if1 .left)) ∙ chain-no-default (a .t .now) (a .k + 1)
+    sym (sym (c .before .before .cases-follow .ensures) ∙ not-false _ (c .before .if1 .left)) ∙ chain-no-default (a .tree .now) (a .k + 1)
     (a .i) (a .n) (back4 .pre .2) (a .default) (c .if2 .taken)
 
 add-case-child : tie.Need-add-case-child
@@ -56,9 +56,9 @@ returns-3 c =
     let back4 = back3 .before in
     let back6 = back4 .before .before in
     let a = back6 .args in
-    let x = c .end-of .ensures ∙ ap (endOf (a .t .now)) (c .before .case-child .ensures) in
+    let x = c .end-of .ensures ∙ ap (endOf (a .tree .now)) (c .before .case-child .ensures) in
     ap (eqb (a .default - 1)) x
-    ∙ chain-default (a .t .now) (a .k + 1) (a .i) (a .n) (back6 .pre .2) (a .default) (c .before .before .if2 .left)
+    ∙ chain-default (a .tree .now) (a .k + 1) (a .i) (a .n) (back6 .pre .2) (a .default) (c .before .before .if2 .left)
     (sym (back4 .cases-follow .ensures) ∙ not-false _ (back3 .if1 .left))
 
 pub switch-follows-spec : {M : Type 1} → statement M

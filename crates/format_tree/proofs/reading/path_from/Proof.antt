@@ -25,7 +25,7 @@ word-at-requires-2 c κs = search needs
 returns : tie.Need-returns
 returns c =
     let a = c .before .before .before in
-    let t = a .args .t .now in
+    let t = a .args .tree .now in
     let p = a .args .p in
     let e = c .before .word-at .ensures ∙ ap (λ (s : ℕ). wordAt t (s + 4 * p)) (a .pre .1) ∙ path-first-is (a .pre .0) p in
     let f = c .word-at2 .ensures ∙ ap (λ (s : ℕ). wordAt t (s + 4 * p + 2)) (a .pre .1) ∙ path-count-is (a .pre .0) p in

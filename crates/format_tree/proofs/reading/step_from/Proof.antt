@@ -38,7 +38,7 @@ word-at-requires-2 c κs = search needs
 returns : tie.Need-returns
 returns c =
     let a = c .before .before .before .before .before in
-    let t = a .args .t .now in
+    let t = a .args .tree .now in
     let i = a .args .i in
     let w = a .pre .0 in
     let kind = ap (λ (s : ℕ). getD t (s + 6 * i) 0) (a .pre .1) ∙ step-kind-is w i in

@@ -17,7 +17,7 @@ abbrev μ-loop : tie.MeasureT-loop
 
 loop-holds : tie.Need-loop-holds Inv-loop μ-loop
 unfolding isKind
-loop-holds c = let a = c .before .args in let f = isKind (a .t .now) (a .kind) in (search needs, every-start f (a .i) (a .n))
+loop-holds c = let a = c .before .args in let f = isKind (a .tree .now) (a .kind) in (search needs, every-start f (a .i) (a .n))
 
 add-case-kind : tie.Need-add-case-kind Inv-loop μ-loop
 add-case-kind c = search needs
@@ -31,7 +31,7 @@ returns c =
     let back3 = c .before .before .before in
     let back5 = back3 .before .before in
     let a = back5 .args in
-    let f = isKind (a .t .now) (a .kind) in
+    let f = isKind (a .tree .now) (a .kind) in
     let l = back3 .loop in
     every-rest-stop f (a .i) (l .j) (a .n) (c .before .before .loop-test .taken)
     (rw (← c .before .case-kind .ensures) (ne-eqb _ _ (c .if1 .taken))) ∙ l .inv .1
@@ -48,7 +48,7 @@ loop-again c =
     let back3 = c .before .before .before in
     let back5 = back3 .before .before in
     let a = back5 .args in
-    let f = isKind (a .t .now) (a .kind) in
+    let f = isKind (a .tree .now) (a .kind) in
     let l = back3 .loop in
     (search needs, every-rest-on f (a .i) (l .j) (a .n) (c .before .before .loop-test .taken) (rw (← c .before .case-kind .ensures) (eq-eqb _ _ (c .if1 .left))) ∙ l .inv .1)
 
@@ -57,7 +57,7 @@ unfolding isKind
 returns-2 c =
     let back3 = c .before .before .before in
     let a = back3 .args in
-    let f = isKind (a .t .now) (a .kind) in
+    let f = isKind (a .tree .now) (a .kind) in
     let l = c .before .loop in
     every-rest-end f (a .i) (l .j) (a .n) (c .loop-test .left) ∙ l .inv .1
 

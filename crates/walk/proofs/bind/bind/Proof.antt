@@ -28,7 +28,7 @@ loop-holds : tie.Need-loop-holds Inv-loop μ-loop
 loop-holds c =
     let back3 = c .before .before .before in
     let a = back3 .args in
-    let e = bindings-start (a .t .now) (a .v .now) (a .first) (a .count) in
+    let e = bindings-start (a .tree .now) (a .v .now) (a .first) (a .count) in
     (search needs, refl, ap isThere e, ap (wordsAfter (a .bound .now) 0) e)
 
 add-binding-at : tie.Need-add-binding-at Inv-loop μ-loop
@@ -76,10 +76,10 @@ returns c =
     let l = back10 .loop in
     let b = back8 .binding-at .result in
     let path = ap (λ (x : Binding). x .path) (back8 .binding-at .ensures) in
-    let lost = found-none (follow (a .v .now) (pathAt (a .t .now) (b .path)) panelRoot) (sym (back6 .follow .ensures) ∙ back4 .enum-told .given .1) in
+    let lost = found-none (follow (a .v .now) (pathAt (a .tree .now) (b .path)) panelRoot) (sym (back6 .follow .ensures) ∙ back4 .enum-told .given .1) in
     let s =
-    binding-stuck (a .t .now) (a .v .now) (a .first) (a .count) (l .i) (back9 .loop-test .taken)
-    (ap (λ (k : ℕ). follow (a .v .now) (pathAt (a .t .now) k) panelRoot) (sym path) ∙ lost) in
+    binding-stuck (a .tree .now) (a .v .now) (a .first) (a .count) (l .i) (back9 .loop-test .taken)
+    (ap (λ (k : ℕ). follow (a .v .now) (pathAt (a .tree .now) k) panelRoot) (sym path) ∙ lost) in
     record {
       answer = sym (ap isThere s) ∙ l .inv .2;
       words = c .before .before .zero-words .ensures ∙ sym (ap (wordsAfter (l .bound) (3 * l .i)) s) ∙ l .inv .3;
@@ -103,7 +103,7 @@ cast-put-bound c =
     let b = back7 .binding-at .result in
     let p = back3 .p .given .0 .0 in
     let r : back5 .follow .result ≡ At p = back3 .p .given .1 in
-    let found = found-some (follow (a .v .now) (pathAt (a .t .now) (b .path)) panelRoot) p (sym (back5 .follow .ensures) ∙ r) in
+    let found = found-some (follow (a .v .now) (pathAt (a .tree .now) (b .path)) panelRoot) p (sym (back5 .follow .ensures) ∙ r) in
     let within = found-within w (b .path) p found in
     omega (arith, within .place-in, w .opened .laid .records-most)
 
@@ -120,7 +120,7 @@ cast-put-bound-2 c =
     let b = back8 .binding-at .result in
     let p = back4 .p .given .0 .0 in
     let r : back6 .follow .result ≡ At p = back4 .p .given .1 in
-    let found = found-some (follow (a .v .now) (pathAt (a .t .now) (b .path)) panelRoot) p (sym (back6 .follow .ensures) ∙ r) in
+    let found = found-some (follow (a .v .now) (pathAt (a .tree .now) (b .path)) panelRoot) p (sym (back6 .follow .ensures) ∙ r) in
     let within = found-within w (b .path) p found in
     omega (arith, dropped-small (w .opened .laid) (w .shaped) (placed p) within)
 
@@ -151,18 +151,18 @@ loop-again c =
     let b = back11 .binding-at .result in
     let p = back7 .p .given .0 .0 in
     let r : back9 .follow .result ≡ At p = back7 .p .given .1 in
-    let found = found-some (follow (a .v .now) (pathAt (a .t .now) (b .path)) panelRoot) p (sym (back9 .follow .ensures) ∙ r) in
+    let found = found-some (follow (a .v .now) (pathAt (a .tree .now) (b .path)) panelRoot) p (sym (back9 .follow .ensures) ∙ r) in
     let within = found-within w (b .path) p found in
     let path = ap (λ (x : Binding). x .path) (back11 .binding-at .ensures) in
     let name = ap (λ (x : Binding). x .name) (back11 .binding-at .ensures) in
-    let there = ap (λ (k : ℕ). follow (a .v .now) (pathAt (a .t .now) k) panelRoot) (sym path) ∙ found in
+    let there = ap (λ (k : ℕ). follow (a .v .now) (pathAt (a .tree .now) k) panelRoot) (sym path) ∙ found in
     let h = back12 .loop-test .taken in
     let stores = c .before .before .put-bound .ensures in (
       search needs,
       c .before .before .put-bound .kept .0 ∙ l .inv .1,
-      there-on (a .t .now) (a .v .now) (a .first) (a .count) (l .i) (placed p) h there ∙ l .inv .2,
-      ap (λ (x : List ℕ). wordsAfter x (3 * (l .i + 1)) (left (a .t .now) (a .v .now) (a .first) (a .count) (l .i + 1))) stores
-          ∙ words-on (a .t .now) (a .v .now) (a .first) (a .count) (l .bound) (l .i) (b .name) (placed p) h there name
+      there-on (a .tree .now) (a .v .now) (a .first) (a .count) (l .i) (placed p) h there ∙ l .inv .2,
+      ap (λ (x : List ℕ). wordsAfter x (3 * (l .i + 1)) (left (a .tree .now) (a .v .now) (a .first) (a .count) (l .i + 1))) stores
+          ∙ words-on (a .tree .now) (a .v .now) (a .first) (a .count) (l .bound) (l .i) (b .name) (placed p) h there name
           ∙ l .inv .3,
     )
 
@@ -175,8 +175,8 @@ returns-2 c =
     let a = back5 .args in
     let l = c .before .loop in
     record {
-      answer = there-end (a .t .now) (a .v .now) (a .first) (a .count) (l .i) (c .loop-test .left) ∙ l .inv .2;
-      words = words-end (a .t .now) (a .v .now) (a .first) (a .count) (l .bound) (l .i) (c .loop-test .left) ∙ l .inv .3;
+      answer = there-end (a .tree .now) (a .v .now) (a .first) (a .count) (l .i) (c .loop-test .left) ∙ l .inv .2;
+      words = words-end (a .tree .now) (a .v .now) (a .first) (a .count) (l .bound) (l .i) (c .loop-test .left) ∙ l .inv .3;
     }
 
 pub bind-spec : {M : Type 1} → statement M

@@ -18,7 +18,7 @@ abbrev μ-loop : tie.MeasureT-loop
 μ-loop t m i tails n best₀ j₀ best j = tails - j
 
 loop-holds : tie.Need-loop-holds Inv-loop μ-loop
-loop-holds c = let a = c .before .args in (search needs, λ f. largest-start (a .t .now) (a .n) f (a .i) (a .tails))
+loop-holds c = let a = c .before .args in (search needs, λ f. largest-start (a .tree .now) (a .n) f (a .i) (a .tails))
 
 add-case-number : tie.Need-add-case-number Inv-loop μ-loop
 add-case-number c = search needs
@@ -50,11 +50,11 @@ loop-again c =
     let l = back4 .loop in
     let kind = back6 .pre .2 (a .i + l .j) (omega arith) (omega (arith, back3 .loop-test .taken)) in
     let number = ap (λ (k : ℕ). tailNumber (a .n) (ListWithTail k)) (c .before .before .case-number .ensures) in
-    let e = c .before .tail-number .ensures ∙ number ∙ tail-number-of (a .t .now) (a .i + l .j) (a .n) kind in (
+    let e = c .before .tail-number .ensures ∙ number ∙ tail-number-of (a .tree .now) (a .i + l .j) (a .n) kind in (
       search needs,
       λ f.
-          ap (λ (k : ℕ). max k (largestTail (a .n) (casesFor f (a .t .now) (a .i + (l .j + 1)) (a .tails - (l .j + 1))))) (c .larger .ensures)
-          ∙ largest-on (a .t .now) (a .n) f (a .i) (l .j) (a .tails) (l .best) (c .before .tail-number .result) (back3 .loop-test .taken) e
+          ap (λ (k : ℕ). max k (largestTail (a .n) (casesFor f (a .tree .now) (a .i + (l .j + 1)) (a .tails - (l .j + 1))))) (c .larger .ensures)
+          ∙ largest-on (a .tree .now) (a .n) f (a .i) (l .j) (a .tails) (l .best) (c .before .tail-number .result) (back3 .loop-test .taken) e
           ∙ l .inv .1 f,
     )
 
@@ -63,7 +63,7 @@ returns c =
     let back3 = c .before .before .before in
     let a = back3 .args in
     let l = c .before .loop in
-    λ f. largest-end (a .t .now) (a .n) f (a .i) (l .j) (a .tails) (l .best) (c .loop-test .left) ∙ l .inv .1 f
+    λ f. largest-end (a .tree .now) (a .n) f (a .i) (l .j) (a .tails) (l .best) (c .loop-test .left) ∙ l .inv .1 f
 
 pub largest-tail-spec : {M : Type 1} → statement M
 largest-tail-spec =

@@ -22,7 +22,7 @@ add-end : tie.Need-add-end Inv-loop μ-loop
 add-end c = search needs
 
 loop-holds : tie.Need-loop-holds Inv-loop μ-loop
-loop-holds c = let a = c .before .args in (search needs, search needs, run-start (λ k. eqb (a .number) (caseNumber (a .t .now) k)) (a .i) (a .n))
+loop-holds c = let a = c .before .args in (search needs, search needs, run-start (λ k. eqb (a .number) (caseNumber (a .tree .now) k)) (a .i) (a .n))
 
 case-number-requires : tie.Need-case-number-requires Inv-loop μ-loop
 case-number-requires c κs = search needs
@@ -35,8 +35,8 @@ returns c =
     let back3 = c .before .before .before in
     let a = back3 .before .before .args in
     let l = back3 .loop in
-    let f : ℕ → Bool = λ k. eqb (a .number) (caseNumber (a .t .now) k) in
-    let e = eq-eqb (a .number) (caseNumber (a .t .now) (l .j)) (c .if1 .taken ∙ c .before .case-number .ensures) in
+    let f : ℕ → Bool = λ k. eqb (a .number) (caseNumber (a .tree .now) k) in
+    let e = eq-eqb (a .number) (caseNumber (a .tree .now) (l .j)) (c .if1 .taken ∙ c .before .case-number .ensures) in
     ap chosenOf (sym (lowest-found f (l .j) (a .i + a .n) (c .before .before .loop-test .taken) e) ∙ l .inv .2)
 
 add-j : tie.Need-add-j Inv-loop μ-loop
@@ -50,8 +50,8 @@ loop-again c =
     let back3 = c .before .before .before in
     let a = back3 .before .before .args in
     let l = back3 .loop in
-    let f : ℕ → Bool = λ k. eqb (a .number) (caseNumber (a .t .now) k) in
-    let e = ne-eqb (a .number) (caseNumber (a .t .now) (l .j)) (λ q. c .if1 .left (q ∙ sym (c .before .case-number .ensures))) in
+    let f : ℕ → Bool = λ k. eqb (a .number) (caseNumber (a .tree .now) k) in
+    let e = ne-eqb (a .number) (caseNumber (a .tree .now) (l .j)) (λ q. c .if1 .left (q ∙ sym (c .before .case-number .ensures))) in
     (search needs, search needs, lowest-on f (l .j) (a .i + a .n) (c .before .before .loop-test .taken) e ∙ l .inv .2)
 
 returns-2 : tie.Need-returns-2 Inv-loop μ-loop
@@ -59,7 +59,7 @@ returns-2 c =
     let back3 = c .before .before .before in
     let a = back3 .args in
     let l = c .before .loop in
-    let f : ℕ → Bool = λ k. eqb (a .number) (caseNumber (a .t .now) k) in
+    let f : ℕ → Bool = λ k. eqb (a .number) (caseNumber (a .tree .now) k) in
     ap chosenOf (sym (lowest-end f (l .j) (a .i + a .n) (c .loop-test .left)) ∙ l .inv .2)
 
 pub numbered-case-spec : {M : Type 1} → statement M

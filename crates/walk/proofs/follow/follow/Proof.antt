@@ -38,7 +38,7 @@ loop-holds c =
     let x = c .before .before .path-from .result in (
       search needs,
       root-within (w .opened .laid) (w .shaped),
-      path-start (a .v .now) (a .t .now) (x .first) (x .count) (a .p) panelRoot
+      path-start (a .v .now) (a .tree .now) (x .first) (x .count) (a .p) panelRoot
           (ap (λ (y : Path). y .first) (c .before .before .path-from .ensures))
           (ap (λ (y : Path). y .count) (c .before .before .path-from .ensures)),
     )
@@ -85,10 +85,10 @@ returns c =
     let x = back8 .path-from .result in
     let l = back5 .loop in
     let s = back3 .step-from .result in
-    let u = step-taken (a .v .now) (a .t .now) (x .first + l .k) s (l .at) (back3 .step-from .ensures) in
+    let u = step-taken (a .v .now) (a .tree .now) (x .first + l .k) s (l .at) (back3 .step-from .ensures) in
     let q = takeStep (a .v .now) (stepOfFields (s .kind) (s .flag) (s .index) (s .of)) (placed (l .at)) in
     let e = found-none q (sym (c .before .before .take-step .ensures) ∙ c .enum-told .given .1) in
-    ap foundOf (path-stuck (a .v .now) (a .t .now) (x .first) (x .count) (l .k) (placed (l .at)) (back4 .loop-test .taken) (sym u ∙ e) ∙ l .inv .2)
+    ap foundOf (path-stuck (a .v .now) (a .tree .now) (x .first) (x .count) (l .k) (placed (l .at)) (back4 .loop-test .taken) (sym u ∙ e) ∙ l .inv .2)
 
 add-k : tie.Need-add-k Inv-loop μ-loop
 add-k c = search needs
@@ -109,14 +109,14 @@ loop-again c =
     let x = back9 .path-from .result in
     let l = back6 .loop in
     let s = back4 .step-from .result in
-    let u = step-taken (a .v .now) (a .t .now) (x .first + l .k) s (l .at) (back4 .step-from .ensures) in
+    let u = step-taken (a .v .now) (a .tree .now) (x .first + l .k) s (l .at) (back4 .step-from .ensures) in
     let q = takeStep (a .v .now) (stepOfFields (s .kind) (s .flag) (s .index) (s .of)) (placed (l .at)) in
     let y = c .before .next .given .0 .0 in
     let r : back3 .take-step .result ≡ At y = c .before .next .given .1 in
     let e = sym u ∙ found-some q y (sym (back3 .take-step .ensures) ∙ r) in (
       search needs,
-      step-within (w .opened .laid) (w .shaped) (stepAt (a .t .now) (x .first + l .k)) (placed (l .at)) (placed y) (l .inv .1) e,
-      path-on (a .v .now) (a .t .now) (x .first) (x .count) (l .k) (placed (l .at)) (placed y) (back5 .loop-test .taken) e ∙ l .inv .2,
+      step-within (w .opened .laid) (w .shaped) (stepAt (a .tree .now) (x .first + l .k)) (placed (l .at)) (placed y) (l .inv .1) e,
+      path-on (a .v .now) (a .tree .now) (x .first) (x .count) (l .k) (placed (l .at)) (placed y) (back5 .loop-test .taken) e ∙ l .inv .2,
     )
 
 returns-2 : tie.Need-returns-2 Inv-loop μ-loop
@@ -127,7 +127,7 @@ returns-2 c =
     let w = back7 .pre .0 in
     let x = back4 .path-from .result in
     let l = c .before .loop in
-    ap foundOf (path-end (a .v .now) (a .t .now) (x .first) (x .count) (l .k) (placed (l .at)) (c .loop-test .left) ∙ l .inv .2)
+    ap foundOf (path-end (a .v .now) (a .tree .now) (x .first) (x .count) (l .k) (placed (l .at)) (c .loop-test .left) ∙ l .inv .2)
 
 pub follow-spec : {M : Type 1} → statement M
 follow-spec =

@@ -33,8 +33,8 @@ returns c =
     let back3 = c .before .before .before in
     let start = back3 .before .before in
     let a = start .args in
-    let chosen = back3 .numbered-case .ensures ∙ ap chosenOf (numbered-list (a .t .now) (a .first) (a .cases) (a .length) (start .pre .2)) in
-    λ v. turns-no-length (a .t .now) v (a .length) (a .first) (a .cases) (a .tails) (a .default) (c .from-tails .result)
+    let chosen = back3 .numbered-case .ensures ∙ ap chosenOf (numbered-list (a .tree .now) (a .first) (a .cases) (a .length) (start .pre .2)) in
+    λ v. turns-no-length (a .tree .now) v (a .length) (a .first) (a .cases) (a .tails) (a .default) (c .from-tails .result)
     (sym chosen ∙ c .before .enum-told .given .1) (c .from-tails .ensures v)
 
 child-of-requires : tie.Need-child-of-requires
@@ -53,8 +53,8 @@ returns-2 c =
     let a = start .args in
     let place = c .before .before .place .given .0 .0 in
     let told : back4 .numbered-case .result ≡ At place = c .before .before .place .given .1 in
-    let chosen = back4 .numbered-case .ensures ∙ ap chosenOf (numbered-list (a .t .now) (a .first) (a .cases) (a .length) (start .pre .2)) in
-    λ v. turns-length (a .t .now) v (a .length) (a .first) (a .cases) (a .tails) (a .default) place (c .child-of .result) (sym chosen ∙ told) (c .child-of .ensures)
+    let chosen = back4 .numbered-case .ensures ∙ ap chosenOf (numbered-list (a .tree .now) (a .first) (a .cases) (a .length) (start .pre .2)) in
+    λ v. turns-length (a .tree .now) v (a .length) (a .first) (a .cases) (a .tails) (a .default) place (c .child-of .result) (sym chosen ∙ told) (c .child-of .ensures)
 
 pub from-length-spec : {M : Type 1} → statement M
 from-length-spec =

@@ -25,8 +25,8 @@ returns : tie.Need-returns
 returns c =
     let back5 = c .before .before .before .before .before in
     let a = back5 .args in
-    list-no-part (a .t .now) (a .v .now) (a .path) (a .first) (a .cases) (a .tails) (a .default)
-    (found-none (follow (a .v .now) (pathAt (a .t .now) (a .path)) panelRoot) (sym (c .before .before .follow .ensures) ∙ c .enum-told .given .1))
+    list-no-part (a .tree .now) (a .v .now) (a .path) (a .first) (a .cases) (a .tails) (a .default)
+    (found-none (follow (a .v .now) (pathAt (a .tree .now) (a .path)) panelRoot) (sym (c .before .before .follow .ensures) ∙ c .enum-told .given .1))
 
 record-at-requires : tie.Need-record-at-requires
 record-at-requires c κs =
@@ -36,7 +36,7 @@ record-at-requires c κs =
     let ready = back6 .pre .0 in
     let p = c .before .p .given .0 .0 in
     let r : back3 .follow .result ≡ At p = c .before .p .given .1 in
-    let found = found-some (follow (a .v .now) (pathAt (a .t .now) (a .path)) panelRoot) p (sym (back3 .follow .ensures) ∙ r) in
+    let found = found-some (follow (a .v .now) (pathAt (a .tree .now) (a .path)) panelRoot) p (sym (back3 .follow .ensures) ∙ r) in
     let within = found-within (followable ready) (a .path) p found in
     (ready .opened .laid, within .place-in)
 
@@ -49,9 +49,9 @@ returns-2 c =
     let ready = back9 .pre .0 in
     let p = back4 .p .given .0 .0 in
     let r : back6 .follow .result ≡ At p = back4 .p .given .1 in
-    let found = found-some (follow (a .v .now) (pathAt (a .t .now) (a .path)) panelRoot) p (sym (back6 .follow .ensures) ∙ r) in
+    let found = found-some (follow (a .v .now) (pathAt (a .tree .now) (a .path)) panelRoot) p (sym (back6 .follow .ensures) ∙ r) in
     let within = found-within (followable ready) (a .path) p found in
-    list-wrong-kind (a .t .now) (a .v .now) (a .path) (a .first) (a .cases) (a .tails) (a .default) (placed p)
+    list-wrong-kind (a .tree .now) (a .v .now) (a .path) (a .first) (a .cases) (a .tails) (a .default) (placed p)
     (c .before .before .record-at .result) found (c .before .before .record-at .ensures) (c .if1 .taken)
 
 sub-from-length : tie.Need-sub-from-length
@@ -64,7 +64,7 @@ sub-from-length c =
     let ready = back11 .pre .0 in
     let p = back6 .p .given .0 .0 in
     let r : back8 .follow .result ≡ At p = back6 .p .given .1 in
-    let found = found-some (follow (a .v .now) (pathAt (a .t .now) (a .path)) panelRoot) p (sym (back8 .follow .ensures) ∙ r) in
+    let found = found-some (follow (a .v .now) (pathAt (a .tree .now) (a .path)) panelRoot) p (sym (back8 .follow .ensures) ∙ r) in
     let within = found-within (followable ready) (a .path) p found in
     omega (arith, within .dropped-in, ap (λ (x : Record). x .count) (back4 .record-at .ensures))
 
@@ -84,9 +84,9 @@ returns-3 c =
     let ready = back12 .pre .0 in
     let p = back7 .p .given .0 .0 in
     let r : back9 .follow .result ≡ At p = back7 .p .given .1 in
-    let found = found-some (follow (a .v .now) (pathAt (a .t .now) (a .path)) panelRoot) p (sym (back9 .follow .ensures) ∙ r) in
+    let found = found-some (follow (a .v .now) (pathAt (a .tree .now) (a .path)) panelRoot) p (sym (back9 .follow .ensures) ∙ r) in
     let within = found-within (followable ready) (a .path) p found in
-    list-turns (a .t .now) (a .v .now) (a .path) (a .first) (a .cases) (a .tails) (a .default) (placed p) (back5 .record-at .result)
+    list-turns (a .tree .now) (a .v .now) (a .path) (a .first) (a .cases) (a .tails) (a .default) (placed p) (back5 .record-at .result)
     (c .from-length .result) found (back5 .record-at .ensures) (back3 .if1 .left) (c .from-length .ensures (a .v .now))
 
 pub from-list-switch-spec : {M : Type 1} → statement M

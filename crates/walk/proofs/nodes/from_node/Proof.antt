@@ -28,7 +28,7 @@ from-switch-requires c κs =
     let h = in-nodes ruled (a .k) (back6 .pre .1) in
     let g = c .before .node .given .0 in
     let e : back3 .node-at .result ≡ Node.Switch (g .0) (g .1 .0) (g .1 .1 .0) (g .1 .1 .1 .0) (g .1 .1 .1 .1 .0) = c .before .node .given .1 in
-    let w = switch-node (a .t .now) (a .k) (g .0) (g .1 .0) (g .1 .1 .0) (g .1 .1 .1 .0) (g .1 .1 .1 .1 .0) (sym (back3 .node-at .ensures) ∙ e) in
+    let w = switch-node (a .tree .now) (a .k) (g .0) (g .1 .0) (g .1 .1 .0) (g .1 .1 .1 .0) (g .1 .1 .1 .1 .0) (sym (back3 .node-at .ensures) ∙ e) in
     let run = switch-node-run (ruled .rules) (a .k) h (g .0) (g .1 .0) (g .1 .1 .0) (g .1 .1 .1 .0) (g .1 .1 .1 .1 .0) w in
     let path = switch-node-path (ruled .rules) (a .k) h (g .0) (g .1 .0) (g .1 .1 .0) (g .1 .1 .1 .0) (g .1 .1 .1 .1 .0) w in
     let kind = switch-node-kind (ruled .rules) (a .k) h (g .0) (g .1 .0) (g .1 .1 .0) (g .1 .1 .1 .0) (g .1 .1 .1 .1 .0) w in
@@ -49,7 +49,7 @@ from-list-switch-requires c κs =
     let g = c .before .node2 .given .0 in
     let e : back3 .node-at .result ≡ Node.ListSwitch (g .0) (g .1 .0) (g .1 .1 .0) (g .1 .1 .1 .0) (g .1 .1 .1 .1 .0) = c .before .node2 .given .1 in
     let w =
-    list-switch-node (a .t .now) (a .k) (g .0) (g .1 .0) (g .1 .1 .0) (g .1 .1 .1 .0) (g .1 .1 .1 .1 .0)
+    list-switch-node (a .tree .now) (a .k) (g .0) (g .1 .0) (g .1 .1 .0) (g .1 .1 .1 .0) (g .1 .1 .1 .1 .0)
     (sym (back3 .node-at .ensures) ∙ e) in
     let run = list-switch-node-run (ruled .rules) (a .k) h (g .0) (g .1 .0) (g .1 .1 .0) (g .1 .1 .1 .0) (g .1 .1 .1 .1 .0) w in
     let path = list-switch-node-path (ruled .rules) (a .k) h (g .0) (g .1 .0) (g .1 .1 .0) (g .1 .1 .1 .0) (g .1 .1 .1 .1 .0) w in
@@ -85,8 +85,8 @@ returns c =
     let h = in-nodes ruled (a .k) (back7 .pre .1) in
     let g = c .before .before .node .given .0 in
     let e : back4 .node-at .result ≡ Node.Switch (g .0) (g .1 .0) (g .1 .1 .0) (g .1 .1 .1 .0) (g .1 .1 .1 .1 .0) = c .before .before .node .given .1 in
-    let w = switch-node (a .t .now) (a .k) (g .0) (g .1 .0) (g .1 .1 .0) (g .1 .1 .1 .0) (g .1 .1 .1 .1 .0) (sym (back4 .node-at .ensures) ∙ e) in
-    steps-switch (a .t .now) (a .v .now) (ready .sound) (a .k) h (g .0) (g .1 .0) (g .1 .1 .0) (g .1 .1 .1 .0) (g .1 .1 .1 .1 .0) (c .from-switch .result) w
+    let w = switch-node (a .tree .now) (a .k) (g .0) (g .1 .0) (g .1 .1 .0) (g .1 .1 .1 .0) (g .1 .1 .1 .1 .0) (sym (back4 .node-at .ensures) ∙ e) in
+    steps-switch (a .tree .now) (a .v .now) (ready .sound) (a .k) h (g .0) (g .1 .0) (g .1 .1 .0) (g .1 .1 .1 .0) (g .1 .1 .1 .1 .0) (c .from-switch .result) w
     (c .from-switch .ensures)
 
 returns-2 : tie.Need-returns-2
@@ -100,9 +100,9 @@ returns-2 c =
     let g = c .before .before .node2 .given .0 in
     let e : back4 .node-at .result ≡ Node.ListSwitch (g .0) (g .1 .0) (g .1 .1 .0) (g .1 .1 .1 .0) (g .1 .1 .1 .1 .0) = c .before .before .node2 .given .1 in
     let w =
-    list-switch-node (a .t .now) (a .k) (g .0) (g .1 .0) (g .1 .1 .0) (g .1 .1 .1 .0) (g .1 .1 .1 .1 .0)
+    list-switch-node (a .tree .now) (a .k) (g .0) (g .1 .0) (g .1 .1 .0) (g .1 .1 .1 .0) (g .1 .1 .1 .1 .0)
     (sym (back4 .node-at .ensures) ∙ e) in
-    steps-list-switch (a .t .now) (a .v .now) (ready .sound) (a .k) h (g .0) (g .1 .0) (g .1 .1 .0) (g .1 .1 .1 .0) (g .1 .1 .1 .1 .0)
+    steps-list-switch (a .tree .now) (a .v .now) (ready .sound) (a .k) h (g .0) (g .1 .0) (g .1 .1 .0) (g .1 .1 .1 .0) (g .1 .1 .1 .1 .0)
     (c .from-list-switch .result) w (c .from-list-switch .ensures)
 
 returns-3 : tie.Need-returns-3
@@ -115,8 +115,8 @@ returns-3 c =
     let h = in-nodes ruled (a .k) (back6 .pre .1) in
     let g = c .before .node3 .given .0 in
     let e : back3 .node-at .result ≡ Node.Leaf (g .0) (g .1 .0) (g .1 .1 .0) = c .before .node3 .given .1 in
-    let w = leaf-node (a .t .now) (a .k) (g .0) (g .1 .0) (g .1 .1 .0) (sym (back3 .node-at .ensures) ∙ e) in
-    steps-leaf (a .t .now) (a .v .now) (ready .sound) (a .k) h (g .0) (g .1 .0) (g .1 .1 .0) w (omega arith)
+    let w = leaf-node (a .tree .now) (a .k) (g .0) (g .1 .0) (g .1 .1 .0) (sym (back3 .node-at .ensures) ∙ e) in
+    steps-leaf (a .tree .now) (a .v .now) (ready .sound) (a .k) h (g .0) (g .1 .0) (g .1 .1 .0) w (omega arith)
 
 returns-4 : tie.Need-returns-4
 returns-4 c =
@@ -129,9 +129,9 @@ returns-4 c =
     let g = c .before .node4 .given .0 in
     let e : back3 .node-at .result ≡ Node.Hoist (g .0) (g .1 .0) (g .1 .1 .0) (g .1 .1 .1 .0) = c .before .node4 .given .1 in
     let w =
-    hoist-node (a .t .now) (a .k) (g .0) (g .1 .0) (g .1 .1 .0) (g .1 .1 .1 .0) (node-kind-known ruled (a .k) (back6 .pre .1))
+    hoist-node (a .tree .now) (a .k) (g .0) (g .1 .0) (g .1 .1 .0) (g .1 .1 .1 .0) (node-kind-known ruled (a .k) (back6 .pre .1))
     (sym (back3 .node-at .ensures) ∙ e) in
-    steps-hoist (a .t .now) (a .v .now) (ready .sound) (a .k) h (g .1 .1 .1 .0) w
+    steps-hoist (a .tree .now) (a .v .now) (ready .sound) (a .k) h (g .1 .1 .1 .0) w
 
 pub from-node-spec : {M : Type 1} → statement M
 from-node-spec =

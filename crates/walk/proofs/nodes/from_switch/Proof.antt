@@ -28,8 +28,8 @@ enum-told c = search needs
 returns : tie.Need-returns
 returns c =
     let a = c .before .before .before .before .before .before .args in
-    switch-no-part (a .t .now) (a .v .now) (a .path) (a .first) (a .cases) (a .default)
-    (found-none (follow (a .v .now) (pathAt (a .t .now) (a .path)) panelRoot) (sym (c .before .before .follow .ensures) ∙ c .enum-told .given .1))
+    switch-no-part (a .tree .now) (a .v .now) (a .path) (a .first) (a .cases) (a .default)
+    (found-none (follow (a .v .now) (pathAt (a .tree .now) (a .path)) panelRoot) (sym (c .before .before .follow .ensures) ∙ c .enum-told .given .1))
 
 record-at-requires : tie.Need-record-at-requires
 record-at-requires c κs =
@@ -39,7 +39,7 @@ record-at-requires c κs =
     let ready = start .pre .0 in
     let p = c .before .p .given .0 .0 in
     let r : back3 .follow .result ≡ At p = c .before .p .given .1 in
-    let found = found-some (follow (a .v .now) (pathAt (a .t .now) (a .path)) panelRoot) p (sym (back3 .follow .ensures) ∙ r) in
+    let found = found-some (follow (a .v .now) (pathAt (a .tree .now) (a .path)) panelRoot) p (sym (back3 .follow .ensures) ∙ r) in
     (ready .opened .laid, found-within (followable ready) (a .path) p found .place-in)
 
 returns-2 : tie.Need-returns-2
@@ -51,9 +51,9 @@ returns-2 c =
     let a = start .args in
     let p = back4 .p .given .0 .0 in
     let r : back6 .follow .result ≡ At p = back4 .p .given .1 in
-    let found = found-some (follow (a .v .now) (pathAt (a .t .now) (a .path)) panelRoot) p (sym (back6 .follow .ensures) ∙ r) in
+    let found = found-some (follow (a .v .now) (pathAt (a .tree .now) (a .path)) panelRoot) p (sym (back6 .follow .ensures) ∙ r) in
     let asked = back7 .asked-by .ensures ∙ ap askedBy (start .pre .6) in
-    switch-wrong-kind (a .t .now) (a .v .now) (a .path) (a .first) (a .cases) (a .default) (start .pre .2) (start .pre .4) (placed p) found
+    switch-wrong-kind (a .tree .now) (a .v .now) (a .path) (a .first) (a .cases) (a .default) (start .pre .2) (start .pre .4) (placed p) found
     (c .before .before .record-at .result) (c .before .before .record-at .ensures) (λ e. c .if1 .taken (e ∙ sym asked))
 
 numbered-case-requires : tie.Need-numbered-case-requires
@@ -79,9 +79,9 @@ returns-3 c =
     let a = start .args in
     let p = back7 .p .given .0 .0 in
     let r : back9 .follow .result ≡ At p = back7 .p .given .1 in
-    let found = found-some (follow (a .v .now) (pathAt (a .t .now) (a .path)) panelRoot) p (sym (back9 .follow .ensures) ∙ r) in
+    let found = found-some (follow (a .v .now) (pathAt (a .tree .now) (a .path)) panelRoot) p (sym (back9 .follow .ensures) ∙ r) in
     let asked = back10 .asked-by .ensures ∙ ap askedBy (start .pre .6) in
-    switch-constr (a .t .now) (a .v .now) (a .path) (a .first) (a .cases) (a .default) (start .pre .2) (start .pre .4) (placed p) found
+    switch-constr (a .tree .now) (a .v .now) (a .path) (a .first) (a .cases) (a .default) (start .pre .2) (start .pre .4) (placed p) found
     (back5 .record-at .result) (back5 .record-at .ensures) (back3 .if1 .left ∙ asked) (start .pre .5) (c .before .numbered-case .result)
     (c .chosen-or .result) (c .chosen-or .ensures) (sym asked ∙ c .before .before .if2 .taken) (c .before .numbered-case .ensures)
 
@@ -97,9 +97,9 @@ add-start c =
     let ready = start .pre .0 in
     let p = back7 .p .given .0 .0 in
     let r : back9 .follow .result ≡ At p = back7 .p .given .1 in
-    let found = found-some (follow (a .v .now) (pathAt (a .t .now) (a .path)) panelRoot) p (sym (back9 .follow .ensures) ∙ r) in
+    let found = found-some (follow (a .v .now) (pathAt (a .tree .now) (a .path)) panelRoot) p (sym (back9 .follow .ensures) ∙ r) in
     let asked = back10 .asked-by .ensures ∙ ap askedBy (start .pre .6) in
-    let texts = texts-asked (a .t .now) (a .first) (start .pre .4) (λ e. c .before .before .if2 .left (asked ∙ e)) (a .cases) (start .pre .5) in
+    let texts = texts-asked (a .tree .now) (a .first) (start .pre .4) (λ e. c .before .before .if2 .left (asked ∙ e)) (a .cases) (start .pre .5) in
     let inside = text-inside (a .v .now) (placed p) (back5 .record-at .result) (back5 .record-at .ensures) (a .n) (ready .opened) (ready .panel .is-shaped) (found-within (followable ready) (a .path) p found .place-in) (omega (arith, back3 .if1 .left, asked, texts .0)) in
     omega (arith, inside, ready .opened .laid .length-most)
 
@@ -115,9 +115,9 @@ text-case-requires c κs =
     let ready = start .pre .0 in
     let p = back7 .p .given .0 .0 in
     let r : back9 .follow .result ≡ At p = back7 .p .given .1 in
-    let found = found-some (follow (a .v .now) (pathAt (a .t .now) (a .path)) panelRoot) p (sym (back9 .follow .ensures) ∙ r) in
+    let found = found-some (follow (a .v .now) (pathAt (a .tree .now) (a .path)) panelRoot) p (sym (back9 .follow .ensures) ∙ r) in
     let asked = back10 .asked-by .ensures ∙ ap askedBy (start .pre .6) in
-    let texts = texts-asked (a .t .now) (a .first) (start .pre .4) (λ e. c .before .before .if2 .left (asked ∙ e)) (a .cases) (start .pre .5) in
+    let texts = texts-asked (a .tree .now) (a .first) (start .pre .4) (λ e. c .before .before .if2 .left (asked ∙ e)) (a .cases) (start .pre .5) in
     let inside = text-inside (a .v .now) (placed p) (back5 .record-at .result) (back5 .record-at .ensures) (a .n) (ready .opened) (ready .panel .is-shaped) (found-within (followable ready) (a .path) p found .place-in) (omega (arith, back3 .if1 .left, asked, texts .0)) in
     (ready-ruled ready, start .pre .3, texts .1, inside)
 
@@ -140,9 +140,9 @@ returns-4 c =
     let a = start .args in
     let p = back9 .p .given .0 .0 in
     let r : back11 .follow .result ≡ At p = back9 .p .given .1 in
-    let found = found-some (follow (a .v .now) (pathAt (a .t .now) (a .path)) panelRoot) p (sym (back11 .follow .ensures) ∙ r) in
+    let found = found-some (follow (a .v .now) (pathAt (a .tree .now) (a .path)) panelRoot) p (sym (back11 .follow .ensures) ∙ r) in
     let asked = back12 .asked-by .ensures ∙ ap askedBy (start .pre .6) in
-    switch-text (a .t .now) (a .v .now) (a .path) (a .first) (a .cases) (a .default) (start .pre .2) (start .pre .4) (placed p) found
+    switch-text (a .tree .now) (a .v .now) (a .path) (a .first) (a .cases) (a .default) (start .pre .2) (start .pre .4) (placed p) found
     (back7 .record-at .result) (back7 .record-at .ensures) (back5 .if1 .left ∙ asked) (start .pre .5) (c .before .text-case .result)
     (c .chosen-or2 .result) (c .chosen-or2 .ensures) (a .n) (start .pre .0 .opened) (λ e. back4 .if2 .left (asked ∙ e)) (c .before .text-case .ensures)
 

@@ -21,7 +21,7 @@ abbrev μ-loop : tie.MeasureT-loop
 loop-holds : tie.Need-loop-holds Inv-loop μ-loop
 loop-holds c = (
   omega (arith, c .before .before .pre .sound .some-node, nodes-count (c .before .before .pre .mapped)),
-  walk-starts (c .before .before .args .t .now) (c .before .before .args .v .now),
+  walk-starts (c .before .before .args .tree .now) (c .before .before .args .v .now),
 )
 
 from-node-requires : tie.Need-from-node-requires Inv-loop μ-loop
@@ -41,7 +41,7 @@ loop-less c =
     let l = back4 .loop in
     let y = c .before .next .given .0 .0 in
     let e : back3 .from-node .result ≡ Next.Node y = c .before .next .given .1 in
-    let s = steps-on (a .t .now) (a .v .now) (l .k) (back3 .from-node .result) y (back3 .from-node .ensures) e in
+    let s = steps-on (a .tree .now) (a .v .now) (l .k) (back3 .from-node .result) y (back3 .from-node .ensures) e in
     omega (arith, s .0, s .1, nodes-count (back7 .pre .mapped))
 
 loop-again : tie.Need-loop-again Inv-loop μ-loop
@@ -53,7 +53,7 @@ loop-again c =
     let l = back4 .loop in
     let y = c .before .next .given .0 .0 in
     let e : back3 .from-node .result ≡ Next.Node y = c .before .next .given .1 in
-    let s = steps-on (a .t .now) (a .v .now) (l .k) (back3 .from-node .result) y (back3 .from-node .ensures) e in
+    let s = steps-on (a .tree .now) (a .v .now) (l .k) (back3 .from-node .result) y (back3 .from-node .ensures) e in
     (omega (arith, s .1, nodes-count (back7 .pre .mapped)), s .2 ∙ l .inv .1)
 
 enum-known-next-2 : tie.Need-enum-known-next-2 Inv-loop μ-loop
@@ -68,7 +68,7 @@ returns c =
     let l = back4 .loop in
     let y = c .before .next2 .given .0 .0 in
     let e : back3 .from-node .result ≡ Next.End y = c .before .next2 .given .1 in
-    steps-end (a .t .now) (a .v .now) (l .k) (back3 .from-node .result) y (back3 .from-node .ensures) e (l .inv .1)
+    steps-end (a .tree .now) (a .v .now) (l .k) (back3 .from-node .result) y (back3 .from-node .ensures) e (l .inv .1)
 
 pub reach-spec : {M : Type 1} → statement M
 reach-spec =
