@@ -2,6 +2,7 @@
 // for each binding in the leaf's order. The contract of `tell` gives its answer and every byte of the buffer.
 use app_listing::lines::put_refused;
 use app_listing::texts::put_text;
+use base_numbers::tree::BOUND_ROOM;
 use base_words::zero_all;
 use build_call::Built;
 use format_panel::Fitted;
@@ -26,7 +27,7 @@ fn put_walked(out: &mut [u8], t: &[u8], v: &[u8]) -> usize
     requires { ⌜ (treeFits (now t) ≡ true) × (panelVerdict (now v) ≡ accepted) ⌝ }
     ensures { λ r. ⌜ Writes (now (out .entry)) (now (out .exit)) 0 r (walkedText (now (v .entry)) (walkOf (treeOf (now (t .entry))) (now (v .entry)))) ⌝ }
 {
-    let mut bound = [0u16; walk::BOUND_ROOM];
+    let mut bound = [0u16; BOUND_ROOM];
     match dewmycel::walk(t, v, &mut bound) {
         Walked::Leaf { clause, count } => put_leaf(out, v, clause, &bound, count),
         Walked::NoLeaf => put_text(out, 0, b"no leaf\n"),

@@ -42,14 +42,15 @@ pub record Within (v : List ℕ) (x : Place) : Type 0 where
   pub place-in : x .place < records v
   pub dropped-in : x .dropped ≤ recordCount v (x .place)
 
--- what following a path asks: the steps of each path are of their section, and the panel is opened, with the parts of each record in theirs
+-- what following a path asks, and no more: what the readers of one path and of one step ask of the file, that the steps of each path are of
+-- their section, and that the panel is opened, with the parts of each record in theirs
 pub record Followable (t v : List ℕ) (n : PanelMap) : Type 0 where
   pub mapped : Mapped t (mapOf t)
   pub path-steps : (p : ℕ) → p < paths t → pathFirst t p + pathCount t p ≤ steps t
   pub opened : Opened v n
   pub shaped : PanelShaped v
 
--- and what writing bindings asks besides: the path of each binding is of its section
+-- and what writing bindings asks besides: what the reader of one binding asks, and that the path of each binding is of its section
 pub record Bindable (t : List ℕ) (m : Map) (v : List ℕ) (n : PanelMap) : Type 0 where
   pub followable : Followable t v n
   pub mapped : Mapped t m
