@@ -7,6 +7,7 @@
                                     the same for the sheet of OTHER, a text with the same types
     sheets.py names TEXT            the number of each name, a line each
     sheets.py show SHEETFILE        a sheet file as a text
+    sheets.py help                  this text
 
 docs/TEXT.md says how a text is written and what is said of one that is wrong. Whatever is wrong
 with a file is told as `FILE: line L, column C: what`, a line for each fault, and the status is 1.
@@ -27,6 +28,9 @@ from jobtext.sheet_reading import Refused
 from jobtext.showing import shown
 from jobtext.source import file_bytes, file_source, why
 from jobtext.writing import panel_file, sheet_file
+
+
+USAGE = (__doc__ or '').strip()
 
 
 class Failed(Exception):
@@ -116,6 +120,8 @@ def run(words: list[str]) -> bool:
         say_names(rest[0])
     elif command == 'show' and len(rest) == 1:
         show(rest[0])
+    elif command in ('help', '-h', '--help') and not rest:
+        say(f'{USAGE}\n')
     else:
         return False
     return True
@@ -130,7 +136,7 @@ def main(words: list[str]) -> int:
         return 1
     except KeyboardInterrupt:
         return 130
-    print(__doc__.strip(), file=sys.stderr)
+    print(USAGE, file=sys.stderr)
     return 2
 
 

@@ -38,7 +38,8 @@ def file_source(path: str) -> str:
     """The characters of a text's file."""
     data = file_bytes(path, TEXT_BYTES_MOST)
     if len(data) > TEXT_BYTES_MOST:
-        raise Wrong(Fault(None, f'it has over {TEXT_BYTES_MOST} bytes, the most of a text'))
+        message = f'it has over {TEXT_BYTES_MOST} bytes, the most that a text may have'
+        raise Wrong(Fault(None, message))
     try:
         return data.decode('utf-8')
     except UnicodeDecodeError as failed:
@@ -49,7 +50,7 @@ def file_source(path: str) -> str:
 
 
 def source_lines(source: str) -> list[str]:
-    """The lines of a text. What cannot be seen is refused: texts that look alike are alike."""
+    """The lines of a text. What cannot be seen is refused: nothing in a text is hidden."""
     lines = source.split('\n')
     for number, line in enumerate(lines, 1):
         if line.isprintable():

@@ -46,7 +46,7 @@ class Files(InAFolder):
     def test_100_megabytes(self):
         with open(self.text, 'wb') as file:
             file.truncate(100_000_000)
-        told = f'{self.text}: it has over 1048576 bytes, the most of a text\n'
+        told = f'{self.text}: it has over 1048576 bytes, the most that a text may have\n'
         self.assertEqual(command('sheet', self.text, self.out), (1, '', told))
         status, out, err = command('show', self.text)
         self.assertEqual((status, out), (1, ''))
@@ -58,10 +58,10 @@ class Files(InAFolder):
         self.assertEqual(command('sheet', self.text, self.out), (0, '', ''))
         self.out.unlink()
         self.says(text + b'#' * (LIMIT - len(text) + 1),
-                  'it has over 1048576 bytes, the most of a text')
+                  'it has over 1048576 bytes, the most that a text may have')
 
     def test_an_endless_file(self):
-        told = '/dev/zero: it has over 1048576 bytes, the most of a text\n'
+        told = '/dev/zero: it has over 1048576 bytes, the most that a text may have\n'
         self.assertEqual(command('names', '/dev/zero'), (1, '', told))
 
     def test_where_it_cannot_write(self):
@@ -253,6 +253,12 @@ class Process(InAFolder):
             status, out, err = command(*words)
             self.assertEqual((status, out), (2, ''))
             self.assertIn('sheets.py sheet TEXT OUT', err)
+
+    def test_help(self):
+        for word in ('help', '-h', '--help'):
+            status, out, err = command(word)
+            self.assertEqual((status, err), (0, ''))
+            self.assertIn('sheets.py sheet TEXT OUT', out)
 
     def test_run_as_a_program(self):
         done = self.run_tool('sheet', SAMPLES / 'line.txt', self.out, stdout=subprocess.PIPE)
