@@ -127,10 +127,11 @@ class Limits(unittest.TestCase):
                   'line 3, column 8: 5 is an integer; an A is expected here')
 
     def test_a_panel_that_is_not_there(self):
-        many = 'subject int\n' + ''.join(f'panel p{i} = 5\n' for i in range(20))
-        for source, there in (('subject int\nclause _\n', 'none'),
-                              ('subject int\npanel a = 5\npanel b = 5\n', 'a, b'),
-                              (many, ', '.join(f'p{i}' for i in range(12)) + ', ..')):
+        def panels(count):
+            return 'subject int\n' + ''.join(f'panel p{i} = 5\n' for i in range(count))
+        twelve = ', '.join(f'p{i}' for i in range(12))
+        for source, there in (('subject int\nclause _\n', 'none'), (panels(2), 'p0, p1'),
+                              (panels(12), twelve), (panels(13), f'{twelve}, ..')):
             with self.assertRaises(Wrong) as caught:
                 panel_file(parse(source), 'c')
             told = f'there is no panel c; there are: {there}'

@@ -266,6 +266,13 @@ class Lines(Refused):
                   'type, subject, clause, panel or # does',
                   "line 3, column 1: '[' begins no line: type, subject, clause, panel or # does")
 
+    def test_what_is_too_much(self):
+        self.told('type A = int int\nsubject int A\nclause _ _\npanel p = 5 6\n',
+                  'line 1, column 14: int is too much: the line is complete before it',
+                  'line 2, column 13: A is too much: the line is complete before it',
+                  "line 3, column 10: '_' is too much: the line is complete before it",
+                  'line 4, column 13: 6 is too much: the line is complete before it')
+
     def test_what_is_not_understood(self):
         self.told('subject list int\nclause [1; 2]\nclause [_x]\nclause %\nclause 7: _\n',
                   "line 2, column 10: ';' is not understood",
@@ -341,6 +348,8 @@ class Whole(Refused):
         word = 'W' + 'x' * 60
         shown = 'W' + 'x' * 39 + '..'
         self.told(on_int(f'clause {word}'), f'line 2, column 8: there is no constructor {shown}')
+        self.told(on_int(f'clause {word[:40]}'),
+                  f'line 2, column 8: there is no constructor {word[:40]}')
         self.told(on_int(f'clause 5 {word}'),
                   f'line 2, column 10: {shown} is too much: the line is complete before it')
         self.told(f'type A = {word}\nsubject int\nclause _\n',

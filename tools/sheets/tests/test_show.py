@@ -6,26 +6,11 @@ import unittest
 
 from random_sheets import random_sheet
 from random_texts import random_text
-from support import ROOT, SAMPLES, command, faults, file_of, read_sheet, same_meaning
-from jobtext.sheet_reading import Refused
+from support import ROOT, SAMPLES, command, faults, file_of, same_meaning
 from jobtext.showing import HEAD, shown
 
-LISTINGS = ROOT / 'crates/test_listings'
+DEEP = ROOT / 'crates/test_listings/data/depth-13.sheet'
 VECTORS = ROOT / 'crates/test_vectors/data/vectors'
-
-
-def refused(data):
-    """The number and place by which a file is refused, as the programs say it."""
-    try:
-        read_sheet(data)
-    except Refused as refusal:
-        return f'refused {refusal.number} {refusal.place}'
-    return ''
-
-
-def changed(data, at, new):
-    """The same of a file with other bytes at a place."""
-    return refused(data[:at] + new + data[at + len(new):])
 
 
 class Shown(unittest.TestCase):
@@ -108,47 +93,11 @@ clause _
         self.assertEqual(len(faults(text)), 1)
 
 
-class Refusals(unittest.TestCase):
-    def test_the_hand_made_files(self):
-        """Up to 11 a file is refused as the stored answers say. Later numbers are of the tree."""
-        lines = (LISTINGS / 'stdout').read_text().splitlines()
-        count = 0
-        for number, line in enumerate(lines):
-            if not line.endswith('.sheet'):
-                continue
-            answer = lines[number + 1]
-            early = answer.startswith('refused') and int(answer.split()[1]) <= 11
-            data = (LISTINGS / 'data' / line).read_bytes()
-            self.assertEqual(refused(data), answer if early else '', line)
-            count += 1
-        self.assertGreater(count, 20)
-
-    def test_each_number(self):
-        good = file_of('type A = One(int) | Two\nsubject list A\nclause [One(5), ..x]\n')
-        layout = (0, 18, 26, 30, 62, 68, 70)  # where its sections start
-        self.assertEqual(struct.unpack_from('<7H', good, len(good) - 18), layout)
-        word = struct.Struct('<H').pack
-        cases = {
-            'refused 2 0': (len(good) - 2, word(len(good) + 1)),
-            'refused 3 0': (len(good) - 18, word(6)),
-            'refused 6 0': (len(good) - 4, word(3)),
-            'refused 8 0': (30 + 1, b'\1'),
-            'refused 9 2': (len(good) - 19, b'x'),
-            'refused 10 0': (40, word(2)),
-        }
-        for answer, (at, new) in cases.items():
-            self.assertEqual(changed(good, at, new), answer)
-        self.assertEqual(refused(good), '')
-        self.assertEqual(refused(bytes(16) + word(18)), 'refused 4 0')
-        single = file_of('type A = opaque listlike A(int)\nsubject list A\nclause _\n')
-        self.assertEqual(changed(single, 7, b'\1'), 'refused 7 1')
-        names = file_of('subject list int\nclause _\nclause [n1, ..n2]\n')
-        self.assertEqual(changed(names, len(names) - 18 - 8 - 6, word(1)), 'refused 11 1')
-
+class Command(unittest.TestCase):
     def test_told_by_the_command(self):
         with tempfile.TemporaryDirectory() as folder:
             file = pathlib.Path(folder) / 'a.sheet'
-            file.write_bytes((LISTINGS / 'data/depth-13.sheet').read_bytes())
+            file.write_bytes(DEEP.read_bytes())
             told = (f'{file}: refused 8 0: a pattern, child or root breaks the format, '
                     'or patterns nest too deeply\n')
             self.assertEqual(command('show', file), (1, '', told))
