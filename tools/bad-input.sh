@@ -58,12 +58,23 @@ try 'dewmycel, no command' ./dewmycel
 try 'dewmycel, a command that is none' ./dewmycel draw
 try 'dewmycel list, no file' ./dewmycel list
 try 'dewmycel walk, one file' ./dewmycel walk "$room/sheet"
+try 'dewmycel show, no file' ./dewmycel show
 for bad in missing folder empty words long; do
     try "dewmycel list, $bad" ./dewmycel list "$room/$bad"
     try "dewmycel walk, the panel: $bad" ./dewmycel walk "$room/sheet" "$room/$bad"
+    try "dewmycel show, $bad" ./dewmycel show "$room/$bad"
 done
-echo 'clause [1, ..' >"$room/cut.txt"
-try 'dewmycel list, a text that is cut' ./dewmycel list "$room/cut.txt"
+printf 'subject list int\nclause [1, ..\n' >"$room/cut.txt"
+cp "$room/empty" "$room/empty.txt"
+ln -s "$room/long" "$room/long.txt"
+printf 'subject list int\r\nclause _\r\n' >"$room/lines.txt"
+printf 'subject int\nclause ' >"$room/deep.txt"
+printf '%0100000d' 0 | tr 0 '[' >>"$room/deep.txt"
+sed 's/Empty | Fault(int)/Fault(int) | Empty/' samples/line.txt >"$room/other.txt"
+for bad in cut empty long lines deep; do
+    try "dewmycel list, a text: $bad" ./dewmycel list "$room/$bad.txt"
+done
 try 'dewmycel walk, a panel that the text has not' ./dewmycel walk samples/line.txt absent
 try 'dewmycel walk, a text of several panels' ./dewmycel walk samples/line.txt samples/line.txt
+try 'dewmycel walk, a panel of other types' ./dewmycel walk samples/line.txt "$room/other.txt:new"
 exit "$wrong"
