@@ -18,6 +18,7 @@ use Rattle.spec_match.specs.Lists.{all-both}
 use Rattle.spec_forgotten.specs.Values.{Value, anInteger, aByteString, whole, isTail, stepInto, partAlong, shows, lengthOf, ofType, Passed, Ended, atClause, without, stuckOn, noNode, took, fell, walkOn}
 use Rattle.spec_forgotten.specs.PuttingLaws.{changePart, putAt, NoTails, put-there, Parting, here, further, put-apart, onShows, put-above, shows-same, length-same, step-changed, step-other, onSome}
 use Rattle.spec_forgotten.specs.TypedPartsLaws.{partType, typeAlong, part-typed, put-typed}
+use Rattle.spec_forgotten.specs.NodesFit.{NodeFits}
 use Rattle.spec_forgotten.specs.ReachingLaws.{Chosen, Node, nodeOf, chooseAt, goOn, walk-node}
 
 -- ---- one of a list
@@ -46,7 +47,7 @@ same-node w x o e f = let z : _≡_ {A = Option Node} (some w) (some x) = sym e 
 no-node-there : (w : Node) → _≡_ {A = Option Node} none (some w) → ⊥
 no-node-there w e = let z : _≡_ {A = ℕ} 0 1 = cc in absurd (omega arith)
 
-walk-hoist : (k c : ℕ) (bs : List Binding) (a : Tree) (v : Value) → walkOn k (hoist c bs a) v ≡ walkOn (k + 1) a v
+pub walk-hoist : (k c : ℕ) (bs : List Binding) (a : Tree) (v : Value) → walkOn k (hoist c bs a) v ≡ walkOn (k + 1) a v
 unfolding walkOn
 walk-hoist k c bs a v = refl
 
@@ -64,11 +65,12 @@ fell-none k = refl
 
 module _ (s : List ℕ) where
   -- ---- the type at a path does not change with a part put there, or apart from it
-  typeOn : ℕ → ℕ → Path → Option Value → ℕ
+  unfoldable pub typeOn : ℕ → ℕ → Path → Option Value → ℕ
+  unfolding typeAlong
   typeOn d t p none = d
   typeOn d t p (some x) = typeAlong s t p x
 
-  type-step : (t : ℕ) (u : Step) (p : Path) (v : Value) → typeAlong s t (u ∷ p) v ≡ typeOn t (partType s t u v) p (stepInto u v)
+  pub type-step : (t : ℕ) (u : Step) (p : Path) (v : Value) → typeAlong s t (u ∷ p) v ≡ typeOn t (partType s t u v) p (stepInto u v)
   unfolding typeAlong typeOn
   type-step t u p v = go (stepInto u v)
     where
@@ -157,7 +159,7 @@ module _ (s : List ℕ) where
         at-node : (deep less : ℕ) → deep ≡ suc less → (types : Path → ℕ) (ps : List Path) (k : ℕ) (a : Tree) (w : Node) → nodeOf k a ≡ some w
             → NoTails (w .path) → In (w .path) ps → All (λ z. (z ≡ w .path) ⊎ Parting (w .path) z) ps
             → ((c : Chosen) (x : Value) → ofType s (types (w .path)) x ≡ true → w .choose (shows x) (lengthOf x) ≡ some (some c) → Child less types ps w c)
-            → Rest less types ps w
+            → Rest less types ps w → NodeFits s (types (w .path)) a
             → Tested deep types ps k a
 
       pub data Child : ℕ → (Path → ℕ) → List Path → Node → Chosen → Type 0 where
@@ -226,7 +228,7 @@ module _ (s : List ℕ) where
     node-tested deep types ps k a w e (no-node d2 t2 ps2 k2) = absurd (no-node-there w (unfold nodeOf in e))
     node-tested deep types ps k a w e (at-leaf d2 t2 ps2 k2 c bs) = absurd (no-node-there w (unfold nodeOf in e))
     node-tested deep types ps k a w e (at-hoist d2 less l t2 ps2 k2 c bs b h) = absurd (no-node-there w (unfold nodeOf in e))
-    node-tested deep types ps k a w e (at-node d2 less l t2 ps2 k2 a2 x f m i z cs d) =
+    node-tested deep types ps k a w e (at-node d2 less l t2 ps2 k2 a2 x f m i z cs d nf) =
         rw (same-node w x (nodeOf k a) e f) (record { less = less; no-tails = m; among = i; apartness = z; children = cs; others = d })
 
     absent-hoist : (c : ℕ) (bs : List Binding) (a : Tree) → _≡_ {A = Tree} absent (hoist c bs a) → ⊥
@@ -240,7 +242,7 @@ module _ (s : List ℕ) where
     hoist-tested deep types ps k c bs a b e (no-node d2 t2 ps2 k2) = absurd (absent-hoist c bs a e)
     hoist-tested deep types ps k c bs a b e (at-leaf d2 t2 ps2 k2 c2 bs2) = absurd (leaf-hoist c2 bs2 c bs a e)
     hoist-tested deep types ps k c bs a b e (at-hoist d2 less l t2 ps2 k2 c2 bs2 b2 h) = let x : b2 ≡ a = cc in (less, rw (← x) h)
-    hoist-tested deep types ps k c bs a b e (at-node d2 less l t2 ps2 k2 a2 w f m i z cs d) = absurd (no-node-there w (unfold nodeOf in (rw e at f)))
+    hoist-tested deep types ps k c bs a b e (at-node d2 less l t2 ps2 k2 a2 w f m i z cs d nf) = absurd (no-node-there w (unfold nodeOf in (rw e at f)))
 
     -- ---- if every branch can be taken, a value takes them all
     by-child : (deep : ℕ) (types : Path → ℕ) (ps : List Path) (k : ℕ) (a : Tree) (w : Node) → nodeOf k a ≡ some w → NoTails (w .path) → (c : Chosen) (n : ℕ) (ts : List Passed) (v u : Value)
@@ -366,7 +368,7 @@ module _ (s : List ℕ) where
     only-step deep ih types ps k a (at-leaf d2 t2 ps2 k2 c bs) v tv hv n ts e = absurd (not-clause c n ts (sym (walk-leaf k c bs v) ∙ e))
     only-step deep ih types ps k a (at-hoist d2 less l t2 ps2 k2 c bs b h) v tv hv n ts e =
         goes-hoist types k c bs b n ts (ih less l types ps (k + 1) b h v tv hv n ts (sym (walk-hoist k c bs b v) ∙ e))
-    only-step deep ih types ps k a (at-node d2 less l t2 ps2 k2 a2 w f m i z cs d) v tv hv n ts e =
+    only-step deep ih types ps k a (at-node d2 less l t2 ps2 k2 a2 w f m i z cs d nf) v tv hv n ts e =
         let ((y, part), type) = all-in (There types v) (w .path) ps hv i in
         let ty : ofType s (types (w .path)) y ≡ true = rw type at (part-typed s (w .path) (subject s) v y m tv part) in
         let ch : w .choose (shows y) (lengthOf y) ≡ chooseAt w v = ap₂ (w .choose) (ap (onShows shows) (sym part)) (ap (onShows lengthOf) (sym part)) in

@@ -12,4 +12,9 @@ pub mod PuttingLaws
 pub mod TypedPartsLaws
 pub mod FillingLaws
 pub mod ReachingLaws
+pub mod OpenedParts
+pub mod NodesFit
 pub mod FallingLaws
+pub mod MatrixLaws
+pub mod SomewhereLaws
+pub mod BuiltTested

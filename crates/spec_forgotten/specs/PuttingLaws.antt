@@ -105,11 +105,12 @@ abbrev pub NoTails : Path → Type 0
 NoTails [] = Unit {0}
 NoTails (s ∷ p) = (isTail s ≡ false) × NoTails p
 
-andOn : Path → Option Value → Option Value
+unfoldable pub andOn : Path → Option Value → Option Value
+unfolding partAlong
 andOn p none = none
 andOn p (some x) = partAlong p x
 
-along-step : (s : Step) (p : Path) (v : Value) → partAlong (s ∷ p) v ≡ andOn p (stepInto s v)
+pub along-step : (s : Step) (p : Path) (v : Value) → partAlong (s ∷ p) v ≡ andOn p (stepInto s v)
 unfolding partAlong andOn
 along-step s p v = go (stepInto s v)
   where

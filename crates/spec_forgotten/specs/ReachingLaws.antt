@@ -54,7 +54,7 @@ unfolding lookup
 tailOf i j ts zero = none
 tailOf i j ts (suc n) = lookup i j ts (ListWithTail n)
 
-abbrev orTail : Option Chosen → Option Chosen → Option Chosen
+abbrev pub orTail : Option Chosen → Option Chosen → Option Chosen
 orTail none o = o
 orTail (some c) o = some c
 

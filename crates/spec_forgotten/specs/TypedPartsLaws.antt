@@ -65,7 +65,7 @@ module _ (s : List ℕ) where
       go true h = h
       go false h = let z : _≡_ {A = ℕ} 0 1 = cc in absurd (omega arith)
 
-  step-typed : (u : Step) (t : ℕ) (v y : Value) → isTail u ≡ false → ofType s t v ≡ true → stepInto u v ≡ some y → ofType s (partType t u v) y ≡ true
+  pub step-typed : (u : Step) (t : ℕ) (v y : Value) → isTail u ≡ false → ofType s t v ≡ true → stepInto u v ≡ some y → ofType s (partType t u v) y ≡ true
   unfolding stepInto ofType partType
   step-typed u t (anInteger w) y n h e = let z : _≡_ {A = ℕ} 0 1 = cc in absurd (omega arith)
   step-typed u t (aByteString w) y n h e = let z : _≡_ {A = ℕ} 0 1 = cc in absurd (omega arith)
