@@ -18,3 +18,4 @@ pub mod FallingLaws
 pub mod MatrixLaws
 pub mod SomewhereLaws
 pub mod BuiltTested
+pub mod SheetTested
