@@ -12,7 +12,7 @@ use lib.Dec.{eqb, leb}
 use borrow.Author.Tests.{eqb-true, leb-true}
 use Rattle.base_words.specs.Words.{both, either, pick}
 use Rattle.base_words.specs.WordsLaws.{both-true, either-true, either-false}
-use Rattle.spec_rules.specs.SheetFile.{subject, typeKind, typeCount}
+use Rattle.spec_rules.specs.SheetFile.{subject, types as count, typeKind, typeCount}
 use Rattle.spec_rules.specs.Patterns.{Pat, Pats, discard, variable, assign, integer, bytestring, listed, tailed, constructor, opened, many, takesArguments, fits, fitAll}
 use Rattle.spec_rules.specs.Rows.{Step, Path, samePath, Row}
 use Rattle.spec_rules.specs.Columns.{stepIndex, union, without, testAt, choice}
@@ -21,6 +21,7 @@ use Rattle.spec_rules.specs.SplittingLaws.{All, anyCovers, case-covered, sameTe
 use Rattle.spec_rules.specs.Building.{Tree, Cases, absent, leaf, hoist, switch, listswitch, cnil, ccons, leafOf, isList, hasList}
 use Rattle.spec_rules.specs.Hoisting.{howMany, nodesIn, nodesInOf}
 use Rattle.spec_rules.specs.Walking.{testKind, firstKind, tailNumber, largestTail}
+use Rattle.spec_accepted.specs.SheetFacts.{Typed}
 use Rattle.spec_hoist.specs.Trees.{isPresent, WellMade, WellMadeOf, unhoisted, unhoistedOf}
 use Rattle.spec_match.specs.Lists.{all-append, all-map, all-both}
 use Rattle.spec_match.specs.Paths.{samePath-sound}
@@ -35,6 +36,7 @@ use Rattle.spec_forgotten.specs.PuttingLaws.{NoTails, Parting, here, fur
 use Rattle.spec_forgotten.specs.TypedPartsLaws.{partType, typeAlong, part-typed}
 use Rattle.spec_forgotten.specs.ReachingLaws.{Chosen, lookup, orTail, byTest, tailOf, byLength, Node, nodeOf, chooseAt}
 use Rattle.spec_forgotten.specs.OpenedParts.{Led, Stands, stands-under, led-typed, legal-there, Takes, case-plain, case-there}
+use Rattle.spec_forgotten.specs.KnownTypes.{after-known, TestOf, case-known}
 use Rattle.spec_forgotten.specs.SomewhereLaws.{walk-somewhere}
 use Rattle.spec_forgotten.specs.NodesFit.{EachTest, MayShow, NodeFits}
 use Rattle.spec_forgotten.specs.MatrixLaws.{textsFit, all-without, Kept, Good, NewIn, new-columns, good-case, good-default, column-kept}
@@ -348,9 +350,13 @@ module _ (s : List ℕ) where
         }
 
   -- ---- the tree of a matrix, hoisted in any way
-  module _ (m : ℕ) where
+  module _ (ty : Typed s) (m : ℕ) where
+    -- the types of columns are types of the sheet
+    abbrev pub Known : (Path → ℕ) → List Path → Type 0
+    Known types ps = All (λ z. types z < count s) ps
+
     abbrev Built : List Path → List Row → Tree → Type 0
-    Built ps rs a = (types : Path → ℕ) → Good s types ps rs → (b : Tree) → unhoisted b ≡ a → WellMade m b → (k deep : ℕ) → nodesIn b ≤ deep → Tested s (retyped s) deep types ps k b
+    Built ps rs a = (types : Path → ℕ) → Good s types ps rs → Known types ps → (b : Tree) → unhoisted b ≡ a → WellMade m b → (k deep : ℕ) → nodesIn b ≤ deep → Tested s (retyped s) deep types ps k b
 
     isHoist : Tree → Bool
     isHoist absent = false
@@ -382,7 +388,7 @@ module _ (s : List ℕ) where
 
     leaf-built : (ps : List Path) (rs : List Row) → choice ps rs ≡ none → Built ps rs (leafOf rs)
     unfolding unhoisted isHoist
-    leaf-built ps rs x types g b e w k deep l = peel types ps (leafOf rs) plain b e w k deep l
+    leaf-built ps rs x types g n b e w k deep l = peel types ps (leafOf rs) plain b e w k deep l
       where
         no-switch : (rs : List Row) (p : Path) (cs : Cases) (d : Tree) → _≡_ {A = Tree} (switch p cs d) (leafOf rs) → ⊥
         no-switch [] p cs d e = unfold leafOf in (let z : _≡_ {A = ℕ} 0 1 = cc in absurd (omega arith))
@@ -399,13 +405,34 @@ module _ (s : List ℕ) where
         plain (switch p cs d) i e w k deep l = absurd (no-switch rs p (unhoistedOf cs) (unhoisted d) e)
         plain (listswitch p cs ts d) i e w k deep l = absurd (no-list rs p (unhoistedOf cs) (unhoistedOf ts) (unhoisted d) e)
 
+    shown-kind : (t : ℕ) (u : Test) → MayShow s t u → TestOf s ty t u
+    unfolding MayShow
+    shown-kind t (Constr a) h = h
+    shown-kind t (Int w) h = tt
+    shown-kind t (Bytes w) h = tt
+    shown-kind t (ListOf n) h = absurd h
+    shown-kind t (ListWithTail n) h = absurd h
+
     -- a chosen child is the tree of its case
-    record Chose (f : Test → Tree) (ms : List Met) (less : ℕ) (c : Chosen) (y : Value) : Type 0 where
+    record Chose (f : Test → Tree) (ms : List Met) (less t : ℕ) (c : Chosen) (y : Value) : Type 0 where
       met : isMet (c .test) ms ≡ true
       tree : unhoisted (c .tree) ≡ f (c .test)
       made : WellMade m (c .tree)
       fewer : nodesIn (c .tree) ≤ less
       taken : Takes s (c .test) y
+      kind : TestOf s ty t (c .test)
+
+    known-case : (types : Path → ℕ) (ps : List Path) (rs : List Row) (p : Path) (u : Test) → isColumn p ps ≡ true → Good s types ps rs → TestOf s ty (types p) u
+        → Known types ps → Known (retyped s types p u) (caseColumns p u ps rs)
+    unfolding caseColumns
+    known-case types ps rs p u col g k n =
+        all-append (λ z. retyped s types p u z < count s) (union (caseOpens p u rs)) (without p ps)
+        (all-map (NewIn s p u (types p)) (λ z. retyped s types p u z < count s)
+        (λ z (i, x, e, l, legal, bounded). rw (e, retyped-new s types p u i x)
+        (after-known s ty x (casePart s u (types p) i) (case-known s ty u (types p) i (all-column (λ z. types z < count s) p ps n col) k l) legal bounded))
+        (union (caseOpens p u rs)) (new-columns s types ps rs p u g))
+        (all-both (Apart p) (λ z. types z < count s) (λ z. retyped s types p u z < count s) (λ z a h. rw (retyped-apart s types p u z a) h) (without p ps)
+        (without-apart p ps (g .apart) col .0) (all-without (λ z. types z < count s) p ps n))
 
     module _ (ps : List Path) (rs : List Row) (p : Path) (x : choice ps rs ≡ some p) (f : Test → Tree) (f0 : Tree)
         (cases : (u : Test) → isMet u (casesOf (column p rs)) ≡ true → Built (caseColumns p u ps rs) (caseRows p u rs) (f u))
@@ -413,38 +440,42 @@ module _ (s : List ℕ) where
       col : isColumn p ps ≡ true
       col = choice-in ps rs p x
 
-      node-built : (types : Path → ℕ) (g : Good s types ps rs) (k less : ℕ) (a : Tree) (ch : Option Test → Option ℕ → Option (Option Chosen)) (nx : ℕ) (d : Tree)
+      node-built : (types : Path → ℕ) (g : Good s types ps rs) → Known types ps → (k less : ℕ) (a : Tree) (ch : Option Test → Option ℕ → Option (Option Chosen)) (nx : ℕ) (d : Tree)
           → nodeOf k a ≡ some (record { path = p; choose = ch; next = nx; default = d }) → NodeFits s (types p) a
-          → ((c : Chosen) (y : Value) → ch (shows y) (lengthOf y) ≡ some (some c) → Chose f (casesOf (column p rs)) less c y)
+          → ((c : Chosen) (y : Value) → ch (shows y) (lengthOf y) ≡ some (some c) → Chose f (casesOf (column p rs)) less (types p) c y)
           → unhoisted d ≡ f0 → WellMade m d → nodesIn d ≤ less → Tested s (retyped s) (suc less) types ps k a
-      node-built types g k less a ch nx d e fit found ed wd ld =
+      node-built types g kn k less a ch nx d e fit found ed wd ld =
           at-node (suc less) less refl types ps k a (record { path = p; choose = ch; next = nx; default = d }) e n (column-in p ps col)
           (all-both NoTails (SameOrApart p) (λ z. (z ≡ p) ⊎ Parting p z) (λ z t. ⊎-elim (λ q. inl (sym q)) (λ q. inr (parting-of p z q t))) ps (g .plain) (column-apart p ps (g .apart) col))
           (λ c y ty h.
           let r = found c y h in
           child less types ps (record { path = p; choose = ch; next = nx; default = d }) c (caseColumns p (c .test) ps rs)
           (opens-case types ps rs g p col ch nx d c (λ z q. found c z q .taken))
-          (cases (c .test) (r .met) (retyped s types p (c .test)) (good-case s types ps rs p (c .test) col n g) (c .tree) (r .tree) (r .made) (c .node) less (r .fewer)))
+          (cases (c .test) (r .met) (retyped s types p (c .test)) (good-case s types ps rs p (c .test) col n g) (known-case types ps rs p (c .test) col g (r .kind) kn) (c .tree) (r .tree) (r .made) (c .node) less (r .fewer)))
           (rest less types ps (record { path = p; choose = ch; next = nx; default = d }) (without p ps) (opens-rest types ps rs g p col ch nx d)
-          (default types (good-default s types ps rs p col g) d ed wd nx less ld) (absent-or nx d wd))
+          (default types (good-default s types ps rs p col g) (all-without (λ z. types z < count s) p ps kn) d ed wd nx less ld) (absent-or nx d wd))
           fit
         where
           n : NoTails p
           n = plain-path types ps rs g p col ch nx d
 
-      switch-built : (types : Path → ℕ) (g : Good s types ps rs) → hasList (column p rs) ≡ false → (cs : Cases) (d : Tree)
+      switch-built : (types : Path → ℕ) (g : Good s types ps rs) → Known types ps → hasList (column p rs) ≡ false → (cs : Cases) (d : Tree)
           → unhoistedOf cs ≡ casesOn f (casesOf (column p rs)) → unhoisted d ≡ f0 → WellMade m (switch p cs d)
           → (k less : ℕ) → nodesIn (switch p cs d) ≤ suc less → Tested s (retyped s) (suc less) types ps k (switch p cs d)
       unfolding nodeOf nodesIn WellMade NodeFits
-      switch-built types g l cs d ec ed w k less most =
-          node-built types g k less (switch p cs d) (λ t n. byTest k cs t) (k + 1 + nodesInOf cs) d refl (
+      switch-built types g kn l cs d ec ed w k less most =
+          node-built types g kn k less (switch p cs d) (λ t n. byTest k cs t) (k + 1 + nodesInOf cs) d refl (
+            here-known,
             w .0,
             each-met (MayShow s (types p)) f cs (casesOf (column p rs)) ec
                 (λ u h. met-shows (types p) (column p rs) (column-of types p rs (g .typed) (g .kept)) l u (case-covered u (column p rs) h)),
           )
           found ed (w .2) (omega arith)
         where
-          found : (c : Chosen) (y : Value) → byTest k cs (shows y) ≡ some (some c) → Chose f (casesOf (column p rs)) less c y
+          here-known : types p < count s
+          here-known = all-column (λ z. types z < count s) p ps kn col
+
+          found : (c : Chosen) (y : Value) → byTest k cs (shows y) ≡ some (some c) → Chose f (casesOf (column p rs)) less (types p) c y
           found c y h =
               let (t, e, q) = by-test k cs (shows y) c h in
               let r = lookup-found f m 0 (k + 1) cs (casesOf (column p rs)) ec (w .1) t c q in
@@ -454,22 +485,30 @@ module _ (s : List ℕ) where
                 made = r .made;
                 fewer = omega (arith, r .fewer, most);
                 taken = shows-takes s (c .test) y (e ∙ ap some (r .same));
+                kind = shown-kind (types p) (c .test)
+                    (met-shows (types p) (column p rs) (column-of types p rs (g .typed) (g .kept)) l (c .test) (case-covered (c .test) (column p rs) (r .met)));
               }
 
-      list-built : (types : Path → ℕ) (g : Good s types ps rs) → hasList (column p rs) ≡ true → (cs ts : Cases) (d : Tree)
+      list-built : (types : Path → ℕ) (g : Good s types ps rs) → Known types ps → hasList (column p rs) ≡ true → (cs ts : Cases) (d : Tree)
           → unhoistedOf cs ≡ casesOn f (only isExact (casesOf (column p rs))) → unhoistedOf ts ≡ casesOn f (only isTail (casesOf (column p rs)))
           → unhoisted d ≡ f0 → WellMade m (listswitch p cs ts d)
           → (k less : ℕ) → nodesIn (listswitch p cs ts d) ≤ suc less → Tested s (retyped s) (suc less) types ps k (listswitch p cs ts d)
       unfolding nodeOf nodesIn WellMade NodeFits
-      list-built types g l cs ts d ec et ed w k less most =
-          node-built types g k less (listswitch p cs ts d) (λ t n. byLength k cs ts n) (k + 1 + nodesInOf cs + nodesInOf ts) d refl
-          (lists-of (types p) (column p rs) (column-of types p rs (g .typed) (g .kept)) l)
+      list-built types g kn l cs ts d ec et ed w k less most =
+          node-built types g kn k less (listswitch p cs ts d) (λ t n. byLength k cs ts n) (k + 1 + nodesInOf cs + nodesInOf ts) d refl
+          (here-known, a-list)
           found ed (w .3) (omega arith)
         where
-          found : (c : Chosen) (y : Value) → byLength k cs ts (lengthOf y) ≡ some (some c) → Chose f (casesOf (column p rs)) less c y
+          here-known : types p < count s
+          here-known = all-column (λ z. types z < count s) p ps kn col
+
+          a-list : typeKind s (types p) ≡ 2
+          a-list = lists-of (types p) (column p rs) (column-of types p rs (g .typed) (g .kept)) l
+
+          found : (c : Chosen) (y : Value) → byLength k cs ts (lengthOf y) ≡ some (some c) → Chose f (casesOf (column p rs)) less (types p) c y
           found c y h = let (n, e, q) = by-length k cs ts (lengthOf y) c h in go n e q
             where
-              go : (n : ℕ) → lengthOf y ≡ some n → ByLength k cs ts n c → Chose f (casesOf (column p rs)) less c y
+              go : (n : ℕ) → lengthOf y ≡ some n → ByLength k cs ts n c → Chose f (casesOf (column p rs)) less (types p) c y
               go n e (exactly q) =
                   let r = lookup-found f m 0 (k + 1) cs (only isExact (casesOf (column p rs))) ec (w .1) (ListOf n) c q in
                   record {
@@ -478,6 +517,7 @@ module _ (s : List ℕ) where
                     made = r .made;
                     fewer = omega (arith, r .fewer, most);
                     taken = rw (← r .same) e;
+                    kind = rw (← r .same) a-list;
                   }
               go n e (at-least j le q) =
                   let r = lookup-found f m (howMany cs) (k + 1 + nodesInOf cs) ts (only isTail (casesOf (column p rs))) et (w .2) (ListWithTail j) c q in
@@ -487,6 +527,7 @@ module _ (s : List ℕ) where
                     made = r .made;
                     fewer = omega (arith, r .fewer, most);
                     taken = rw (← r .same) (n, e, le);
+                    kind = rw (← r .same) a-list;
                   }
 
       nodeOn-list : hasList (column p rs) ≡ true
@@ -499,54 +540,54 @@ module _ (s : List ℕ) where
       nodeOn-switch e = rw (e, nodeOn)
 
       -- by what the node is
-      by-list : (types : Path → ℕ) → Good s types ps rs → hasList (column p rs) ≡ true → (b : Tree) → isHoist b ≡ false
+      by-list : (types : Path → ℕ) → Good s types ps rs → Known types ps → hasList (column p rs) ≡ true → (b : Tree) → isHoist b ≡ false
           → unhoisted b ≡ listswitch p (casesOn f (only isExact (casesOf (column p rs)))) (casesOn f (only isTail (casesOf (column p rs)))) f0
           → WellMade m b → (k deep : ℕ) → nodesIn b ≤ deep → Tested s (retyped s) deep types ps k b
       unfolding unhoisted isHoist
-      by-list types g l absent i e w k deep most = let z : _≡_ {A = ℕ} 0 1 = cc in absurd (omega arith)
-      by-list types g l (leaf c bs) i e w k deep most = let z : _≡_ {A = ℕ} 0 1 = cc in absurd (omega arith)
-      by-list types g l (hoist c bs a) i e w k deep most = absurd (true≢false i)
-      by-list types g l (switch q cs d) i e w k deep most = let z : _≡_ {A = ℕ} 0 1 = cc in absurd (omega arith)
-      by-list types g l (listswitch q cs ts d) i e w k zero most = absurd (none-fit most)
+      by-list types g kn l absent i e w k deep most = let z : _≡_ {A = ℕ} 0 1 = cc in absurd (omega arith)
+      by-list types g kn l (leaf c bs) i e w k deep most = let z : _≡_ {A = ℕ} 0 1 = cc in absurd (omega arith)
+      by-list types g kn l (hoist c bs a) i e w k deep most = absurd (true≢false i)
+      by-list types g kn l (switch q cs d) i e w k deep most = let z : _≡_ {A = ℕ} 0 1 = cc in absurd (omega arith)
+      by-list types g kn l (listswitch q cs ts d) i e w k zero most = absurd (none-fit most)
         where
           none-fit : nodesIn (listswitch q cs ts d) ≤ 0 → ⊥
           none-fit h = unfold nodesIn in (omega arith)
-      by-list types g l (listswitch q cs ts d) i e w k (suc less) most =
+      by-list types g kn l (listswitch q cs ts d) i e w k (suc less) most =
           let path : q ≡ p = cc in
           let exact : unhoistedOf cs ≡ casesOn f (only isExact (casesOf (column p rs))) = cc in
           let tails : unhoistedOf ts ≡ casesOn f (only isTail (casesOf (column p rs))) = cc in
           let other : unhoisted d ≡ f0 = cc in
-          rw path (list-built types g l cs ts d exact tails other (rw path at w) k less (rw path at most))
+          rw path (list-built types g kn l cs ts d exact tails other (rw path at w) k less (rw path at most))
 
-      by-switch : (types : Path → ℕ) → Good s types ps rs → hasList (column p rs) ≡ false → (b : Tree) → isHoist b ≡ false
+      by-switch : (types : Path → ℕ) → Good s types ps rs → Known types ps → hasList (column p rs) ≡ false → (b : Tree) → isHoist b ≡ false
           → unhoisted b ≡ switch p (casesOn f (casesOf (column p rs))) f0
           → WellMade m b → (k deep : ℕ) → nodesIn b ≤ deep → Tested s (retyped s) deep types ps k b
       unfolding unhoisted isHoist
-      by-switch types g l absent i e w k deep most = let z : _≡_ {A = ℕ} 0 1 = cc in absurd (omega arith)
-      by-switch types g l (leaf c bs) i e w k deep most = let z : _≡_ {A = ℕ} 0 1 = cc in absurd (omega arith)
-      by-switch types g l (hoist c bs a) i e w k deep most = absurd (true≢false i)
-      by-switch types g l (switch q cs d) i e w k zero most = absurd (none-fit most)
+      by-switch types g kn l absent i e w k deep most = let z : _≡_ {A = ℕ} 0 1 = cc in absurd (omega arith)
+      by-switch types g kn l (leaf c bs) i e w k deep most = let z : _≡_ {A = ℕ} 0 1 = cc in absurd (omega arith)
+      by-switch types g kn l (hoist c bs a) i e w k deep most = absurd (true≢false i)
+      by-switch types g kn l (switch q cs d) i e w k zero most = absurd (none-fit most)
         where
           none-fit : nodesIn (switch q cs d) ≤ 0 → ⊥
           none-fit h = unfold nodesIn in (omega arith)
-      by-switch types g l (switch q cs d) i e w k (suc less) most =
+      by-switch types g kn l (switch q cs d) i e w k (suc less) most =
           let path : q ≡ p = cc in
           let all : unhoistedOf cs ≡ casesOn f (casesOf (column p rs)) = cc in
           let other : unhoisted d ≡ f0 = cc in
-          rw path (switch-built types g l cs d all other (rw path at w) k less (rw path at most))
-      by-switch types g l (listswitch q cs ts d) i e w k deep most = let z : _≡_ {A = ℕ} 0 1 = cc in absurd (omega arith)
+          rw path (switch-built types g kn l cs d all other (rw path at w) k less (rw path at most))
+      by-switch types g kn l (listswitch q cs ts d) i e w k deep most = let z : _≡_ {A = ℕ} 0 1 = cc in absurd (omega arith)
 
       nodes-built : Built ps rs (nodeOn p (column p rs) f f0)
-      nodes-built types g b e w k deep most = go (hasList (column p rs)) refl
+      nodes-built types g kn b e w k deep most = go (hasList (column p rs)) refl
         where
           go : (h : Bool) → hasList (column p rs) ≡ h → Tested s (retyped s) deep types ps k b
           go true l =
               peel types ps (listswitch p (casesOn f (only isExact (casesOf (column p rs)))) (casesOn f (only isTail (casesOf (column p rs)))) f0)
-              (by-list types g l) b (e ∙ nodeOn-list l) w k deep most
-          go false l = peel types ps (switch p (casesOn f (casesOf (column p rs))) f0) (by-switch types g l) b (e ∙ nodeOn-switch l) w k deep most
+              (by-list types g kn l) b (e ∙ nodeOn-list l) w k deep most
+          go false l = peel types ps (switch p (casesOn f (casesOf (column p rs))) f0) (by-switch types g kn l) b (e ∙ nodeOn-switch l) w k deep most
 
     -- THEOREM: the tree of a matrix is tested, hoisted in any way
-    pub matrix-tested : (ps : List Path) (rs : List Row) → All TestRow rs → (types : Path → ℕ) → Good s types ps rs
+    pub matrix-tested : (ps : List Path) (rs : List Row) → All TestRow rs → (types : Path → ℕ) → Good s types ps rs → Known types ps
         → (b : Tree) → unhoisted b ≡ matrixTree ps rs → WellMade m b → (k deep : ℕ) → nodesIn b ≤ deep → Tested s (retyped s) deep types ps k b
     matrix-tested ps rs h =
         tree-induction Built leaf-built

@@ -13,6 +13,7 @@ pub mod TypedPartsLaws
 pub mod FillingLaws
 pub mod ReachingLaws
 pub mod OpenedParts
+pub mod KnownTypes
 pub mod NodesFit
 pub mod FallingLaws
 pub mod MatrixLaws

@@ -8,7 +8,7 @@ use mathlib.Core.List.{List, []}
 use mathlib.Core.Option.{Option, none, some}
 use lib.Dec.{eqb}
 use borrow.Author.Tests.{eq-eqb}
-use Rattle.spec_rules.specs.SheetFile.{typeKind, typeCount}
+use Rattle.spec_rules.specs.SheetFile.{types, typeKind, typeCount}
 use Rattle.spec_rules.specs.Texts.{canonical}
 use Rattle.spec_rules.specs.Splitting.{Test, Constr, Int, Bytes, ListOf, ListWithTail}
 use Rattle.spec_rules.specs.Building.{Tree, Cases, absent, leaf, hoist, switch, listswitch, cnil, ccons}
@@ -33,12 +33,12 @@ module _ (s : List ℕ) where
   MayShow t (ListWithTail n) = ⊥
 
   unfoldable pub NodeFits : ℕ → Tree → Type 0
-  unfolding howMany EachTest MayShow typeKind
+  unfolding howMany EachTest MayShow types typeKind
   NodeFits t absent = Unit {0}
   NodeFits t (leaf c bs) = Unit {0}
   NodeFits t (hoist c bs a) = Unit {0}
-  NodeFits t (switch p cs d) = (0 < howMany cs) × EachTest (MayShow t) cs
-  NodeFits t (listswitch p cs ts d) = typeKind s t ≡ 2
+  NodeFits t (switch p cs d) = (t < types s) × (0 < howMany cs) × EachTest (MayShow t) cs
+  NodeFits t (listswitch p cs ts d) = (t < types s) × (typeKind s t ≡ 2)
 
   -- ---- what parts of a type show
   pub record Showing (kind : ℕ) (x : Value) : Type 0 where
@@ -114,7 +114,7 @@ module _ (s : List ℕ) where
   goes-on-somewhere k t (hoist c bs a) w e f x h = absurd (no-node-there w e)
   goes-on-somewhere k t (switch p cs d) w e f x h =
       let choose : (λ y n. byTest k cs y) ≡ w .choose = cc in
-      rw (← choose) (switch-goes k t cs (f .0) (f .1) x h)
+      rw (← choose) (switch-goes k t cs (f .1) (f .2) x h)
   goes-on-somewhere k t (listswitch p cs ts d) w e f x h =
       let choose : (λ y n. byLength k cs ts n) ≡ w .choose = cc in
-      rw (← choose) (list-goes k t cs ts f x h)
+      rw (← choose) (list-goes k t cs ts (f .1) x h)

@@ -13,7 +13,7 @@ use borrow.Author.Tests.{le-leb}
 use Rattle.base_words.specs.Words.{Bytes, both}
 use Rattle.base_words.specs.WordsLaws.{both-true, both-make}
 use Rattle.spec_rules.specs.Limits.{patternsMost}
-use Rattle.spec_rules.specs.SheetFile.{subject, clauses, patterns, typeFirst, constructorFirst, entry, patternKind, patternA, patternFirst, patternCount, child, root, poolText, poolAt}
+use Rattle.spec_rules.specs.SheetFile.{subject, types, clauses, patterns, typeFirst, constructorFirst, entry, patternKind, patternA, patternFirst, patternCount, child, root, poolText, poolAt}
 use Rattle.spec_rules.specs.Patterns.{PatternKind, Discard, Variable, Assign, Integer, ByteString, ListOfAll, ListWithRest, Constructor, Pair, Tuple, Unknown, patternKindOf, Mark, Pat, Pats, oneConstructor, decorated, constructorOf, along, ofConstructor, ofKind, patternTo, pattern, clausePattern, clausePatterns}
 use Rattle.spec_rules.specs.Texts.{canonical}
 use Rattle.spec_rules.specs.Rows.{Path, clauseRows}
@@ -36,9 +36,10 @@ use Rattle.spec_match.specs.ColumnTypes.{Resolved, typeAfter, retyped}
 use Rattle.spec_match.specs.SheetColumns.{sheet-resolved}
 use Rattle.spec_forgotten.specs.Values.{Value, areBytes, ofType, Passed, without, walkOn}
 use Rattle.spec_forgotten.specs.OpenedParts.{legal-there}
+use Rattle.spec_forgotten.specs.KnownTypes.{after-known}
 use Rattle.spec_forgotten.specs.MatrixLaws.{textsFit, textsFitAll, Kept, Good, Open, root-columns, good-root}
 use Rattle.spec_forgotten.specs.FallingLaws.{There, Has, Tested, Goes, FallsOut, falls-out, falls-only}
-use Rattle.spec_forgotten.specs.BuiltTested.{matrix-tested}
+use Rattle.spec_forgotten.specs.BuiltTested.{Known, matrix-tested}
 
 -- ---- texts of bytes
 bytes-are : (l : List ℕ) → ((i : ℕ) → getD l i 0 < 256) → areBytes l ≡ true
@@ -67,10 +68,10 @@ module _ (s : List ℕ) (a : Accepted s) (bytes : Bytes s) where
   pool-bytes first count = bytes-take count (drop (poolAt s + first) s) (bytes-drop (poolAt s + first) s (bytes-are s (bytes .byte)))
 
   -- ---- the texts of a pattern
-  abbrev Known : ℕ → ℕ → Type 0
-  Known j n = (k : ℕ) → k < n → child s (j + k) < patterns s
+  abbrev KnownFrom : ℕ → ℕ → Type 0
+  KnownFrom j n = (k : ℕ) → k < n → child s (j + k) < patterns s
 
-  along-texts : (f : ℕ → ℕ → Pat) → ((p t : ℕ) → p < patterns s → textsFit (f p t) ≡ true) → (j n e step : ℕ) → Known j n → textsFitAll (along f s j n e step) ≡ true
+  along-texts : (f : ℕ → ℕ → Pat) → ((p t : ℕ) → p < patterns s → textsFit (f p t) ≡ true) → (j n e step : ℕ) → KnownFrom j n → textsFitAll (along f s j n e step) ≡ true
   unfolding along textsFit
   along-texts f each j zero e step known = refl
   along-texts f each j (suc n) e step known =
@@ -83,7 +84,7 @@ module _ (s : List ℕ) (a : Accepted s) (bytes : Bytes s) where
       next i k = omega arith
 
   module _ (f : ℕ → ℕ → Pat) (below : (p t : ℕ) → p < patterns s → textsFit (f p t) ≡ true) (p t : ℕ) (known : p < patterns s) where
-    children-known : Parent s p → (n : ℕ) → n ≤ patternCount s p → Known (patternFirst s p) n
+    children-known : Parent s p → (n : ℕ) → n ≤ patternCount s p → KnownFrom (patternFirst s p) n
     children-known has n l k b = owned-pattern sh p (patternFirst s p + k) known (record { parent = has; from = omega arith; to = omega arith })
 
     all-texts : Parent s p → (n e step : ℕ) → n ≤ patternCount s p → textsFitAll (along f s (patternFirst s p) n e step) ≡ true
@@ -153,12 +154,17 @@ module _ (s : List ℕ) (a : Accepted s) (bytes : Bytes s) where
       (λ z (l, b). let r = legal-there s z (subject s) v h l b in ((r .part, r .there), r .type))
       rootColumns (root-columns s (subject s) (sheetPatterns s) (sheet-resolved s a) sheet-kept)
 
+  root-known : Known s (a .is-typed) 0 rootTypes rootColumns
+  root-known =
+      all-map (Open s (subject s)) (λ z. rootTypes z < types s) (λ z (l, b). after-known s (a .is-typed) z (subject s) (a .is-typed .subject-type) l b)
+      rootColumns (root-columns s (subject s) (sheetPatterns s) (sheet-resolved s a) sheet-kept)
+
   -- ---- a tree that is the sheet's once its hoists are taken out
   module _ (b : Tree) (same : unhoisted b ≡ plainTree (sheetPatterns s)) (m : ℕ) (made : WellMade m b) where
     -- THEOREM: it is tested
     pub tree-tested : Tested s (retyped s) (nodesIn b) rootTypes rootColumns 0 b
     tree-tested =
-        matrix-tested s m rootColumns (clauseRows 0 (sheetPatterns s)) (clauseRows-test 0 (sheetPatterns s)) rootTypes sheet-good
+        matrix-tested s (a .is-typed) m rootColumns (clauseRows 0 (sheetPatterns s)) (clauseRows-test 0 (sheetPatterns s)) rootTypes sheet-good root-known
         b (same ∙ plainTree-matrix (sheetPatterns s)) made 0 (nodesIn b) (le-refl (nodesIn b))
 
     -- THEOREM: a value that ends at a switch took only branches that some part takes
