@@ -20,3 +20,5 @@ pub mod MatrixLaws
 pub mod SomewhereLaws
 pub mod BuiltTested
 pub mod SheetTested
+pub mod Shapes
+pub mod ShapesLaws
