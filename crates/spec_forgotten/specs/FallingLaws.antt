@@ -216,20 +216,21 @@ module _ (s : List ℕ) where
       pub same : (q : Path) → NoTails q → All (Off q) ps → SameAt q value v
 
     -- ---- what a tested tree has at a node, and below a hoist
-    record AtNode (types : Path → ℕ) (ps : List Path) (w : Node) : Type 0 where
-      less : ℕ
-      no-tails : NoTails (w .path)
-      among : In (w .path) ps
-      apartness : All (λ z. (z ≡ w .path) ⊎ Parting (w .path) z) ps
-      children : (c : Chosen) (x : Value) → ofType s (types (w .path)) x ≡ true → w .choose (shows x) (lengthOf x) ≡ some (some c) → Child less types ps w c
-      others : Rest less types ps w
+    pub record AtNode (types : Path → ℕ) (ps : List Path) (a : Tree) (w : Node) : Type 0 where
+      pub less : ℕ
+      pub no-tails : NoTails (w .path)
+      pub among : In (w .path) ps
+      pub apartness : All (λ z. (z ≡ w .path) ⊎ Parting (w .path) z) ps
+      pub children : (c : Chosen) (x : Value) → ofType s (types (w .path)) x ≡ true → w .choose (shows x) (lengthOf x) ≡ some (some c) → Child less types ps w c
+      pub others : Rest less types ps w
+      pub fits : NodeFits s (types (w .path)) a
 
-    node-tested : (deep : ℕ) (types : Path → ℕ) (ps : List Path) (k : ℕ) (a : Tree) (w : Node) → nodeOf k a ≡ some w → Tested deep types ps k a → AtNode types ps w
+    pub node-tested : (deep : ℕ) (types : Path → ℕ) (ps : List Path) (k : ℕ) (a : Tree) (w : Node) → nodeOf k a ≡ some w → Tested deep types ps k a → AtNode types ps a w
     node-tested deep types ps k a w e (no-node d2 t2 ps2 k2) = absurd (no-node-there w (unfold nodeOf in e))
     node-tested deep types ps k a w e (at-leaf d2 t2 ps2 k2 c bs) = absurd (no-node-there w (unfold nodeOf in e))
     node-tested deep types ps k a w e (at-hoist d2 less l t2 ps2 k2 c bs b h) = absurd (no-node-there w (unfold nodeOf in e))
     node-tested deep types ps k a w e (at-node d2 less l t2 ps2 k2 a2 x f m i z cs d nf) =
-        rw (same-node w x (nodeOf k a) e f) (record { less = less; no-tails = m; among = i; apartness = z; children = cs; others = d })
+        rw (same-node w x (nodeOf k a) e f) (record { less = less; no-tails = m; among = i; apartness = z; children = cs; others = d; fits = nf })
 
     absent-hoist : (c : ℕ) (bs : List Binding) (a : Tree) → _≡_ {A = Tree} absent (hoist c bs a) → ⊥
     absent-hoist c bs a e = let z : _≡_ {A = ℕ} 0 1 = cc in absurd (omega arith)
@@ -237,7 +238,7 @@ module _ (s : List ℕ) where
     leaf-hoist : (c2 : ℕ) (bs2 : List Binding) (c : ℕ) (bs : List Binding) (a : Tree) → _≡_ {A = Tree} (leaf c2 bs2) (hoist c bs a) → ⊥
     leaf-hoist c2 bs2 c bs a e = let z : _≡_ {A = ℕ} 0 1 = cc in absurd (omega arith)
 
-    hoist-tested : (deep : ℕ) (types : Path → ℕ) (ps : List Path) (k c : ℕ) (bs : List Binding) (a b : Tree) → b ≡ hoist c bs a → Tested deep types ps k b
+    pub hoist-tested : (deep : ℕ) (types : Path → ℕ) (ps : List Path) (k c : ℕ) (bs : List Binding) (a b : Tree) → b ≡ hoist c bs a → Tested deep types ps k b
         → (less : ℕ) × Tested less types ps (k + 1) a
     hoist-tested deep types ps k c bs a b e (no-node d2 t2 ps2 k2) = absurd (absent-hoist c bs a e)
     hoist-tested deep types ps k c bs a b e (at-leaf d2 t2 ps2 k2 c2 bs2) = absurd (leaf-hoist c2 bs2 c bs a e)

@@ -22,3 +22,6 @@ pub mod BuiltTested
 pub mod SheetTested
 pub mod Shapes
 pub mod ShapesLaws
+pub mod Search
+pub mod ChildrenLaws
+pub mod SearchLaws
