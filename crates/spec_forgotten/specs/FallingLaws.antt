@@ -27,7 +27,7 @@ module _ {A : Type 0} where
     first : (xs : List A) → In x (x ∷ xs)
     later : (y : A) (xs : List A) → In x xs → In x (y ∷ xs)
 
-  all-in : (P : A → Type 0) (x : A) (xs : List A) → All P xs → In x xs → P x
+  pub all-in : (P : A → Type 0) (x : A) (xs : List A) → All P xs → In x xs → P x
   all-in P x xs h (first ys) = h .0
   all-in P x xs h (later y ys i) = all-in P x ys (h .1) i
 
@@ -51,11 +51,11 @@ pub walk-hoist : (k c : ℕ) (bs : List Binding) (a : Tree) (v : Value) → walk
 unfolding walkOn
 walk-hoist k c bs a v = refl
 
-walk-absent : (k : ℕ) (v : Value) → walkOn k absent v ≡ noNode
+pub walk-absent : (k : ℕ) (v : Value) → walkOn k absent v ≡ noNode
 unfolding walkOn
 walk-absent k v = refl
 
-walk-leaf : (k c : ℕ) (bs : List Binding) (v : Value) → walkOn k (leaf c bs) v ≡ atClause c
+pub walk-leaf : (k c : ℕ) (bs : List Binding) (v : Value) → walkOn k (leaf c bs) v ≡ atClause c
 unfolding walkOn
 walk-leaf k c bs v = refl
 

@@ -25,3 +25,5 @@ pub mod ShapesLaws
 pub mod Search
 pub mod ChildrenLaws
 pub mod SearchLaws
+pub mod NeverStuckLaws
+pub mod FoundLaws
