@@ -1,7 +1,6 @@
 -- The tree of an accepted sheet is `Tested`: its tests stand at paths apart from each other, and below each other only as their cases
 -- open. Said of every well-made tree that is the built one once its hoists are taken out (`built-tested`).
 use Prim.Native.Nat.{ℕ, zero, suc, _+_, _≤_, _<_}
-use native.Mathlib.Nat.{le-refl}
 use native.Mathlib.Omega.{arith}
 use mathlib.Core.Path.{_≡_, refl, sym, ap, ap₂, _∙_}
 use mathlib.Core.Logic.{_⊎_, inl, inr, ⊎-elim}
@@ -10,12 +9,12 @@ use mathlib.Core.List.{List, [], _∷_, _++_, append-assoc}
 use mathlib.Core.Option.{Option, none, some}
 use lib.Dec.{eqb, leb}
 use borrow.Author.Tests.{eqb-true, leb-true}
-use Rattle.base_words.specs.Words.{both, either, pick}
+use Rattle.base_words.specs.Words.{both, pick}
 use Rattle.base_words.specs.WordsLaws.{both-true, either-true, either-false}
-use Rattle.spec_rules.specs.SheetFile.{subject, types as count, typeKind, typeCount}
-use Rattle.spec_rules.specs.Patterns.{Pat, Pats, discard, variable, assign, integer, bytestring, listed, tailed, constructor, opened, many, takesArguments, fits, fitAll}
+use Rattle.spec_rules.specs.SheetFile.{subject, types as count, typeKind}
+use Rattle.spec_rules.specs.Patterns.{Pat, discard, variable, assign, integer, bytestring, listed, tailed, constructor, opened, many, takesArguments, fits, fitAll}
 use Rattle.spec_rules.specs.Rows.{Step, Path, samePath, Row}
-use Rattle.spec_rules.specs.Columns.{stepIndex, union, without, testAt, choice}
+use Rattle.spec_rules.specs.Columns.{union, without, testAt, choice}
 use Rattle.spec_rules.specs.Splitting.{Test, Constr, Int, Bytes, ListOf, ListWithTail, sameTest, column, Met, isMet, casesOf, covers, caseRows, caseOpens, defaultRows}
 use Rattle.spec_rules.specs.SplittingLaws.{All, anyCovers, case-covered, sameTest-sound}
 use Rattle.spec_rules.specs.Building.{Tree, Cases, absent, leaf, hoist, switch, listswitch, cnil, ccons, leafOf, isList, hasList}
@@ -31,16 +30,16 @@ use Rattle.spec_match.specs.Apart.{Apart, apart-sym, isColumn, all-column}
 use Rattle.spec_match.specs.Order.{SameOrApart, column-apart, without-apart, choice-in}
 use Rattle.spec_match.specs.Typing.{takes}
 use Rattle.spec_match.specs.ColumnTypes.{Resolved, TypedBy, caseStep, casePart, typeAfter, retyped, retyped-apart, retyped-new, column-typed}
-use Rattle.spec_forgotten.specs.Values.{Whole, Value, Values, anInteger, aByteString, whole, aList, aPair, aTuple, aConstructor, stepInto, partAlong, showsWhole, shows, lengthOf, ofType, Ended, atClause, stuckOn, noNode, took, fell, onTest, onPart, onCount, onLength, onTail, onSame, walkOn}
+use Rattle.spec_forgotten.specs.Values.{Value, anInteger, aByteString, whole, aList, aPair, aTuple, aConstructor, stepInto, partAlong, showsWhole, shows, lengthOf, ofType, noNode, walkOn}
 use Rattle.spec_forgotten.specs.PuttingLaws.{NoTails, Parting, here, further, onShows, andOn, along-step}
 use Rattle.spec_forgotten.specs.TypedPartsLaws.{partType, typeAlong, part-typed}
-use Rattle.spec_forgotten.specs.ReachingLaws.{Chosen, lookup, orTail, byTest, tailOf, byLength, Node, nodeOf, chooseAt}
-use Rattle.spec_forgotten.specs.OpenedParts.{Led, Stands, stands-under, led-typed, legal-there, Takes, case-plain, case-there}
+use Rattle.spec_forgotten.specs.ReachingLaws.{Chosen, lookup, orTail, byTest, tailOf, byLength, Node, nodeOf}
+use Rattle.spec_forgotten.specs.OpenedParts.{stands-under, led-typed, legal-there, Takes, case-plain, case-there}
 use Rattle.spec_forgotten.specs.KnownTypes.{after-known, TestOf, case-known}
 use Rattle.spec_forgotten.specs.SomewhereLaws.{walk-somewhere}
 use Rattle.spec_forgotten.specs.NodesFit.{EachTest, MayShow, NodeFits}
 use Rattle.spec_forgotten.specs.MatrixLaws.{textsFit, all-without, Kept, Good, NewIn, new-columns, good-case, good-default, column-kept}
-use Rattle.spec_forgotten.specs.FallingLaws.{In, first, later, typeOn, type-step, There, Has, Off, apart, above, Opens, Tested, no-node, at-leaf, at-hoist, at-node, Child, child, Rest, rest}
+use Rattle.spec_forgotten.specs.FallingLaws.{In, first, later, typeOn, type-step, There, Off, apart, above, Opens, Tested, no-node, at-leaf, at-hoist, at-node, child, rest}
 
 -- ---- paths
 parting-longer : (z q : Path) → Parting z q → (x : Path) → Parting (z ++ x) q

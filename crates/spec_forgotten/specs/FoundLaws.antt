@@ -1,43 +1,36 @@
 -- What the search answers for a sheet: the lowest forgotten switch with the tests of its way, or that the sheet is covered; the walk of a
 -- value of the subject's type ends at a leaf or at such a switch; and two values that end at one switch took the same tests. Said of every
 -- well-made tree that is the sheet's once its hoists are taken out, and then of `sheetTree`.
-use Prim.Native.Nat.{ℕ, zero, suc, _+_, _≤_, _<_}
-use native.Mathlib.Omega.{arith}
+use Prim.Native.Nat.{ℕ, _<_}
 use mathlib.Core.Path.{_≡_, refl, sym, ap, _∙_}
 use mathlib.Core.Logic.{_⊎_, inl, inr}
-use mathlib.Core.Bool.{Bool, true, false, true≢false, false≢true}
-use mathlib.Core.List.{List, []}
+use mathlib.Core.Bool.{true, true≢false, false≢true}
+use mathlib.Core.List.{List}
 use mathlib.Core.Option.{Option, none, some}
-use lib.ListN.{length}
 use Rattle.base_words.specs.Words.{Bytes}
-use Rattle.spec_rules.specs.Searching.{lowest}
-use Rattle.spec_rules.specs.SearchingLaws.{Lowest, lowest-some, lowest-none}
+use Rattle.spec_rules.specs.SearchingLaws.{lowest-some, lowest-none}
 use Rattle.spec_rules.specs.SheetFile.{subject}
-use Rattle.spec_rules.specs.Building.{Tree, plainTree}
+use Rattle.spec_rules.specs.Building.{Tree}
 use Rattle.spec_rules.specs.Hoisting.{nodesIn}
-use Rattle.spec_rules.specs.SheetRefusals.{verdict, accepted}
-use Rattle.spec_rules.specs.Calls.{sheetPatterns, sheetTree}
-use Rattle.spec_accepted.specs.SheetFacts.{Accepted, accepted-sheet}
-use Rattle.spec_hoist.specs.Trees.{isPresent, WellMade, unhoisted}
-use Rattle.spec_match.specs.ColumnTypes.{typeAfter, retyped}
+use Rattle.spec_accepted.specs.SheetFacts.{Accepted}
+use Rattle.spec_match.specs.ColumnTypes.{typeAfter}
 use Rattle.spec_forgotten.specs.Values.{Value, ofType, Passed, Ended, atClause, without, stuckOn, noNode, walkOn}
-use Rattle.spec_forgotten.specs.Forgetting.{Forgets, Forgotten, LowestForgotten, Covered, NoHollow}
-use Rattle.spec_forgotten.specs.FallingLaws.{Goes}
-use Rattle.spec_forgotten.specs.SheetTested.{rootTypes, rootColumns, root-has, tree-tested, only-goes, goes-out-there, sheet-unhoisted, sheet-made}
+use Rattle.spec_forgotten.specs.Forgetting.{NoHollow}
+use Rattle.spec_forgotten.specs.SheetTested.{OfSheet, rootColumns, root-has, tree-tested, only-goes, goes-out-there}
 use Rattle.spec_forgotten.specs.SomewhereLaws.{walk-somewhere}
 use Rattle.spec_forgotten.specs.NeverStuckLaws.{walk-not-stuck}
 use Rattle.spec_forgotten.specs.Search.{Came, reach, fallsOut, lowestGap, wayOf, wayTo}
 use Rattle.spec_forgotten.specs.SearchLaws.{Finds, goes-reached, reached-goes}
 
 module _ (s : List ℕ) (a : Accepted s) (bytes : Bytes s) where
-  module _ (b : Tree) (same : unhoisted b ≡ plainTree (sheetPatterns s)) (m : ℕ) (made : WellMade m b) where
+  module _ (b : Tree) (is : OfSheet s b) where
     -- some value of the subject's type ends at switch n of the tree, after the tests ts
     abbrev pub FallsAt : ℕ → List Passed → Type 0
     FallsAt n ts = (v : Value) × (ofType s (subject s) v ≡ true) × (walkOn 0 b v ≡ without n ts)
 
     finds : (n : ℕ) (ts : List Passed) → FallsAt n ts → Finds s (typeAfter s (subject s)) 0 b n ts
     finds n ts (v, h, e) =
-        goes-reached s (typeAfter s (subject s)) 0 b n ts (only-goes s a bytes b same m made v h n ts e) (nodesIn b) (rootColumns s a bytes) (tree-tested s a bytes b same m made)
+        goes-reached s (typeAfter s (subject s)) 0 b n ts (only-goes s a bytes b is v h n ts e) (nodesIn b) (rootColumns s a bytes) (tree-tested s a bytes b is)
 
     -- THEOREM: the tests are those of the way to the switch
     pub tree-one-way : (n : ℕ) (ts : List Passed) → FallsAt n ts → ts ≡ wayTo s b n
@@ -72,18 +65,18 @@ module _ (s : List ℕ) (a : Accepted s) (bytes : Bytes s) where
             none-falls : fallsOut s n none ≡ true → ⊥
             none-falls f = unfold fallsOut in (false≢true f)
         go (some c) e f =
-            let g = reached-goes s (a .is-typed) filled b (typeAfter s (subject s)) 0 (nodesIn b) (rootColumns s a bytes) (tree-tested s a bytes b same m made) n c e (rw e at f) in
+            let g = reached-goes s (a .is-typed) filled b (typeAfter s (subject s)) 0 (nodesIn b) (rootColumns s a bytes) (tree-tested s a bytes b is) n c e (rw e at f) in
             let way : wayTo s b n ≡ c .way = unfold wayTo wayOf in (ap wayOf e) in
             let (v, h) = filled (subject s) (a .is-typed .subject-type) in
-            rw way (goes-out-there s a bytes b same m made v h n (c .way) g)
+            rw way (goes-out-there s a bytes b is v h n (c .way) g)
 
     -- THEOREM: the walk of a value of the subject's type ends at a leaf, or at a switch without one
-    pub tree-never-stuck : isPresent b ≡ true → (v : Value) → ofType s (subject s) v ≡ true
+    pub tree-never-stuck : (v : Value) → ofType s (subject s) v ≡ true
         → ((c : ℕ) × (walkOn 0 b v ≡ atClause c)) ⊎ ((n : ℕ) × ((ts : List Passed) × (walkOn 0 b v ≡ without n ts)))
-    tree-never-stuck there v h = go (walkOn 0 b v) refl
+    tree-never-stuck v h = go (walkOn 0 b v) refl
       where
         go : (e : Ended) → walkOn 0 b v ≡ e → ((c : ℕ) × (walkOn 0 b v ≡ atClause c)) ⊎ ((n : ℕ) × ((ts : List Passed) × (walkOn 0 b v ≡ without n ts)))
         go (atClause c) e = inl (c, e)
         go (without n ts) e = inr (n, (ts, e))
-        go stuckOn e = absurd (walk-not-stuck s (nodesIn b) (typeAfter s (subject s)) (rootColumns s a bytes) 0 b (tree-tested s a bytes b same m made) v h (root-has s a bytes v h) e)
-        go noNode e = absurd (walk-somewhere m b made there 0 v e)
+        go stuckOn e = absurd (walk-not-stuck s (nodesIn b) (typeAfter s (subject s)) (rootColumns s a bytes) 0 b (tree-tested s a bytes b is) v h (root-has s a bytes v h) e)
+        go noNode e = absurd (walk-somewhere (is .most) b (is .made) (is .there) 0 v e)

@@ -1,15 +1,15 @@
 -- The types of parts are types of the sheet: of what opens without a test, of what a case opens, and of the parts of any value.
-use Prim.Native.Nat.{ℕ, zero, suc, _+_, _*_, _≤_, _<_}
+use Prim.Native.Nat.{ℕ, _+_, _*_, _≤_, _<_}
 use native.Mathlib.Omega.{arith}
-use mathlib.Core.Path.{_≡_, refl, sym, ap, _∙_}
-use mathlib.Core.Logic.{_⊎_, inl, inr, ⊎-elim}
+use mathlib.Core.Path.{_≡_, refl}
+use mathlib.Core.Logic.{⊎-elim}
 use mathlib.Core.Bool.{Bool, true, false, false≢true}
 use mathlib.Core.List.{List, [], _∷_}
 use lib.Dec.{eqb}
 use borrow.Author.Tests.{eqb-true}
-use Rattle.base_words.specs.Words.{both, either, pick}
+use Rattle.base_words.specs.Words.{either, pick}
 use Rattle.base_words.specs.WordsLaws.{both-true, either-true}
-use Rattle.spec_rules.specs.SheetFile.{types, entries, typeKind, typeFirst, typeCount, constructorFirst, constructorCount, entry}
+use Rattle.spec_rules.specs.SheetFile.{types, typeKind, typeFirst, typeCount, constructorFirst, constructorCount, entry}
 use Rattle.spec_rules.specs.Patterns.{oneConstructor, constructorOf}
 use Rattle.spec_rules.specs.Rows.{Path}
 use Rattle.spec_rules.specs.Columns.{stepIndex}

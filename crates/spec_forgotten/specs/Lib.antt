@@ -26,4 +26,6 @@ pub mod Search
 pub mod ChildrenLaws
 pub mod SearchLaws
 pub mod NeverStuckLaws
+pub mod FewTestsLaws
 pub mod FoundLaws
+pub mod ForgettingTheorems

@@ -1,20 +1,19 @@
 -- The matrices that the tree of an accepted sheet is built from, as a value meets them. Their patterns fit their types and have the texts
 -- that a panel may have (`Kept`); a column's path has no tail in it, and what a case opens stands within what the case has (`NewIn`).
 -- `Good` goes over from a matrix to its cases and to its default.
-use Prim.Native.Nat.{ℕ, zero, suc, _+_, _≤_, _<_}
+use Prim.Native.Nat.{ℕ, _+_, _≤_, _<_}
 use native.Mathlib.Nat.{le-refl}
 use native.Mathlib.Omega.{arith}
-use mathlib.Core.Path.{_≡_, refl, sym, ap, ap₂, _∙_}
-use mathlib.Core.Logic.{_⊎_, inl, inr}
-use mathlib.Core.Bool.{Bool, true, false, true≢false, false≢true}
+use mathlib.Core.Path.{_≡_, refl, sym, ap, _∙_}
+use mathlib.Core.Bool.{Bool, true, false, false≢true}
 use mathlib.Core.List.{List, [], _∷_, _++_, append-nil, append-assoc}
 use mathlib.Core.Option.{Option, none, some}
-use lib.Dec.{eqb, leb}
+use lib.Dec.{eqb}
 use borrow.Author.Tests.{eqb-true, leb-true}
 use Rattle.base_words.specs.Words.{both, pick}
 use Rattle.base_words.specs.WordsLaws.{both-true}
 use Rattle.spec_rules.specs.SheetFile.{typeKind, typeCount, constructorCount}
-use Rattle.spec_rules.specs.Patterns.{Opens, pairs, tuples, fields, Mark, Pat, Pats, discard, variable, assign, integer, bytestring, listed, tailed, constructor, opened, pnil, pcons, many, oneConstructor, decorated, constructorOf, takesArguments, opensInto, fits, fitAll}
+use Rattle.spec_rules.specs.Patterns.{Opens, pairs, tuples, fields, Mark, Pat, Pats, discard, variable, assign, integer, bytestring, listed, tailed, constructor, opened, pnil, pcons, many, decorated, constructorOf, takesArguments, opensInto, fits, fitAll}
 use Rattle.spec_rules.specs.Texts.{canonical}
 use Rattle.spec_rules.specs.Rows.{Step, pair, tuple, constr, list, listtail, Path, into, opening, samePath, Cell, Row, columnsOf, columnsOfEach, openedColumns, clauseRow, clauseRows}
 use Rattle.spec_rules.specs.Columns.{union, allTests, columns, without, testAt}
@@ -26,8 +25,8 @@ use Rattle.spec_match.specs.Depth.{caseColumns}
 use Rattle.spec_match.specs.Apart.{Neat, isColumn}
 use Rattle.spec_match.specs.Order.{TidyPaths, SameOrApart, union-all}
 use Rattle.spec_match.specs.Typing.{takes, one-of-one}
-use Rattle.spec_match.specs.ColumnTypes.{isOpen, isPlain, openStep, openPart, openStep-index, Legal, legal-beside, typeAfter, caseStep, casePart, elementType, fieldType, Resolved, ResolvedEach, NewPath, new-beside, TypedBy, Sound, column-typed, retyped, sound-case, sound-default, sound-root, case-types, default-types, root-types}
-use Rattle.spec_forgotten.specs.Values.{areBytes, isTail}
+use Rattle.spec_match.specs.ColumnTypes.{isOpen, isPlain, openStep, openPart, openStep-index, Legal, legal-beside, typeAfter, caseStep, casePart, elementType, fieldType, Resolved, ResolvedEach, new-beside, TypedBy, Sound, column-typed, retyped, sound-case, sound-default, sound-root, case-types, default-types, root-types}
+use Rattle.spec_forgotten.specs.Values.{areBytes}
 use Rattle.spec_forgotten.specs.PuttingLaws.{NoTails}
 use Rattle.spec_forgotten.specs.OpenedParts.{openCount, plain-count, data-one, one-count, Bounded, legal-plain, caseCount, case-plain}
 

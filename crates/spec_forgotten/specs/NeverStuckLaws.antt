@@ -3,19 +3,18 @@
 use Prim.Native.Nat.{ℕ, zero, suc, _+_}
 use native.Mathlib.Omega.{arith}
 use mathlib.Core.Path.{_≡_, refl, sym, ap, ap₂, _∙_}
-use mathlib.Core.Logic.{_⊎_, inl, inr}
 use mathlib.Core.Bool.{true}
-use mathlib.Core.List.{List, []}
+use mathlib.Core.List.{List}
 use mathlib.Core.Option.{Option, none, some}
 use Rattle.spec_rules.specs.SheetFile.{subject}
 use Rattle.spec_rules.specs.Rows.{Path}
 use Rattle.spec_rules.specs.Building.{Tree}
-use Rattle.spec_rules.specs.Hoisting.{Fallback, Case}
+use Rattle.spec_rules.specs.Hoisting.{Case}
 use Rattle.spec_match.specs.ColumnTypes.{retyped}
-use Rattle.spec_forgotten.specs.Values.{Value, partAlong, shows, lengthOf, ofType, Passed, Ended, atClause, without, stuckOn, noNode, took, fell, walkOn}
+use Rattle.spec_forgotten.specs.Values.{Value, shows, lengthOf, ofType, Ended, atClause, without, stuckOn, noNode, took, fell, walkOn}
 use Rattle.spec_forgotten.specs.PuttingLaws.{onShows}
 use Rattle.spec_forgotten.specs.TypedPartsLaws.{part-typed}
-use Rattle.spec_forgotten.specs.ReachingLaws.{Chosen, Node, nodeOf, chooseAt, goOn, walk-node}
+use Rattle.spec_forgotten.specs.ReachingLaws.{Chosen, Node, chooseAt, goOn, walk-node}
 use Rattle.spec_forgotten.specs.NodesFit.{goes-on-somewhere}
 use Rattle.spec_forgotten.specs.FallingLaws.{all-in, There, Has, Tested, no-node, at-leaf, at-hoist, at-node, Child, child, Rest, rest, walk-absent, walk-leaf, walk-hoist}
 

@@ -1,12 +1,11 @@
 -- The tests of a switch are such as a part of the tested type shows (`NodeFits`): so on every part of that type a switch goes on, by a
 -- case or by its default (`goes-on-somewhere`).
-use Prim.Native.Nat.{ℕ, zero, suc, _+_, _<_}
+use Prim.Native.Nat.{ℕ, _<_}
 use native.Mathlib.Omega.{arith}
-use mathlib.Core.Path.{_≡_, refl, sym, _∙_}
-use mathlib.Core.Bool.{Bool, true, false, true≢false}
-use mathlib.Core.List.{List, []}
+use mathlib.Core.Path.{_≡_, refl}
+use mathlib.Core.Bool.{true}
+use mathlib.Core.List.{List}
 use mathlib.Core.Option.{Option, none, some}
-use lib.Dec.{eqb}
 use borrow.Author.Tests.{eq-eqb}
 use Rattle.spec_rules.specs.SheetFile.{types, typeKind, typeCount}
 use Rattle.spec_rules.specs.Texts.{canonical}
@@ -14,7 +13,7 @@ use Rattle.spec_rules.specs.Splitting.{Test, Constr, Int, Bytes, ListOf, ListWi
 use Rattle.spec_rules.specs.Building.{Tree, Cases, absent, leaf, hoist, switch, listswitch, cnil, ccons}
 use Rattle.spec_rules.specs.Hoisting.{howMany}
 use Rattle.spec_rules.specs.Walking.{testKind, firstKind}
-use Rattle.spec_forgotten.specs.Values.{Whole, Value, Values, anInteger, aByteString, whole, aList, aPair, aTuple, aConstructor, wholeKind, manyValues, areBytes, ofType, showsWhole, shows, lengthOf}
+use Rattle.spec_forgotten.specs.Values.{Value, anInteger, aByteString, whole, aList, aPair, aTuple, aConstructor, wholeKind, manyValues, areBytes, ofType, showsWhole, shows, lengthOf}
 use Rattle.spec_forgotten.specs.OpenedParts.{kinds-differ, integer-kind, bytes-kind, whole-kind}
 use Rattle.spec_forgotten.specs.ReachingLaws.{Chosen, byTest, byLength, Node, nodeOf}
 

@@ -3,22 +3,22 @@
 -- columns of a matrix give it.
 use Prim.Native.Nat.{ℕ, zero, suc, _+_, _*_, _≤_, _<_}
 use native.Mathlib.Omega.{arith}
-use mathlib.Core.Path.{_≡_, refl, sym, ap, ap₂, _∙_}
+use mathlib.Core.Path.{_≡_, refl, sym, ap, _∙_}
 use mathlib.Core.Bool.{Bool, true, false, true≢false, false≢true}
-use mathlib.Core.List.{List, [], _∷_, _++_}
+use mathlib.Core.List.{List, [], _∷_}
 use mathlib.Core.Option.{Option, none, some}
-use lib.Dec.{eqb, leb}
-use borrow.Author.Tests.{eqb-true, eq-eqb, leb-true}
+use lib.Dec.{eqb}
+use borrow.Author.Tests.{eqb-true, eq-eqb}
 use Rattle.base_words.specs.Words.{both, either, pick}
-use Rattle.base_words.specs.WordsLaws.{both-true, both-make}
+use Rattle.base_words.specs.WordsLaws.{both-true}
 use Rattle.spec_rules.specs.SheetFile.{typeKind, typeFirst, typeCount, constructorFirst, constructorCount, entry}
-use Rattle.spec_rules.specs.Patterns.{oneConstructor, decorated, constructorOf, takesArguments}
+use Rattle.spec_rules.specs.Patterns.{oneConstructor, decorated, constructorOf}
 use Rattle.spec_rules.specs.Texts.{canonical}
 use Rattle.spec_rules.specs.Rows.{Step, pair, tuple, constr, list, Path}
 use Rattle.spec_rules.specs.Columns.{stepIndex}
 use Rattle.spec_rules.specs.Splitting.{Test, Constr, Int, Bytes, ListOf, ListWithTail}
 use Rattle.spec_match.specs.Typing.{takes, one-of-one}
-use Rattle.spec_match.specs.ColumnTypes.{isOpen, openStep, openPart, openStep-index, Legal, typeAfter, caseStep, caseStep-index, casePart, elementType, fieldType}
+use Rattle.spec_match.specs.ColumnTypes.{isOpen, openStep, openPart, Legal, typeAfter, caseStep, casePart, elementType, fieldType}
 use Rattle.spec_forgotten.specs.Values.{Whole, Value, Values, anInteger, aByteString, whole, aList, aPair, aTuple, aConstructor, vnil, vcons, wholeKind, manyValues, areBytes, takesParts, partsFirst, partsStep, ofType, ofTypes, nthOf, intoKind, isTail, stepInto, partAlong, showsWhole, shows, lengthOf}
 use Rattle.spec_forgotten.specs.PuttingLaws.{NoTails}
 use Rattle.spec_forgotten.specs.TypedPartsLaws.{partType, typeAlong, step-typed}

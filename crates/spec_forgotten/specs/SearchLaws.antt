@@ -1,18 +1,17 @@
 -- The search finds what the definition says: a reached switch that falls out is one that some value falls out of, with the tests of its way
 -- (`reached-goes`), and every switch that some value falls out of is reached and falls out (`goes-reached`). So the lowest that is found
 -- is the lowest forgotten, and where none is found the sheet is covered.
-use Prim.Native.Nat.{ℕ, zero, suc, _+_, _≤_, _<_}
+use Prim.Native.Nat.{ℕ, suc, _+_, _≤_, _<_}
 use native.Mathlib.Omega.{arith}
-use mathlib.Core.Path.{_≡_, refl, sym, ap, ap₂, _∙_}
+use mathlib.Core.Path.{_≡_, refl, sym, ap, _∙_}
 use mathlib.Core.Logic.{_⊎_, inl, inr, ⊎-elim}
-use mathlib.Core.Bool.{Bool, true, false, true≢false, false≢true, not}
+use mathlib.Core.Bool.{Bool, true, false, false≢true, not}
 use mathlib.Core.List.{List, [], _∷_}
 use mathlib.Core.Option.{Option, none, some}
 use lib.Dec.{eqb, ltb}
-use borrow.Author.Tests.{eqb-true, eqb-false, eq-eqb, ltb-true, ltb-false, lt-ltb, le-ltb}
+use borrow.Author.Tests.{eqb-true, eq-eqb, lt-ltb, le-ltb}
 use Rattle.base_words.specs.Words.{both}
 use Rattle.base_words.specs.WordsLaws.{both-true, both-make}
-use Rattle.spec_rules.specs.SheetFile.{subject}
 use Rattle.spec_rules.specs.Rows.{Path, Binding}
 use Rattle.spec_rules.specs.Building.{Tree, Cases, absent, leaf, hoist, switch, listswitch, cnil, ccons}
 use Rattle.spec_rules.specs.Hoisting.{Fallback, Case, howMany, nodesIn, nodesInOf}
@@ -23,7 +22,7 @@ use Rattle.spec_forgotten.specs.Values.{Value, shows, lengthOf, ofType, 
 use Rattle.spec_forgotten.specs.Forgetting.{NoHollow}
 use Rattle.spec_forgotten.specs.ReachingLaws.{Chosen, byTest, byLength, Node, nodeOf}
 use Rattle.spec_forgotten.specs.NodesFit.{NodeFits}
-use Rattle.spec_forgotten.specs.FallingLaws.{Tested, Child, child, Rest, rest, Goes, goes-hoist, goes-out, goes-case, goes-on, AtNode, node-tested, hoist-tested}
+use Rattle.spec_forgotten.specs.FallingLaws.{Tested, Child, child, Rest, rest, Goes, goes-hoist, goes-out, goes-case, goes-on, node-tested, hoist-tested}
 use Rattle.spec_forgotten.specs.Shapes.{shapeOf, chooseIn, branchIs, possible}
 use Rattle.spec_forgotten.specs.ShapesLaws.{possible-taken, taken-possible}
 use Rattle.spec_forgotten.specs.Search.{Came, onward, ifSo, reach, reachIn, pathOf, lacksDefault, fallsOut}

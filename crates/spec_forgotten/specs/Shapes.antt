@@ -1,7 +1,7 @@
 -- Which branches of a switch some part of the tested type takes, by trying every shape that such a part has with the walk's own rule:
 -- every constructor of the type; every case's text, and a text longer than all of them; every length up to one past the largest number.
 use Prim.Native.Nat.{ℕ, zero, suc, _+_}
-use mathlib.Core.Bool.{Bool, true, false}
+use mathlib.Core.Bool.{Bool, false}
 use mathlib.Core.List.{List, [], _∷_, _++_}
 use mathlib.Core.Option.{Option, none, some}
 use lib.Dec.{eqb}

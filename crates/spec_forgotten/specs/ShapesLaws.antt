@@ -11,21 +11,21 @@ use lib.Dec.{eqb, leb, ltb}
 use lib.ListN.{length}
 use borrow.Author.Tests.{eqb-true, eqb-false, eq-eqb, leb-true, leb-false, le-leb, ltb-true, ltb-false}
 use Rattle.base_words.specs.Words.{both, either, pick}
-use Rattle.base_words.specs.WordsLaws.{both-true, both-make, either-true, either-first-true, either-second-true}
+use Rattle.base_words.specs.WordsLaws.{both-make, either-true, either-first-true, either-second-true}
 use Rattle.spec_rules.specs.SheetFile.{types, typeKind, typeFirst, typeCount, constructorFirst, constructorCount, entry}
 use Rattle.spec_rules.specs.Patterns.{Text, constructorOf, takesArguments}
 use Rattle.spec_rules.specs.Texts.{digits, canonical}
 use Rattle.spec_rules.specs.Splitting.{Test, Constr, Int, Bytes, ListOf, ListWithTail, sameTest, larger}
-use Rattle.spec_rules.specs.SplittingLaws.{All, sameTest-sound, sameTest-refl, not-true-false}
+use Rattle.spec_rules.specs.SplittingLaws.{All, sameTest-sound, not-true-false}
 use Rattle.spec_rules.specs.Building.{Tree, Cases, absent, leaf, hoist, switch, listswitch, cnil, ccons}
-use Rattle.spec_rules.specs.Hoisting.{howMany, nodesIn, nodesInOf}
-use Rattle.spec_rules.specs.Walking.{testKind, firstKind, tailNumber, largestTail}
+use Rattle.spec_rules.specs.Hoisting.{howMany, nodesIn}
+use Rattle.spec_rules.specs.Walking.{testKind, tailNumber, largestTail}
 use Rattle.spec_accepted.specs.SheetFacts.{Typed}
 use Rattle.spec_match.specs.Lists.{all-append}
 use Rattle.spec_match.specs.Typing.{takes}
-use Rattle.spec_forgotten.specs.Values.{Whole, Value, Values, anInteger, aByteString, whole, aList, aPair, aTuple, aConstructor, vnil, vcons, wholeKind, manyValues, areBytes, takesParts, partsFirst, partsStep, ofType, ofTypes, showsWhole, shows, lengthOf}
-use Rattle.spec_forgotten.specs.Forgetting.{Filled, NoHollow}
-use Rattle.spec_forgotten.specs.ReachingLaws.{Chosen, lookup, orTail, byTest, tailOf, byLength, Node, nodeOf}
+use Rattle.spec_forgotten.specs.Values.{Value, Values, anInteger, aByteString, whole, aList, aPair, aTuple, aConstructor, vnil, vcons, wholeKind, manyValues, areBytes, takesParts, partsFirst, partsStep, ofType, ofTypes, showsWhole, shows, lengthOf}
+use Rattle.spec_forgotten.specs.Forgetting.{NoHollow}
+use Rattle.spec_forgotten.specs.ReachingLaws.{Chosen, lookup, byTest, byLength}
 use Rattle.spec_forgotten.specs.OpenedParts.{kinds-differ, integer-kind, bytes-kind, whole-takes, whole-kind}
 use Rattle.spec_forgotten.specs.KnownTypes.{field-known, element-known}
 use Rattle.spec_forgotten.specs.NodesFit.{EachTest, MayShow, NodeFits}

@@ -1,45 +1,50 @@
 -- An accepted sheet: its patterns have the texts that a panel may have, its tree is `Tested`, and every value of the subject's type has the
--- columns of the root. So some value falls out of a switch exactly if each branch on the way there can be taken (`forgotten-goes`,
--- `goes-forgotten`). Said of every well-made tree that is the sheet's once its hoists are taken out; `sheetTree` is one.
+-- columns of the root. So some value falls out of a switch exactly if each branch on the way there can be taken (`only-goes`,
+-- `goes-out-there`). Said of every well-made tree that is the sheet's once its hoists are taken out; `sheetTree` is one.
 use Prim.Native.Nat.{ℕ, zero, suc, _+_, _-_, _≤_, _<_}
 use native.Mathlib.Nat.{le-refl}
 use native.Mathlib.Omega.{arith}
-use mathlib.Core.Path.{_≡_, refl, sym, ap, _∙_}
+use mathlib.Core.Path.{_≡_, refl, ap, _∙_}
 use mathlib.Core.Bool.{Bool, true, false}
 use mathlib.Core.List.{List, [], _∷_}
 use lib.ListN.{length, getD, take, drop}
 use lib.Dec.{leb}
 use borrow.Author.Tests.{le-leb}
-use Rattle.base_words.specs.Words.{Bytes, both}
+use Rattle.base_words.specs.Words.{Bytes}
 use Rattle.base_words.specs.WordsLaws.{both-true, both-make}
 use Rattle.spec_rules.specs.Limits.{patternsMost}
 use Rattle.spec_rules.specs.SheetFile.{subject, types, clauses, patterns, typeFirst, constructorFirst, entry, patternKind, patternA, patternFirst, patternCount, child, root, poolText, poolAt}
 use Rattle.spec_rules.specs.Patterns.{PatternKind, Discard, Variable, Assign, Integer, ByteString, ListOfAll, ListWithRest, Constructor, Pair, Tuple, Unknown, patternKindOf, Mark, Pat, Pats, oneConstructor, decorated, constructorOf, along, ofConstructor, ofKind, patternTo, pattern, clausePattern, clausePatterns}
-use Rattle.spec_rules.specs.Texts.{canonical}
 use Rattle.spec_rules.specs.Rows.{Path, clauseRows}
 use Rattle.spec_rules.specs.Columns.{columns}
 use Rattle.spec_rules.specs.SheetRefusals.{hasChildren}
 use Rattle.spec_rules.specs.Building.{Tree, plainTree}
-use Rattle.spec_rules.specs.Hoisting.{nodesIn, wholeTree}
+use Rattle.spec_rules.specs.Hoisting.{nodesIn}
 use Rattle.spec_rules.specs.Calls.{sheetPatterns, sheetTree}
 use Rattle.spec_rules.specs.SplittingLaws.{All}
 use Rattle.spec_accepted.specs.KindsLaws.{pattern-byte}
 use Rattle.spec_accepted.specs.SheetFacts.{Parent, Shaped, owned-pattern, Accepted}
-use Rattle.spec_hoist.specs.Trees.{WellMade, unhoisted}
-use Rattle.spec_hoist.specs.UnhoistedLaws.{hoistAll-unhoisted, plain-unhoisted}
-use Rattle.spec_hoist.specs.BuiltLaws.{plainTree-plain}
-use Rattle.spec_hoist.specs.WholeTreeLaws.{wholeTree-made}
-use Rattle.spec_match.specs.Lists.{all-map, all-both}
+use Rattle.spec_hoist.specs.Trees.{isPresent, WellMade, unhoisted}
+use Rattle.spec_hoist.specs.WholeTreeLaws.{wholeTree-made, wholeTree-present}
+use Rattle.spec_match.specs.Lists.{all-map}
 use Rattle.spec_match.specs.Tests.{clauseRows-test}
 use Rattle.spec_match.specs.Depth.{plainTree-matrix}
-use Rattle.spec_match.specs.ColumnTypes.{Resolved, typeAfter, retyped}
+use Rattle.spec_match.specs.ColumnTypes.{typeAfter, retyped}
 use Rattle.spec_match.specs.SheetColumns.{sheet-resolved}
+use Rattle.spec_theorems.specs.SheetLeaves.{whole-unhoisted, length-sheetPatterns}
 use Rattle.spec_forgotten.specs.Values.{Value, areBytes, ofType, Passed, without, walkOn}
 use Rattle.spec_forgotten.specs.OpenedParts.{legal-there}
 use Rattle.spec_forgotten.specs.KnownTypes.{after-known}
 use Rattle.spec_forgotten.specs.MatrixLaws.{textsFit, textsFitAll, Kept, Good, Open, root-columns, good-root}
-use Rattle.spec_forgotten.specs.FallingLaws.{There, Has, Tested, Goes, FallsOut, falls-out, falls-only}
+use Rattle.spec_forgotten.specs.FallingLaws.{There, Has, Tested, Goes, falls-out, falls-only}
 use Rattle.spec_forgotten.specs.BuiltTested.{Known, matrix-tested}
+
+-- a well-made tree that is the sheet's once its hoists are taken out
+pub record OfSheet (s : List ℕ) (b : Tree) : Type 0 where
+  pub same : unhoisted b ≡ plainTree (sheetPatterns s)
+  pub most : ℕ
+  pub made : WellMade most b
+  pub there : isPresent b ≡ true
 
 -- ---- texts of bytes
 bytes-are : (l : List ℕ) → ((i : ℕ) → getD l i 0 < 256) → areBytes l ≡ true
@@ -160,12 +165,12 @@ module _ (s : List ℕ) (a : Accepted s) (bytes : Bytes s) where
       rootColumns (root-columns s (subject s) (sheetPatterns s) (sheet-resolved s a) sheet-kept)
 
   -- ---- a tree that is the sheet's once its hoists are taken out
-  module _ (b : Tree) (same : unhoisted b ≡ plainTree (sheetPatterns s)) (m : ℕ) (made : WellMade m b) where
+  module _ (b : Tree) (is : OfSheet s b) where
     -- THEOREM: it is tested
     pub tree-tested : Tested s (retyped s) (nodesIn b) rootTypes rootColumns 0 b
     tree-tested =
-        matrix-tested s (a .is-typed) m rootColumns (clauseRows 0 (sheetPatterns s)) (clauseRows-test 0 (sheetPatterns s)) rootTypes sheet-good root-known
-        b (same ∙ plainTree-matrix (sheetPatterns s)) made 0 (nodesIn b) (le-refl (nodesIn b))
+        matrix-tested s (a .is-typed) (is .most) rootColumns (clauseRows 0 (sheetPatterns s)) (clauseRows-test 0 (sheetPatterns s)) rootTypes sheet-good root-known
+        b (is .same ∙ plainTree-matrix (sheetPatterns s)) (is .made) 0 (nodesIn b) (le-refl (nodesIn b))
 
     -- THEOREM: a value that ends at a switch took only branches that some part takes
     pub only-goes : (v : Value) → ofType s (subject s) v ≡ true → (n : ℕ) (ts : List Passed) → walkOn 0 b v ≡ without n ts → Goes s (retyped s) rootTypes 0 b n ts
@@ -179,10 +184,11 @@ module _ (s : List ℕ) (a : Accepted s) (bytes : Bytes s) where
         (r .value, r .typed, r .ends)
 
   -- `sheetTree` is such a tree
-  pub sheet-unhoisted : unhoisted (sheetTree s) ≡ plainTree (sheetPatterns s)
-  unfolding sheetTree wholeTree
-  sheet-unhoisted = hoistAll-unhoisted (length (sheetPatterns s)) (plainTree (sheetPatterns s)) ∙ plain-unhoisted (plainTree (sheetPatterns s)) (plainTree-plain (sheetPatterns s))
-
-  pub sheet-made : WellMade (length (sheetPatterns s)) (sheetTree s)
+  pub sheet-tree-is : OfSheet s (sheetTree s)
   unfolding sheetTree
-  sheet-made = wholeTree-made (sheetPatterns s)
+  sheet-tree-is = record {
+    same = whole-unhoisted (sheetPatterns s);
+    most = length (sheetPatterns s);
+    made = wholeTree-made (sheetPatterns s);
+    there = wholeTree-present (sheetPatterns s) (omega (arith, length-sheetPatterns s, a .is-counted .some-clause));
+  }
