@@ -29,3 +29,5 @@ pub mod NeverStuckLaws
 pub mod FewTestsLaws
 pub mod FoundLaws
 pub mod ForgettingTheorems
+pub mod Marking
+pub mod MarkingLaws
