@@ -31,3 +31,4 @@ pub mod FoundLaws
 pub mod ForgettingTheorems
 pub mod Marking
 pub mod MarkingLaws
+pub mod PanelFitsLaws

@@ -47,18 +47,18 @@ pub record OfSheet (s : List ℕ) (b : Tree) : Type 0 where
   pub there : isPresent b ≡ true
 
 -- ---- texts of bytes
-bytes-are : (l : List ℕ) → ((i : ℕ) → getD l i 0 < 256) → areBytes l ≡ true
+pub bytes-are : (l : List ℕ) → ((i : ℕ) → getD l i 0 < 256) → areBytes l ≡ true
 unfolding areBytes
 bytes-are [] h = refl
 bytes-are (b ∷ bs) h = both-make (leb b 255) (areBytes bs) (le-leb b 255 (omega (arith, h 0))) (bytes-are bs (λ i. h (suc i)))
 
-bytes-drop : (n : ℕ) (l : List ℕ) → areBytes l ≡ true → areBytes (drop n l) ≡ true
+pub bytes-drop : (n : ℕ) (l : List ℕ) → areBytes l ≡ true → areBytes (drop n l) ≡ true
 unfolding areBytes
 bytes-drop zero l h = h
 bytes-drop (suc n) [] h = refl
 bytes-drop (suc n) (b ∷ bs) h = bytes-drop n bs (both-true (leb b 255) (areBytes bs) h .1)
 
-bytes-take : (n : ℕ) (l : List ℕ) → areBytes l ≡ true → areBytes (take n l) ≡ true
+pub bytes-take : (n : ℕ) (l : List ℕ) → areBytes l ≡ true → areBytes (take n l) ≡ true
 unfolding areBytes
 bytes-take zero l h = refl
 bytes-take (suc n) [] h = refl
