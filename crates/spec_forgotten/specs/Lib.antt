@@ -32,3 +32,4 @@ pub mod ForgettingTheorems
 pub mod Marking
 pub mod MarkingLaws
 pub mod PanelFitsLaws
+pub mod PanelWalksLaws

@@ -22,19 +22,19 @@ use Rattle.spec_forgotten.specs.Values.{Value, Values, anInteger, aByteS
 use Rattle.spec_forgotten.specs.PanelValues.{valuesFrom, valueOfKind, valueTo, panelValue}
 use Rattle.spec_forgotten.specs.SheetTested.{bytes-are, bytes-drop, bytes-take}
 
-many-from : (g : ℕ → Value) (v : List ℕ) (j n : ℕ) → manyValues (valuesFrom g v j n) ≡ n
+pub many-from : (g : ℕ → Value) (v : List ℕ) (j n : ℕ) → manyValues (valuesFrom g v j n) ≡ n
 unfolding manyValues valuesFrom
 many-from g v j zero = refl
 many-from g v j (suc n) = ap suc (many-from g v (j + 1) n)
 
 module _ (v : List ℕ) (a : PanelAccepted v) where
   -- a part's record is there, and has a larger number
-  higher : (r : ℕ) → r < records v → Holder v r → (i : ℕ) → recordFirst v r ≤ i → i < recordFirst v r + recordCount v r → (r < part v i) × (part v i < records v)
+  pub higher : (r : ℕ) → r < records v → Holder v r → (i : ℕ) → recordFirst v r ≤ i → i < recordFirst v r + recordCount v r → (r < part v i) × (part v i < records v)
   higher r h has i low high =
       let held : Holds v r i = record { holder = has; from = low; to = high } in
       (a .is-shaped .part-above r i h held, held-record (a .is-shaped) r i h held)
 
-  no-unknown : (r : ℕ) → r < records v → recordKindOf (recordKind v r) ≡ Unknown-record → ⊥
+  pub no-unknown : (r : ℕ) → r < records v → recordKindOf (recordKind v r) ≡ Unknown-record → ⊥
   no-unknown r h e = omega (arith, a .is-shaped .record-kind r h, record-number (recordKind v r), ap recordNumber e)
 
   -- ---- the value of a record, by those of its parts
