@@ -1,13 +1,13 @@
--- What is to be proved of request 7, as statements: each is a type, and no proof of it stands here.
+-- What is said of the panels that a sheet forgets, as statements: each is a type, and no proof of it stands here (ForgettingTheorems).
 --   s a sheet's bytes, v a panel's bytes, x a value, n a node, ts tests, t a type
-use Prim.Native.Nat.{ℕ, _≤_}
+use Prim.Native.Nat.{ℕ, _≤_, _<_}
 use mathlib.Core.Path.{_≡_}
 use mathlib.Core.Logic.{_⊎_, _↔_}
 use mathlib.Core.Bool.{true}
 use mathlib.Core.List.{List}
 use lib.ListN.{length}
 use Rattle.base_words.specs.Words.{Bytes}
-use Rattle.spec_rules.specs.SheetFile.{subject}
+use Rattle.spec_rules.specs.SheetFile.{subject, types}
 use Rattle.spec_rules.specs.SheetRefusals.{Verdict, accepted, verdict}
 use Rattle.spec_rules.specs.PanelFile.{panelVerdict}
 use Rattle.spec_rules.specs.Fitting.{panelFits}
@@ -16,7 +16,7 @@ use Rattle.spec_rules.specs.Walking.{noLeaf, walk, Bound, reached}
 use Rattle.spec_rules.specs.Calls.{Answer, sheetTree, sheetTreeFile}
 use Rattle.spec_forgotten.specs.Values.{Value, ofType, Passed, atClause, without, walkOn}
 use Rattle.spec_forgotten.specs.PanelValues.{panelValue}
-use Rattle.spec_forgotten.specs.Forgetting.{Forgotten, LowestForgotten, Covered, Hollow, Filled, NoHollow, Report, ForgottenCall}
+use Rattle.spec_forgotten.specs.Forgetting.{Forgotten, LowestForgotten, Covered, Hollow, Filled, LowestHollow, NoHollow, Report, ForgottenCall}
 
 module _ (s : List ℕ) (h : verdict s ≡ accepted) where
   -- the walk of a value of the subject's type is not stuck: it ends at a leaf, or at a switch without one
@@ -40,9 +40,14 @@ module _ (s : List ℕ) (h : verdict s ≡ accepted) where
   abbrev pub forgotten-or-covered : Type 0
   forgotten-or-covered = NoHollow s → ((n : ℕ) × ((ts : List Passed) × LowestForgotten s n ts)) ⊎ Covered s
 
--- a type is hollow or filled
-abbrev pub hollow-or-filled : Type 0
-hollow-or-filled = (s : List ℕ) (t : ℕ) → Filled s t ⊎ Hollow s t
+-- ---- 15
+-- a type of the sheet has a finite value or has none
+abbrev pub hollow-or-filled : List ℕ → Type 0
+hollow-or-filled s = (t : ℕ) → t < types s → Filled s t ⊎ Hollow s t
+
+-- the lowest type with no finite value is found, or each type has one
+abbrev pub hollow-or-none : List ℕ → Type 0
+hollow-or-none s = ((t : ℕ) × LowestHollow s t) ⊎ NoHollow s
 
 -- ---- panel files
 module _ (s v : List ℕ) (h : verdict s ≡ accepted) (bytes : Bytes v) (p : panelVerdict v ≡ accepted) where

@@ -28,8 +28,8 @@ pub mod SearchLaws
 pub mod NeverStuckLaws
 pub mod FewTestsLaws
 pub mod FoundLaws
-pub mod ForgettingTheorems
 pub mod Marking
 pub mod MarkingLaws
 pub mod PanelFitsLaws
 pub mod PanelWalksLaws
+pub mod ForgettingTheorems
