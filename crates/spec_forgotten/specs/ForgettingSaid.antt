@@ -67,6 +67,6 @@ module _ (s v : List ℕ) (h : verdict s ≡ accepted) (bytes : Bytes v) (p : pa
 
 -- ---- the call: two results that fit are equal
 abbrev pub one-answer : Type 0
-one-answer = (built : List ℕ → Verdict) (s : List ℕ) (n m k : ℕ) (a b : Answer Report) (tree work report tree′ work′ report′ : List ℕ)
+one-answer = (built : List ℕ → Verdict) (s : List ℕ) → Bytes s → (n m k : ℕ) (a b : Answer Report) (tree work report tree′ work′ report′ : List ℕ)
     → ForgottenCall built s n m k a tree work report → ForgottenCall built s n m k b tree′ work′ report′
     → (a ≡ b) × ((tree ≡ tree′) × ((work ≡ work′) × (report ≡ report′)))

@@ -33,3 +33,4 @@ pub mod MarkingLaws
 pub mod PanelFitsLaws
 pub mod PanelWalksLaws
 pub mod ForgettingTheorems
+pub mod OneAnswerLaws

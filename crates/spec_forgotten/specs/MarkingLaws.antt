@@ -82,6 +82,20 @@ not-false : (b : Bool) → not b ≡ false → b ≡ true
 not-false true h = refl
 not-false false h = absurd (true≢false h)
 
+module _ (s : List ℕ) where
+  -- a type with a value is not hollow
+  pub not-both : (t : ℕ) → Filled s t → Hollow s t → ⊥
+  not-both t (v, h) e = true≢false (sym h ∙ e v)
+
+  -- THEOREM: two lowest hollow types are one
+  pub one-lowest : (t u : ℕ) → LowestHollow s t → LowestHollow s u → t ≡ u
+  one-lowest t u a b = go (ltb t u) refl (ltb u t) refl
+    where
+      go : (x : Bool) → ltb t u ≡ x → (y : Bool) → ltb u t ≡ y → t ≡ u
+      go true e y f = absurd (not-both t (b .lowest t (ltb-true t u e)) (a .hollow))
+      go false e true f = absurd (not-both u (a .lowest u (ltb-true u t f)) (b .hollow))
+      go false e false f = omega (arith, ltb-false t u e, ltb-false u t f)
+
 module _ (s : List ℕ) (ty : Typed s) where
   -- ---- what is marked has a value
   abbrev Right : List Bool → Type 0
@@ -176,10 +190,6 @@ module _ (s : List ℕ) (ty : Typed s) where
   pub unmarked-is-hollow : (t : ℕ) → t < types s → isMarked (filledTypes s) t ≡ false → Hollow s t
   unmarked-is-hollow t l h = unmarked-hollow s (isMarked (filledTypes s)) (done .closed) (parts-known s ty) t l h
 
-  -- a type with a value is not hollow
-  pub not-both : (t : ℕ) → Filled s t → Hollow s t → ⊥
-  not-both t (v, h) e = true≢false (sym h ∙ e v)
-
   -- THEOREM: a type of the sheet is filled or hollow
   pub filled-or-hollow : (t : ℕ) → t < types s → Filled s t ⊎ Hollow s t
   filled-or-hollow t l = go (isMarked (filledTypes s) t) refl
@@ -205,19 +215,10 @@ module _ (s : List ℕ) (ty : Typed s) where
   unfolding hollowType
   none-is-filled h t l = marked-filled t (not-false (isMarked (filledTypes s) t) (lowest-none (λ t. not (isMarked (filledTypes s) t)) 0 (types s) h t (omega arith) (omega (arith, l))))
 
-  -- THEOREM: two lowest hollow types are one
-  pub one-lowest : (t u : ℕ) → LowestHollow s t → LowestHollow s u → t ≡ u
-  one-lowest t u a b = go (ltb t u) refl (ltb u t) refl
-    where
-      go : (x : Bool) → ltb t u ≡ x → (y : Bool) → ltb u t ≡ y → t ≡ u
-      go true e y f = absurd (not-both t (b .lowest t (ltb-true t u e)) (a .hollow))
-      go false e true f = absurd (not-both u (a .lowest u (ltb-true u t f)) (b .hollow))
-      go false e false f = omega (arith, ltb-false t u e, ltb-false u t f)
-
   -- THEOREM: and the lowest hollow type is the answer
   pub lowest-is-hollow : (t : ℕ) → LowestHollow s t → hollowType s ≡ some t
   lowest-is-hollow t w = go (hollowType s) refl
     where
       go : (o : Option ℕ) → hollowType s ≡ o → hollowType s ≡ some t
-      go none e = absurd (not-both t (none-is-filled e t (w .there)) (w .hollow))
-      go (some u) e = e ∙ ap some (one-lowest u t (hollow-is-lowest u e) w)
+      go none e = absurd (not-both s t (none-is-filled e t (w .there)) (w .hollow))
+      go (some u) e = e ∙ ap some (one-lowest s u t (hollow-is-lowest u e) w)
