@@ -34,3 +34,4 @@ pub mod PanelFitsLaws
 pub mod PanelWalksLaws
 pub mod ForgettingTheorems
 pub mod OneAnswerLaws
+pub mod SearchExamples
