@@ -33,7 +33,7 @@ use Rattle.spec_match.specs.ColumnTypes.{Resolved, TypedBy, caseStep, casePart,
 use Rattle.spec_forgotten.specs.Values.{Value, anInteger, aByteString, whole, aList, aPair, aTuple, aConstructor, stepInto, partAlong, showsWhole, shows, lengthOf, ofType, noNode, walkOn}
 use Rattle.spec_forgotten.specs.PuttingLaws.{NoTails, Parting, here, further, onShows, andOn, along-step}
 use Rattle.spec_forgotten.specs.TypedPartsLaws.{partType, typeAlong, part-typed}
-use Rattle.spec_forgotten.specs.ReachingLaws.{Chosen, lookup, orTail, byTest, tailOf, byLength, Node, nodeOf}
+use Rattle.spec_forgotten.specs.Choosing.{Chosen, lookup, orTail, byTest, tailOf, byLength, Node, nodeOf}
 use Rattle.spec_forgotten.specs.OpenedParts.{stands-under, led-typed, legal-there, Takes, case-plain, case-there}
 use Rattle.spec_forgotten.specs.KnownTypes.{after-known, TestOf, case-known}
 use Rattle.spec_forgotten.specs.SomewhereLaws.{walk-somewhere}

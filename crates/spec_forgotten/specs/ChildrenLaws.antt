@@ -9,7 +9,7 @@ use Rattle.spec_rules.specs.Splitting.{Test, ListOf, ListWithTail, sameTest}
 use Rattle.spec_rules.specs.Building.{Tree, Cases, absent, leaf, hoist, switch, listswitch, cnil, ccons}
 use Rattle.spec_rules.specs.Hoisting.{howMany, nodesIn, nodesInOf}
 use Rattle.spec_forgotten.specs.Values.{Value, shows, lengthOf}
-use Rattle.spec_forgotten.specs.ReachingLaws.{Chosen, lookup, byTest, byLength, Node, nodeOf}
+use Rattle.spec_forgotten.specs.Choosing.{Chosen, lookup, byTest, byLength, Node, nodeOf}
 use Rattle.spec_forgotten.specs.Shapes.{Shape, shapeOf, chooseIn}
 use Rattle.spec_forgotten.specs.Search.{pathOf}
 use Rattle.spec_forgotten.specs.BuiltTested.{by-test, ByLength, exactly, at-least, by-length}

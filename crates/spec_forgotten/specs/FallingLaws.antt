@@ -19,7 +19,8 @@ use Rattle.spec_forgotten.specs.Values.{Value, anInteger, aByteString, w
 use Rattle.spec_forgotten.specs.PuttingLaws.{changePart, putAt, NoTails, put-there, Parting, here, further, put-apart, onShows, put-above, shows-same, length-same, step-changed, step-other, onSome}
 use Rattle.spec_forgotten.specs.TypedPartsLaws.{partType, typeAlong, part-typed, put-typed}
 use Rattle.spec_forgotten.specs.NodesFit.{NodeFits}
-use Rattle.spec_forgotten.specs.ReachingLaws.{Chosen, Node, nodeOf, chooseAt, goOn, walk-node}
+use Rattle.spec_forgotten.specs.Choosing.{Chosen, Node, nodeOf}
+use Rattle.spec_forgotten.specs.ReachingLaws.{chooseAt, goOn, walk-node}
 
 -- ---- one of a list
 module _ {A : Type 0} where

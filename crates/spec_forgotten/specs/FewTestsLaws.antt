@@ -20,7 +20,7 @@ use Rattle.spec_match.specs.Paths.{samePath-sound}
 use Rattle.spec_match.specs.ColumnTypes.{retyped}
 use Rattle.spec_forgotten.specs.Values.{Passed}
 use Rattle.spec_forgotten.specs.PuttingLaws.{Parting, here, further}
-use Rattle.spec_forgotten.specs.ReachingLaws.{Chosen, Node, nodeOf}
+use Rattle.spec_forgotten.specs.Choosing.{Chosen, Node, nodeOf}
 use Rattle.spec_forgotten.specs.FallingLaws.{all-in, Off, apart, above, Tested, Child, child, Rest, rest, Goes, goes-hoist, goes-out, goes-case, goes-on, node-tested, hoist-tested}
 use Rattle.spec_forgotten.specs.Shapes.{shapeOf}
 use Rattle.spec_forgotten.specs.ChildrenLaws.{CaseOf, ChildOf, chosen-child, node-chooses}

@@ -1,5 +1,5 @@
--- 15 Hollow type: which types have a finite value, by marking. One rule says when a type is filled if the marked ones are (`fills`).
--- A mark made by it is right (`fills-filled`); marks that it no longer adds to are all (`filled-marked`): what is unmarked is hollow.
+-- The rule of the marking, `fills`: a mark made by it is right (`fills-filled`), and marks that it no longer adds to are all
+-- (`filled-marked`), so that what is unmarked is hollow (`unmarked-hollow`).
 use Prim.Native.Nat.{ℕ, zero, suc, _+_, _-_, _*_, _≤_, _<_}
 use native.Mathlib.Omega.{arith}
 use mathlib.Core.Path.{_≡_, refl, sym, ap, _∙_}
@@ -17,27 +17,7 @@ use Rattle.spec_rules.specs.Patterns.{constructorOf, takesArguments}
 use Rattle.spec_rules.specs.Texts.{canonical}
 use Rattle.spec_forgotten.specs.Values.{Whole, Value, Values, anInteger, aByteString, whole, aList, aPair, aTuple, aConstructor, vnil, vcons, manyValues, areBytes, takesParts, partsFirst, partsStep, ofType, ofTypes}
 use Rattle.spec_forgotten.specs.Forgetting.{Filled, Hollow}
-
--- ---- the rule
-unfoldable pub allMarked : (ℕ → Bool) → List ℕ → ℕ → ℕ → Bool
-unfolding every entry
-allMarked marked s e n = every (λ j. marked (entry s j)) e n
-
-unfoldable pub fullConstructor : (ℕ → Bool) → List ℕ → ℕ → Bool
-unfolding allMarked constructorFirst constructorCount
-fullConstructor marked s c = allMarked marked s (constructorFirst s c) (constructorCount s c)
-
-abbrev pub found : Option ℕ → Bool
-found none = false
-found (some k) = true
-
--- an integer, a byte string or a list is always filled; a pair or tuple if its parts are; a Data if all fields of one constructor are
-unfoldable pub fills : (ℕ → Bool) → List ℕ → ℕ → Bool
-unfolding typeKind typeFirst typeCount allMarked fullConstructor lowest
-fills marked s t =
-    pick (leb (typeKind s t) 2) true
-    (pick (leb (typeKind s t) 4) (allMarked marked s (typeFirst s t) (typeCount s t))
-    (found (lowest (fullConstructor marked s) (typeFirst s t) (typeCount s t))))
+use Rattle.spec_forgotten.specs.Marking.{allMarked, fullConstructor, found, fills}
 
 module _ (s : List ℕ) (marked : ℕ → Bool) where
   -- ---- a mark made by the rule is right

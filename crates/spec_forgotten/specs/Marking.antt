@@ -4,12 +4,34 @@ use Prim.Native.Nat.{ℕ, zero, suc, _+_}
 use mathlib.Core.Bool.{Bool, true, false, not}
 use mathlib.Core.List.{List, [], _∷_}
 use mathlib.Core.Option.{Option, none, some}
+use lib.Dec.{leb}
 use lib.ListN.{getD}
-use Rattle.base_words.specs.Words.{both, either}
-use Rattle.spec_rules.specs.Searching.{lowest}
-use Rattle.spec_rules.specs.SheetFile.{types}
-use Rattle.spec_forgotten.specs.FillingLaws.{fills}
+use Rattle.base_words.specs.Words.{both, either, pick}
+use Rattle.spec_rules.specs.Searching.{every, lowest}
+use Rattle.spec_rules.specs.SheetFile.{types, typeKind, typeFirst, typeCount, constructorFirst, constructorCount, entry}
 
+-- ---- the rule: a type is filled if the marked ones are
+unfoldable pub allMarked : (ℕ → Bool) → List ℕ → ℕ → ℕ → Bool
+unfolding every entry
+allMarked marked s e n = every (λ j. marked (entry s j)) e n
+
+unfoldable pub fullConstructor : (ℕ → Bool) → List ℕ → ℕ → Bool
+unfolding allMarked constructorFirst constructorCount
+fullConstructor marked s c = allMarked marked s (constructorFirst s c) (constructorCount s c)
+
+abbrev pub found : Option ℕ → Bool
+found none = false
+found (some k) = true
+
+-- an integer, a byte string or a list is always filled; a pair or tuple if its parts are; a Data if all fields of one constructor are
+unfoldable pub fills : (ℕ → Bool) → List ℕ → ℕ → Bool
+unfolding typeKind typeFirst typeCount allMarked fullConstructor lowest
+fills marked s t =
+    pick (leb (typeKind s t) 2) true
+    (pick (leb (typeKind s t) 4) (allMarked marked s (typeFirst s t) (typeCount s t))
+    (found (lowest (fullConstructor marked s) (typeFirst s t) (typeCount s t))))
+
+-- ---- rounds
 -- a mark for each type
 abbrev pub isMarked : List Bool → ℕ → Bool
 isMarked ms t = getD ms t false

@@ -6,22 +6,21 @@ use native.Mathlib.Omega.{arith}
 use mathlib.Core.Path.{_≡_, refl, sym, ap, _∙_}
 use mathlib.Core.Logic.{_⊎_, inl, inr, ⊎-elim}
 use mathlib.Core.Bool.{Bool, true, false, not, true≢false, false≢true}
-use mathlib.Core.List.{List, [], _∷_}
+use mathlib.Core.List.{List, []}
 use mathlib.Core.Option.{Option, none, some}
 use lib.Dec.{ltb}
 use lib.ListN.{getD}
 use borrow.Author.Tests.{ltb-true, ltb-false}
 use Rattle.base_words.specs.Words.{both, either}
-use Rattle.base_words.specs.WordsLaws.{both-true, both-make, both-false, either-true, either-first-true, either-second-true}
+use Rattle.base_words.specs.WordsLaws.{both-true, both-make, either-true, either-first-true, either-second-true}
 use Rattle.spec_rules.specs.Searching.{lowest, times}
-use Rattle.spec_rules.specs.SearchingLaws.{first-or-rest, lowest-none, Lowest, lowest-some, times-most, times-some}
-use Rattle.spec_rules.specs.SheetFile.{types, typeKind}
+use Rattle.spec_rules.specs.SearchingLaws.{first-or-rest, lowest-none, lowest-some, times-most, times-some}
+use Rattle.spec_rules.specs.SheetFile.{types}
 use Rattle.spec_accepted.specs.SheetFacts.{Typed}
-use Rattle.spec_forgotten.specs.Values.{Value, ofType}
 use Rattle.spec_forgotten.specs.Forgetting.{Filled, Hollow, LowestHollow, NoHollow}
-use Rattle.spec_forgotten.specs.FillingLaws.{fills, fills-filled, unmarked-hollow}
+use Rattle.spec_forgotten.specs.FillingLaws.{fills-filled, unmarked-hollow}
 use Rattle.spec_forgotten.specs.KnownTypes.{parts-known}
-use Rattle.spec_forgotten.specs.Marking.{isMarked, marksBy, round, added, roundsTo, filledTypes, hollowType}
+use Rattle.spec_forgotten.specs.Marking.{fills, isMarked, marksBy, round, added, roundsTo, filledTypes, hollowType}
 
 -- ---- counting: of fewer numbers, if one is gone and none is new
 fewer-times : (f g : ℕ → Bool) (i n : ℕ) → ((k : ℕ) → k < i + n → g k ≡ true → f k ≡ true) → times g i n ≤ times f i n

@@ -14,7 +14,8 @@ use Rattle.spec_match.specs.ColumnTypes.{retyped}
 use Rattle.spec_forgotten.specs.Values.{Value, shows, lengthOf, ofType, Ended, atClause, without, stuckOn, noNode, took, fell, walkOn}
 use Rattle.spec_forgotten.specs.PuttingLaws.{onShows}
 use Rattle.spec_forgotten.specs.TypedPartsLaws.{part-typed}
-use Rattle.spec_forgotten.specs.ReachingLaws.{Chosen, Node, chooseAt, goOn, walk-node}
+use Rattle.spec_forgotten.specs.Choosing.{Chosen, Node}
+use Rattle.spec_forgotten.specs.ReachingLaws.{chooseAt, goOn, walk-node}
 use Rattle.spec_forgotten.specs.NodesFit.{goes-on-somewhere}
 use Rattle.spec_forgotten.specs.FallingLaws.{all-in, There, Has, Tested, no-node, at-leaf, at-hoist, at-node, Child, child, Rest, rest, walk-absent, walk-leaf, walk-hoist}
 

@@ -15,7 +15,7 @@ use Rattle.spec_rules.specs.Hoisting.{howMany}
 use Rattle.spec_rules.specs.Walking.{testKind, firstKind}
 use Rattle.spec_forgotten.specs.Values.{Value, anInteger, aByteString, whole, aList, aPair, aTuple, aConstructor, wholeKind, manyValues, areBytes, ofType, showsWhole, shows, lengthOf}
 use Rattle.spec_forgotten.specs.OpenedParts.{kinds-differ, integer-kind, bytes-kind, whole-kind}
-use Rattle.spec_forgotten.specs.ReachingLaws.{Chosen, byTest, byLength, Node, nodeOf}
+use Rattle.spec_forgotten.specs.Choosing.{Chosen, byTest, byLength, Node, nodeOf}
 
 unfoldable pub EachTest : (Test → Type 0) → Cases → Type 0
 EachTest P cnil = Unit {0}

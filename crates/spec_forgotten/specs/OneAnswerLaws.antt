@@ -14,7 +14,7 @@ use Rattle.spec_rules.specs.Limits.{treeRoom, workRoom}
 use Rattle.spec_rules.specs.SheetRefusals.{Verdict, accepted, refused, verdict}
 use Rattle.spec_rules.specs.Calls.{Answer, answers, refuses, written, sheetTreeFile}
 use Rattle.spec_forgotten.specs.Values.{Passed}
-use Rattle.spec_forgotten.specs.Forgetting.{reportRoom, LowestForgotten, Covered, LowestHollow, NoHollow, ForgottenRefuses, for-room, before-15, for-hollow, after-15, for-the-tree, Asked, Report, covered, gap, ForgottenAnswers, is-covered, is-forgotten, is-refused, reported, ForgottenCall}
+use Rattle.spec_forgotten.specs.Forgetting.{reportRoom, LowestForgotten, LowestHollow, NoHollow, ForgottenRefuses, for-room, before-15, for-hollow, after-15, for-the-tree, Asked, Report, gap, ForgottenAnswers, is-covered, is-forgotten, is-refused, reported}
 use Rattle.spec_forgotten.specs.ForgettingSaid.{one-answer}
 use Rattle.spec_forgotten.specs.MarkingLaws.{not-both, one-lowest}
 use Rattle.spec_forgotten.specs.ForgettingTheorems.{one-way-holds}

@@ -3,8 +3,8 @@
 use Prim.Native.Nat.{ℕ, zero, suc, _+_, _≤_, _<_}
 use native.Mathlib.Omega.{arith}
 use mathlib.Core.Path.{_≡_, refl, sym, ap, ap₂, _∙_}
-use mathlib.Core.Bool.{Bool, true, false}
-use mathlib.Core.List.{List, []}
+use mathlib.Core.Bool.{Bool, true}
+use mathlib.Core.List.{List}
 use lib.Dec.{eqb}
 use lib.ListN.{drop}
 use Rattle.base_words.specs.Words.{Bytes, both}
@@ -12,13 +12,12 @@ use Rattle.base_words.specs.WordsLaws.{both-assoc}
 use Rattle.spec_rules.specs.Limits.{recordsMost}
 use Rattle.spec_rules.specs.SheetFile.{subject, typeKind, typeFirst, typeCount, constructorFirst, entry}
 use Rattle.spec_rules.specs.Patterns.{constructorOf, takesArguments}
-use Rattle.spec_rules.specs.Texts.{canonical}
 use Rattle.spec_rules.specs.PanelFile.{records, recordKind, recordA, recordFirst, recordCount, part, recordText, panelPoolAt, RecordKind, Integer-record, Bytes-record, List-record, Pair-record, Tuple-record, Constructor-record, Unknown-record, recordKindOf, hasParts}
 use Rattle.spec_rules.specs.Fitting.{partsFit, recordFits, hasTypeTo, panelFits}
 use Rattle.spec_rules.specs.SplittingLaws.{both-end}
 use Rattle.spec_accepted.specs.KindsLaws.{recordNumber, record-byte, record-number}
 use Rattle.spec_accepted.specs.PanelFacts.{Holder, Holds, PanelAccepted, held-record}
-use Rattle.spec_forgotten.specs.Values.{Value, Values, anInteger, aByteString, whole, aList, aPair, aTuple, aConstructor, vnil, vcons, manyValues, areBytes, takesParts, partsFirst, partsStep, ofType, ofTypes}
+use Rattle.spec_forgotten.specs.Values.{Value, whole, aList, aPair, aTuple, aConstructor, vcons, manyValues, areBytes, takesParts, partsFirst, partsStep, ofType, ofTypes}
 use Rattle.spec_forgotten.specs.PanelValues.{valuesFrom, valueOfKind, valueTo, panelValue}
 use Rattle.spec_forgotten.specs.SheetTested.{bytes-are, bytes-drop, bytes-take}
 

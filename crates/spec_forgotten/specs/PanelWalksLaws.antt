@@ -4,23 +4,22 @@
 use Prim.Native.Nat.{ℕ, zero, suc, _+_, _-_, _≤_, _<_}
 use native.Mathlib.Nat.{zero-add}
 use native.Mathlib.Omega.{arith}
-use mathlib.Core.Path.{_≡_, refl, sym, ap, ap₂, _∙_}
-use mathlib.Core.Bool.{Bool, true, false, true≢false, false≢true}
+use mathlib.Core.Path.{_≡_, refl, sym, ap, _∙_}
+use mathlib.Core.Bool.{Bool, true, false}
 use mathlib.Core.List.{List, [], _∷_}
 use mathlib.Core.Option.{Option, none, some}
 use lib.Dec.{eqb, leb, ltb}
-use borrow.Author.Tests.{eqb-true, eqb-false, eq-eqb, ltb-true, ltb-false, leb-true, leb-false}
+use borrow.Author.Tests.{eqb-true, eq-eqb, ltb-true, ltb-false, leb-true, leb-false}
 use Rattle.base_words.specs.Words.{both, pick}
-use Rattle.spec_rules.specs.PanelFile.{records, recordKind, recordA, recordFirst, recordCount, part, recordText, RecordKind, Integer-record, Bytes-record, List-record, Pair-record, Tuple-record, Constructor-record, Unknown-record, recordKindOf}
-use Rattle.spec_rules.specs.Rows.{Step, pair, tuple, constr, list, listtail, Path, Binding}
-use Rattle.spec_rules.specs.Columns.{stepIndex}
-use Rattle.spec_rules.specs.Splitting.{Test, Constr, Int, Bytes, ListOf, ListWithTail, sameTest}
+use Rattle.spec_rules.specs.PanelFile.{records, recordKind, recordA, recordFirst, recordCount, part, RecordKind, Integer-record, Bytes-record, List-record, Pair-record, Tuple-record, Constructor-record, Unknown-record, recordKindOf}
+use Rattle.spec_rules.specs.Rows.{Step, pair, tuple, constr, list, listtail, Path}
+use Rattle.spec_rules.specs.Splitting.{Test, ListOf, ListWithTail, sameTest}
 use Rattle.spec_rules.specs.Building.{Tree, Cases, absent, leaf, hoist, switch, listswitch, cnil, ccons}
-use Rattle.spec_rules.specs.Hoisting.{Fallback, Case, howMany, nodesIn, nodesInOf}
+use Rattle.spec_rules.specs.Hoisting.{Case, howMany, nodesIn, nodesInOf}
 use Rattle.spec_rules.specs.Walking.{Position, panelRoot, Bound, Walked, reached, noLeaf, stuck, partOf, tailOf, takeStep, follow, bound, atLeaf, shown, shownAt, lengthAt, testKind, firstKind, ofThisKind, atPart, ofLength, atList, largestTail, atTail, ifSame, walk, walkCases}
 use Rattle.spec_accepted.specs.KindsLaws.{recordNumber, record-byte, byte-record}
-use Rattle.spec_accepted.specs.PanelFacts.{Holder, Holds, PanelAccepted, kind-holder}
-use Rattle.spec_forgotten.specs.Values.{Whole, Value, Values, anInteger, aByteString, whole, aList, aPair, aTuple, aConstructor, vnil, vcons, wholeKind, manyValues, nthOf, restOf, intoKind, isTail, stepInto, partAlong, showsWhole, shows, lengthOf, Passed, Ended, atClause, without, stuckOn, noNode, took, fell, onTest, onPart, onCount, onLength, onTail, onSame, walkOn, casesOn}
+use Rattle.spec_accepted.specs.PanelFacts.{PanelAccepted, kind-holder}
+use Rattle.spec_forgotten.specs.Values.{Value, Values, anInteger, aByteString, whole, aList, aPair, aTuple, aConstructor, vnil, vcons, wholeKind, manyValues, nthOf, restOf, intoKind, stepInto, partAlong, showsWhole, shows, lengthOf, Ended, atClause, without, stuckOn, noNode, took, fell, onTest, onPart, onCount, onLength, onTail, onSame, walkOn, casesOn}
 use Rattle.spec_forgotten.specs.PuttingLaws.{andOn, along-step}
 use Rattle.spec_forgotten.specs.PanelValues.{valuesFrom, valueOfKind, panelValue}
 use Rattle.spec_forgotten.specs.PanelFitsLaws.{many-from, higher, no-unknown, recordValue, value-here}

@@ -1,5 +1,4 @@
--- What a switch does with a value, by the part at its path alone: the child that it chooses, its default, or stuck. A switch and a list
--- switch are read as one kind of node, and the walk at a node is what it chooses (`walk-node`).
+-- The walk of a value at a node is what the node chooses by the part at its path (`walk-node`).
 use Prim.Native.Nat.{ℕ, zero, suc, _+_}
 use native.Mathlib.Omega.{arith}
 use mathlib.Core.Path.{_≡_, refl, ap, _∙_}
@@ -14,19 +13,7 @@ use Rattle.spec_rules.specs.Hoisting.{Case, howMany, nodesIn, nodesInOf}
 use Rattle.spec_rules.specs.Walking.{testKind, firstKind, largestTail}
 use Rattle.spec_forgotten.specs.Values.{Value, partAlong, shows, lengthOf, Ended, stuckOn, took, fell, onTest, onPart, onCount, onLength, onTail, onSame, walkOn, casesOn}
 use Rattle.spec_forgotten.specs.PuttingLaws.{onShows}
-
--- ---- what a switch does, by the part at its path: the child that it chooses, the default, or stuck
-pub record Chosen : Type 0 where
-  pub test : Test
-  pub index : ℕ
-  pub node : ℕ
-  pub tree : Tree
-
-unfoldable pub lookup : ℕ → ℕ → Cases → Test → Option Chosen
-unfolding sameTest nodesIn
-lookup i j cnil t = none
-lookup i j (ccons u at a cs) t =
-    elim (sameTest t u) [ true ↦ some (record { test = u; index = i; node = j; tree = a }) | false ↦ lookup (i + 1) (j + nodesIn a) cs t ]
+use Rattle.spec_forgotten.specs.Choosing.{Chosen, lookup, byTest, tailOf, orTail, byLength, Node, nodeOf}
 
 abbrev enter : ℕ → Option Chosen → Value → Ended → Ended
 enter k none v otherwise = otherwise
@@ -42,41 +29,6 @@ cases-lookup k i j (ccons u at a cs) t v otherwise = go (sameTest t u) (cases-lo
         ≡ enter k (elim b as (λ z. Option Chosen) [ true ↦ some (record { test = u; index = i; node = j; tree = a }) | false ↦ lookup (i + 1) (j + nodesIn a) cs t ]) v (otherwise tt)
     go true ih = refl
     go false ih = ih
-
--- none: stuck
-unfoldable pub byTest : ℕ → Cases → Option Test → Option (Option Chosen)
-unfolding lookup firstKind testKind
-byTest k cs none = none
-byTest k cs (some t) = pick (eqb (testKind t) (firstKind cs)) (some (lookup 0 (k + 1) cs t)) none
-
-unfoldable pub tailOf : ℕ → ℕ → Cases → ℕ → Option Chosen
-unfolding lookup
-tailOf i j ts zero = none
-tailOf i j ts (suc n) = lookup i j ts (ListWithTail n)
-
-abbrev pub orTail : Option Chosen → Option Chosen → Option Chosen
-orTail none o = o
-orTail (some c) o = some c
-
-unfoldable pub byLength : ℕ → Cases → Cases → Option ℕ → Option (Option Chosen)
-unfolding lookup tailOf largestTail howMany nodesInOf
-byLength k cs ts none = none
-byLength k cs ts (some n) = some (orTail (lookup 0 (k + 1) cs (ListOf n)) (tailOf (howMany cs) (k + 1 + nodesInOf cs) ts (largestTail n ts)))
-
--- a switch or list switch as node k: its path, what it chooses by what a part shows and how long it is, and its default
-pub record Node : Type 0 where
-  pub path : Path
-  pub choose : Option Test → Option ℕ → Option (Option Chosen)
-  pub next : ℕ
-  pub default : Tree
-
-unfoldable pub nodeOf : ℕ → Tree → Option Node
-unfolding byTest byLength nodesInOf
-nodeOf k absent = none
-nodeOf k (leaf c bs) = none
-nodeOf k (hoist c bs a) = none
-nodeOf k (switch p cs d) = some (record { path = p; choose = λ t n. byTest k cs t; next = k + 1 + nodesInOf cs; default = d })
-nodeOf k (listswitch p cs ts d) = some (record { path = p; choose = λ t n. byLength k cs ts n; next = k + 1 + nodesInOf cs + nodesInOf ts; default = d })
 
 abbrev pub chooseAt : Node → Value → Option (Option Chosen)
 chooseAt w v = w .choose (onShows shows (partAlong (w .path) v)) (onShows lengthOf (partAlong (w .path) v))

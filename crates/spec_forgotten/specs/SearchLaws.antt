@@ -20,7 +20,7 @@ use Rattle.spec_hoist.specs.Trees.{isPresent}
 use Rattle.spec_match.specs.ColumnTypes.{retyped}
 use Rattle.spec_forgotten.specs.Values.{Value, shows, lengthOf, ofType, Passed}
 use Rattle.spec_forgotten.specs.Forgetting.{NoHollow}
-use Rattle.spec_forgotten.specs.ReachingLaws.{Chosen, byTest, byLength, Node, nodeOf}
+use Rattle.spec_forgotten.specs.Choosing.{Chosen, byTest, byLength, Node, nodeOf}
 use Rattle.spec_forgotten.specs.NodesFit.{NodeFits}
 use Rattle.spec_forgotten.specs.FallingLaws.{Tested, Child, child, Rest, rest, Goes, goes-hoist, goes-out, goes-case, goes-on, node-tested, hoist-tested}
 use Rattle.spec_forgotten.specs.Shapes.{shapeOf, chooseIn, branchIs, possible}

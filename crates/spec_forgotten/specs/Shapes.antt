@@ -13,7 +13,7 @@ use Rattle.spec_rules.specs.Splitting.{Test, Constr, Int, Bytes, ListOf, ListWi
 use Rattle.spec_rules.specs.Building.{Tree, Cases, absent, leaf, hoist, switch, listswitch, cnil, ccons}
 use Rattle.spec_rules.specs.Hoisting.{Fallback, Case}
 use Rattle.spec_forgotten.specs.Values.{Value, shows, lengthOf}
-use Rattle.spec_forgotten.specs.ReachingLaws.{Chosen, byTest, byLength}
+use Rattle.spec_forgotten.specs.Choosing.{Chosen, byTest, byLength}
 
 -- what a part shows to a test, and how long it is
 pub record Shape : Type 0 where

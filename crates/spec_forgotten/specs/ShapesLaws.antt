@@ -25,7 +25,7 @@ use Rattle.spec_match.specs.Lists.{all-append}
 use Rattle.spec_match.specs.Typing.{takes}
 use Rattle.spec_forgotten.specs.Values.{Value, Values, anInteger, aByteString, whole, aList, aPair, aTuple, aConstructor, vnil, vcons, wholeKind, manyValues, areBytes, takesParts, partsFirst, partsStep, ofType, ofTypes, showsWhole, shows, lengthOf}
 use Rattle.spec_forgotten.specs.Forgetting.{NoHollow}
-use Rattle.spec_forgotten.specs.ReachingLaws.{Chosen, lookup, byTest, byLength}
+use Rattle.spec_forgotten.specs.Choosing.{Chosen, lookup, byTest, byLength}
 use Rattle.spec_forgotten.specs.OpenedParts.{kinds-differ, integer-kind, bytes-kind, whole-takes, whole-kind}
 use Rattle.spec_forgotten.specs.KnownTypes.{field-known, element-known}
 use Rattle.spec_forgotten.specs.NodesFit.{EachTest, MayShow, NodeFits}
