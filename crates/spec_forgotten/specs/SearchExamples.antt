@@ -182,6 +182,66 @@ inside-way : wayTo inside (sheetTree inside) 2 ≡ record { node = 1; branch = 1
 unfolding wayTo sheetTree
 inside-way = refl
 
+-- (A, A, 1), (B, _, _), (_, B, _)
+abbrev twoTests : List ℕ
+twoTests =
+    -- type 0: Tuple of types 1, 1, 2
+    4 ∷ 0 ∷ 0 ∷ 0 ∷ 3 ∷ 0 ∷
+    -- type 1: Data, constructors 0 to 1
+    5 ∷ 0 ∷ 0 ∷ 0 ∷ 2 ∷ 0 ∷
+    -- type 2: Int
+    0 ∷ 0 ∷ 0 ∷ 0 ∷ 0 ∷ 0 ∷
+    -- constructor 0: no field
+    0 ∷ 0 ∷ 0 ∷ 0 ∷
+    -- constructor 1: no field
+    0 ∷ 0 ∷ 0 ∷ 0 ∷
+    -- the type list
+    1 ∷ 0 ∷ 1 ∷ 0 ∷ 2 ∷ 0 ∷
+    -- pattern 0: tuple of patterns 1, 2, 3
+    9 ∷ 0 ∷ 0 ∷ 0 ∷ 0 ∷ 0 ∷ 3 ∷ 0 ∷
+    -- pattern 1: constructor 0
+    7 ∷ 0 ∷ 0 ∷ 0 ∷ 0 ∷ 0 ∷ 0 ∷ 0 ∷
+    -- pattern 2: constructor 0
+    7 ∷ 0 ∷ 0 ∷ 0 ∷ 0 ∷ 0 ∷ 0 ∷ 0 ∷
+    -- pattern 3: integer 1
+    3 ∷ 0 ∷ 0 ∷ 0 ∷ 0 ∷ 0 ∷ 1 ∷ 0 ∷
+    -- pattern 4: tuple of patterns 5, 6, 7
+    9 ∷ 0 ∷ 0 ∷ 0 ∷ 3 ∷ 0 ∷ 3 ∷ 0 ∷
+    -- pattern 5: constructor 1
+    7 ∷ 0 ∷ 1 ∷ 0 ∷ 0 ∷ 0 ∷ 0 ∷ 0 ∷
+    -- pattern 6: discard
+    0 ∷ 0 ∷ 0 ∷ 0 ∷ 0 ∷ 0 ∷ 0 ∷ 0 ∷
+    -- pattern 7: discard
+    0 ∷ 0 ∷ 0 ∷ 0 ∷ 0 ∷ 0 ∷ 0 ∷ 0 ∷
+    -- pattern 8: tuple of patterns 9, 10, 11
+    9 ∷ 0 ∷ 0 ∷ 0 ∷ 6 ∷ 0 ∷ 3 ∷ 0 ∷
+    -- pattern 9: discard
+    0 ∷ 0 ∷ 0 ∷ 0 ∷ 0 ∷ 0 ∷ 0 ∷ 0 ∷
+    -- pattern 10: constructor 1
+    7 ∷ 0 ∷ 1 ∷ 0 ∷ 0 ∷ 0 ∷ 0 ∷ 0 ∷
+    -- pattern 11: discard
+    0 ∷ 0 ∷ 0 ∷ 0 ∷ 0 ∷ 0 ∷ 0 ∷ 0 ∷
+    -- the child list
+    1 ∷ 0 ∷ 2 ∷ 0 ∷ 3 ∷ 0 ∷ 5 ∷ 0 ∷ 6 ∷ 0 ∷ 7 ∷ 0 ∷ 9 ∷ 0 ∷ 10 ∷ 0 ∷ 11 ∷ 0 ∷
+    -- the clauses' roots
+    0 ∷ 0 ∷ 4 ∷ 0 ∷ 8 ∷ 0 ∷
+    -- the pool: 1
+    49 ∷
+    -- the seven starts, the subject's type, the length
+    0 ∷ 0 ∷ 18 ∷ 0 ∷ 26 ∷ 0 ∷ 32 ∷ 0 ∷ 128 ∷ 0 ∷ 146 ∷ 0 ∷ 152 ∷ 0 ∷ 0 ∷ 0 ∷ 171 ∷ 0 ∷ []
+
+twoTests-accepted : verdict twoTests ≡ accepted
+unfolding verdict
+twoTests-accepted = refl
+
+twoTests-gap : lowestGap twoTests (sheetTree twoTests) ≡ some 4
+unfolding lowestGap sheetTree
+twoTests-gap = refl
+
+twoTests-way : wayTo twoTests (sheetTree twoTests) 4 ≡ record { node = 1; branch = 1 } ∷ record { node = 2; branch = 1 } ∷ []
+unfolding wayTo sheetTree
+twoTests-way = refl
+
 -- A of two or B of three: A(0), A(1), B(0), B(1); one path is of two types
 abbrev ways : List ℕ
 ways =
@@ -333,6 +393,34 @@ everyLength-accepted = refl
 everyLength-covered : lowestGap everyLength (sheetTree everyLength) ≡ none
 unfolding lowestGap sheetTree
 everyLength-covered = refl
+
+-- []: a length past every number falls out
+abbrev onlyEmpty : List ℕ
+onlyEmpty =
+    -- type 0: List of type 1
+    2 ∷ 0 ∷ 0 ∷ 0 ∷ 1 ∷ 0 ∷
+    -- type 1: Int
+    0 ∷ 0 ∷ 0 ∷ 0 ∷ 0 ∷ 0 ∷
+    -- the type list
+    1 ∷ 0 ∷
+    -- pattern 0: list
+    5 ∷ 0 ∷ 0 ∷ 0 ∷ 0 ∷ 0 ∷ 0 ∷ 0 ∷
+    -- the clauses' roots
+    0 ∷ 0 ∷
+    -- the seven starts, the subject's type, the length
+    0 ∷ 0 ∷ 12 ∷ 0 ∷ 12 ∷ 0 ∷ 14 ∷ 0 ∷ 22 ∷ 0 ∷ 22 ∷ 0 ∷ 24 ∷ 0 ∷ 0 ∷ 0 ∷ 42 ∷ 0 ∷ []
+
+onlyEmpty-accepted : verdict onlyEmpty ≡ accepted
+unfolding verdict
+onlyEmpty-accepted = refl
+
+onlyEmpty-gap : lowestGap onlyEmpty (sheetTree onlyEmpty) ≡ some 1
+unfolding lowestGap sheetTree
+onlyEmpty-gap = refl
+
+onlyEmpty-way : wayTo onlyEmpty (sheetTree onlyEmpty) 1 ≡ []
+unfolding wayTo sheetTree
+onlyEmpty-way = refl
 
 -- [], [_, _, ..]
 abbrev shortList : List ℕ
