@@ -15,6 +15,7 @@ use Rattle.spec_rules.specs.TreeReader.{nodeKind, nodeDefault}
 use Rattle.spec_rules.specs.Walking.{noLeaf, walk, Bound, reached}
 use Rattle.spec_rules.specs.Calls.{Answer, sheetTree, sheetTreeFile}
 use Rattle.spec_forgotten.specs.Values.{Value, ofType, Passed, atClause, without, walkOn}
+use Rattle.spec_forgotten.specs.FileWays.{FileWay}
 use Rattle.spec_forgotten.specs.PanelValues.{panelValue}
 use Rattle.spec_forgotten.specs.Forgetting.{Forgotten, LowestForgotten, Covered, Hollow, Filled, LowestHollow, NoHollow, Report, ForgottenCall}
 
@@ -31,6 +32,10 @@ module _ (s : List ℕ) (h : verdict s ≡ accepted) where
   -- the switch is one without a default in the file that the build writes
   abbrev pub a-switch-without-default : Type 0
   a-switch-without-default = (n : ℕ) (ts : List Passed) → Forgotten s n ts → (nodeKind (sheetTreeFile s) n ≤ 1) × (nodeDefault (sheetTreeFile s) n ≡ 0)
+
+  -- the tests are switches of that file, and each branch leads over hoists to the next one's node, the last to the reported switch
+  abbrev pub a-way-in-the-file : Type 0
+  a-way-in-the-file = (n : ℕ) (ts : List Passed) → Forgotten s n ts → FileWay (sheetTreeFile s) 0 n ts
 
   -- 384 words have room for the tests
   abbrev pub few-tests : Type 0

@@ -9,17 +9,21 @@ use mathlib.Core.List.{List}
 use mathlib.Core.Option.{Option, none, some}
 use lib.ListN.{length}
 use Rattle.base_words.specs.Words.{Bytes}
-use Rattle.spec_rules.specs.SheetFile.{subject}
+use Rattle.spec_rules.specs.SheetFile.{subject, pool}
 use Rattle.spec_rules.specs.SheetRefusals.{verdict, accepted}
 use Rattle.spec_rules.specs.PanelFile.{panelVerdict}
 use Rattle.spec_rules.specs.Fitting.{panelFits}
 use Rattle.spec_rules.specs.Building.{plainTree}
 use Rattle.spec_rules.specs.Hoisting.{nodesIn}
+use Rattle.spec_rules.specs.TreeFile.{pathsUsed, pathTable, treeFile}
 use Rattle.spec_rules.specs.Walking.{Bound, Walked, reached, noLeaf, stuck, walk}
 use Rattle.spec_rules.specs.Meaning.{firstMatch}
-use Rattle.spec_rules.specs.Calls.{sheetPatterns, sheetTree}
+use Rattle.spec_rules.specs.Calls.{sheetPatterns, sheetTree, sheetTreeFile}
 use Rattle.spec_accepted.specs.SheetFacts.{Typed, Accepted, accepted-sheet}
 use Rattle.spec_accepted.specs.PanelFacts.{accepted-panel}
+use Rattle.spec_file.specs.PathsLaws.{table-covers}
+use Rattle.spec_file.specs.FileLaws.{tree-filed}
+use Rattle.spec_file.specs.PlacedLaws.{root-placed, table-read}
 use Rattle.spec_hoist.specs.WholeTreeLaws.{wholeTree-walk, wholeTree-made, wholeTree-present}
 use Rattle.spec_match.specs.Answers.{SameAnswer}
 use Rattle.spec_match.specs.Typing.{sheet-first-match}
@@ -28,7 +32,7 @@ use Rattle.spec_theorems.specs.SheetLeaves.{length-sheetPatterns}
 use Rattle.spec_theorems.specs.BuiltTree.{paths-most}
 use Rattle.spec_forgotten.specs.Values.{Passed, Ended, atClause, without, stuckOn, noNode, walkOn}
 use Rattle.spec_forgotten.specs.Forgetting.{Forgotten, LowestForgotten, Covered, LowestHollow, NoHollow}
-use Rattle.spec_forgotten.specs.ForgettingSaid.{never-stuck, one-way, few-tests, forgotten-or-covered, hollow-or-filled, hollow-or-none, fits-by-value, walks-agree, covered-panels-have-a-leaf}
+use Rattle.spec_forgotten.specs.ForgettingSaid.{never-stuck, one-way, a-switch-without-default, a-way-in-the-file, few-tests, forgotten-or-covered, hollow-or-filled, hollow-or-none, fits-by-value, walks-agree, covered-panels-have-a-leaf}
 use Rattle.spec_forgotten.specs.SheetTested.{OfSheet, rootColumns, tree-tested, only-goes, sheet-tree-is}
 use Rattle.spec_forgotten.specs.Search.{lowestGap, wayTo}
 use Rattle.spec_forgotten.specs.FewTestsLaws.{few-on-the-way}
@@ -38,6 +42,7 @@ use Rattle.spec_forgotten.specs.PanelWalksLaws.{EndsAlike, walks-alike}
 use Rattle.spec_forgotten.specs.PanelValues.{panelValue}
 use Rattle.spec_forgotten.specs.Marking.{hollowType}
 use Rattle.spec_forgotten.specs.MarkingLaws.{filled-or-hollow, hollow-is-lowest, none-is-filled}
+use Rattle.spec_forgotten.specs.FileWaysLaws.{goes-file-way, way-ends}
 use Rattle.spec_forgotten.specs.FoundLaws.{FallsAt, tree-one-way, search-covers, search-lowest, search-sound, tree-never-stuck}
 
 module _ (s : List ℕ) (h : verdict s ≡ accepted) (bytes : Bytes s) where
@@ -68,6 +73,19 @@ module _ (s : List ℕ) (h : verdict s ≡ accepted) (bytes : Bytes s) where
       few-on-the-way s (typeAfter s (subject s)) 0 (sheetTree s) n ts g (nodesIn (sheetTree s)) (rootColumns s a bytes)
       (tree-tested s a bytes (sheetTree s) is) in
       omega (arith, l, paths-most s a, a .is-counted .patterns-most)
+
+  -- THEOREM: the tests lead in the file to the reported switch
+  pub a-way-in-the-file-holds : a-way-in-the-file s h
+  unfolding sheetTreeFile pathTable
+  a-way-in-the-file-holds n ts (v, f) =
+      let g = only-goes s a bytes (sheetTree s) is v (f .typed) n ts (f .ends) in
+      let filed = tree-filed (pool s) (sheetTree s) in
+      goes-file-way (treeFile (pool s) (sheetTree s)) (pathTable (sheetTree s)) (table-read filed) s (typeAfter s (subject s)) 0 (sheetTree s) n ts g 0 0
+      (root-placed filed (table-covers (pathsUsed (sheetTree s))))
+
+  -- THEOREM: the reported node is a switch without default in the file
+  pub a-switch-without-default-holds : a-switch-without-default s h
+  a-switch-without-default-holds n ts f = way-ends (sheetTreeFile s) 0 n ts (a-way-in-the-file-holds n ts f)
 
   -- ---- the search's answer
   -- THEOREM: what it finds is the lowest forgotten switch, with the tests taken on the way

@@ -2,17 +2,19 @@
 -- Definitions:
 --   Values, PanelValues: panels of any size as values, the walk of a tree on one, and the value that a panel file holds.
 --   Forgetting: what is reported, and 15. ForgettingSaid: what holds of it, as statements; ForgettingTheorems and OneAnswerLaws prove them.
---   Choosing, Shapes, Search: the search for the lowest forgotten switch, node by node. Marking: the marking for 15.
+--   Choosing, Shapes, Search: the search for the lowest forgotten switch, node by node. Marking: the marking for 15. FileWays: the report
+--   as a way in the tree file.
 --   ForgettingExamples, SearchExamples: the definitions at work.
 -- Laws:
 --   PuttingLaws, TypedPartsLaws: a value with the part at a path exchanged. ReachingLaws, FallingLaws: in a tested tree some value falls out
 --   of a switch exactly if each branch on the way there, asked alone, is one that some part takes.
 --   OpenedParts, KnownTypes, NodesFit, MatrixLaws, SomewhereLaws, BuiltTested, SheetTested: the tree of an accepted sheet is tested.
---   ShapesLaws, ChildrenLaws, SearchLaws, NeverStuckLaws, FewTestsLaws, FoundLaws: what the search answers; no walk is stuck; few tests.
+--   ShapesLaws, ChildrenLaws, SearchLaws, NeverStuckLaws, FewTestsLaws, FileWaysLaws, FoundLaws: what the search answers; no walk is stuck; few tests.
 --   FillingLaws, MarkingLaws: which types have a value. PanelFitsLaws, PanelWalksLaws: panel files and their values.
 pub mod Values
 pub mod PanelValues
 pub mod Forgetting
+pub mod FileWays
 pub mod ForgettingSaid
 pub mod Choosing
 pub mod Shapes
@@ -36,6 +38,7 @@ pub mod ChildrenLaws
 pub mod SearchLaws
 pub mod NeverStuckLaws
 pub mod FewTestsLaws
+pub mod FileWaysLaws
 pub mod FoundLaws
 pub mod FillingLaws
 pub mod MarkingLaws
