@@ -38,8 +38,9 @@ unfoldable mutual
 
   pub reach : Tree → List ℕ → (Path → ℕ) → ℕ → ℕ → Option Came
   reach absent s types k n = none
-  reach (leaf c bs) s types k n = none
-  reach (hoist c bs a) s types k n = reach a s types (k + 1) n
+  reach (leaf c bs) s types k n = ifSo (eqb n k) (λ here. some (record { types = types; tree = leaf c bs; way = [] })) (λ no. none)
+  reach (hoist c bs a) s types k n =
+      ifSo (eqb n k) (λ here. some (record { types = types; tree = hoist c bs a; way = [] })) (λ below. reach a s types (k + 1) n)
   reach (switch p cs d) s types k n =
       ifSo (eqb n k) (λ here. some (record { types = types; tree = switch p cs d; way = [] }))
       (λ below. reachIn cs s types p (possible s (types p) k (switch p cs d)) k 0 (k + 1) n

@@ -28,8 +28,15 @@ use Rattle.spec_forgotten.specs.ShapesLaws.{possible-taken, taken-possib
 use Rattle.spec_forgotten.specs.Search.{Came, onward, ifSo, reach, reachIn, pathOf, lacksDefault, fallsOut}
 use Rattle.spec_forgotten.specs.ChildrenLaws.{CaseOf, case-within, ChildOf, one-child, chosen-child, node-chooses, node-path, child-within, default-within}
 
-no-came : (c : Came) → _≡_ {A = Option Came} none (some c) → ⊥
+pub no-came : (c : Came) → _≡_ {A = Option Came} none (some c) → ⊥
 no-came c e = let z : _≡_ {A = ℕ} 0 1 = cc in absurd (omega arith)
+
+pub not-itself : (k n : ℕ) → k < n → eqb n k ≡ false
+not-itself k n l = go (eqb n k) refl
+  where
+    go : (b : Bool) → eqb n k ≡ b → eqb n k ≡ false
+    go true e = let x = eqb-true n k e in absurd (omega arith)
+    go false e = e
 
 module _ (s : List ℕ) where
   abbrev came-by : Chosen → (Path → ℕ) → Path → ℕ → ℕ → Option Came
@@ -176,7 +183,7 @@ module _ (s : List ℕ) where
 
   -- ---- and the other way
   module _ (types : Path → ℕ) (k : ℕ) where
-    reach-here : (a : Tree) (w : Node) → nodeOf k a ≡ some w → reach a s types k k ≡ some (record { types = types; tree = a; way = [] })
+    pub reach-here : (a : Tree) (w : Node) → nodeOf k a ≡ some w → reach a s types k k ≡ some (record { types = types; tree = a; way = [] })
     unfolding nodeOf reach
     reach-here absent w e = absurd (no-node-there w e)
     reach-here (leaf d bs) w e = absurd (no-node-there w e)
@@ -184,14 +191,7 @@ module _ (s : List ℕ) where
     reach-here (switch p cs d) w e = unfold ifSo in (rw (eq-eqb k k refl))
     reach-here (listswitch p cs ts d) w e = unfold ifSo in (rw (eq-eqb k k refl))
 
-    not-itself : (n : ℕ) → k < n → eqb n k ≡ false
-    not-itself n l = go (eqb n k) refl
-      where
-        go : (b : Bool) → eqb n k ≡ b → eqb n k ≡ false
-        go true e = let x = eqb-true n k e in absurd (omega arith)
-        go false e = e
-
-    reach-child : (a : Tree) (w : Node) → nodeOf k a ≡ some w → (n : ℕ) (c : Chosen) → ChildOf k a c → c .node ≤ n → n < c .node + nodesIn (c .tree)
+    pub reach-child : (a : Tree) (w : Node) → nodeOf k a ≡ some w → (n : ℕ) (c : Chosen) → ChildOf k a c → c .node ≤ n → n < c .node + nodesIn (c .tree)
         → reach a s types k n ≡ ifSo (possible s (types (w .path)) k a (Case (c .index))) (λ on. came-by c types (w .path) k n) (λ no. none)
     unfolding nodeOf reach ChildOf
     reach-child absent w e n c h l m = absurd h
@@ -199,19 +199,19 @@ module _ (s : List ℕ) where
     reach-child (hoist d bs a) w e n c h l m = absurd h
     reach-child (switch p cs d) w e n c h l m =
         let path : p ≡ w .path = cc in
-        rw (← path, not-itself n (omega (arith, case-within 0 (k + 1) cs c h .node-from)))
+        rw (← path, not-itself k n (omega (arith, case-within 0 (k + 1) cs c h .node-from)))
         (unfold ifSo in (in-case types p (possible s (types p) k (switch p cs d)) k n
         (λ else. ifSo (possible s (types p) k (switch p cs d) Fallback) (λ on. onward k Fallback (reach d s types (k + 1 + nodesInOf cs) n)) (λ no. none)) c l m cs 0 (k + 1) h))
     reach-child (listswitch p cs ts d) w e n c (inl h) l m =
         let path : p ≡ w .path = cc in
-        rw (← path, not-itself n (omega (arith, case-within 0 (k + 1) cs c h .node-from)))
+        rw (← path, not-itself k n (omega (arith, case-within 0 (k + 1) cs c h .node-from)))
         (unfold ifSo in (in-case types p (possible s (types p) k (listswitch p cs ts d)) k n
         (λ tails. reachIn ts s types p (possible s (types p) k (listswitch p cs ts d)) k (howMany cs) (k + 1 + nodesInOf cs) n
         (λ else. ifSo (possible s (types p) k (listswitch p cs ts d) Fallback) (λ on. onward k Fallback (reach d s types (k + 1 + nodesInOf cs + nodesInOf ts) n)) (λ no. none))) c l m cs 0 (k + 1) h))
     reach-child (listswitch p cs ts d) w e n c (inr h) l m =
         let path : p ≡ w .path = cc in
         let r = case-within (howMany cs) (k + 1 + nodesInOf cs) ts c h in
-        rw (← path, not-itself n (omega (arith, r .node-from)))
+        rw (← path, not-itself k n (omega (arith, r .node-from)))
         (unfold ifSo in (past-cases types p (possible s (types p) k (listswitch p cs ts d)) k n
         (λ tails. reachIn ts s types p (possible s (types p) k (listswitch p cs ts d)) k (howMany cs) (k + 1 + nodesInOf cs) n
         (λ else. ifSo (possible s (types p) k (listswitch p cs ts d) Fallback) (λ on. onward k Fallback (reach d s types (k + 1 + nodesInOf cs + nodesInOf ts) n)) (λ no. none))) cs 0 (k + 1)
@@ -220,7 +220,7 @@ module _ (s : List ℕ) where
         (λ else. ifSo (possible s (types p) k (listswitch p cs ts d) Fallback) (λ on. onward k Fallback (reach d s types (k + 1 + nodesInOf cs + nodesInOf ts) n)) (λ no. none)) c l m ts
         (howMany cs) (k + 1 + nodesInOf cs) h))
 
-    reach-default : (a : Tree) (w : Node) → nodeOf k a ≡ some w → (n : ℕ) → w .next ≤ n
+    pub reach-default : (a : Tree) (w : Node) → nodeOf k a ≡ some w → (n : ℕ) → w .next ≤ n
         → reach a s types k n ≡ ifSo (possible s (types (w .path)) k a Fallback) (λ on. onward k Fallback (reach (w .default) s types (w .next) n)) (λ no. none)
     unfolding nodeOf reach
     reach-default absent w e n l = absurd (no-node-there w e)
@@ -229,13 +229,13 @@ module _ (s : List ℕ) where
     reach-default (switch p cs d) w e n l =
         let x : record { path = p; choose = λ t n. byTest k cs t; next = k + 1 + nodesInOf cs; default = d } ≡ w = cc in
         let next : k + 1 + nodesInOf cs ≡ w .next = cc in
-        rw (← x, not-itself n (omega (arith, next, l)))
+        rw (← x, not-itself k n (omega (arith, next, l)))
         (unfold ifSo in (past-cases types p (possible s (types p) k (switch p cs d)) k n
         (λ else. ifSo (possible s (types p) k (switch p cs d) Fallback) (λ on. onward k Fallback (reach d s types (k + 1 + nodesInOf cs) n)) (λ no. none)) cs 0 (k + 1) (omega (arith, next, l))))
     reach-default (listswitch p cs ts d) w e n l =
         let x : record { path = p; choose = λ t n. byLength k cs ts n; next = k + 1 + nodesInOf cs + nodesInOf ts; default = d } ≡ w = cc in
         let next : k + 1 + nodesInOf cs + nodesInOf ts ≡ w .next = cc in
-        rw (← x, not-itself n (omega (arith, next, l)))
+        rw (← x, not-itself k n (omega (arith, next, l)))
         (unfold ifSo in (past-cases types p (possible s (types p) k (listswitch p cs ts d)) k n
         (λ tails. reachIn ts s types p (possible s (types p) k (listswitch p cs ts d)) k (howMany cs) (k + 1 + nodesInOf cs) n
         (λ else. ifSo (possible s (types p) k (listswitch p cs ts d) Fallback) (λ on. onward k Fallback (reach d s types (k + 1 + nodesInOf cs + nodesInOf ts) n)) (λ no. none))) cs 0 (k + 1)
@@ -286,7 +286,7 @@ module _ (s : List ℕ) where
   node-lacks k (switch p cs d) w e = let z : d ≡ w .default = cc in ap (λ b. not (isPresent b)) z
   node-lacks k (listswitch p cs ts d) w e = let z : d ≡ w .default = cc in ap (λ b. not (isPresent b)) z
 
-  onward-some : (k b : ℕ) (o : Option Came) (c : Came) → onward k b o ≡ some c
+  pub onward-some : (k b : ℕ) (o : Option Came) (c : Came) → onward k b o ≡ some c
       → (d : Came) × (o ≡ some d) × (c ≡ record { types = d .types; tree = d .tree; way = record { node = k; branch = b } ∷ (d .way) })
   unfolding onward
   onward-some k b none c e = absurd (no-came c e)
@@ -314,7 +314,7 @@ module _ (s : List ℕ) where
   finds-hoist : (types : Path → ℕ) (k c : ℕ) (bs : List Binding) (a : Tree) (n : ℕ) (ts : List Passed) → Finds types (k + 1) a n ts → Finds types k (hoist c bs a) n ts
   unfolding reach nodesIn
   finds-hoist types k c bs a n ts r =
-      record { came = r .came; reached = r .reached; way = r .way; falls = r .falls; from = omega (arith, r .from); to = omega (arith, r .to) }
+      record { came = r .came; reached = rw (not-itself k n (omega (arith, r .from))) (unfold ifSo in (r .reached)); way = r .way; falls = r .falls; from = omega (arith, r .from); to = omega (arith, r .to) }
 
   finds-out : (types : Path → ℕ) (k : ℕ) (a : Tree) (w : Node) → nodeOf k a ≡ some w → NodeFits s (types (w .path)) a → (x : Value) → ofType s (types (w .path)) x ≡ true
       → w .choose (shows x) (lengthOf x) ≡ some none → w .default ≡ absent → Finds types k a k []
@@ -428,15 +428,39 @@ module _ (s : List ℕ) where
         let (came, r, same) = onward-some k Fallback (reach (w .default) s types (w .next) n) c onto in
         rw same (goes-on types k a w e x tx ch n (came .way) (ihd types (w .next) (t .less) zs l n came r (rw same at f)))
 
+    -- no value falls out of a leaf or of a hoist
+    leaf-falls : (types : Path → ℕ) (k n : ℕ) (c : Came) (d : ℕ) (bs : List Binding) → reach (leaf d bs) s types k n ≡ some c → fallsOut s n (some c) ≡ true → ⊥
+    unfolding reach fallsOut lacksDefault
+    leaf-falls types k n c d bs e f = go (eqb n k) e
+      where
+        go : (b : Bool) → ifSo b (λ here. some (record { types = types; tree = leaf d bs; way = [] })) (λ no. none) ≡ some c → ⊥
+        go true q =
+            let z : _≡_ {A = Option Came} (some (record { types = types; tree = leaf d bs; way = [] })) (some c) = unfold ifSo in q in
+            let same : record { types = types; tree = leaf d bs; way = [] } ≡ c = cc in
+            false≢true (rw (← same) at f)
+        go false q = no-came c (unfold ifSo in q)
+
+    below-hoist : (types : Path → ℕ) (k n : ℕ) (c : Came) (d : ℕ) (bs : List Binding) (a : Tree) → reach (hoist d bs a) s types k n ≡ some c → fallsOut s n (some c) ≡ true
+        → reach a s types (k + 1) n ≡ some c
+    unfolding reach fallsOut lacksDefault
+    below-hoist types k n c d bs a e f = go (eqb n k) e
+      where
+        go : (b : Bool) → ifSo b (λ here. some (record { types = types; tree = hoist d bs a; way = [] })) (λ below. reach a s types (k + 1) n) ≡ some c → reach a s types (k + 1) n ≡ some c
+        go true q =
+            let z : _≡_ {A = Option Came} (some (record { types = types; tree = hoist d bs a; way = [] })) (some c) = unfold ifSo in q in
+            let same : record { types = types; tree = hoist d bs a; way = [] } ≡ c = cc in
+            absurd (false≢true (rw (← same) at f))
+        go false q = unfold ifSo in q
+
     mutual
       unfolding reach nodeOf ChildOf CaseOf
 
       pub reached-goes : (a : Tree) → ReachGoes a
       reached-goes absent types k deep ps h n c e f = absurd (no-came c e)
-      reached-goes (leaf d bs) types k deep ps h n c e f = absurd (no-came c e)
+      reached-goes (leaf d bs) types k deep ps h n c e f = absurd (leaf-falls types k n c d bs e f)
       reached-goes (hoist d bs a) types k deep ps h n c e f =
           let (less, l) = hoist-tested s (retyped s) deep types ps k d bs a (hoist d bs a) refl h in
-          goes-hoist types k d bs a n (c .way) (reached-goes a types (k + 1) less ps l n c e f)
+          goes-hoist types k d bs a n (c .way) (reached-goes a types (k + 1) less ps l n c (below-hoist types k n c d bs a e f) f)
       reached-goes (switch p cs d) types k deep ps h n c e f =
           node-goes types k deep ps (switch p cs d) (record { path = p; choose = λ t n. byTest k cs t; next = k + 1 + nodesInOf cs; default = d }) refl
           (λ x is t1 k1 d1 ps1 h1 n1 c1 e1 f1. each-goes cs 0 (k + 1) x is t1 k1 d1 ps1 h1 n1 c1 e1 f1) (λ t1 k1 d1 ps1 h1 n1 c1 e1 f1. reached-goes d t1 k1 d1 ps1 h1 n1 c1 e1 f1) h n c
