@@ -9,7 +9,7 @@
 --   PuttingLaws, TypedPartsLaws: a value with the part at a path exchanged. ReachingLaws, FallingLaws: in a tested tree some value falls out
 --   of a switch exactly if each branch on the way there, asked alone, is one that some part takes.
 --   OpenedParts, KnownTypes, NodesFit, MatrixLaws, SomewhereLaws, BuiltTested, SheetTested: the tree of an accepted sheet is tested.
---   ShapesLaws, ChildrenLaws, SearchLaws, NeverStuckLaws, FewTestsLaws, FileWaysLaws, FoundLaws: what the search answers; no walk is stuck; few tests.
+--   ShapesLaws, ChildrenLaws, SearchLaws, ReachLaws, NeverStuckLaws, FewTestsLaws, FileWaysLaws, FoundLaws: what the search answers; no walk is stuck; few tests.
 --   FillingLaws, MarkingLaws: which types have a value. PanelFitsLaws, PanelWalksLaws: panel files and their values.
 pub mod Values
 pub mod PanelValues
@@ -36,6 +36,7 @@ pub mod SheetTested
 pub mod ShapesLaws
 pub mod ChildrenLaws
 pub mod SearchLaws
+pub mod ReachLaws
 pub mod NeverStuckLaws
 pub mod FewTestsLaws
 pub mod FileWaysLaws
