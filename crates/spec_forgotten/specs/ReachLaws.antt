@@ -1,18 +1,20 @@
--- What a pass over the nodes by their numbers rests on: a reached node's tree stands within the whole (`reach-within`), and to go on from a
+-- What a pass over the nodes by their numbers rests on: a reached node's tree stands within the whole, and to go on from a
 -- reached node is to reach from the root (`reach-through`). So from a reached switch a child is reached exactly if its branch is possible
--- (`child-reached`, `child-unreached`), its default likewise, and from a reached hoist its child always.
+-- (`child-reached`, `child-unreached`), its default likewise (`default-reached`, `default-unreached`), and from a reached hoist its child always
+-- (`hoist-reached`).
 use Prim.Native.Nat.{ℕ, zero, suc, _+_, _≤_, _<_}
 use native.Mathlib.Omega.{arith}
 use mathlib.Core.Path.{_≡_, refl, sym, ap, _∙_}
 use mathlib.Core.Logic.{_⊎_, ⊎-elim}
-use mathlib.Core.Bool.{Bool, true, false}
+use mathlib.Core.Bool.{Bool, true, false, false≢true}
 use mathlib.Core.List.{List, [], _∷_}
 use mathlib.Core.Option.{Option, none, some}
 use lib.Dec.{eqb}
-use borrow.Author.Tests.{eqb-true}
+use borrow.Author.Tests.{eqb-true, eq-eqb}
 use Rattle.spec_rules.specs.Rows.{Path, Binding}
 use Rattle.spec_rules.specs.Building.{Tree, Cases, absent, leaf, hoist, switch, listswitch, cnil, ccons}
 use Rattle.spec_rules.specs.Hoisting.{Fallback, Case, howMany, nodesIn, nodesInOf}
+use Rattle.spec_hoist.specs.Trees.{isPresent}
 use Rattle.spec_match.specs.ColumnTypes.{retyped}
 use Rattle.spec_forgotten.specs.Values.{Passed}
 use Rattle.spec_forgotten.specs.Choosing.{Chosen, byTest, byLength, Node, nodeOf}
@@ -127,3 +129,87 @@ module _ (s : List ℕ) where
     each-through cnil i j d h = absurd h
     each-through (ccons u at a cs) i j d h =
         ⊎-elim (λ e. rw e (λ t1 k1 n1 c1 e1. reach-through a t1 k1 n1 c1 e1)) (λ y t1 k1 n1 c1 e1. each-through cs (i + 1) (j + nodesIn a) d y t1 k1 n1 c1 e1) h
+
+  -- ---- from a reached node to the next, by numbers
+  pub after-none : (ts : List Passed) → after ts none ≡ none
+  unfolding after onward
+  after-none [] = refl
+  after-none (t ∷ ts) = ap (onward (t .node) (t .branch)) (after-none ts)
+
+  reach-self : (a : Tree) (types : Path → ℕ) (k : ℕ) → isPresent a ≡ true → reach a s types k k ≡ some (record { types = types; tree = a; way = [] })
+  unfolding reach isPresent ifSo
+  reach-self absent types k h = absurd (false≢true h)
+  reach-self (leaf c bs) types k h = rw (eq-eqb k k refl)
+  reach-self (hoist c bs a) types k h = rw (eq-eqb k k refl)
+  reach-self (switch p cs d) types k h = rw (eq-eqb k k refl)
+  reach-self (listswitch p cs ts d) types k h = rw (eq-eqb k k refl)
+
+  some-nodes : (a : Tree) → isPresent a ≡ true → 0 < nodesIn a
+  unfolding isPresent nodesIn
+  some-nodes absent h = absurd (false≢true h)
+  some-nodes (leaf c bs) h = omega arith
+  some-nodes (hoist c bs a) h = omega arith
+  some-nodes (switch p cs d) h = omega arith
+  some-nodes (listswitch p cs ts d) h = omega arith
+
+  -- node k of the tree b, whose types are `types`, is reached as c
+  module _ (types : Path → ℕ) (b : Tree) (k : ℕ) (c : Came) (reached : reach b s types 0 k ≡ some c) where
+    through : Through types 0 b k c
+    through = reach-through b types 0 k c reached
+
+    module _ (w : Node) (is-node : nodeOf k (c .tree) ≡ some w) where
+      -- the nodes of a child, where its branch is possible and where it is not
+      child-on : (d : Chosen) → ChildOf k (c .tree) d → (m : ℕ) → d .node ≤ m → m < d .node + nodesIn (d .tree)
+          → reach b s types 0 m
+          ≡ after (c .way) (ifSo (possible s (c .types (w .path)) k (c .tree) (Case (d .index))) (λ on. onward k (Case (d .index)) (reach (d .tree) s (retyped s (c .types) (w .path) (d .test)) (d .node) m)) (λ no. none))
+      child-on d is m low high =
+          let (p, q) = child-within k (c .tree) w is-node d is in
+          let (x, y) = default-within k (c .tree) w is-node in
+          through .on m (omega (arith, p, low)) (omega (arith, q, y, high)) ∙ ap (after (c .way)) (reach-child s (c .types) k (c .tree) w is-node m d is low high)
+
+      -- THEOREM: a child whose branch is possible is reached, by the tests of the way and its own
+      pub child-reached : (d : Chosen) → ChildOf k (c .tree) d → isPresent (d .tree) ≡ true → possible s (c .types (w .path)) k (c .tree) (Case (d .index)) ≡ true
+          → reach b s types 0 (d .node) ≡ after (c .way) (onward k (Case (d .index)) (some (record { types = retyped s (c .types) (w .path) (d .test); tree = d .tree; way = [] })))
+      child-reached d is there can =
+          child-on d is (d .node) (omega arith) (omega (arith, some-nodes (d .tree) there))
+          ∙ ap (λ o. after (c .way) (ifSo o (λ on. onward k (Case (d .index)) (reach (d .tree) s (retyped s (c .types) (w .path) (d .test)) (d .node) (d .node))) (λ no. none))) can
+          ∙ (unfold ifSo in (ap (λ o. after (c .way) (onward k (Case (d .index)) o)) (reach-self (d .tree) (retyped s (c .types) (w .path) (d .test)) (d .node) there)))
+
+      -- THEOREM: below a branch that is not possible nothing is reached
+      pub child-unreached : (d : Chosen) → ChildOf k (c .tree) d → possible s (c .types (w .path)) k (c .tree) (Case (d .index)) ≡ false
+          → (m : ℕ) → d .node ≤ m → m < d .node + nodesIn (d .tree) → reach b s types 0 m ≡ none
+      child-unreached d is can m low high =
+          child-on d is m low high
+          ∙ ap (λ o. after (c .way) (ifSo o (λ on. onward k (Case (d .index)) (reach (d .tree) s (retyped s (c .types) (w .path) (d .test)) (d .node) m)) (λ no. none))) can
+          ∙ (unfold ifSo in (after-none (c .way)))
+
+      default-on : (m : ℕ) → w .next ≤ m → m < w .next + nodesIn (w .default)
+          → reach b s types 0 m
+          ≡ after (c .way) (ifSo (possible s (c .types (w .path)) k (c .tree) Fallback) (λ on. onward k Fallback (reach (w .default) s (c .types) (w .next) m)) (λ no. none))
+      default-on m low high =
+          let (x, y) = default-within k (c .tree) w is-node in
+          through .on m (omega (arith, x, low)) (omega (arith, y, high)) ∙ ap (after (c .way)) (reach-default s (c .types) k (c .tree) w is-node m low)
+
+      -- THEOREM: a default that is possible is reached, and below one that is not nothing is
+      pub default-reached : isPresent (w .default) ≡ true → possible s (c .types (w .path)) k (c .tree) Fallback ≡ true
+          → reach b s types 0 (w .next) ≡ after (c .way) (onward k Fallback (some (record { types = c .types; tree = w .default; way = [] })))
+      default-reached there can =
+          default-on (w .next) (omega arith) (omega (arith, some-nodes (w .default) there))
+          ∙ ap (λ o. after (c .way) (ifSo o (λ on. onward k Fallback (reach (w .default) s (c .types) (w .next) (w .next))) (λ no. none))) can
+          ∙ (unfold ifSo in (ap (λ o. after (c .way) (onward k Fallback o)) (reach-self (w .default) (c .types) (w .next) there)))
+
+      pub default-unreached : possible s (c .types (w .path)) k (c .tree) Fallback ≡ false → (m : ℕ) → w .next ≤ m → m < w .next + nodesIn (w .default) → reach b s types 0 m ≡ none
+      default-unreached can m low high =
+          default-on m low high
+          ∙ ap (λ o. after (c .way) (ifSo o (λ on. onward k Fallback (reach (w .default) s (c .types) (w .next) m)) (λ no. none))) can
+          ∙ (unfold ifSo in (after-none (c .way)))
+
+    -- THEOREM: the child of a reached hoist is reached, by the same tests
+    pub hoist-reached : (x : ℕ) (bs : List Binding) (a : Tree) → c .tree ≡ hoist x bs a → isPresent a ≡ true
+        → reach b s types 0 (k + 1) ≡ after (c .way) (some (record { types = c .types; tree = a; way = [] }))
+    unfolding reach nodesIn
+    hoist-reached x bs a e there =
+        let n : nodesIn (c .tree) ≡ suc (nodesIn a) = ap nodesIn e in
+        through .on (k + 1) (omega arith) (omega (arith, n, some-nodes a there))
+        ∙ ap (λ y. after (c .way) (reach y s (c .types) k (k + 1))) e
+        ∙ ap (after (c .way)) (rw (not-itself k (k + 1) (omega arith)) (unfold ifSo in (reach-self a (c .types) (k + 1) there)))
