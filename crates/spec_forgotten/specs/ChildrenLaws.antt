@@ -12,7 +12,7 @@ use Rattle.spec_forgotten.specs.Values.{Value, shows, lengthOf}
 use Rattle.spec_forgotten.specs.Choosing.{Chosen, lookup, byTest, byLength, Node, nodeOf}
 use Rattle.spec_forgotten.specs.Shapes.{Shape, shapeOf, chooseIn}
 use Rattle.spec_forgotten.specs.Search.{pathOf}
-use Rattle.spec_forgotten.specs.BuiltTested.{by-test, ByLength, exactly, at-least, by-length}
+use Rattle.spec_forgotten.specs.CasesFound.{by-test, ByLength, exactly, at-least, by-length}
 
 -- one of the cases from number i on, the first of which has its child at node j
 unfoldable pub CaseOf : ℕ → ℕ → Cases → Chosen → Type 0

@@ -8,7 +8,7 @@
 -- Laws:
 --   PuttingLaws, TypedPartsLaws: a value with the part at a path exchanged. ReachingLaws, FallingLaws: in a tested tree some value falls out
 --   of a switch exactly if each branch on the way there, asked alone, is one that some part takes.
---   OpenedParts, KnownTypes, NodesFit, MatrixLaws, SomewhereLaws, BuiltTested, SheetTested: the tree of an accepted sheet is tested.
+--   OpenedParts, KnownTypes, NodesFit, MatrixLaws, SomewhereLaws, CasesFound, BuiltTested, SheetTested: the tree of an accepted sheet is tested.
 --   ShapesLaws, ChildrenLaws, SearchLaws, ReachLaws, NeverStuckLaws, FewTestsLaws, FileWaysLaws, FoundLaws: what the search answers; no walk is stuck; few tests.
 --   FillingLaws, MarkingLaws: which types have a value. PanelFitsLaws, PanelWalksLaws: panel files and their values.
 pub mod Values
@@ -31,6 +31,7 @@ pub mod NodesFit
 pub mod FallingLaws
 pub mod MatrixLaws
 pub mod SomewhereLaws
+pub mod CasesFound
 pub mod BuiltTested
 pub mod SheetTested
 pub mod ShapesLaws
