@@ -4,12 +4,13 @@ use native.Mathlib.Omega.{arith}
 use mathlib.Core.Path.{_≡_, sym, ap, _∙_}
 use mathlib.Core.Logic.{_⊎_, inl, inr}
 use mathlib.Core.Bool.{Bool, true, false}
-use mathlib.Core.Option.{Option, none, some}
+use mathlib.Core.Option.{Option, some}
 use Rattle.spec_rules.specs.Splitting.{Test, ListOf, ListWithTail, sameTest}
 use Rattle.spec_rules.specs.Building.{Tree, Cases, absent, leaf, hoist, switch, listswitch, cnil, ccons}
 use Rattle.spec_rules.specs.Hoisting.{howMany, nodesIn, nodesInOf}
 use Rattle.spec_forgotten.specs.Values.{Value, shows, lengthOf}
 use Rattle.spec_forgotten.specs.Choosing.{Chosen, lookup, byTest, byLength, Node, nodeOf}
+use Rattle.spec_forgotten.specs.ReachingLaws.{no-node-there}
 use Rattle.spec_forgotten.specs.Shapes.{Shape, shapeOf, chooseIn}
 use Rattle.spec_forgotten.specs.Search.{pathOf}
 use Rattle.spec_forgotten.specs.CasesFound.{by-test, ByLength, exactly, at-least, by-length}
@@ -98,9 +99,6 @@ chosen-child k (listswitch p cs ts d) x c e = let (n, o, h) = by-length k cs ts 
     go n (at-least j l h) = inr (lookup-case (howMany cs) (k + 1 + nodesInOf cs) ts (ListWithTail j) c h)
 
 -- ---- the node of a tree
-no-node-there : (w : Node) → _≡_ {A = Option Node} none (some w) → ⊥
-no-node-there w e = let z : _≡_ {A = ℕ} 0 1 = cc in absurd (omega arith)
-
 pub node-chooses : (k : ℕ) (a : Tree) (w : Node) → nodeOf k a ≡ some w → (x : Value) → w .choose (shows x) (lengthOf x) ≡ chooseIn k a (shapeOf x)
 unfolding nodeOf chooseIn shapeOf
 node-chooses k absent w e x = absurd (no-node-there w e)

@@ -20,7 +20,7 @@ use Rattle.spec_forgotten.specs.PuttingLaws.{changePart, putAt, NoTails,
 use Rattle.spec_forgotten.specs.TypedPartsLaws.{partType, typeAlong, part-typed, put-typed}
 use Rattle.spec_forgotten.specs.NodesFit.{NodeFits}
 use Rattle.spec_forgotten.specs.Choosing.{Chosen, Node, nodeOf}
-use Rattle.spec_forgotten.specs.ReachingLaws.{chooseAt, goOn, walk-node}
+use Rattle.spec_forgotten.specs.ReachingLaws.{no-node-there, chooseAt, goOn, walk-node}
 
 -- ---- one of a list
 module _ {A : Type 0} where
@@ -44,9 +44,6 @@ not-none n ts e = let z : _≡_ {A = ℕ} 0 1 = cc in absurd (omega arith)
 
 same-node : (w x : Node) (o : Option Node) → o ≡ some w → o ≡ some x → w ≡ x
 same-node w x o e f = let z : _≡_ {A = Option Node} (some w) (some x) = sym e ∙ f in cc
-
-no-node-there : (w : Node) → _≡_ {A = Option Node} none (some w) → ⊥
-no-node-there w e = let z : _≡_ {A = ℕ} 0 1 = cc in absurd (omega arith)
 
 pub walk-hoist : (k c : ℕ) (bs : List Binding) (a : Tree) (v : Value) → walkOn k (hoist c bs a) v ≡ walkOn (k + 1) a v
 unfolding walkOn

@@ -5,7 +5,7 @@ use mathlib.Core.Path.{_≡_, refl, sym, ap, _∙_}
 use mathlib.Core.Logic.{inl, inr, ⊎-elim}
 use mathlib.Core.Bool.{true, false, false≢true}
 use mathlib.Core.List.{List, [], _∷_, _++_}
-use mathlib.Core.Option.{Option, none, some}
+use mathlib.Core.Option.{some}
 use lib.ListN.{length, length-append}
 use Rattle.base_words.specs.WordsLaws.{either-make-false}
 use Rattle.spec_rules.specs.Rows.{Step, Path, samePath, Binding}
@@ -21,6 +21,7 @@ use Rattle.spec_match.specs.ColumnTypes.{retyped}
 use Rattle.spec_forgotten.specs.Values.{Passed}
 use Rattle.spec_forgotten.specs.PuttingLaws.{Parting, here, further}
 use Rattle.spec_forgotten.specs.Choosing.{Chosen, Node, nodeOf}
+use Rattle.spec_forgotten.specs.ReachingLaws.{no-node-there}
 use Rattle.spec_forgotten.specs.FallingLaws.{all-in, Off, apart, above, Tested, Child, child, Rest, rest, Goes, goes-hoist, goes-out, goes-case, goes-on, node-tested, hoist-tested}
 use Rattle.spec_forgotten.specs.Shapes.{shapeOf}
 use Rattle.spec_forgotten.specs.ChildrenLaws.{CaseOf, ChildOf, chosen-child, node-chooses}
@@ -68,9 +69,6 @@ module _ (s : List ℕ) where
   child-used p k (listswitch q cs ts d) c (inr h) e =
       isAmong-rest p q (pathsUsedOf cs ++ (pathsUsedOf ts ++ pathsUsed d))
       (isAmong-right p (pathsUsedOf cs) (pathsUsedOf ts ++ pathsUsed d) (isAmong-left p (pathsUsedOf ts) (pathsUsed d) (case-used p (howMany cs) (k + 1 + nodesInOf cs) ts c h e)))
-
-  no-node-there : (w : Node) → _≡_ {A = Option Node} none (some w) → ⊥
-  no-node-there w e = let z : _≡_ {A = ℕ} 0 1 = cc in absurd (omega arith)
 
   default-used : (p : Path) (k : ℕ) (a : Tree) (w : Node) → nodeOf k a ≡ some w → isAmong p (pathsUsed (w .default)) ≡ true → isAmong p (pathsUsed a) ≡ true
   unfolding nodeOf pathsUsed

@@ -3,10 +3,10 @@
 use Prim.Native.Nat.{ℕ, zero, suc, _+_, _-_, _*_, _≤_, _<_}
 use native.Mathlib.Omega.{arith}
 use mathlib.Core.Path.{_≡_, refl, sym, ap, _∙_}
-use mathlib.Core.Logic.{_⊎_, inl, inr}
-use mathlib.Core.Bool.{Bool, true, false, false≢true}
+use mathlib.Core.Logic.{inl, inr}
+use mathlib.Core.Bool.{true, false≢true}
 use mathlib.Core.List.{List, [], _∷_}
-use mathlib.Core.Option.{Option, none, some}
+use mathlib.Core.Option.{some}
 use lib.ListN.{length}
 use Rattle.spec_rules.specs.Limits.{caseSize}
 use Rattle.spec_rules.specs.Rows.{Path}
@@ -15,21 +15,18 @@ use Rattle.spec_rules.specs.Hoisting.{Fallback, Case, howMany, nodesIn, nodesIn
 use Rattle.spec_rules.specs.TreeFile.{firstOf, casesIn, casesInOf, defaultField, ownCases}
 use Rattle.spec_rules.specs.TreeReader.{casesAt, nodeKind, nodeFirstCase, nodeCases, nodeTailCases, nodeDefault, nodeChild, caseChild}
 use Rattle.spec_file.specs.StandingLaws.{Stands}
-use Rattle.spec_file.specs.RecordsLaws.{NodeIs, CaseIs}
 use Rattle.spec_file.specs.TableLaws.{Tabled}
 use Rattle.spec_file.specs.TreeStandsLaws.{own-rest}
-use Rattle.spec_file.specs.PlacedLaws.{Placed, PlacedOf, HoistAt, SwitchAt, ListSwitchAt, hoist-placed, switch-placed, list-switch-placed, own-first, first-placed, rest-placed}
+use Rattle.spec_file.specs.PlacedLaws.{Placed, PlacedOf, hoist-placed, switch-placed, list-switch-placed, own-first, first-placed, rest-placed}
 use Rattle.spec_hoist.specs.Trees.{isPresent}
 use Rattle.spec_match.specs.ColumnTypes.{retyped}
 use Rattle.spec_forgotten.specs.Values.{Passed}
 use Rattle.spec_forgotten.specs.Choosing.{Chosen, Node, nodeOf}
+use Rattle.spec_forgotten.specs.ReachingLaws.{no-node-there}
 use Rattle.spec_forgotten.specs.Shapes.{shapeOf}
 use Rattle.spec_forgotten.specs.FallingLaws.{Goes, goes-hoist, goes-out, goes-case, goes-on}
 use Rattle.spec_forgotten.specs.ChildrenLaws.{CaseOf, case-within, ChildOf, chosen-child, node-chooses}
 use Rattle.spec_forgotten.specs.FileWays.{FileWay, over-hoist, ends-here, by-case, by-default}
-
-no-node-there : (w : Node) → _≡_ {A = Option Node} none (some w) → ⊥
-no-node-there w e = let z : _≡_ {A = ℕ} 0 1 = cc in absurd (omega arith)
 
 first-some : (n c : ℕ) → 0 < n → firstOf n c ≡ c
 unfolding firstOf

@@ -5,7 +5,7 @@ use native.Mathlib.Omega.{arith}
 use mathlib.Core.Path.{_≡_, refl}
 use mathlib.Core.Bool.{true}
 use mathlib.Core.List.{List}
-use mathlib.Core.Option.{Option, none, some}
+use mathlib.Core.Option.{Option, some}
 use borrow.Author.Tests.{eq-eqb}
 use Rattle.spec_rules.specs.SheetFile.{types, typeKind, typeCount}
 use Rattle.spec_rules.specs.Texts.{canonical}
@@ -16,6 +16,7 @@ use Rattle.spec_rules.specs.Walking.{testKind, firstKind}
 use Rattle.spec_forgotten.specs.Values.{Value, anInteger, aByteString, whole, aList, aPair, aTuple, aConstructor, wholeKind, manyValues, areBytes, ofType, showsWhole, shows, lengthOf}
 use Rattle.spec_forgotten.specs.OpenedParts.{kinds-differ, integer-kind, bytes-kind, whole-kind}
 use Rattle.spec_forgotten.specs.Choosing.{Chosen, byTest, byLength, Node, nodeOf}
+use Rattle.spec_forgotten.specs.ReachingLaws.{no-node-there}
 
 unfoldable pub EachTest : (Test → Type 0) → Cases → Type 0
 EachTest P cnil = Unit {0}
@@ -101,9 +102,6 @@ module _ (s : List ℕ) where
   list-goes : (k t : ℕ) (cs ts : Cases) → typeKind s t ≡ 2 → (x : Value) → ofType s t x ≡ true → (o : Option Chosen) × (byLength k cs ts (lengthOf x) ≡ some o)
   unfolding byLength
   list-goes k t cs ts e x h = let (n, l) = has-length t e x h in rw l (_, refl)
-
-  no-node-there : (w : Node) → _≡_ {A = Option Node} none (some w) → ⊥
-  no-node-there w e = let z : _≡_ {A = ℕ} 0 1 = cc in absurd (omega arith)
 
   pub goes-on-somewhere : (k t : ℕ) (a : Tree) (w : Node) → nodeOf k a ≡ some w → NodeFits t a → (x : Value) → ofType s t x ≡ true
       → (o : Option Chosen) × (w .choose (shows x) (lengthOf x) ≡ some o)

@@ -2,10 +2,10 @@
 -- reached node is to reach from the root (`reach-through`). So from a reached switch a child is reached exactly if its branch is possible
 -- (`child-reached`, `child-unreached`), its default likewise (`default-reached`, `default-unreached`), and from a reached hoist its child always
 -- (`hoist-reached`).
-use Prim.Native.Nat.{ℕ, zero, suc, _+_, _≤_, _<_}
+use Prim.Native.Nat.{ℕ, suc, _+_, _≤_, _<_}
 use native.Mathlib.Omega.{arith}
-use mathlib.Core.Path.{_≡_, refl, sym, ap, _∙_}
-use mathlib.Core.Logic.{_⊎_, ⊎-elim}
+use mathlib.Core.Path.{_≡_, refl, ap, _∙_}
+use mathlib.Core.Logic.{⊎-elim}
 use mathlib.Core.Bool.{Bool, true, false, false≢true}
 use mathlib.Core.List.{List, [], _∷_}
 use mathlib.Core.Option.{Option, none, some}
@@ -56,6 +56,10 @@ module _ (s : List ℕ) where
         on = λ i low high. step i (omega (arith, r .from)) (omega (arith, r .to)) ∙ ap (onward k b) (r .on i low high);
       })
 
+  taken : (b : Bool) → b ≡ true → (o : Option Came) → ifSo b (λ on. o) (λ no. none) ≡ o
+  unfolding ifSo
+  taken b h o = rw h
+
   node-passes : (types : Path → ℕ) (k : ℕ) (a : Tree) (w : Node) → nodeOf k a ≡ some w → ((d : Chosen) → ChildOf k a d → Passes (d .tree)) → Passes (w .default)
       → (n : ℕ) (c : Came) → ReachedAt s types k a w n c → Through types k a n c
   node-passes types k a w e ih ihd n c (here m same) = itself types k a n c m same
@@ -66,18 +70,12 @@ module _ (s : List ℕ) where
       further types k a n c came (Case (d .index)) (d .node) (retyped s types (w .path) (d .test)) (d .tree) p (omega (arith, q, y))
       (λ m low high. reach-child s types k a w e m d is low high ∙ taken (possible s (types (w .path)) k a (Case (d .index))) can (onward k (Case (d .index)) (reach (d .tree) s (retyped s types (w .path) (d .test)) (d .node) m)))
       same (ih d is (retyped s types (w .path) (d .test)) (d .node) n came r)
-    where
-      taken : (b : Bool) → b ≡ true → (o : Option Came) → ifSo b (λ on. o) (λ no. none) ≡ o
-      taken b h o = unfold ifSo in (rw h)
   node-passes types k a w e ih ihd n c (by-default can onto) =
       let (came, r, same) = onward-some s k Fallback (reach (w .default) s types (w .next) n) c onto in
       let (x, y) = default-within k a w e in
       further types k a n c came Fallback (w .next) types (w .default) x (omega (arith, y))
       (λ m low high. reach-default s types k a w e m low ∙ taken (possible s (types (w .path)) k a Fallback) can (onward k Fallback (reach (w .default) s types (w .next) m)))
       same (ihd types (w .next) n came r)
-    where
-      taken : (b : Bool) → b ≡ true → (o : Option Came) → ifSo b (λ on. o) (λ no. none) ≡ o
-      taken b h o = unfold ifSo in (rw h)
 
   came-here : (x c : Came) → _≡_ {A = Option Came} (some x) (some c) → x ≡ c
   came-here x c e = cc

@@ -15,6 +15,9 @@ use Rattle.spec_forgotten.specs.Values.{Value, partAlong, shows, lengthO
 use Rattle.spec_forgotten.specs.PuttingLaws.{onShows}
 use Rattle.spec_forgotten.specs.Choosing.{Chosen, lookup, byTest, tailOf, orTail, byLength, Node, nodeOf}
 
+pub no-node-there : (w : Node) → _≡_ {A = Option Node} none (some w) → ⊥
+no-node-there w e = let z : _≡_ {A = ℕ} 0 1 = cc in absurd (omega arith)
+
 abbrev enter : ℕ → Option Chosen → Value → Ended → Ended
 enter k none v otherwise = otherwise
 enter k (some c) v otherwise = took k (Case (c .index)) (walkOn (c .node) (c .tree) v)
@@ -100,12 +103,9 @@ module _ (k : ℕ) (v : Value) where
       go none = refl
       go (some x) = long (lengthOf x)
 
-  none-node : (w : Node) → _≡_ {A = Option Node} none (some w) → ⊥
-  none-node w e = let z : _≡_ {A = ℕ} 0 1 = cc in absurd (omega arith)
-
   pub walk-node : (a : Tree) (w : Node) → nodeOf k a ≡ some w → walkOn k a v ≡ goOn k w v (chooseAt w v)
-  walk-node absent w e = absurd (none-node w (unfold nodeOf in e))
-  walk-node (leaf c bs) w e = absurd (none-node w (unfold nodeOf in e))
-  walk-node (hoist c bs a) w e = absurd (none-node w (unfold nodeOf in e))
+  walk-node absent w e = absurd (no-node-there w (unfold nodeOf in e))
+  walk-node (leaf c bs) w e = absurd (no-node-there w (unfold nodeOf in e))
+  walk-node (hoist c bs a) w e = absurd (no-node-there w (unfold nodeOf in e))
   walk-node (switch p cs d) w e = walk-switch p cs d w e
   walk-node (listswitch p cs ts d) w e = walk-list p cs ts d w e

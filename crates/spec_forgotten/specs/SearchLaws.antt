@@ -21,6 +21,7 @@ use Rattle.spec_match.specs.ColumnTypes.{retyped}
 use Rattle.spec_forgotten.specs.Values.{Value, shows, lengthOf, ofType, Passed}
 use Rattle.spec_forgotten.specs.Forgetting.{NoHollow}
 use Rattle.spec_forgotten.specs.Choosing.{Chosen, byTest, byLength, Node, nodeOf}
+use Rattle.spec_forgotten.specs.ReachingLaws.{no-node-there}
 use Rattle.spec_forgotten.specs.NodesFit.{NodeFits}
 use Rattle.spec_forgotten.specs.FallingLaws.{Tested, Child, child, Rest, rest, Goes, goes-hoist, goes-out, goes-case, goes-on, node-tested, hoist-tested}
 use Rattle.spec_forgotten.specs.Shapes.{shapeOf, chooseIn, branchIs, possible}
@@ -95,9 +96,6 @@ module _ (s : List ℕ) where
     here : n ≡ k → record { types = types; tree = a; way = [] } ≡ c → ReachedAt types k a w n c
     by-child : (d : Chosen) → ChildOf k a d → possible s (types (w .path)) k a (Case (d .index)) ≡ true → came-by d types (w .path) k n ≡ some c → ReachedAt types k a w n c
     by-default : possible s (types (w .path)) k a Fallback ≡ true → onward k Fallback (reach (w .default) s types (w .next) n) ≡ some c → ReachedAt types k a w n c
-
-  no-node-there : (w : Node) → _≡_ {A = Option Node} none (some w) → ⊥
-  no-node-there w e = let z : _≡_ {A = ℕ} 0 1 = cc in absurd (omega arith)
 
   module _ (types : Path → ℕ) (k n : ℕ) (c : Came) where
     default-at : (a : Tree) (w : Node) (b : Bool) → possible s (types (w .path)) k a Fallback ≡ b
