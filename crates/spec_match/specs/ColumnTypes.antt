@@ -48,7 +48,8 @@ plain-columns p (constructor m a qs) h = absurd (false≢true h)
 plain-columns p (opened m o qs) h = absurd (false≢true h)
 
 -- ---- a path with p taken off its start
-stripped : Path → Path → Option Path
+unfoldable pub stripped : Path → Path → Option Path
+unfolding sameStep
 stripped [] z = some z
 stripped (w ∷ p) [] = none
 stripped (w ∷ p) (y ∷ z) = elim (sameStep w y) [ true ↦ stripped p z | false ↦ none ]
@@ -80,7 +81,7 @@ caseStep (Bytes w) t i = list i t
 caseStep (ListOf n) t i = list i t
 caseStep (ListWithTail n) t i = list i t
 
-caseStep-index : (u : Test) (t i : ℕ) → stepIndex (caseStep u t i) ≡ i
+pub caseStep-index : (u : Test) (t i : ℕ) → stepIndex (caseStep u t i) ≡ i
 unfolding caseStep stepIndex
 caseStep-index (Constr a) t i = refl
 caseStep-index (Int w) t i = refl
@@ -103,7 +104,7 @@ module _ (s : List ℕ) where
   unfolding constructorOf
   openPart t i = pick (oneConstructor s t) (entry s (constructorFirst s (constructorOf s t 0) + i)) (entry s (typeFirst s t + i))
 
-  openStep-index : (t i : ℕ) → stepIndex (openStep t i) ≡ i
+  pub openStep-index : (t i : ℕ) → stepIndex (openStep t i) ≡ i
   unfolding openStep stepIndex
   openStep-index t i = go (eqb (typeKind s t) pairType) (eqb (typeKind s t) tupleType)
     where
@@ -235,10 +236,10 @@ module _ (s : List ℕ) where
   opened-placed p (opened m o qs) t u h c = tt
 
   -- ---- the paths below p that a case opens are the same or apart
-  abbrev NewPath : Path → Test → ℕ → Path → Type 0
+  abbrev pub NewPath : Path → Test → ℕ → Path → Type 0
   NewPath p u t z = (i : ℕ) × (x : Path) × (z ≡ p ++ caseStep u t i ∷ x) × Legal (casePart u t i) x
 
-  new-beside : (p : Path) (u : Test) (t : ℕ) (y z : Path) → NewPath p u t y → NewPath p u t z → SameOrApart y z
+  pub new-beside : (p : Path) (u : Test) (t : ℕ) (y z : Path) → NewPath p u t y → NewPath p u t z → SameOrApart y z
   new-beside p u t y z (i, x, e, l) (j, w, f, k) = rw (e, f) (start-same p (caseStep u t i ∷ x) (caseStep u t j ∷ w) (go (eqb i j) refl))
     where
       go : (b : Bool) → eqb i j ≡ b → SameOrApart (caseStep u t i ∷ x) (caseStep u t j ∷ w)
@@ -249,25 +250,27 @@ module _ (s : List ℕ) where
   new-apart p u t z a y (i, x, e, l) = rw e (apart-longer p z a (caseStep u t i ∷ x))
 
   -- ---- the type at a path: where p is tested, what lies below it is typed anew
-  underCase : Test → ℕ → Path → ℕ
+  unfoldable pub underCase : Test → ℕ → Path → ℕ
+  unfolding casePart stepIndex openPart
   underCase u t [] = t
   underCase u t (w ∷ x) = typeAfter (casePart u t (stepIndex w)) x
 
-  retyped : (Path → ℕ) → Path → Test → Path → ℕ
+  unfoldable pub retyped : (Path → ℕ) → Path → Test → Path → ℕ
+  unfolding stripped underCase
   retyped types p u z = elim (stripped p z) [ none ↦ types z | some x ↦ underCase u (types p) x ]
 
-  retyped-apart : (types : Path → ℕ) (p : Path) (u : Test) (z : Path) → Apart p z → retyped types p u z ≡ types z
+  pub retyped-apart : (types : Path → ℕ) (p : Path) (u : Test) (z : Path) → Apart p z → retyped types p u z ≡ types z
   unfolding retyped
   retyped-apart types p u z a = rw (stripped-apart p z a, retyped)
 
-  retyped-new : (types : Path → ℕ) (p : Path) (u : Test) (i : ℕ) (x : Path)
+  pub retyped-new : (types : Path → ℕ) (p : Path) (u : Test) (i : ℕ) (x : Path)
       → retyped types p u (p ++ caseStep u (types p) i ∷ x) ≡ typeAfter (casePart u (types p) i) x
   unfolding retyped underCase
   retyped-new types p u i x =
       rw (stripped-under p (caseStep u (types p) i ∷ x), retyped) (ap (λ j. typeAfter (casePart u (types p) j) x) (caseStep-index u (types p) i))
 
   -- ---- a matrix whose columns are apart, and whose tests at one path are of one type
-  abbrev TypedBy : (Path → ℕ) → Cell → Type 0
+  abbrev pub TypedBy : (Path → ℕ) → Cell → Type 0
   TypedBy types c = Resolved (c .pattern) (types (c .path))
 
   pub record Sound (ps : List Path) (rs : List Row) : Type 0 where
@@ -286,10 +289,10 @@ module _ (s : List ℕ) where
       (λ c (i, x, e, l, k). rw (e, retyped-new types p u i x) k) cs h
 
   -- the pattern in the column is of the column's type
-  column-typed : (types : Path → ℕ) (p : Path) (r : Row) (q : Pat) → testAt p (r .tests) ≡ some q → All (TypedBy types) (r .tests) → Resolved q (types p)
+  pub column-typed : (types : Path → ℕ) (p : Path) (r : Row) (q : Pat) → testAt p (r .tests) ≡ some q → All (TypedBy types) (r .tests) → Resolved q (types p)
   column-typed types p r q x h = taken-has (TypedBy types) p q (r .tests) (take-test p (r .tests) q x) h
 
-  case-opens-placed : (types : Path → ℕ) (p : Path) (u : Test) (rs : List Row) → All (λ r. All (TypedBy types) (r .tests)) rs
+  pub case-opens-placed : (types : Path → ℕ) (p : Path) (u : Test) (rs : List Row) → All (λ r. All (TypedBy types) (r .tests)) rs
       → All (PlacedIn p (caseStep u (types p)) (casePart u (types p))) (caseOpens p u rs)
   unfolding caseOpens
   case-opens-placed types p u [] h = tt
@@ -306,7 +309,7 @@ module _ (s : List ℕ) where
           test true y = rw (x, y, caseOpens) (all-append P (openedColumns p q) (caseOpens p u rs) (opened-placed p q (types p) u (column-typed types p r q x (h .0)) y) ih)
           test false y = rw (x, y, caseOpens) ih
 
-  sound-case : (ps : List Path) (rs : List Row) (p : Path) (u : Test) → isColumn p ps ≡ true → Sound ps rs → Sound (caseColumns p u ps rs) (caseRows p u rs)
+  pub sound-case : (ps : List Path) (rs : List Row) (p : Path) (u : Test) → isColumn p ps ≡ true → Sound ps rs → Sound (caseColumns p u ps rs) (caseRows p u rs)
   unfolding caseColumns
   sound-case ps rs p u k h =
       record {
@@ -345,7 +348,7 @@ module _ (s : List ℕ) where
           (keep-typed (h .types) p u (withoutTest p (r .tests)) (taken-tidy p q (r .tests) (take-test p (r .tests) q x) (n .0) .0)
           (others-have (TypedBy (h .types)) p q (r .tests) (take-test p (r .tests) q x) w)))
 
-  sound-default : (ps : List Path) (rs : List Row) (p : Path) → isColumn p ps ≡ true → Sound ps rs → Sound (without p ps) (defaultRows p rs)
+  pub sound-default : (ps : List Path) (rs : List Row) (p : Path) → isColumn p ps ≡ true → Sound ps rs → Sound (without p ps) (defaultRows p rs)
   sound-default ps rs p k h =
       record {
         types = h .types;
@@ -353,6 +356,16 @@ module _ (s : List ℕ) where
         neat = default-neat p ps rs (h .neat);
         typed = default-all (λ r. All (TypedBy (h .types)) (r .tests)) (λ r. All (TypedBy (h .types)) (r .tests)) p (λ r x w. w) rs (h .typed);
       }
+
+  -- the types of a case's columns, and of the default's
+  pub case-types : (ps : List Path) (rs : List Row) (p : Path) (u : Test) (k : isColumn p ps ≡ true) (h : Sound ps rs)
+      → (sound-case ps rs p u k h) .types ≡ retyped (h .types) p u
+  unfolding sound-case
+  case-types ps rs p u k h = refl
+
+  pub default-types : (ps : List Path) (rs : List Row) (p : Path) (k : isColumn p ps ≡ true) (h : Sound ps rs) → (sound-default ps rs p k h) .types ≡ h .types
+  unfolding sound-default
+  default-types ps rs p k h = refl
 
   -- the rows of clauses whose patterns are resolved against one type
   module _ (t : ℕ) where
@@ -371,7 +384,7 @@ module _ (s : List ℕ) where
         all-append (λ d. Legal t (d .path)) (columnsOf [] q) (allTests (clauseRows (c + 1) qs))
         (all-map (Placed [] t) (λ d. Legal t (d .path)) (λ d (x, e, l, r). rw e l) (columnsOf [] q) (columnsOf-placed [] q t (h .0))) (rows-legal (c + 1) qs (h .1))
 
-    sound-root : (qs : List Pat) → All (λ q. Resolved q t) qs → Sound (columns (clauseRows 0 qs)) (clauseRows 0 qs)
+    pub sound-root : (qs : List Pat) → All (λ q. Resolved q t) qs → Sound (columns (clauseRows 0 qs)) (clauseRows 0 qs)
     unfolding columns
     sound-root qs h =
         record {
@@ -380,6 +393,10 @@ module _ (s : List ℕ) where
           neat = unfold columns in (clauseRows-neat 0 qs);
           typed = rows-typed 0 qs h;
         }
+
+    pub root-types : (qs : List Pat) (h : All (λ q. Resolved q t) qs) → (sound-root qs h) .types ≡ typeAfter t
+    unfolding sound-root
+    root-types qs h = refl
 
 -- ---- the matrices that a tree is built from
 pub data Meets (qs : List Pat) : List Path → List Row → Type 0 where

@@ -1,0 +1,1 @@
+// The panels that a sheet forgets: this crate is its specs/.
