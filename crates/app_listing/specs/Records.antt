@@ -3,11 +3,13 @@
 use mathlib.Core.Bool.{Bool, true, false}
 use mathlib.Core.List.{List, [], _∷_, _++_}
 use Prim.Native.Nat.{ℕ, _+_, _<_, _≤_}
+use lib.Dec.{eqb}
 use Rattle.base_words.specs.Words.{textAt}
+use Rattle.spec_rules.specs.Kinds.{intCase}
 use Rattle.spec_rules.specs.TreeReader.{treePoolAt, nodeKind, nodeKindOf, caseTest, caseChild, bindingName, bindingPath, pathAt}
 use Rattle.spec_rules.specs.Listing.{switchWord, listswitchWord, leafWord, hoistWord, thenWord, ConstrTest, IntTest, BytesTest, ListTest, ListWithTailTest, decimal, hex, pathText, testText, casesText, bindingsText, defaultText, nodeText}
 use Rattle.format_tree.specs.declared.layout.Map.{Map}
-use Rattle.format_tree.specs.declared.reading.Test.{Test}
+use Rattle.format_records.specs.declared.reading.Test.{Test}
 use Rattle.format_tree.specs.declared.reading.Node.{Node}
 
 -- ` TEST:CHILD`
@@ -29,14 +31,14 @@ textTest false w = BytesTest ++ (hex w ++ 41 ∷ [])
 
 abbrev pub testRead : List ℕ → Test → List ℕ
 testRead t (Test.Constr a) = ConstrTest ++ (decimal a ++ 41 ∷ [])
-testRead t (Test.Text integer start count) = textTest integer (textAt t (treePoolAt t + start) count)
+testRead t (Test.Text kind start count) = textTest (eqb kind intCase) (textAt t (treePoolAt t + start) count)
 testRead t (Test.List n) = ListTest ++ (decimal n ++ 41 ∷ [])
 testRead t (Test.Tailed n) = ListWithTailTest ++ (decimal n ++ 41 ∷ [])
 
 -- its text lies in the pool
 abbrev pub TestInside : Map → Test → Type 0
 TestInside m (Test.Constr a) = Unit {0}
-TestInside m (Test.Text integer start count) = start + count ≤ m .pool .count
+TestInside m (Test.Text kind start count) = start + count ≤ m .pool .count
 TestInside m (Test.List n) = Unit {0}
 TestInside m (Test.Tailed n) = Unit {0}
 

@@ -1,7 +1,6 @@
 -- A run of records is written record by record; a path by its steps; and a test and a node are written as the reader gives them.
 -- Rests on the rules' definitions of a listing and on what a file has whose records keep the rules.
 use mathlib.Core.Path.{_≡_, refl, sym, ap, ap₂, _∙_}
-use mathlib.Core.Bool.{Bool}
 use mathlib.Core.List.{List, [], _∷_, _++_, append-assoc}
 use Prim.Native.Nat.{ℕ, suc, _+_, _-_, _≤_, _<_}
 use native.Mathlib.Omega.{arith}
@@ -10,19 +9,20 @@ use borrow.Author.Tests.{ne-eqb}
 use lib.Dec.{eqb}
 use lib.ListN.{length}
 use Rattle.base_words.specs.Words.{textAt}
-use Rattle.spec_rules.specs.Kinds.{hoistNode, listWithTailCase, pairStep, tupleStep, constrStep, listStep}
-use Rattle.spec_rules.specs.TreeReader.{nodes, cases, nodeKind, nodeTailCases, nodeCases, NodeKind, Switch, List-switch, Leaf, Hoist-node, Unknown-node, nodeKindOf, nodePath, nodeFirstCase, nodeDefault, caseKind, CaseKind, Constr-case, Int-case, Bytes-case, List-case, List-with-tail-case, Unknown-case, caseKindOf, testOfKind, caseText, caseTest, caseChild, stepOfFields, stepAt, stepsFrom, pathAt}
+use Rattle.spec_rules.specs.Kinds.{hoistNode, intCase, listWithTailCase, pairStep, tupleStep, constrStep, listStep}
+use Rattle.spec_rules.specs.TreeReader.{nodes, cases, nodeKind, nodeTailCases, nodeCases, NodeKind, Switch, List-switch, Leaf, Hoist-node, Unknown-node, nodeKindOf, nodePath, nodeFirstCase, nodeDefault, caseKind, caseNumber, caseLength, CaseKind, Constr-case, Int-case, Bytes-case, List-case, List-with-tail-case, Unknown-case, caseKindOf, testOfKind, caseText, caseTest, caseChild, stepOfFields, stepAt, stepsFrom, pathAt}
 use Rattle.spec_rules.specs.Listing.{treeWord, refusedWord, trueFlag, falseFlag, switchWord, elseWord, pairStepWord, tupleStepWord, constrStepWord, listStepWord, listtailStepWord, decimal, flagText, stepText, moreSteps, pathText, testText, casesText, bindingsText, defaultText, switchText, nodeText, nodeLines, firstLine, listing, refusedLine}
 use Rattle.spec_accepted.specs.KindsLaws.{node-byte, unknown-node, case-byte, unknown-case}
 use Rattle.format_tree.specs.declared.layout.Map.{Map}
-use Rattle.format_tree.specs.declared.reading.Test.{Test}
+use Rattle.format_records.specs.declared.reading.Test.{Test}
 use Rattle.format_tree.specs.declared.reading.Node.{Node}
-use Rattle.format_tree.specs.declared.reading.Step.{Step}
-use Rattle.format_tree.specs.declared.reading.Path.{Path}
-use Rattle.format_tree.specs.declared.reading.Case.{Case}
-use Rattle.format_tree.specs.declared.reading.Binding.{Binding}
+use Rattle.format_records.specs.declared.reading.Step.{Step}
+use Rattle.format_records.specs.declared.reading.Path.{Path}
+use Rattle.format_records.specs.declared.reading.Case.{Case}
+use Rattle.format_records.specs.declared.reading.Binding.{Binding}
 use Rattle.spec_accepted.specs.TreeFacts.{stepsFrom-some}
-use Rattle.format_tree.specs.Reading.{Mapped, Ruled, stepOf, pathOf, bindingOf, testOfFields, caseOf, nodeOfFields, nodeOf}
+use Rattle.format_records.specs.Records.{testFrom}
+use Rattle.format_tree.specs.Reading.{Mapped, Ruled, stepOf, pathOf, bindingOf, caseOf, nodeOfFields, nodeOf}
 use Rattle.format_tree.specs.ReadingLaws.{nodes-count, cases-count, bindings-count, paths-count, steps-count, pool-start, pool-count}
 use Rattle.app_listing.specs.Records.{caseLine, bindingLine, nodeLine, textTest, testRead, TestInside, switchRead, nodeRead, NodeInside}
 
@@ -164,9 +164,9 @@ module _ {t : List ℕ} {m : Map} (mapped : Mapped t m) (start count : ℕ) wher
   pub text-inside : start + count ≤ m .pool .count → m .pool .start + start + count ≤ length t
   text-inside h = omega (arith, mapped .pool-end)
 
-  pub text-read : (integer : Bool)
-      → textTest integer (textAt t (m .pool .start + start) (m .pool .start + start + count - (m .pool .start + start))) ≡ testRead t (Test.Text integer start count)
-  text-read integer =
+  pub text-read : (kind : ℕ)
+      → textTest (eqb kind intCase) (textAt t (m .pool .start + start) (m .pool .start + start + count - (m .pool .start + start))) ≡ testRead t (Test.Text kind start count)
+  text-read kind =
       let e : m .pool .start + start + count - (m .pool .start + start) ≡ count = omega arith in
       rw (e, pool-start mapped)
 
@@ -175,11 +175,11 @@ module _ {t : List ℕ} {m : Map} (ruled : Ruled t m) (i : ℕ) (h : i < m .case
   in-cases : i < cases t
   in-cases = omega (arith, cases-count (ruled .mapped))
 
-  pub case-kind-known : caseKind t i ≤ listWithTailCase
+  case-kind-known : caseKind t i ≤ listWithTailCase
   case-kind-known = ruled .rules .case-kind i in-cases
 
-  case-read-of : (kind : CaseKind) → caseKindOf (caseKind t i) ≡ kind → testRead t (testOfFields t i kind) ≡ testText (testOfKind t i kind)
-  unfolding testOfFields testText testOfKind caseText
+  case-read-of : (kind : CaseKind) → caseKindOf (caseKind t i) ≡ kind → testRead t (testFrom kind (caseNumber t i) (caseLength t i)) ≡ testText (testOfKind t i kind)
+  unfolding testFrom testText testOfKind caseText
   case-read-of Constr-case e = refl
   case-read-of Int-case e = refl
   case-read-of Bytes-case e = refl
@@ -187,8 +187,8 @@ module _ {t : List ℕ} {m : Map} (ruled : Ruled t m) (i : ℕ) (h : i < m .case
   case-read-of List-with-tail-case e = refl
   case-read-of Unknown-case e = absurd (omega (arith, case-kind-known, unknown-case (caseKind t i) e))
 
-  case-inside-of : (kind : CaseKind) → caseKindOf (caseKind t i) ≡ kind → TestInside m (testOfFields t i kind)
-  unfolding testOfFields
+  case-inside-of : (kind : CaseKind) → caseKindOf (caseKind t i) ≡ kind → TestInside m (testFrom kind (caseNumber t i) (caseLength t i))
+  unfolding testFrom
   case-inside-of Constr-case e = tt
   case-inside-of Int-case e =
       let k = case-byte (caseKind t i) Int-case e (omega arith) in

@@ -5,9 +5,10 @@ use crate::texts::put_decimal;
 use crate::texts::put_hex;
 use crate::texts::put_numbered;
 use crate::texts::put_text;
+use base_numbers::case_kinds;
 use base_numbers::step_kinds;
+use format_records::reading::Test;
 use format_tree::layout::Map;
-use format_tree::reading::Test;
 use format_tree::reading::binding_at;
 use format_tree::reading::case_at;
 use format_tree::reading::path_at;
@@ -106,14 +107,10 @@ fn put_test(out: &mut [u8], at: usize, tree: &[u8], m: Map, test: Test) -> usize
 {
     match test {
         Test::Constr(number) => put_number_test(out, at, b"Constr(", number),
-        Test::Text {
-            integer,
-            start,
-            count,
-        } => {
+        Test::Text { kind, start, count } => {
             let from = m.pool.start + start as usize;
             let to = from + count as usize;
-            put_text_test(out, at, integer, &tree[from..to])
+            put_text_test(out, at, kind == case_kinds::INT, &tree[from..to])
         }
         Test::List(number) => put_number_test(out, at, b"List(", number),
         Test::Tailed(number) => put_number_test(out, at, b"ListWithTail(", number),

@@ -14,6 +14,7 @@ pub mod sheet;
 pub mod sheet_starts;
 pub mod step_kinds;
 pub mod tree;
+pub mod tree_fields;
 pub mod tree_starts;
 pub mod tree_trailer;
 pub mod type_fields;

@@ -19,4 +19,7 @@ pub const BINDINGS: usize = 2;
 // Of a hoist alone.
 pub const CHILD: usize = 3;
 
+// Of neither.
+pub const UNUSED: usize = 4;
+
 pub const NODE_WORDS: usize = 5;

@@ -2,24 +2,24 @@
 -- records as a tree may have. They are those of the tree file over another table of paths.
 use Prim.Native.Nat.{ℕ, _+_, _*_}
 use mathlib.Core.List.{List}
-use lib.ListN.{getD}
-use Rattle.base_words.specs.Words.{wordAt}
 use Rattle.spec_rules.specs.Limits.{nodesMost, bindingsMost, nodeSize, caseSize, bindingSize}
 use Rattle.spec_rules.specs.Rows.{Path}
 use Rattle.spec_rules.specs.Building.{Tree, Cases}
 use Rattle.spec_file.specs.TreeStands.{Starts, TreeStands, TreeStandsOf}
+use Rattle.format_records.specs.declared.reading.Case.{Case}
+use Rattle.format_records.specs.declared.reading.Binding.{Binding}
+use Rattle.format_records.specs.Records.{kindIn, nodeWordIn, caseNumberIn, caseLengthIn, caseChildIn, caseIn, bindingIn}
 
 -- ---- the sections
--- there is room for 1,024 nodes
+-- each case has a node of its own, so that a tree has fewer cases than nodes
+abbrev pub casesMost : ℕ
+casesMost = nodesMost
+
 abbrev pub nodesStart : ℕ
 nodesStart = 0
 
 abbrev pub casesStart : ℕ
 casesStart = nodesStart + nodeSize * nodesMost
-
--- 1,024 cases: each has a node of its own, so that a tree has fewer cases than nodes
-abbrev pub casesMost : ℕ
-casesMost = nodesMost
 
 abbrev pub bindingsStart : ℕ
 bindingsStart = casesStart + caseSize * casesMost
@@ -30,43 +30,36 @@ arenaEnd = bindingsStart + bindingSize * bindingsMost
 abbrev pub arenaStarts : Starts
 arenaStarts = record { nodes = nodesStart; cases = casesStart; bindings = bindingsStart }
 
--- ---- fields of records, as a tree file has them
-unfoldable pub nodeKind : List ℕ → ℕ → ℕ
-nodeKind w k = getD w (nodeSize * k) 0
+-- ---- records, each at its place
+abbrev pub nodeKind : List ℕ → ℕ → ℕ
+nodeKind w k = kindIn w (nodeSize * k)
 
-unfoldable pub nodeZero : List ℕ → ℕ → ℕ
-nodeZero w k = getD w (nodeSize * k + 1) 0
+abbrev pub nodeWord : List ℕ → ℕ → ℕ → ℕ
+nodeWord w k i = nodeWordIn w (nodeSize * k) i
 
--- the five words of a node are numbered from 0
-unfoldable pub nodeWord : List ℕ → ℕ → ℕ → ℕ
-unfolding wordAt
-nodeWord w k i = wordAt w (nodeSize * k + 2 + 2 * i)
+abbrev pub caseKind : List ℕ → ℕ → ℕ
+caseKind w i = kindIn w (casesStart + caseSize * i)
 
-unfoldable pub caseKind : List ℕ → ℕ → ℕ
-caseKind w i = getD w (casesStart + caseSize * i) 0
+abbrev pub caseNumber : List ℕ → ℕ → ℕ
+caseNumber w i = caseNumberIn w (casesStart + caseSize * i)
 
-unfoldable pub caseZero : List ℕ → ℕ → ℕ
-caseZero w i = getD w (casesStart + caseSize * i + 1) 0
+abbrev pub caseLength : List ℕ → ℕ → ℕ
+caseLength w i = caseLengthIn w (casesStart + caseSize * i)
 
-unfoldable pub caseNumber : List ℕ → ℕ → ℕ
-unfolding wordAt
-caseNumber w i = wordAt w (casesStart + caseSize * i + 2)
+abbrev pub caseChild : List ℕ → ℕ → ℕ
+caseChild w i = caseChildIn w (casesStart + caseSize * i)
 
-unfoldable pub caseLength : List ℕ → ℕ → ℕ
-unfolding wordAt
-caseLength w i = wordAt w (casesStart + caseSize * i + 4)
+abbrev pub caseOf : List ℕ → ℕ → Case
+caseOf w i = caseIn w (casesStart + caseSize * i)
 
-unfoldable pub caseChild : List ℕ → ℕ → ℕ
-unfolding wordAt
-caseChild w i = wordAt w (casesStart + caseSize * i + 6)
+abbrev pub bindingOf : List ℕ → ℕ → Binding
+bindingOf w b = bindingIn w (bindingsStart + bindingSize * b)
 
-unfoldable pub bindingName : List ℕ → ℕ → ℕ
-unfolding wordAt
-bindingName w b = wordAt w (bindingsStart + bindingSize * b)
+abbrev pub bindingName : List ℕ → ℕ → ℕ
+bindingName w b = bindingOf w b .name
 
-unfoldable pub bindingPath : List ℕ → ℕ → ℕ
-unfolding wordAt
-bindingPath w b = wordAt w (bindingsStart + bindingSize * b + 2)
+abbrev pub bindingPath : List ℕ → ℕ → ℕ
+bindingPath w b = bindingOf w b .path
 
 -- ---- a tree in the arena
 -- the records of the tree a, whose first node is k, first case c and first binding b; a path is its number in the table

@@ -18,7 +18,7 @@ use Rattle.spec_file.specs.StandingLaws.{Stands}
 use Rattle.spec_file.specs.TreeStands.{TreeStands}
 use Rattle.spec_file.specs.TreeStandsLaws.{own-rest}
 use Rattle.build_arena.specs.Arena.{casesStart, casesMost, bindingsStart, arenaEnd, nodeWord, caseChild, Held, HeldOf}
-use Rattle.build_arena.specs.RecordsLaws.{node-is, own-first}
+use Rattle.build_arena.specs.RecordsLaws.{node-held, own-first}
 use Rattle.build_arena.specs.WritingLaws.{stands-nothing}
 use Rattle.build_arena.specs.Numbered.{subtrees, subtreesOf, subtreeAt, Within, Each, joined, isSwitch, casesUnder, defaultUnder, caseAt, nodesBefore, AllThere, HeldAt, LeafNode, SwitchNode, ChildNode, Nodes}
 
@@ -276,7 +276,7 @@ pub leaf-node : (w : List ℕ) (table : List Path) (cases bindings j x : ℕ) (b
     → HeldAt w table cases bindings j (leaf x bs) → LeafNode w table bindings j x bs
 unfolding TreeStands bindingsIn
 leaf-node w table cases bindings j x bs r h =
-    let n = node-is (h .held .0) in
+    let n = node-held j (h .held .0) in
     record {
       kind-is = n .kind-is;
       clause-is = n .word-0;
@@ -294,7 +294,7 @@ switch-node w table cases bindings j absent e r h = absurd (false≢true e)
 switch-node w table cases bindings j (leaf c bs) e r h = absurd (false≢true e)
 switch-node w table cases bindings j (hoist c bs a) e r h = absurd (false≢true e)
 switch-node w table cases bindings j (switch p cs d) e r h =
-    let n = node-is (h .held .0) in
+    let n = node-held j (h .held .0) in
     record {
       kind-is = omega (arith, n .kind-is);
       count-is = omega (arith, n .word-2, n .word-3);
@@ -303,7 +303,7 @@ switch-node w table cases bindings j (switch p cs d) e r h =
       default-is = n .word-4;
     }
 switch-node w table cases bindings j (listswitch p cs ts d) e r h =
-    let n = node-is (h .held .0) in
+    let n = node-held j (h .held .0) in
     let m = howMany-joined cs ts in
     let first : nodeWord w j firstCaseWord ≡ firstOf (howMany (joined cs ts)) (h .first-case) = n .word-1 ∙ ap (λ z. firstOf z (h .first-case)) (sym m) in
     let own : Stands w (casesStart + caseSize * h .first-case) (ownCases (j + 1) (joined cs ts)) = rw (ownCases-joined (j + 1) (j + 1 + nodesInOf cs) cs ts refl) (h .held .1) in

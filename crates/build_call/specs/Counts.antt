@@ -13,5 +13,4 @@ isMarked mark = not (eqb mark 0)
 
 -- none where the number is no node's
 unfoldable pub leafBindings : List ℕ → ℕ → ℕ
-unfolding nodeWord
 leafBindings w leaf = pick (leb nodesMost leaf) 0 (nodeWord w leaf bindingsWord)

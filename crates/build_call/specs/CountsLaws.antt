@@ -42,7 +42,7 @@ some-leaf w k l = rw (lt-leb nodesMost k l)
 
 -- a word, and so below 65,536
 pub leaf-most : (w : List ℕ) (k : ℕ) → Bytes w → leafBindings w k ≤ 65535
-unfolding leafBindings nodeWord
+unfolding leafBindings
 leaf-most w k b = go (leb nodesMost k) refl
   where
     go : (x : Bool) → leb nodesMost k ≡ x → pick x 0 (nodeWord w k bindingsWord) ≤ 65535

@@ -10,11 +10,11 @@ use Rattle.spec_rules.specs.Kinds.{constrCase, intCase, bytesCase, listCase, li
 use Rattle.spec_rules.specs.SheetFile.{poolSize, poolText}
 use Rattle.spec_rules.specs.Splitting.{Test, Constr, Int, Bytes, ListOf, ListWithTail, Met, sameTest}
 use Rattle.build_arena.specs.Arena.{caseKind, caseNumber, caseLength}
-use Rattle.build_arena.specs.declared.reading.Test as arena
-use Rattle.build_arena.specs.Reading.{kindOf, numberOf, lengthOf}
+use Rattle.format_records.specs.declared.reading.Test as tests
+use Rattle.format_records.specs.Records.{kindOf, numberOf, lengthOf}
 use Rattle.build_cases.specs.declared.search.Fields.{Fields}
 
-abbrev pub fieldsOf : arena.Test → Fields
+abbrev pub fieldsOf : tests.Test → Fields
 fieldsOf test = record { kind = kindOf test; number = numberOf test; len = lengthOf test }
 
 abbrev pub isText : ℕ → Bool
@@ -45,11 +45,10 @@ pub record Fit (s : List ℕ) (kind number len : ℕ) : Type 0 where
 -- ---- the search
 -- case i may have the test: it has its kind and length, and what is no text its number
 unfoldable pub isAlike : List ℕ → ℕ → ℕ → ℕ → ℕ → Bool
-unfolding caseKind caseNumber caseLength
 isAlike w i kind number len = both (eqb (caseKind w i) kind) (both (eqb (caseLength w i) len) (either (isText kind) (eqb (caseNumber w i) number)))
 
 unfoldable pub hasTest : List ℕ → List ℕ → ℕ → ℕ → ℕ → ℕ → Bool
-unfolding sameTest testIn caseKind caseNumber caseLength
+unfolding sameTest testIn
 hasTest s w kind number len i = sameTest (testIn s kind number len) (testIn s (caseKind w i) (caseNumber w i) (caseLength w i))
 
 -- the first from i on, of n, of which f holds; or where they end

@@ -19,8 +19,8 @@ use Rattle.spec_accepted.specs.SheetFacts.{Laid, text-inside}
 use Rattle.spec_file.specs.Writable.{testKind}
 use Rattle.spec_file.specs.RecordsLaws.{testNumber, testLength}
 use Rattle.build_arena.specs.Arena.{caseKind, caseNumber, caseLength}
-use Rattle.build_arena.specs.declared.reading.Test as arena
-use Rattle.build_arena.specs.Reading.{kindOf, numberOf, lengthOf}
+use Rattle.format_records.specs.declared.reading.Test as tests
+use Rattle.format_records.specs.Records.{kindOf, numberOf, lengthOf}
 use Rattle.build_cases.specs.declared.search.Fields.{Fields}
 use Rattle.build_cases.specs.Fields.{fieldsOf, isText, testIn, startIn, Fit, isAlike, hasTest, firstWhere}
 
@@ -168,7 +168,7 @@ module _ {s : List ℕ} (laid : Laid s) (w : List ℕ) (i : ℕ) {kind number le
 
 -- ---- the same, of what was read
 -- the fields of a test, and what they were asked for
-module _ (test : arena.Test) (f : Fields) (is : f ≡ fieldsOf test) where
+module _ (test : tests.Test) (f : Fields) (is : f ≡ fieldsOf test) where
   pub fields-fit : {s : List ℕ} → Fit s (kindOf test) (numberOf test) (lengthOf test) → Fit s (f .kind) (f .number) (f .len)
   fields-fit h = rw is h
 

@@ -9,7 +9,7 @@ use Rattle.spec_rules.specs.Kinds.{integerPattern, byteStringPattern, listPatte
 use Rattle.spec_rules.specs.Splitting.{Test, ListOf, ListWithTail, Met, rising, taillessLength, tailedLength, larger, longest, meet}
 use Rattle.spec_match.specs.Depth.{isTail, isExact}
 use Rattle.format_sheet.specs.declared.records.PatternRecord.{PatternRecord}
-use Rattle.build_arena.specs.declared.reading.Test as arena
+use Rattle.format_records.specs.declared.reading.Test as tests
 use Rattle.build_table.specs.Standing.{patternOf}
 use Rattle.build_matrix.specs.declared.Held.{Held}
 use Rattle.build_matrix.specs.declared.Held.the-variants.{Test as HeldTest, Wildcard}
@@ -17,12 +17,12 @@ use Rattle.build_cases.specs.declared.tests.Longest.{Longest}
 use Rattle.build_cases.specs.Passes.{meetRow, meetRows, upTo}
 
 -- the test of a pattern without a tail
-abbrev pub exactTest : PatternRecord → arena.Test
+abbrev pub exactTest : PatternRecord → tests.Test
 exactTest r =
-    pick (eqb (r .kind) integerPattern) (arena.Test.Text intCase (r .first) (r .count))
-    (pick (eqb (r .kind) byteStringPattern) (arena.Test.Text bytesCase (r .first) (r .count))
-    (pick (eqb (r .kind) listPattern) (arena.Test.List (r .count))
-    (arena.Test.Constr (r .a))))
+    pick (eqb (r .kind) integerPattern) (tests.Test.Text intCase (r .first) (r .count))
+    (pick (eqb (r .kind) byteStringPattern) (tests.Test.Text bytesCase (r .first) (r .count))
+    (pick (eqb (r .kind) listPattern) (tests.Test.List (r .count))
+    (tests.Test.Constr (r .a))))
 
 -- fields that two bytes hold
 pub record Small (r : PatternRecord) : Type 0 where
@@ -40,9 +40,9 @@ abbrev pub listTest : Bool → ℕ → Test
 listTest true n = ListWithTail n
 listTest false n = ListOf n
 
-abbrev pub arenaListTest : Bool → ℕ → arena.Test
-arenaListTest true n = arena.Test.Tailed n
-arenaListTest false n = arena.Test.List n
+abbrev pub arenaListTest : Bool → ℕ → tests.Test
+arenaListTest true n = tests.Test.Tailed n
+arenaListTest false n = tests.Test.List n
 
 -- n rising cases from k elements on
 abbrev pub riseTo : ℕ → Bool → ℕ → ℕ → List Met → List Met

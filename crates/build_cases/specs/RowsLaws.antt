@@ -23,8 +23,8 @@ use Rattle.format_sheet.specs.declared.Map.{Map}
 use Rattle.format_sheet.specs.declared.records.PatternRecord.{PatternRecord}
 use Rattle.format_sheet.specs.Records as records
 use Rattle.build_arena.specs.Arena.{casesMost}
-use Rattle.build_arena.specs.declared.reading.Test as arena
-use Rattle.build_arena.specs.Reading.{kindOf, numberOf, lengthOf}
+use Rattle.format_records.specs.declared.reading.Test as tests
+use Rattle.format_records.specs.Records.{kindOf, numberOf, lengthOf}
 use Rattle.build_table.specs.Standing.{typeOf, patternOf}
 use Rattle.build_table.specs.Tabled.{Checked}
 use Rattle.build_table.specs.SeenLaws.{test-of-constructor, test-kind, test-kind-most}
@@ -195,7 +195,7 @@ list-fit : (s : List ℕ) (tail : Bool) (i : ℕ) → Fit s (kindOf (arenaListTe
 list-fit s true i = fit-plain s listWithTailCase i (omega arith) refl
 list-fit s false i = fit-plain s listCase i (omega arith) refl
 
-pub rise-fit : (s : List ℕ) (tail : Bool) (i : ℕ) (test : arena.Test) → test ≡ arenaListTest tail i → Fit s (kindOf test) (numberOf test) (lengthOf test)
+pub rise-fit : (s : List ℕ) (tail : Bool) (i : ℕ) (test : tests.Test) → test ≡ arenaListTest tail i → Fit s (kindOf test) (numberOf test) (lengthOf test)
 rise-fit s tail i test e = rw e (list-fit s tail i)
 
 list-met : (s : List ℕ) (from : ℕ) (tail : Bool) (i : ℕ) (ms : List Met) → meetOne s from (arenaListTest tail i) ms ≡ upTo from (meet 0 ms (listTest tail i ∷ []))
@@ -208,12 +208,12 @@ module _ {s w : List ℕ} {from to : ℕ} (tail : Bool) (k : ℕ) where
   unfolding rising meet
   rise-none = let e : k - k ≡ 0 = omega arith in meets-none (λ ms. meet 0 ms (rising (listTest tail) k (k - k))) (λ ms. rw e)
 
-  pub rise-one : (i : ℕ) (test : arena.Test) → k ≤ i → test ≡ arenaListTest tail i → {mid : ℕ} {w₁ : List ℕ} {next : ℕ} {w' : List ℕ}
+  pub rise-one : (i : ℕ) (test : tests.Test) → k ≤ i → test ≡ arenaListTest tail i → {mid : ℕ} {w₁ : List ℕ} {next : ℕ} {w' : List ℕ}
       → Meets s w from to (riseTo from tail k (i - k)) mid w₁ → Meets s w₁ from mid (meetOne s from test) next w' → Meets s w from to (riseTo from tail k (i + 1 - k)) next w'
   rise-one i test h e a b =
       meets-as (λ ms. meetOne s from test (riseTo from tail k (i - k) ms)) (riseTo from tail k (i + 1 - k))
       (λ ms.
-      ap (λ (u : arena.Test). meetOne s from u (riseTo from tail k (i - k) ms)) e ∙ list-met s from tail i (riseTo from tail k (i - k) ms)
+      ap (λ (u : tests.Test). meetOne s from u (riseTo from tail k (i - k) ms)) e ∙ list-met s from tail i (riseTo from tail k (i - k) ms)
       ∙ rise-more (casesMost - from) 0 ms (listTest tail) k i h)
       (meets-then (riseTo from tail k (i - k)) (meetOne s from test) a b)
 
@@ -239,7 +239,7 @@ module _ {s : List ℕ} {m : Map} (c : Checked s m) (p : ℕ) (k : TestKnown s p
   pub row-elements : r .kind ≡ listWithTailPattern → 2 ≤ r .count
   row-elements e = rw count-is (c .ok .is-shaped .tail-after-some p (k .known) (sym kind-is ∙ e))
 
-  pub row-fit : (r .kind ≡ listWithTailPattern → ⊥) → (test : arena.Test) → test ≡ exactTest r → Fit s (kindOf test) (numberOf test) (lengthOf test)
+  pub row-fit : (r .kind ≡ listWithTailPattern → ⊥) → (test : tests.Test) → test ≡ exactTest r → Fit s (kindOf test) (numberOf test) (lengthOf test)
   row-fit n test e = rw (e ∙ ap exactTest is) (exact-fit (c .ok) p k (λ x. n (kind-is ∙ x)))
 
   module _ {w : List ℕ} {from to : ℕ} (tail : Bool) (l : Longest) {next : ℕ} {w' : List ℕ} where
@@ -251,12 +251,12 @@ module _ {s : List ℕ} {m : Map} (c : Checked s m) (p : ℕ) (k : TestKnown s p
         ap₂ (λ (n z : ℕ). riseTo from tail (n - 1) (z - (n - 1)) ms) count-is f
         ∙ tailed-meets (c .ok) p k from (l .tailless) (l .tails) ms tail l (sym kind-is ∙ e)) a
 
-    pub row-meets : (r .kind ≡ listWithTailPattern → ⊥) → tail ≡ false → (test : arena.Test) → test ≡ exactTest r → Meets s w from to (meetOne s from test) next w'
+    pub row-meets : (r .kind ≡ listWithTailPattern → ⊥) → tail ≡ false → (test : tests.Test) → test ≡ exactTest r → Meets s w from to (meetOne s from test) next w'
         → Meets s w from to (meetTest s from tail l p) next w'
     row-meets n f test e a =
         meets-as (meetOne s from test) (meetTest s from tail l p)
         (λ ms.
-        ap (λ (u : arena.Test). meetOne s from u ms) (e ∙ ap exactTest is) ∙ exact-meets (c .ok) p k from (l .tailless) (l .tails) ms (λ x. n (kind-is ∙ x))
+        ap (λ (u : tests.Test). meetOne s from u ms) (e ∙ ap exactTest is) ∙ exact-meets (c .ok) p k from (l .tailless) (l .tails) ms (λ x. n (kind-is ∙ x))
         ∙ ap (λ (b : Bool). meetTest s from b l p ms) (sym f)) a
 
   pub row-meets-none : {w : List ℕ} {from to : ℕ} (tail : Bool) (l : Longest) → (r .kind ≡ listWithTailPattern → ⊥) → tail ≡ true → Meets s w from to (meetTest s from tail l p) to w

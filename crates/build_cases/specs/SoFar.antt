@@ -11,8 +11,8 @@ use Rattle.spec_rules.specs.SplittingLaws.{All}
 use Rattle.spec_file.specs.Writable.{testKind}
 use Rattle.spec_file.specs.RecordsLaws.{testNumber, testLength}
 use Rattle.build_arena.specs.Arena.{casesStart, casesMost, arenaEnd}
-use Rattle.build_arena.specs.declared.reading.Test as arena
-use Rattle.build_arena.specs.Reading.{kindOf, numberOf, lengthOf}
+use Rattle.format_records.specs.declared.reading.Test as tests
+use Rattle.format_records.specs.Records.{kindOf, numberOf, lengthOf}
 use Rattle.build_cases.specs.Passes.{upTo, caseRecords}
 use Rattle.build_cases.specs.Fields.{testIn, startIn, Fit}
 
@@ -35,7 +35,7 @@ pub record Begun (s w : List ℕ) (from to : ℕ) : Type 0 where
   pub so-far : SoFar s w from mets to w
 
 -- what meeting one test makes of the cases met so far; a text by where it is in the pool
-abbrev pub meetOne : List ℕ → ℕ → arena.Test → List Met → List Met
+abbrev pub meetOne : List ℕ → ℕ → tests.Test → List Met → List Met
 meetOne s from test ms = upTo from (meet (startIn (kindOf test) (numberOf test)) ms (testIn s (kindOf test) (numberOf test) (lengthOf test) ∷ []))
 
 -- what a call makes of the cases met so far, whatever the pass began with: f of them

@@ -22,9 +22,9 @@ use Rattle.spec_file.specs.RecordsLaws.{testNumber, testLength, caseFields, cas
 use Rattle.spec_file.specs.LengthLaws.{length-caseBytes}
 use Rattle.spec_file.specs.StandingLaws.{Stands, stands-left, stands-right}
 use Rattle.build_arena.specs.Arena.{casesStart, casesMost, arenaEnd, caseKind, caseNumber, caseLength}
-use Rattle.build_arena.specs.declared.reading.Test as arena
-use Rattle.build_arena.specs.Reading.{kindOf, numberOf, lengthOf, caseRecord}
-use Rattle.build_arena.specs.RecordsLaws.{CaseIs, case-is}
+use Rattle.format_records.specs.declared.reading.Test as tests
+use Rattle.format_records.specs.Records.{kindOf, numberOf, lengthOf, caseRecord}
+use Rattle.format_records.specs.RecordsLaws.{CaseIs, case-is}
 use Rattle.build_arena.specs.WritingLaws.{stands-stored}
 use Rattle.build_cases.specs.Passes.{upTo, caseRecords}
 use Rattle.build_cases.specs.PassesLaws.{meet-full}
@@ -70,22 +70,22 @@ module _ (s : List ℕ) (laid : Laid s) (kind number len : ℕ) (fit : Fit s kin
 -- ---- read back
 abbrev Recorded : List ℕ → ℕ → List Met → Type 0
 Recorded w i [] = Unit {0}
-Recorded w i (m ∷ ms) = CaseIs w i (m .test) (m .start) 0 × Recorded w (i + 1) ms
+Recorded w i (m ∷ ms) = CaseIs w (casesStart + caseSize * i) (m .test) (m .start) 0 × Recorded w (i + 1) ms
 
 recorded : (w : List ℕ) (i : ℕ) (ms : List Met) → Stands w (casesStart + caseSize * i) (caseRecords ms) → Recorded w i ms
 unfolding caseRecords
 recorded w i [] st = tt
 recorded w i (m ∷ ms) st = (
-  case-is w i (m .test) (m .start) 0 (stands-left (caseBytes (m .test) (m .start) 0) (caseRecords ms) st),
+  case-is w (casesStart + caseSize * i) (m .test) (m .start) 0 (stands-left (caseBytes (m .test) (m .start) 0) (caseRecords ms) st),
   recorded w (i + 1) ms
       (stands-right (caseBytes (m .test) (m .start) 0) (caseRecords ms) (casesStart + caseSize * (i + 1)) (omega (arith, length-caseBytes (m .test) (m .start) 0)) st),
 )
 
 -- a case's fields are those of its record
-case-fit : (s w : List ℕ) (i : ℕ) (m : Met) → InSheet s m → CaseIs w i (m .test) (m .start) 0 → Fit s (caseKind w i) (caseNumber w i) (caseLength w i)
+case-fit : (s w : List ℕ) (i : ℕ) (m : Met) → InSheet s m → CaseIs w (casesStart + caseSize * i) (m .test) (m .start) 0 → Fit s (caseKind w i) (caseNumber w i) (caseLength w i)
 case-fit s w i m a c = rw (c .kind-is, c .number-is, c .length-is) (a .fit)
 
-case-meant : (s w : List ℕ) (i : ℕ) (m : Met) → InSheet s m → CaseIs w i (m .test) (m .start) 0 → testIn s (caseKind w i) (caseNumber w i) (caseLength w i) ≡ m .test
+case-meant : (s w : List ℕ) (i : ℕ) (m : Met) → InSheet s m → CaseIs w (casesStart + caseSize * i) (m .test) (m .start) 0 → testIn s (caseKind w i) (caseNumber w i) (caseLength w i) ≡ m .test
 case-meant s w i m a c = rw (c .kind-is, c .number-is, c .length-is) (a .meant)
 
 records-fit : (s w : List ℕ) (i : ℕ) (ms : List Met) → All (InSheet s) ms → Recorded w i ms → (j : ℕ) → i ≤ j → j < i + length ms → Fit s (caseKind w j) (caseNumber w j) (caseLength w j)
@@ -205,7 +205,7 @@ met-new : (start : ℕ) (t : Test) (ms : List Met) → isMet t ms ≡ false → 
 unfolding meet
 met-new start t ms e = rw (e, meet)
 
-module _ {s w : List ℕ} {from to : ℕ} (test : arena.Test) where
+module _ {s w : List ℕ} {from to : ℕ} (test : tests.Test) where
   pub meets-full : to ≡ casesMost → Meets s w from to (meetOne s from test) to w
   meets-full e =
       record {

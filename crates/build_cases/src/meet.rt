@@ -3,14 +3,14 @@
 use crate::search::fields_of;
 use crate::search::same_case;
 use base_numbers::tree::CASES_MOST;
-use build_arena::reading::Case;
-use build_arena::reading::Test;
 use build_arena::writing::put_case;
+use format_records::reading::Case;
+use format_records::reading::Test;
 use format_sheet::Map;
 ghost use mathlib.Core.Path.{_≡_};
 ghost use Rattle.spec_accepted.specs.SheetFacts.{Laid};
 ghost use Rattle.format_sheet.specs.Sections.{mapOf};
-ghost use Rattle.build_arena.specs.Reading.{kindOf, numberOf, lengthOf};
+ghost use Rattle.format_records.specs.Records.{kindOf, numberOf, lengthOf};
 ghost use Rattle.build_cases.specs.Fields.{Fit};
 ghost use Rattle.build_cases.specs.SoFar.{Begun, meetOne, Meets};
 

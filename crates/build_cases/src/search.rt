@@ -1,10 +1,10 @@
 // The search for an equal case among those met so far. Texts are equal by their bytes in the sheet's pool.
 // Rests on the arena's records of cases; the answer is the place of the first equal one.
 use base_numbers::case_kinds;
-use build_arena::reading::Test;
 use build_arena::reading::case_kind;
 use build_arena::reading::case_length;
 use build_arena::reading::case_number;
+use format_records::reading::Test;
 ghost use mathlib.Core.Path.{_≡_};
 ghost use Prim.Native.Nat.{_-_, _<_, _≤_};
 ghost use lib.ListN.{length};

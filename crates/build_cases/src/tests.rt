@@ -2,7 +2,7 @@
 // Rests on the sheet's records and the arena's tests.
 use base_numbers::case_kinds;
 use base_numbers::pattern_kinds;
-use build_arena::reading::Test;
+use format_records::reading::Test;
 use format_sheet::records::PatternRecord;
 ghost use mathlib.Core.Path.{_≡_};
 ghost use Prim.Native.Nat.{_<_};

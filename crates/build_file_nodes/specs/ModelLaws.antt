@@ -6,7 +6,7 @@ use mathlib.Core.List.{List, _++_}
 use Prim.Native.Nat.{ℕ, zero, suc, _+_, _-_, _*_, _≤_, _<_}
 use native.Mathlib.Omega.{arith}
 use native.Mathlib.Nat.{add-zero, sub-zero}
-use lib.ListN.{length, getD, set}
+use lib.ListN.{length, getD}
 use lib.Dec.{eqb}
 use borrow.Author.Tests.{eq-eqb, ne-eqb, eqb-true, eqb-false}
 use Rattle.base_words.specs.Words.{wordBytes, pick}
@@ -16,9 +16,8 @@ use Rattle.base_words.specs.StoredLaws.{length-stored, stored-nil, stored-appen
 use Rattle.spec_rules.specs.Limits.{patternsMost, nodeSize, caseSize, bindingSize}
 use Rattle.spec_rules.specs.Kinds.{leafNode, hoistNode, pathWord, firstCaseWord, casesWord, tailCasesWord, defaultWord, clauseWord, firstBindingWord, bindingsWord}
 use Rattle.spec_rules.specs.TreeFile.{firstOf, nodeBytes}
-use Rattle.build_arena.specs.Arena.{nodeKind, nodeWord, caseKind, caseNumber, caseLength, caseChild, bindingName, bindingPath}
+use Rattle.build_arena.specs.Arena.{nodeKind, nodeWord, caseChild, bindingName, bindingPath}
 use Rattle.spec_file.specs.RecordsLaws.{caseFields}
-use Rattle.build_arena.specs.ReadingLaws.{kind-stored, words-stored, fields-stored}
 use Rattle.build_scopes.specs.Marks.{SwitchInside}
 use Rattle.build_scopes.specs.WriterLaws.{standsAt}
 use Rattle.build_file_nodes.specs.Uses.{Uses, Counted, withClass, numberIn}
@@ -91,14 +90,13 @@ counted-bound w first (suc count) u a h =
     (counted-with u (bindingPath w first) h (let e = add-zero first in rw e at (a .classes 0 (omega arith))))
 
 -- the two words of a binding
-pub binding-put : (w : List ℕ) (b at : ℕ) (u v : Uses) (before : List ℕ) {t₁ t₂ : List ℕ} (name path number : ℕ) → name ≡ bindingName w b → path ≡ bindingPath w b
-    → v ≡ withClass u path → number ≡ getD (v .number) path 0 → t₁ ≡ stored before at (wordBytes name) → t₂ ≡ stored t₁ (at + 2) (wordBytes (number - 1))
-    → PutBinding w b at u before t₂ v
-binding-put w b at u v before name path number n p e q f g =
+pub binding-put : (w : List ℕ) (b at : ℕ) (u v : Uses) (before : List ℕ) {t₁ : List ℕ} (name path number : ℕ) → name ≡ bindingName w b → path ≡ bindingPath w b
+    → v ≡ withClass u path → number ≡ getD (v .number) path 0 → t₁ ≡ stored before at (wordBytes name ++ wordBytes (number - 1)) → PutBinding w b at u before t₁ v
+binding-put w b at u v before name path number n p e q f =
     record {
       uses-are = e ∙ ap (withClass u) p;
       bytes-are =
-          words-stored before at name (number - 1) f g
+          f
           ∙ (λ i. stored before at (wordBytes (n i) ++ wordBytes ((q ∙ ap (λ z. getD (z .number) path 0) e) i - 1)))
           ∙ ap (λ z. stored before at (wordBytes (bindingName w b) ++ wordBytes (numberIn (withClass u z) z))) p;
     }
@@ -162,17 +160,6 @@ moved-default-same f g default h = go (eqb default 0) refl
     go true e = rw e
     go false e = rw (e, h (eqb-false default 0 e))
 
--- a case's record, store by store
-pub case-put : (w : List ℕ) (i : ℕ) (l : List ℕ) (at kind number count child : ℕ) {t₁ t₂ t₃ : List ℕ} → kind ≡ caseKind w i → number ≡ caseNumber w i → count ≡ caseLength w i
-    → t₁ ≡ stored (set (set l at kind) (at + 1) 0) (at + 2) (wordBytes number) → t₂ ≡ stored t₁ (at + 4) (wordBytes count) → t₃ ≡ stored t₂ (at + 6) (wordBytes child)
-    → t₃ ≡ stored l at (movedCase w i child)
-case-put w i l at kind number count child {t₁} {t₂} {t₃} p q r e f g =
-    let first = set (set l at kind) (at + 1) 0 in
-    let x : at + 4 ≡ at + 2 + 2 = omega arith in
-    let f₂ : t₂ ≡ stored t₁ (at + 2 + 2) (wordBytes count) = f ∙ ap (λ z. stored t₁ z (wordBytes count)) x in
-    fields-stored l at kind number count child (kind-stored l at kind) (words-stored first (at + 2) number count e f₂) g
-    ∙ (λ j. stored l at (caseFields (p j) (q j) (r j) child))
-
 -- ---- a default
 pub moved-none : (stand : ℕ → ℕ) (default : ℕ) → default ≡ 0 → movedDefault stand default ≡ 0
 unfolding movedDefault
@@ -183,21 +170,6 @@ unfolding movedDefault
 moved-some stand default e = pick-false (eqb default 0) 0 (stand (default - 1) + 1) (ne-eqb default 0 e)
 
 -- ---- records with their runs
-pub first-none : (count first : ℕ) → count ≡ 0 → 0 ≡ firstOf count first
-unfolding firstOf
-first-none zero first e = refl
-first-none (suc count) first e = absurd (omega arith)
-
-pub first-some : (count first : ℕ) → (count ≡ 0 → ⊥) → first ≡ firstOf count first
-unfolding firstOf
-first-some zero first e = absurd (e refl)
-first-some (suc count) first e = refl
-
-pub first-small : (count first : ℕ) → firstOf count first ≤ first
-unfolding firstOf
-first-small zero first = omega arith
-first-small (suc count) first = omega arith
-
 pub bound-put : (w : List ℕ) (at leaf kind child : ℕ) (t : List ℕ) (f : Reach) (clause from count first : ℕ) (uses : Uses) {t₁ t₂ : List ℕ}
     → clause ≡ nodeWord w leaf clauseWord → from ≡ nodeWord w leaf firstBindingWord → count ≡ nodeWord w leaf bindingsWord → first ≡ firstOf count (f .bindings)
     → t₁ ≡ stored t (nodeSize * f .nodes) (nodeBytes kind clause first count child 0) → PutBindings w from count (at + bindingSize * f .bindings) (f .uses) t₁ t₂ uses

@@ -24,6 +24,7 @@ use Rattle.spec_file.specs.RecordsLaws.{caseFields, caseBytes-fields}
 use Rattle.spec_file.specs.TreeStandsLaws.{bindingsBytes-append, own-rest, rest-bindings}
 use Rattle.spec_file.specs.LengthLaws.{length-caseBytes, length-bindingsBytes}
 use Rattle.spec_file.specs.PathsLaws.{Covers, covers-first, covers-rest, covers-append, covers-nil, covers-cons}
+use Rattle.format_parts.specs.SectionsLaws.{first-some}
 use Rattle.build_arena.specs.Arena.{casesStart, bindingsStart, nodeKind, nodeWord}
 use Rattle.build_arena.specs.RecordsLaws.{own-first, first-binding}
 use Rattle.build_arena.specs.Numbered.{joined, Each, LeafNode}
@@ -34,7 +35,7 @@ use Rattle.build_file_nodes.specs.PiecesLaws.{hoistsPiece-on, hoistsPiec
 use Rattle.build_file_nodes.specs.Uses.{Uses, withClass, numberIn, withClasses, classNumbers, withPath, Stand}
 use Rattle.build_file_nodes.specs.UsesLaws.{firstUses-with, firstUses-append, number-first-use, classNumbers-append, withClasses-append, stand-with, number-used, stand-withs}
 use Rattle.build_file_nodes.specs.Model.{Places, Reach, boundBytes, boundUses, clauseNode, movedCases, movedDefault, Out, boundOut, hoistOut, hoistsOut, switchBytes, switchOut, ownOut, nodeOut, nodesOut}
-use Rattle.build_file_nodes.specs.ModelLaws.{hoist-here, hoist-elsewhere, own-leaf, own-switch, first-some, moved-none, moved-some}
+use Rattle.build_file_nodes.specs.ModelLaws.{hoist-here, hoist-elsewhere, own-leaf, own-switch, moved-none, moved-some}
 
 -- ---- sizes
 pub record Sized (x : Piece) : Type 0 where

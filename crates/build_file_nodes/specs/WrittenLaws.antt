@@ -28,7 +28,7 @@ use Rattle.spec_file.specs.BoundLaws.{table-used}
 use Rattle.spec_hoist.specs.Descent.{wrapBy, isScope}
 use Rattle.spec_hoist.specs.OnceLaws.{nodesIn-hoistAll}
 use Rattle.build_arena.specs.Arena.{casesMost, bindingsStart, arenaEnd, nodeKind, nodeWord, bindingPath}
-use Rattle.build_arena.specs.RecordsLaws.{node-is, first-binding}
+use Rattle.build_arena.specs.RecordsLaws.{node-held, first-binding}
 use Rattle.build_arena.specs.Numbered.{subtrees, subtreesOf, subtreeAt, isSwitch, casesUnder, defaultUnder, Each, HeldAt, LeafNode}
 use Rattle.build_arena.specs.NumberedLaws.{length-subtrees, each-append, each-at, howMany-joined, leaf-node, switch-node}
 use Rattle.build_scopes.specs.declared.Scopes.{Scopes}
@@ -137,7 +137,7 @@ switch-own-facts w all cases bindings j absent e m r h v = absurd (false≢true 
 switch-own-facts w all cases bindings j (leaf c bs) e m r h v = absurd (false≢true e)
 switch-own-facts w all cases bindings j (hoist c bs a) e m r h v = absurd (false≢true e)
 switch-own-facts w all cases bindings j (switch p cs d) e m r h v =
-    let n = node-is (h .held .0) in
+    let n = node-held j (h .held .0) in
     let g = switch-node w all cases bindings j (switch p cs d) e r h in
     record {
       kind-is = n .kind-is;
@@ -152,7 +152,7 @@ switch-own-facts w all cases bindings j (switch p cs d) e m r h v =
       among = covers-first all p (pathsUsedOf cs ++ pathsUsed d) v;
     }
 switch-own-facts w all cases bindings j (listswitch p cs ts d) e m r h v =
-    let n = node-is (h .held .0) in
+    let n = node-held j (h .held .0) in
     let g = switch-node w all cases bindings j (listswitch p cs ts d) e r h in
     record {
       kind-is = n .kind-is;

@@ -3,9 +3,9 @@
 use crate::uses::used;
 use base_numbers::sheet::PATTERNS_MOST;
 use base_numbers::tree::BINDING_SIZE;
-use base_words::put_word;
 use base_words::wide;
 use build_arena::reading::binding_at;
+use format_records::writing::put_two_words;
 ghost use Prim.Native.Nat.{_+_, _*_, _<_, _≤_};
 ghost use lib.ListN.{length};
 ghost use Rattle.spec_rules.specs.Limits.{bindingSize};
@@ -28,8 +28,7 @@ fn put_binding(
     let class = binding.path as usize;
     let count = used(number, list, paths, class);
     let own = wide(number[class]);
-    put_word(tree, at, binding.name);
-    put_word(tree, at + 2, own - 1);
+    put_two_words(tree, at, binding.name, own - 1);
     count
 }
 

@@ -2,11 +2,11 @@
 // One pass over a switch's cases; each reference costs one look into the table of how far nodes are moved.
 use crate::shift::SHIFTS;
 use base_numbers::tree::CASE_SIZE;
-use base_words::put_word;
 use build_arena::reading::case_child;
 use build_arena::reading::case_kind;
 use build_arena::reading::case_length;
 use build_arena::reading::case_number;
+use format_records::writing::put_case_fields;
 ghost use mathlib.Core.Path.{_≡_};
 ghost use Prim.Native.Nat.{_+_, _*_, _<_, _≤_};
 ghost use lib.ListN.{length};
@@ -36,17 +36,13 @@ pub fn moved_default(shift: &[u8; SHIFTS], default: usize) -> u16
 
 // Case i of the arena with another child.
 fn put_case(w: &[u8], i: usize, tree: &mut [u8], at: usize, child: u16)
-    requires { ⌜ (arenaEnd ≤ length (now w)) × (i < casesMost) × (at + 7 < length (now tree)) ⌝ }
+    requires { ⌜ (arenaEnd ≤ length (now w)) × (i < casesMost) × (at + caseSize ≤ length (now tree)) ⌝ }
     ensures { λ _. ⌜ now (tree .exit) ≡ stored (now (tree .entry)) at (movedCase (now (w .entry)) i child) ⌝ }
 {
     let kind = case_kind(w, i);
     let number = case_number(w, i);
     let count = case_length(w, i);
-    tree[at] = kind;
-    tree[at + 1] = 0;
-    put_word(tree, at + 2, number);
-    put_word(tree, at + 4, count);
-    put_word(tree, at + 6, child);
+    put_case_fields(tree, at, kind, number, count, child);
 }
 
 // The count cases from first on, the first of them at `at`.

@@ -13,14 +13,15 @@ use base_numbers::sheet::CLAUSES_MOST;
 use base_numbers::sheet::PATTERNS_MOST;
 use base_numbers::tree::BINDING_SIZE;
 use base_numbers::tree::CASE_SIZE;
+use base_numbers::tree::NODE_SIZE;
 use base_words::wide;
 use build_arena::reading::node_kind;
 use build_arena::reading::node_word;
-use build_arena::writing::put_node;
 use build_scopes::marks::children_of;
+use format_parts::sections::first_of;
+use format_records::writing::put_node;
 ghost use mathlib.Core.Path.{_≡_};
 ghost use Prim.Native.Nat.{_+_, _<_};
-ghost use Rattle.spec_rules.specs.TreeFile.{firstOf};
 ghost use Rattle.build_file_nodes.specs.Uses.{usesOf};
 ghost use Rattle.build_file_nodes.specs.Model.{movedBy, placesOf, reachOf, BoundAsked, SwitchNodeAsked, PutSwitchNode, SwitchAsked, OwnAsked, NodeAsked, NodesAsked, outOf, boundOut, switchOut, ownOut, nodeOut, nodesOut};
 
@@ -30,16 +31,6 @@ pub struct Tops {
     pub cases: usize,
     pub bindings: usize,
     pub paths: usize,
-}
-
-// Where a run of so many records begins: an empty one at 0.
-fn first_of(count: usize, first: usize) -> usize
-    ensures { λ r. ⌜ r ≡ firstOf count first ⌝ }
-{
-    if count == 0 {
-        return 0;
-    }
-    first
 }
 
 // A leaf, or a hoist over the child, with the clause and the bindings of the arena's leaf.
@@ -62,8 +53,17 @@ pub fn put_bound(
     let count = node_word(w, leaf, node_words::BINDINGS);
     let n = count as usize;
     let top = f.bindings;
-    let first = first_of(n, top);
-    put_node(tree, f.nodes, kind, clause, first as u16, count, child, 0);
+    let first = first_of(count, top as u16);
+    put_node(
+        tree,
+        NODE_SIZE * f.nodes,
+        kind,
+        clause,
+        first,
+        count,
+        child,
+        0,
+    );
     let at = start + BINDING_SIZE * top;
     let paths = put_bindings(w, from, n, tree, at, number, list, f.paths);
     Tops {
@@ -95,7 +95,16 @@ fn put_switch_node(
     let own = wide(number[path]) - 1;
     let kind = node_kind(w, k);
     let top = f.cases as u16;
-    put_node(tree, f.nodes, kind, own, top, cases, tails, default);
+    put_node(
+        tree,
+        NODE_SIZE * f.nodes,
+        kind,
+        own,
+        top,
+        cases,
+        tails,
+        default,
+    );
     paths
 }
 

@@ -13,11 +13,12 @@ use Rattle.spec_file.specs.LengthLaws.{length-pathSteps}
 use Rattle.format_sheet.specs.declared.Map.{Map}
 use Rattle.format_sheet.specs.declared.records.TypeRecord.{TypeRecord}
 use Rattle.format_sheet.specs.Records.{typeOf as typeOfRecord}
+use Rattle.format_records.specs.Records.{stepRecord}
 use Rattle.build_table.specs.Standing.{pathOf, typeOf, aboveOf, indexOf, stepOf, sameNumber, stepNumber}
 use Rattle.build_table.specs.TypesLaws.{type-known}
 use Rattle.build_table.specs.Table.{aboveAt, typeAt, stepAt, indexAt, depthAt}
 use Rattle.build_table.specs.Tabled.{Checked, Tabled}
-use Rattle.build_file_tail.specs.Tail.{Puts, ownSteps, flagOf, stepRecord}
+use Rattle.build_file_tail.specs.Tail.{Puts, ownSteps, flagOf}
 use Rattle.build_file_tail.specs.StoringLaws.{puts-nothing, puts-as}
 use Rattle.build_file_tail.specs.StepsLaws.{step-bytes, no-step, above-known}
 

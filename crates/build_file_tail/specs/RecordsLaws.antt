@@ -1,4 +1,4 @@
--- The path records by the table's counts of steps are those of the paths; a flag and a first step by the tests that find them.
+-- The path records by the table's counts of steps are those of the paths; a flag by the tests that find it.
 -- Rests on Tail and on what the table says.
 use mathlib.Core.Path.{_≡_, refl, sym, ap, _∙_}
 use mathlib.Core.List.{List, [], _∷_, _++_, map}
@@ -13,7 +13,7 @@ use Rattle.spec_rules.specs.Limits.{pathSize}
 use Rattle.spec_rules.specs.Kinds.{dataType, decoratedFlag, constrStep}
 use Rattle.spec_rules.specs.SheetFile.{patterns, poolAt, poolSize, poolText, pool}
 use Rattle.spec_rules.specs.Rows.{Path, bit}
-use Rattle.spec_rules.specs.TreeFile.{firstOf, pathsBytes}
+use Rattle.spec_rules.specs.TreeFile.{pathsBytes}
 use Rattle.spec_file.specs.Writable.{stepsIn}
 use Rattle.format_sheet.specs.declared.records.TypeRecord.{TypeRecord}
 use Rattle.format_sheet.specs.declared.Map.{Map}
@@ -46,16 +46,6 @@ module _ (step : ℕ) (ty : TypeRecord) where
         pub flag-of-decorated : decoratedFlag ≤ ty .flag → 1 ≡ flagOf step ty
         unfolding bit
         flag-of-decorated h = rw (eq-eqb step constrStep is-constr, eq-eqb (ty .kind) dataType is-data, eq-eqb (ty .count) 1 is-one, le-leb decoratedFlag (ty .flag) h)
-
--- ---- the first step
-pub first-none : (count first : ℕ) → count ≡ 0 → 0 ≡ firstOf count first
-unfolding firstOf
-first-none count first e = rw e
-
-pub first-some : (count first : ℕ) → (count ≡ 0 → ⊥) → first ≡ firstOf count first
-unfolding firstOf
-first-some zero first h = absurd (h refl)
-first-some (suc count) first h = refl
 
 -- ---- path records
 records-paths : (first : ℕ) (ps : List Path) → pathRecords first (map length ps) ≡ pathsBytes first ps

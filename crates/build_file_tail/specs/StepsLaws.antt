@@ -19,9 +19,10 @@ use Rattle.spec_rules.specs.TreeFile.{stepBytes, pathSteps}
 use Rattle.spec_accepted.specs.SheetFacts.{Accepted, Shaped}
 use Rattle.spec_file.specs.LengthLaws.{length-pathSteps}
 use Rattle.format_sheet.specs.Records.{typeOf as typeOfRecord}
+use Rattle.format_records.specs.Records.{stepRecord}
 use Rattle.build_table.specs.Standing.{kindOf, isTail, stepTo, follows, pathOf, typeOf, aboveOf, indexOf, stepOf, sameNumber, stepNumber}
 use Rattle.build_table.specs.StandingLaws.{by-standing, root-path, root-step, child-index, child-step, child-above, above-below, path-above}
-use Rattle.build_file_tail.specs.Tail.{Puts, ownSteps, flagOf, stepRecord}
+use Rattle.build_file_tail.specs.Tail.{Puts, ownSteps, flagOf}
 use Rattle.build_file_tail.specs.StoringLaws.{length-put}
 
 -- ---- steps one behind the other

@@ -1,4 +1,4 @@
--- How stores of parts follow each other: a part behind a part, a whole by its parts in order, and a record by its fields.
+-- How stores of parts follow each other: a part behind a part, a whole by its parts in order, and the trailer by its words.
 -- Rests on Tail and the laws of stores; nothing here asks for room in the buffer that is written.
 use mathlib.Core.Path.{_≡_, refl, sym, ap, _∙_}
 use mathlib.Core.List.{List, [], _∷_, _++_}
@@ -12,7 +12,7 @@ use Rattle.base_words.specs.Words.{wordBytes, textAt}
 use Rattle.base_words.specs.Stored.{stored}
 use Rattle.base_words.specs.StoredLaws.{length-stored, stored-append, stored-nil}
 use Rattle.spec_rules.specs.Limits.{treeTrailer}
-use Rattle.build_file_tail.specs.Tail.{Puts, Begun, stepRecord, trailerBytes}
+use Rattle.build_file_tail.specs.Tail.{Puts, Begun, trailerBytes}
 
 -- ---- parts
 pub puts-nothing : (l : List ℕ) (at : ℕ) → Puts l l at at []
@@ -76,22 +76,11 @@ rest-next l i k n h q =
 pub rest-none : (l : List ℕ) (i k n : ℕ) → n ≤ k → textAt l i (n - k) ≡ []
 rest-none l i k n h = let d : n - k ≡ 0 = omega arith in rw d
 
--- ---- records, by the stores of their fields
+-- ---- the trailer, by the stores of its words
 word-put : {l after : List ℕ} (at end v : ℕ) → after ≡ stored l at (wordBytes v) → end ≡ at + 2 → Puts l after at end (wordBytes v)
 word-put at end v e f = record { is-stored = e; is-end = f }
 
 module _ (l : List ℕ) (at : ℕ) where
-  pub path-put : {l₁ l₂ : List ℕ} (a b : ℕ) → l₁ ≡ stored l at (wordBytes a) → l₂ ≡ stored l₁ (at + 2) (wordBytes b) → l₂ ≡ stored l at (wordBytes a ++ wordBytes b)
-  path-put a b e f = puts-then (word-put at (at + 2) a e refl) (word-put (at + 2) (at + 4) b f (omega arith)) .is-stored
-
-  pub step-put : {l₁ l₂ : List ℕ} (kind flag index type : ℕ) → l₁ ≡ stored (set (set l at kind) (at + 1) flag) (at + 2) (wordBytes index)
-      → l₂ ≡ stored l₁ (at + 4) (wordBytes type) → l₂ ≡ stored l at (stepRecord kind flag index type)
-  step-put kind flag index type e f =
-      puts-then two (puts-then (word-put (at + 2) (at + 4) index e (omega arith)) (word-put (at + 4) (at + 6) type f (omega arith))) .is-stored
-    where
-      two : Puts l (set (set l at kind) (at + 1) flag) at (at + 2) (kind ∷ flag ∷ [])
-      two = record { is-stored = unfold stored in ap (λ (i : ℕ). set (set l at kind) i flag) (add-one at); is-end = refl }
-
   pub trailer-put : {l₁ l₂ l₃ l₄ l₅ l₆ l₇ : List ℕ} (cases bindings paths steps pool : ℕ) → l₁ ≡ stored l at (wordBytes 0)
       → l₂ ≡ stored l₁ (at + 2) (wordBytes cases) → l₃ ≡ stored l₂ (at + 4) (wordBytes bindings) → l₄ ≡ stored l₃ (at + 6) (wordBytes paths)
       → l₅ ≡ stored l₄ (at + 8) (wordBytes steps) → l₆ ≡ stored l₅ (at + 10) (wordBytes pool) → l₇ ≡ stored l₆ (at + 12) (wordBytes (at + treeTrailer))

@@ -71,10 +71,6 @@ ownSteps (some step) = step ∷ []
 abbrev pub flagOf : ℕ → TypeRecord → ℕ
 flagOf step ty = pick (eqb step constrStep) (bit (both (both (eqb (ty .kind) dataType) (eqb (ty .count) 1)) (leb decoratedFlag (ty .flag)))) 0
 
--- "Steps, 6 bytes: kind ..; flag; index; type of the part stepped from"
-abbrev pub stepRecord : ℕ → ℕ → ℕ → ℕ → List ℕ
-stepRecord kind flag index type = kind ∷ flag ∷ (wordBytes index ++ wordBytes type)
-
 -- ---- the trailer and the whole tail
 -- "Trailer, 14 bytes: six starts, file length": the sections after the nodes start at these places, and the trailer at `end`
 unfoldable pub trailerBytes : ℕ → ℕ → ℕ → ℕ → ℕ → ℕ → List ℕ

@@ -1,9 +1,10 @@
 // The path records: for each path where its steps start among all steps, and how many there are.
 // The table has how many steps the path of a class has.
 use base_numbers::tree::PATH_SIZE;
-use base_words::put_word;
 use base_words::wide;
 use build_table::DEPTH;
+use format_parts::sections::first_of;
+use format_records::writing::put_two_words;
 ghost use mathlib.Core.Path.{_≡_};
 ghost use mathlib.Core.List.{map};
 ghost use Prim.Native.Nat.{_+_, _*_, _<_, _≤_};
@@ -11,27 +12,15 @@ ghost use lib.ListN.{length};
 ghost use Rattle.base_words.specs.Words.{textAt};
 ghost use Rattle.base_words.specs.Stored.{stored};
 ghost use Rattle.spec_rules.specs.Limits.{pathSize, patternsMost, treeRoom};
-ghost use Rattle.spec_rules.specs.TreeFile.{firstOf};
 ghost use Rattle.build_table.specs.Table.{tableSize};
 ghost use Rattle.build_file_tail.specs.Tail.{Puts, Used, countIn, together, pathRecord, pathRecords};
-
-// A path's first step: 0 where it has none.
-fn first_of(count: u16, first: u16) -> u16
-    ensures { λ r. ⌜ r ≡ firstOf count first ⌝ }
-{
-    if count == 0 {
-        return 0;
-    }
-    first
-}
 
 // The record of a path of `count` steps, of which the first is `first`.
 fn put_path(tree: &mut [u8], at: usize, first: u16, count: u16)
     requires { ⌜ at + pathSize ≤ length (now tree) ⌝ }
     ensures { λ _. ⌜ now (tree .exit) ≡ stored (now (tree .entry)) at (pathRecord first count) ⌝ }
 {
-    put_word(tree, at, first_of(count, first));
-    put_word(tree, at + 2, count);
+    put_two_words(tree, at, first_of(count, first), count);
 }
 
 pub fn put_paths(table: &[u8], classes: &[u8], count: usize, tree: &mut [u8], at: usize) -> usize

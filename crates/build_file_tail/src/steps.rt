@@ -4,7 +4,6 @@ use base_numbers::step_kinds;
 use base_numbers::tree::STEP_SIZE;
 use base_numbers::type_flags;
 use base_numbers::type_kinds;
-use base_words::put_word;
 use base_words::wide;
 use build_table::ABOVE;
 use build_table::DEPTH;
@@ -12,19 +11,18 @@ use build_table::INDEX;
 use build_table::SAME;
 use build_table::STEP;
 use build_table::TYPE;
+use format_records::writing;
 use format_sheet::Map;
 use format_sheet::records::TypeRecord;
 use format_sheet::records::type_at;
 ghost use mathlib.Core.Path.{_≡_};
 ghost use Prim.Native.Nat.{_+_, _<_, _≤_};
 ghost use lib.ListN.{length};
-ghost use Rattle.base_words.specs.Stored.{stored};
-ghost use Rattle.spec_rules.specs.Limits.{stepSize};
 ghost use Rattle.spec_rules.specs.SheetFile.{patterns};
 ghost use Rattle.spec_rules.specs.TreeFile.{pathSteps, stepsBytes};
 ghost use Rattle.build_table.specs.Standing.{pathOf, stepOf};
 ghost use Rattle.build_table.specs.Tabled.{Checked, Tabled};
-ghost use Rattle.build_file_tail.specs.Tail.{Puts, Used, usedPaths, ownSteps, flagOf, stepRecord};
+ghost use Rattle.build_file_tail.specs.Tail.{Puts, Used, usedPaths, ownSteps, flagOf};
 
 // A step's flag: 1 for a field of a list-decorated one-constructor type.
 fn flag_of(step: u8, ty: TypeRecord) -> u8
@@ -45,16 +43,6 @@ fn flag_of(step: u8, ty: TypeRecord) -> u8
     1
 }
 
-fn put_fields(tree: &mut [u8], at: usize, kind: u8, flag: u8, index: u16, tipo: u16)
-    requires { ⌜ at + stepSize ≤ length (now tree) ⌝ }
-    ensures { λ _. ⌜ now (tree .exit) ≡ stored (now (tree .entry)) at (stepRecord kind flag index tipo) ⌝ }
-{
-    tree[at] = kind;
-    tree[at + 1] = flag;
-    put_word(tree, at + 2, index);
-    put_word(tree, at + 4, tipo);
-}
-
 // The step to p itself, if there is one, so that it ends at `end`; where it starts.
 fn put_step(s: &[u8], m: Map, table: &[u8], p: usize, tree: &mut [u8], end: usize) -> usize
     requires { ⌜ Checked (now s) m × Tabled (now s) (now table) × (p < patterns (now s)) ⌝ }
@@ -69,7 +57,7 @@ fn put_step(s: &[u8], m: Map, table: &[u8], p: usize, tree: &mut [u8], end: usiz
     let tipo = wide(table[TYPE + above]);
     let flag = flag_of(step, type_at(s, m, tipo as usize));
     let start = end - STEP_SIZE;
-    put_fields(tree, start, step, flag, wide(table[INDEX + p]), tipo);
+    writing::put_step(tree, start, step, flag, wide(table[INDEX + p]), tipo);
     start
 }
 

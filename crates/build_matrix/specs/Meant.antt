@@ -9,7 +9,7 @@ use Rattle.spec_rules.specs.Kinds.{integerPattern, byteStringPattern, listPatte
 use Rattle.spec_rules.specs.SheetFile.{poolSize, poolText}
 use Rattle.spec_rules.specs.Splitting as splitting
 use Rattle.format_sheet.specs.declared.records.PatternRecord.{PatternRecord}
-use Rattle.build_arena.specs.declared.reading.Test.{Test}
+use Rattle.format_records.specs.declared.reading.Test.{Test}
 use Rattle.build_matrix.specs.declared.Held.{Held}
 use Rattle.build_matrix.specs.declared.Held.the-variants.{Test as HeldTest, Wildcard}
 use Rattle.build_matrix.specs.declared.PerRow.{PerRow}

@@ -22,7 +22,7 @@ use Rattle.format_sheet.specs.declared.records.PatternRecord.{PatternRecord}
 use Rattle.format_sheet.specs.Records.{patternOf as recordOf}
 use Rattle.build_table.specs.Standing.{kindOf, typeOf, testOfKind, isTest, patternOf}
 use Rattle.build_table.specs.Tabled.{Checked}
-use Rattle.build_arena.specs.declared.reading.Test.{Test}
+use Rattle.format_records.specs.declared.reading.Test.{Test}
 use Rattle.build_matrix.specs.HeldRows.{joinsCase}
 use Rattle.build_matrix.specs.Ready.{TestKnown}
 use Rattle.build_matrix.specs.Meant.{meant, InPool, coversConstructor, textPattern, coversText, coversTailed, coversList, coversRead}

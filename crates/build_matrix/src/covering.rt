@@ -3,7 +3,7 @@
 use base_numbers::case_kinds;
 use base_numbers::pattern_kinds;
 use base_words::same_text;
-use build_arena::reading::Test;
+use format_records::reading::Test;
 use format_sheet::Map;
 use format_sheet::records::PatternRecord;
 use format_sheet::records::pattern_at;

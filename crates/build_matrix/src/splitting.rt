@@ -18,7 +18,7 @@ use crate::rows::wild_rows;
 use crate::wide;
 use base_numbers::sheet::CLAUSES_MOST;
 use base_numbers::sheet::PATTERNS_MOST;
-use build_arena::reading::Test;
+use format_records::reading::Test;
 use format_sheet::Map;
 use format_sheet::records::root_at;
 ghost use mathlib.Core.Path.{_≡_};

@@ -37,7 +37,7 @@ use Rattle.build_matrix.specs.HeldRows.{heldTests}
 use Rattle.build_matrix.specs.Matrices.{rowsAt}
 use Rattle.build_matrix.specs.MatricesLaws.{column-is}
 use Rattle.build_matrix.specs.TreesLaws.{FirstTest, rows-tests, chosen-first, some-tree, no-tree, case-some, chosen-there, chosen-room, chosen-class, tree-switch, sound-default, sound-case}
-use Rattle.build_arena.specs.declared.reading.Test.{Test}
+use Rattle.format_records.specs.declared.reading.Test.{Test}
 use Rattle.build_cases.specs.PassesLaws.{sorts-length}
 use Rattle.build_nodes.specs.CasesLaws.{There}
 use Rattle.build_nodes.specs.SwitchLaws.{inOrder}

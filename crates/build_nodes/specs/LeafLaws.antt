@@ -1,9 +1,9 @@
 -- The leaf of a matrix in which no column is chosen, as the code puts it; and a matrix for whose tree there is no node more.
 -- Rests on the bindings put by the crate build_leaves.
-use mathlib.Core.Path.{_≡_, refl, sym, ap, _∙_}
+use mathlib.Core.Path.{_≡_, sym, ap, _∙_}
 use mathlib.Core.Bool.{true, false, false≢true}
 use mathlib.Core.List.{List, map}
-use Prim.Native.Nat.{ℕ, zero, suc, _+_, _-_, _*_, _≤_, _<_}
+use Prim.Native.Nat.{ℕ, _+_, _-_, _*_, _≤_, _<_}
 use native.Mathlib.Omega.{arith}
 use lib.ListN.{length, take, set}
 use Rattle.base_words.specs.Stored.{stored}
@@ -39,26 +39,9 @@ use Rattle.build_nodes.specs.SwitchLaws.{full-over}
 use Rattle.build_nodes.specs.ColumnLaws.{rows-count}
 use Rattle.build_nodes.specs.Steps.{MatrixThere, Asked}
 
--- ---- "first 0 at count 0"
-pub first-none : (count first : ℕ) → count ≡ 0 → 0 ≡ firstOf count first
-unfolding firstOf
-first-none zero first e = refl
-first-none (suc count) first e = absurd (omega arith)
-
-pub first-some : (count first : ℕ) → (count ≡ 0 → ⊥) → first ≡ firstOf count first
-unfolding firstOf
-first-some zero first e = absurd (e refl)
-first-some (suc count) first e = refl
-
 leaf-fewer : (c : ℕ) (bs : List Binding) → casesIn (leaf c bs) < nodesIn (leaf c bs)
 unfolding casesIn nodesIn
 leaf-fewer c bs = omega arith
-
--- as the code has them
-pub first-small : (count first from : ℕ) → first ≡ firstOf count from → first ≤ from
-unfolding firstOf
-first-small zero first from e = omega arith
-first-small (suc count) first from e = omega arith
 
 -- ---- the leaf of a clause
 module _ {s : List ℕ} (ok : Accepted s) {c n : ℕ} {tested : List ℕ} (asked : LeafAsked s c tested n) (opened : List ℕ) where

@@ -25,12 +25,11 @@ use Rattle.build_matrix.specs.declared.Matrix.{Matrix}
 use Rattle.build_matrix.specs.Numbered.{Numbered, caseNumbered, treeAt}
 use Rattle.build_matrix.specs.Meant.{meant, InPool}
 use Rattle.build_matrix.specs.InNumbers.{inNumbers, StandsFor}
-use Rattle.build_arena.specs.declared.reading.Test.{Test}
-use Rattle.build_arena.specs.declared.reading.Case.{Case}
-use Rattle.build_arena.specs.Arena.{casesStart, casesMost, arenaEnd}
-use Rattle.build_arena.specs.RecordsLaws.{case-is}
-use Rattle.build_arena.specs.Reading.{caseOf, testFor}
-use Rattle.build_arena.specs.ReadingLaws.{case-read}
+use Rattle.format_records.specs.declared.reading.Test.{Test}
+use Rattle.format_records.specs.declared.reading.Case.{Case}
+use Rattle.build_arena.specs.Arena.{casesStart, casesMost, arenaEnd, caseOf}
+use Rattle.format_records.specs.Records.{testFor}
+use Rattle.format_records.specs.RecordsLaws.{case-is, case-read}
 use Rattle.build_cases.specs.Fields.{testIn}
 use Rattle.build_cases.specs.SoFar.{InSheet}
 use Rattle.build_nodes.specs.declared.tops.Tops.{Tops}
@@ -101,7 +100,8 @@ module _ {s : List ℕ} {m : Map} {t : List ℕ} {x : Matrix} {k first : ℕ} {w
   test-is : (test : Test) → test ≡ (caseOf w (first + i)) .test → test ≡ testFor (next .case .start) u
   test-is test e =
       let stands = next-stands (sheetPaths s) (caseTree s k (inNumbers x)) (caseList s k (inNumbers x)) first w₀ from begun i w tops next in
-      let read = case-read w (first + i) u (next .case .start) 0 (case-is w (first + i) u (next .case .start) 0 stands) in
+      let at = casesStart + caseSize * (first + i) in
+      let read = case-read w at u (next .case .start) 0 (case-is w at u (next .case .start) 0 stands) in
       e ∙ ap (λ (z : Case). z .test) read
 
   u-meant : Meant s (next .case)

@@ -13,7 +13,7 @@ use Rattle.spec_rules.specs.Building.{Tree}
 use Rattle.format_sheet.specs.declared.Map.{Map}
 use Rattle.build_matrix.specs.declared.Matrix.{Matrix}
 use Rattle.build_matrix.specs.declared.Choice.the-variants.{Column}
-use Rattle.build_arena.specs.declared.reading.Test as reading
+use Rattle.format_records.specs.declared.reading.Test as reading
 use Rattle.build_matrix.specs.Ready.{Ready}
 use Rattle.build_matrix.specs.Meant.{meant, InPool}
 use Rattle.build_matrix.specs.Numbered.{Numbered, SoundOf, defaultNumbered, caseNumbered, chosenIn, testsIn, treeAt}

@@ -4,7 +4,7 @@ use mathlib.Core.Path.{_≡_, refl, sym, ap, _∙_}
 use mathlib.Core.Bool.{Bool, true, false, false≢true}
 use mathlib.Core.List.{List, [], _∷_, _++_, append-assoc, append-nil}
 use mathlib.Core.Logic.{inl}
-use Prim.Native.Nat.{ℕ, zero, suc, _+_, _*_, _≤_, _<_}
+use Prim.Native.Nat.{ℕ, _+_, _*_, _≤_, _<_}
 use native.Mathlib.Omega.{arith}
 use lib.ListN.{length, getD, length-append}
 use Rattle.base_words.specs.Words.{either, pick}
@@ -22,6 +22,7 @@ use Rattle.spec_file.specs.TreeStands.{TreeStands}
 use Rattle.spec_file.specs.LengthLaws.{length-ownCases}
 use Rattle.spec_match.specs.Depth.{casesOn, isTail, isExact, only, nodeOn}
 use Rattle.spec_match.specs.Lists.{all-append}
+use Rattle.format_parts.specs.SectionsLaws.{first-some}
 use Rattle.build_arena.specs.Arena.{nodesStart, casesStart, casesMost, Held, HeldOf}
 use Rattle.build_arena.specs.WritingLaws.{Kept, kept-trans, kept-weaken, kept-node, cases-kept, nodes-kept, heldOf-kept, node-stored}
 use Rattle.build_arena.specs.Numbered.{joined}
@@ -184,11 +185,6 @@ module _ (p : Path) (qs : List Pat) (f : Test → Tree) (d : Tree) where
       go false e = ap (hasLeaf i) (nodeOn-plain e)
 
 -- ---- held
-firstOf-some : (n first : ℕ) → 1 ≤ n → firstOf n first ≡ first
-unfolding firstOf
-firstOf-some zero first h = absurd (omega arith)
-firstOf-some (suc n) first h = refl
-
 module _ (w : List ℕ) (table : List Path) (k c b : ℕ) (p : Path) (f : Test → Tree) (d : Tree) where
   -- a node with these cases and tail cases
   abbrev NodeOf : ℕ → List Met → List Met → Cases → Type 0
@@ -203,7 +199,7 @@ module _ (w : List ℕ) (table : List Path) (k c b : ℕ) (p : Path) (f : Test �
   switch-on ms l node own under default =
       let cs = casesOn f ms in
       let n : howMany cs ≡ length ms = howMany-casesOn f ms in
-      let first : firstOf (howMany cs) c ≡ c = firstOf-some (howMany cs) c (omega arith) in
+      let first : firstOf (howMany cs) c ≡ c = sym (first-some (howMany cs) c (λ z. omega arith)) in
       (rw (first, n) node, own, rw n under, rw n default)
 
   list-switch-on : (es ts : List Met) (all : Cases) → all ≡ joined (casesOn f es) (casesOn f ts) → 1 ≤ length es + length ts → NodeOf 1 es ts all
@@ -215,7 +211,7 @@ module _ (w : List ℕ) (table : List Path) (k c b : ℕ) (p : Path) (f : Test �
       let ds = casesOn f ts in
       let n : howMany cs ≡ length es = howMany-casesOn f es in
       let m : howMany ds ≡ length ts = howMany-casesOn f ts in
-      let first : firstOf (howMany cs + howMany ds) c ≡ c = firstOf-some (howMany cs + howMany ds) c (omega arith) in
+      let first : firstOf (howMany cs + howMany ds) c ≡ c = sym (first-some (howMany cs + howMany ds) c (λ z. omega arith)) in
       let nodes-sum : k + 1 + nodesInOf all ≡ k + 1 + nodesInOf cs + nodesInOf ds = omega (arith, ap nodesInOf e, nodesInOf-joined cs ds) in
       let cases-at : c + (length es + length ts) ≡ c + howMany cs + howMany ds = omega arith in
       let cases-sum : c + (length es + length ts) + casesInOf all ≡ c + howMany cs + howMany ds + casesInOf cs + casesInOf ds =

@@ -8,7 +8,6 @@ use base_numbers::node_kinds;
 use base_numbers::sheet::CLAUSES_MOST;
 use base_numbers::sheet::PATTERNS_MOST;
 use base_numbers::tree::NODES_MOST;
-use build_arena::reading::Test;
 use build_arena::reading::case_at;
 use build_arena::writing::put_child;
 use build_arena::writing::put_node;
@@ -22,6 +21,8 @@ use build_matrix::rows::highest_occurrence;
 use build_matrix::splitting::case_matrix;
 use build_matrix::splitting::default_matrix;
 use build_matrix::wide;
+use format_parts::sections::first_of;
+use format_records::reading::Test;
 use format_sheet::Map;
 ghost use mathlib.Core.Path.{_≡_};
 ghost use Prim.Native.Nat.{_<_, _≤_, _+_, _*_, _-_};
@@ -30,7 +31,7 @@ ghost use Rattle.base_words.specs.Words.{pick};
 ghost use Rattle.base_words.specs.Stored.{stored};
 ghost use Rattle.spec_rules.specs.Kinds.{listSwitchNode, switchNode};
 ghost use Rattle.spec_rules.specs.Limits.{patternsMost, nodesMost, nodeSize};
-ghost use Rattle.spec_rules.specs.TreeFile.{firstOf, nodeBytes};
+ghost use Rattle.spec_rules.specs.TreeFile.{nodeBytes};
 ghost use Rattle.build_table.specs.Standing.{sheetPaths};
 ghost use Rattle.build_matrix.specs.Ready.{Ready};
 ghost use Rattle.build_matrix.specs.Meant.{meant};
@@ -41,16 +42,6 @@ ghost use Rattle.build_arena.specs.Arena.{arenaEnd, casesMost};
 ghost use Rattle.build_leaves.specs.Bindings.{LeafAsked};
 ghost use Rattle.build_nodes.specs.Built.{Put, Roomy, Builds, BuildsCases};
 ghost use Rattle.build_nodes.specs.Steps.{caseList, caseTree, StillTested, Asked, AskedColumn, AskedCase, AskedCases};
-
-// 01: "first 0 at count 0".
-fn first_of(count: usize, first: usize) -> usize
-    ensures { λ r. ⌜ r ≡ firstOf count first ⌝ }
-{
-    if count == 0 {
-        return 0;
-    }
-    first
-}
 
 // The leaf of a clause, where the first `time` of these classes were tested.
 fn put_leaf<'a>(
@@ -78,15 +69,15 @@ fn put_leaf<'a>(
         work,
         tops.bindings,
     );
-    let count = top - tops.bindings;
-    let first = first_of(count, tops.bindings);
+    let count = (top - tops.bindings) as u16;
+    let first = first_of(count, tops.bindings as u16);
     put_node(
         work,
         tops.nodes,
         node_kinds::LEAF,
         clause as u16,
-        first as u16,
-        count as u16,
+        first,
+        count,
         0,
         0,
     );

@@ -11,11 +11,11 @@ use base_numbers::panel::RECORD_SIZE;
 use base_numbers::panel::RECORDS_MOST;
 use base_numbers::panel_starts;
 use base_words::word_at;
+use format_parts::sections::whole_records;
 ghost use mathlib.Core.Path.{_≡_};
 ghost use Prim.Native.Nat.{_<_, _≤_};
 ghost use lib.ListN.{length};
 ghost use Rattle.spec_rules.specs.Limits.{panelTrailer, panelStarts};
-ghost use Rattle.spec_rules.specs.SheetRefusals.{wholeRecords};
 ghost use Rattle.spec_rules.specs.PanelFile.{panelStart, panelLengthFits, panelLayoutFits};
 ghost use Rattle.spec_accepted.specs.PanelFacts.{PanelLaid};
 ghost use Rattle.format_panel.specs.Opened.{mapOf};
@@ -40,17 +40,6 @@ fn start(v: &[u8], k: usize) -> usize
     ensures { λ r. ⌜ r ≡ panelStart (now (v .entry)) k ⌝ }
 {
     word_at(v, v.len() - PANEL_TRAILER + WORD_SIZE * k) as usize
-}
-
-// From `from` to `to` there are whole records of `size` bytes.
-fn whole_records(size: usize, from: usize, to: usize) -> bool
-    requires { ⌜ 0 < size ⌝ }
-    ensures { λ r. ⌜ r ≡ wholeRecords size from to ⌝ }
-{
-    if to < from {
-        return false;
-    }
-    (to - from) % size == 0
 }
 
 // 22: the starts rise from 0, pass not the trailer and cut no record; there are 1 to 512 records.

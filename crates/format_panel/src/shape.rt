@@ -9,7 +9,7 @@ use base_numbers::panel::PAIR_PARTS;
 use base_numbers::panel::PANEL_DEPTH_MOST;
 use base_numbers::panel::RECORDS_MOST;
 use base_numbers::record_kinds;
-use format_sheet::records::run_in;
+use format_parts::sections::run_in;
 ghost use mathlib.Core.Path.{_≡_};
 ghost use mathlib.Core.List.{List};
 ghost use Prim.Native.Nat.{ℕ, _+_, _<_, _≤_};

@@ -3,7 +3,7 @@ use crate::Map;
 use crate::records::record_at;
 use base_numbers::record_kinds;
 use base_numbers::sheet::TEXT_MOST;
-use format_sheet::texts::canonical;
+use format_parts::texts::canonical;
 ghost use mathlib.Core.Path.{_≡_};
 ghost use Prim.Native.Nat.{_<_};
 ghost use Rattle.spec_rules.specs.PanelFile.{records, recordTextFits, panelTextsFit};

@@ -23,7 +23,7 @@ use Rattle.spec_accepted.specs.PatternsLaws.{pattern-open}
 use Rattle.format_sheet.specs.declared.records.PatternRecord.{PatternRecord}
 use Rattle.format_sheet.specs.Records.{patternOf}
 use Rattle.format_sheet.specs.Shape.{childrenFirst, childrenCount}
-use Rattle.format_sheet.specs.TextsLaws.{text-cons}
+use Rattle.format_parts.specs.TextsLaws.{text-cons}
 use Rattle.format_sheet.specs.Names.{nameOfKind, ownName, joined, namesTo, namesIn, Names, inBuffer, held, Adds, Lacks}
 
 -- ---- lists joined

@@ -22,13 +22,14 @@ use base_numbers::sheet::TYPE_SIZE;
 use base_numbers::sheet::TYPES_MOST;
 use base_numbers::sheet_starts;
 use base_words::word_at;
+use format_parts::sections::whole_records;
 ghost use mathlib.Core.Path.{_≡_};
 ghost use mathlib.Core.Bool.{true};
 ghost use Prim.Native.Nat.{_<_, _≤_};
 ghost use lib.ListN.{length};
 ghost use Rattle.spec_rules.specs.Limits.{sheetTrailer, sheetStarts};
 ghost use Rattle.spec_rules.specs.SheetFile.{sheetStart, subject};
-ghost use Rattle.spec_rules.specs.SheetRefusals.{lengthFits, wholeRecords};
+ghost use Rattle.spec_rules.specs.SheetRefusals.{lengthFits};
 ghost use Rattle.format_sheet.specs.Sections.{startsOf, startsFit, countsBetween, fewEnough};
 
 // 2: from 18 to 8,192 bytes, and the trailer's length is the sheet's.
@@ -77,17 +78,6 @@ pub(crate) fn subject_of(s: &[u8]) -> usize
     ensures { λ r. ⌜ r ≡ subject (now (s .entry)) ⌝ }
 {
     word_at(s, s.len() - SUBJECT_BACK) as usize
-}
-
-// From `from` to `to` there are whole records of `size` bytes.
-fn whole_records(size: usize, from: usize, to: usize) -> bool
-    requires { ⌜ 0 < size ⌝ }
-    ensures { λ r. ⌜ r ≡ wholeRecords size from to ⌝ }
-{
-    if to < from {
-        return false;
-    }
-    (to - from) % size == 0
 }
 
 // 3: the starts rise from 0, pass not the trailer, and cut no record.

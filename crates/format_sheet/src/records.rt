@@ -16,7 +16,7 @@ ghost use mathlib.Core.Path.{_≡_};
 ghost use Prim.Native.Nat.{_+_, _<_, _≤_};
 ghost use lib.ListN.{length};
 ghost use Rattle.spec_rules.specs.Limits.{typeSize, constructorSize, patternSize};
-ghost use Rattle.spec_rules.specs.SheetFile.{types, constructors, entries, patterns, children, clauses, patternsAt, childrenAt, entry, child, root, runIn};
+ghost use Rattle.spec_rules.specs.SheetFile.{types, constructors, entries, patterns, children, clauses, patternsAt, childrenAt, entry, child, root};
 ghost use Rattle.spec_rules.specs.Patterns.{patternKindOf};
 ghost use Rattle.spec_rules.specs.SheetRefusals.{hasChildren};
 ghost use Rattle.spec_accepted.specs.SheetFacts.{Laid};
@@ -144,22 +144,6 @@ pub fn root_at(s: &[u8], m: Map, c: usize) -> usize
     ensures { λ r. ⌜ r ≡ root (now (s .entry)) c ⌝ }
 {
     word_at(s, m.at.clauses + CLAUSE_SIZE * c) as usize
-}
-
-// `count` from `first` on lie in a section of n records, and where count is 0, first is.
-pub fn run_in(first: usize, count: usize, n: usize) -> bool
-    ensures { λ r. ⌜ r ≡ runIn first count n ⌝ }
-{
-    if n < first {
-        return false;
-    }
-    if n - first < count {
-        return false;
-    }
-    if count == 0 {
-        return first == 0;
-    }
-    true
 }
 
 // Unused fields are 0.

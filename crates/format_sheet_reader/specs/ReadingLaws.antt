@@ -1,4 +1,4 @@
--- What a reader of a sheet says of its starts, what the records by a start are, and the ways out of the answer for a clause.
+-- What a reader of a sheet says of its starts, what the root by a start is, and the ways out of the answer for a clause.
 -- Rests on what an accepted sheet has (facts) and on the check's answer (sheet).
 use mathlib.Core.Path.{_≡_, refl, ap, sym, subst, _∙_}
 use mathlib.Core.Bool.{Bool}
@@ -7,8 +7,8 @@ use Prim.Native.Nat.{ℕ, _+_, _*_, _<_, _≤_}
 use borrow.Author.Tests.{lt-ltb, le-ltb}
 use denote.Ref.{RefT, now}
 use Rattle.base_words.specs.Words.{wordAt}
-use Rattle.spec_rules.specs.Limits.{patternSize, clauseSize}
-use Rattle.spec_rules.specs.SheetFile.{patternsAt, clausesAt, patterns, clauses, root, patternKind, patternZero, patternA, patternFirst, patternCount}
+use Rattle.spec_rules.specs.Limits.{clauseSize}
+use Rattle.spec_rules.specs.SheetFile.{patternsAt, clausesAt, patterns, clauses, root}
 use Rattle.spec_rules.specs.SheetRefusals.{Verdict, accepted, refused, verdict}
 use Rattle.spec_accepted.specs.SheetFacts.{Accepted, accepted-sheet}
 use Rattle.format_sheet.specs.declared.Starts.{Starts}
@@ -18,7 +18,7 @@ use Rattle.format_sheet.specs.declared.Checked.the-variants as checks
 use Rattle.format_sheet.specs.declared.records.PatternRecord.{PatternRecord}
 use Rattle.format_sheet.specs.Sections.{startsOf, mapOf}
 use Rattle.format_sheet.specs.SectionsLaws.{mapped}
-use Rattle.format_sheet.specs.Records.{patternFrom, patternOf}
+use Rattle.format_sheet.specs.Records.{patternOf}
 use Rattle.format_sheet.specs.Check.{answer, checked}
 use Rattle.format_sheet_reader.specs.declared.Reader.{Reader}
 use Rattle.format_sheet_reader.specs.declared.Clause.{Clause}
@@ -33,11 +33,7 @@ module _ (r : Reader) (o : Opened r) where
   pub clauses-start : r .clauses ≡ clausesAt (now (r .sheet))
   clauses-start = ap (λ (x : Reader). x .clauses) (o .is-open)
 
--- ---- the records by the start of their section
-pub pattern-there : (s : List ℕ) (start p : ℕ) → start ≡ patternsAt s → patternFrom s (start + patternSize * p) ≡ patternOf s p
-unfolding patternKind patternZero patternA patternFirst patternCount
-pattern-there s start p e = rw e
-
+-- ---- the root by the start of the clauses
 pub root-there : (s : List ℕ) (start c : ℕ) → start ≡ clausesAt s → wordAt s (start + clauseSize * c) ≡ root s c
 unfolding root
 root-there s start c e = rw e

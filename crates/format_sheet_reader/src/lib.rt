@@ -7,7 +7,7 @@ use format_sheet::Checked;
 use format_sheet::Starts;
 use format_sheet::check;
 use format_sheet::records::PatternRecord;
-use places::pattern_in;
+use format_sheet::records::pattern_in;
 use places::root_in;
 ghost use mathlib.Core.Path.{_≡_};
 ghost use Prim.Native.Nat.{_<_};

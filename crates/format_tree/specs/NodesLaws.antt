@@ -10,7 +10,7 @@ use Rattle.spec_rules.specs.TreeReader.{nodes, cases, paths, nodeKind, nodeWord
 use Rattle.spec_accepted.specs.KindsLaws.{node-byte, unknown-node}
 use Rattle.spec_accepted.specs.TreeFacts.{TreeRuled, switch-children, hoist-children}
 use Rattle.format_tree.specs.declared.reading.Node.{Node}
-use Rattle.format_tree.specs.declared.reading.Test.{Test}
+use Rattle.format_records.specs.declared.reading.Test.{Test}
 use Rattle.format_tree.specs.Reading.{nodeOfFields, nodeOf, testOf}
 use Rattle.format_tree.specs.PreOrder.{AllBelow}
 

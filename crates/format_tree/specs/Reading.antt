@@ -1,6 +1,6 @@
 -- What the reader answers: the map of a file's sections, and its records as the code has them.
 -- Each is the field of the same name in the rules' definitions of the tree file.
-use Prim.Native.Nat.{ℕ, _+_, _-_, _*_, _/_, _≤_}
+use Prim.Native.Nat.{ℕ, _+_, _*_, _≤_}
 use mathlib.Core.Path.{_≡_}
 use mathlib.Core.Bool.{Bool, true, false}
 use mathlib.Core.List.{List}
@@ -8,21 +8,18 @@ use lib.ListN.{length}
 use Rattle.base_words.specs.Words.{both}
 use Rattle.spec_rules.specs.Limits.{nodeSize, caseSize, bindingSize, pathSize, stepSize, treeTrailer}
 use Rattle.spec_rules.specs.Searching.{every}
-use Rattle.spec_rules.specs.TreeReader.{nodesAt, casesAt, bindingsAt, pathsAt, stepsAt, treePoolAt, nodes, cases, bindings, paths, steps, treePoolSize, nodeKind, nodePath, nodeFirstCase, nodeCases, nodeTailCases, nodeDefault, nodeClause, nodeFirstBinding, nodeBindings, nodeChild, NodeKind, Switch, List-switch, Leaf, Hoist-node, Unknown-node, nodeKindOf, caseKind, caseNumber, caseLength, caseChild, CaseKind, Constr-case, Int-case, Bytes-case, List-case, List-with-tail-case, Unknown-case, caseKindOf, bindingName, bindingPath, pathFirst, pathCount, stepKind, stepFlag, stepIndexAt, stepType, nodeKeepsRules, caseKeepsRules, bindingKeepsRules, pathKeepsRules, stepKeepsRules, treeFits}
+use Rattle.spec_rules.specs.TreeReader.{nodesAt, casesAt, bindingsAt, pathsAt, stepsAt, treePoolAt, nodes, cases, bindings, paths, steps, treePoolSize, nodeKind, nodePath, nodeFirstCase, nodeCases, nodeTailCases, nodeDefault, nodeClause, nodeFirstBinding, nodeBindings, nodeChild, NodeKind, Switch, List-switch, Leaf, Hoist-node, Unknown-node, nodeKindOf, caseKind, caseNumber, caseLength, caseChild, caseKindOf, bindingName, bindingPath, pathFirst, pathCount, stepKind, stepFlag, stepIndexAt, stepType, nodeKeepsRules, caseKeepsRules, bindingKeepsRules, pathKeepsRules, stepKeepsRules, treeFits}
 use Rattle.spec_accepted.specs.TreeFacts.{TreeRuled}
-use Rattle.format_tree.specs.declared.layout.Section.{Section}
+use Rattle.format_records.specs.declared.reading.Test.{Test}
+use Rattle.format_records.specs.declared.reading.Case.{Case}
+use Rattle.format_records.specs.declared.reading.Binding.{Binding}
+use Rattle.format_records.specs.declared.reading.Path.{Path}
+use Rattle.format_records.specs.declared.reading.Step.{Step}
+use Rattle.format_records.specs.Records.{testFrom}
 use Rattle.format_tree.specs.declared.layout.Map.{Map}
 use Rattle.format_tree.specs.declared.Checked.{Checked}
 use Rattle.format_tree.specs.declared.Checked.the-variants.{Accepted, Refused}
 use Rattle.format_tree.specs.declared.reading.Node.{Node}
-use Rattle.format_tree.specs.declared.reading.Test.{Test}
-use Rattle.format_tree.specs.declared.reading.Case.{Case}
-use Rattle.format_tree.specs.declared.reading.Binding.{Binding}
-use Rattle.format_tree.specs.declared.reading.Path.{Path}
-use Rattle.format_tree.specs.declared.reading.Step.{Step}
-
-abbrev pub sectionOf : ℕ → ℕ → ℕ → Section
-sectionOf start end size = record { start = start; count = (end - start) / size }
 
 abbrev pub mapOf : List ℕ → Map
 mapOf t = record {
@@ -51,17 +48,10 @@ pub record Ruled (t : List ℕ) (m : Map) : Type 0 where
   pub mapped : Mapped t m
   pub rules : TreeRuled t
 
-unfoldable pub testOfFields : List ℕ → ℕ → CaseKind → Test
-testOfFields t i Constr-case = Test.Constr (caseNumber t i)
-testOfFields t i Int-case = Test.Text true (caseNumber t i) (caseLength t i)
-testOfFields t i Bytes-case = Test.Text false (caseNumber t i) (caseLength t i)
-testOfFields t i List-case = Test.List (caseNumber t i)
-testOfFields t i List-with-tail-case = Test.Tailed (caseNumber t i)
-testOfFields t i Unknown-case = Test.Tailed (caseNumber t i)
-
+-- the test of case i
 unfoldable pub testOf : List ℕ → ℕ → Test
-unfolding testOfFields
-testOf t i = testOfFields t i (caseKindOf (caseKind t i))
+unfolding testFrom
+testOf t i = testFrom (caseKindOf (caseKind t i)) (caseNumber t i) (caseLength t i)
 
 unfoldable pub caseOf : List ℕ → ℕ → Case
 unfolding testOf

@@ -1,21 +1,22 @@
--- A file's fields as the code reads them, from the map's starts on; and that a file with a true length and rising starts is mapped.
+-- A map's starts and counts are the file's; and a file with a true length and rising starts is mapped.
 -- Rests on Reading and the rules' definitions of the tree file.
 use mathlib.Core.Path.{_≡_, refl, sym, ap, subst, _∙_}
 use mathlib.Core.Bool.{Bool}
 use mathlib.Core.List.{List, [], _∷_}
-use Prim.Native.Nat.{ℕ, _+_, _-_, _*_}
+use Prim.Native.Nat.{ℕ, _-_}
 use native.Mathlib.Omega.{arith}
-use native.Mathlib.Nat.{zero-add, div-one}
-use lib.ListN.{length, getD}
+use native.Mathlib.Nat.{div-one}
+use lib.ListN.{length}
 use lib.Dec.{eqb}
-use Rattle.base_words.specs.Words.{wordAt, Bytes, both}
+use Rattle.base_words.specs.Words.{Bytes, both}
 use Rattle.spec_rules.specs.Limits.{nodeSize, caseSize, bindingSize, pathSize, stepSize, treeTrailer}
 use Rattle.spec_rules.specs.SheetRefusals.{wholeBetween}
-use Rattle.spec_rules.specs.TreeReader.{treeStart, treePoolEnd, nodesAt, casesAt, bindingsAt, pathsAt, stepsAt, treePoolAt, treeSizes, nodes, cases, bindings, paths, steps, treePoolSize, nodeKind, nodeZero, nodeWord, caseKind, caseZero, caseNumber, caseLength, caseChild, bindingName, bindingPath, pathFirst, pathCount, stepKind, stepFlag, stepIndexAt, stepType, startsRise}
+use Rattle.spec_rules.specs.TreeReader.{treeStart, treePoolEnd, nodesAt, casesAt, bindingsAt, pathsAt, stepsAt, treePoolAt, treeSizes, nodes, cases, bindings, paths, steps, treePoolSize, startsRise}
 use Rattle.spec_accepted.specs.TreeFacts.{TreeLaid, tree-length-small}
-use Rattle.format_tree.specs.declared.layout.Section.{Section}
+use Rattle.format_parts.specs.declared.sections.Section.{Section}
+use Rattle.format_parts.specs.Sections.{sectionOf}
 use Rattle.format_tree.specs.declared.layout.Map.{Map}
-use Rattle.format_tree.specs.Reading.{sectionOf, mapOf, Mapped}
+use Rattle.format_tree.specs.Reading.{mapOf, Mapped}
 
 -- ---- starts and counts
 module _ {t : List ℕ} {m : Map} (w : Mapped t m) where
@@ -58,71 +59,6 @@ module _ {t : List ℕ} {m : Map} (w : Mapped t m) where
   -- the map that was given is the file's own
   pub mapped-own : Mapped t (mapOf t)
   mapped-own = subst (Mapped t) (w .is) w
-
-  -- ---- fields
-  pub node-kind-is : (k : ℕ) → getD t (nodeSize * k) 0 ≡ nodeKind t k
-  unfolding nodeKind
-  node-kind-is k = rw (nodes-start, zero-add)
-
-  pub node-zero-is : (k : ℕ) → getD t (nodeSize * k + 1) 0 ≡ nodeZero t k
-  unfolding nodeZero
-  node-zero-is k = rw (nodes-start, zero-add)
-
-  pub node-word-is : (k i : ℕ) → wordAt t (nodeSize * k + 2 + 2 * i) ≡ nodeWord t k i
-  unfolding nodeWord
-  node-word-is k i = rw (nodes-start, zero-add)
-
-  pub case-kind-is : (i : ℕ) → getD t (m .cases .start + caseSize * i) 0 ≡ caseKind t i
-  unfolding caseKind
-  case-kind-is i = rw (cases-start)
-
-  pub case-zero-is : (i : ℕ) → getD t (m .cases .start + caseSize * i + 1) 0 ≡ caseZero t i
-  unfolding caseZero
-  case-zero-is i = rw (cases-start)
-
-  pub case-number-is : (i : ℕ) → wordAt t (m .cases .start + caseSize * i + 2) ≡ caseNumber t i
-  unfolding caseNumber
-  case-number-is i = rw (cases-start)
-
-  pub case-length-is : (i : ℕ) → wordAt t (m .cases .start + caseSize * i + 4) ≡ caseLength t i
-  unfolding caseLength
-  case-length-is i = rw (cases-start)
-
-  pub case-child-is : (i : ℕ) → wordAt t (m .cases .start + caseSize * i + 6) ≡ caseChild t i
-  unfolding caseChild
-  case-child-is i = rw (cases-start)
-
-  pub binding-name-is : (b : ℕ) → wordAt t (m .bindings .start + bindingSize * b) ≡ bindingName t b
-  unfolding bindingName
-  binding-name-is b = rw (bindings-start)
-
-  pub binding-path-is : (b : ℕ) → wordAt t (m .bindings .start + bindingSize * b + 2) ≡ bindingPath t b
-  unfolding bindingPath
-  binding-path-is b = rw (bindings-start)
-
-  pub path-first-is : (p : ℕ) → wordAt t (m .paths .start + pathSize * p) ≡ pathFirst t p
-  unfolding pathFirst
-  path-first-is p = rw (paths-start)
-
-  pub path-count-is : (p : ℕ) → wordAt t (m .paths .start + pathSize * p + 2) ≡ pathCount t p
-  unfolding pathCount
-  path-count-is p = rw (paths-start)
-
-  pub step-kind-is : (i : ℕ) → getD t (m .steps .start + stepSize * i) 0 ≡ stepKind t i
-  unfolding stepKind
-  step-kind-is i = rw (steps-start)
-
-  pub step-flag-is : (i : ℕ) → getD t (m .steps .start + stepSize * i + 1) 0 ≡ stepFlag t i
-  unfolding stepFlag
-  step-flag-is i = rw (steps-start)
-
-  pub step-index-is : (i : ℕ) → wordAt t (m .steps .start + stepSize * i + 2) ≡ stepIndexAt t i
-  unfolding stepIndexAt
-  step-index-is i = rw (steps-start)
-
-  pub step-type-is : (i : ℕ) → wordAt t (m .steps .start + stepSize * i + 4) ≡ stepType t i
-  unfolding stepType
-  step-type-is i = rw (steps-start)
 
 -- ---- the layout, as functions read it
 -- the starts a to f and the end of the pool, as a function reads them one by one

@@ -6,6 +6,8 @@ use crate::layout::Map;
 use crate::reading::case_child;
 use crate::reading::node_kind;
 use crate::reading::node_word;
+use base_numbers::node_kinds;
+use base_numbers::node_words;
 ghost use mathlib.Core.Path.{_≡_};
 ghost use mathlib.Core.List.{_++_};
 ghost use Prim.Native.Nat.{ℕ, _+_, _<_, _≤_};
@@ -30,16 +32,16 @@ fn children_of(tree: &[u8], m: Map, k: usize) -> Children
     ensures { λ r. ⌜ ChildrenAre (now (tree .entry)) m k r ⌝ }
 {
     let kind = node_kind(tree, m, k);
-    if kind == 2 {
+    if kind == node_kinds::LEAF {
         return Children::Nothing;
     }
-    let tails = node_word(tree, m, k, 3) as usize;
-    if kind == 3 {
-        return Children::One(tails);
+    if kind == node_kinds::HOIST {
+        return Children::One(node_word(tree, m, k, node_words::CHILD) as usize);
     }
-    let first = node_word(tree, m, k, 1) as usize;
-    let cases = node_word(tree, m, k, 2) as usize;
-    let default = node_word(tree, m, k, 4) as usize;
+    let first = node_word(tree, m, k, node_words::FIRST_CASE) as usize;
+    let cases = node_word(tree, m, k, node_words::CASES) as usize;
+    let tails = node_word(tree, m, k, node_words::TAIL_CASES) as usize;
+    let default = node_word(tree, m, k, node_words::DEFAULT) as usize;
     Children::Cases {
         first,
         count: cases + tails,

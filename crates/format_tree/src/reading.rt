@@ -1,17 +1,34 @@
 // Reading one record of a tree file whose sections are mapped: a node, a case with its test, a binding, a path, a step.
-// Rests on the words of a file, and on what a map says of the sections. A node is read of a file whose records keep the rules, since
+// Rests on the records at a place, and on what a map says of the sections. A node is read of a file whose records keep the rules, since
 // what a switch asks is read with it.
-use crate::layout::BINDING_SIZE;
-use crate::layout::CASE_SIZE;
 use crate::layout::Map;
-use crate::layout::NODE_SIZE;
-use crate::layout::PATH_SIZE;
-use crate::layout::STEP_SIZE;
-use base_words::word_at;
+use base_numbers::node_kinds;
+use base_numbers::node_words;
+use base_numbers::tree::BINDING_SIZE;
+use base_numbers::tree::CASE_SIZE;
+use base_numbers::tree::NODE_SIZE;
+use base_numbers::tree::PATH_SIZE;
+use base_numbers::tree::STEP_SIZE;
+use format_records::reading::Binding;
+use format_records::reading::Case;
+use format_records::reading::Path;
+use format_records::reading::Step;
+use format_records::reading::Test;
+use format_records::reading::binding_in;
+use format_records::reading::case_child_in;
+use format_records::reading::case_in;
+use format_records::reading::case_length_in;
+use format_records::reading::case_number_in;
+use format_records::reading::kind_in;
+use format_records::reading::node_word_in;
+use format_records::reading::path_in;
+use format_records::reading::step_in;
+use format_records::reading::test_in;
+use format_records::reading::zero_in;
 ghost use mathlib.Core.Path.{_≡_};
-ghost use Prim.Native.Nat.{_+_, _<_, _≤_};
+ghost use Prim.Native.Nat.{_<_};
 ghost use Rattle.spec_rules.specs.TreeReader.{pathsAt, stepsAt, paths, steps};
-ghost use Rattle.spec_rules.specs.TreeReader.{nodeKind, nodeZero, nodeWord, caseKind, caseZero, caseNumber, caseLength, caseChild, stepKind, stepFlag};
+ghost use Rattle.spec_rules.specs.TreeReader.{nodeKind, nodeZero, nodeWord, caseKind, caseZero, caseNumber, caseLength, caseChild};
 ghost use Rattle.format_tree.specs.Reading.{mapOf, Mapped, Ruled, nodeOf, testOf, caseOf, bindingOf, pathOf, stepOf};
 
 // A node with its fields. A default is one more than its node's number, and 0 where there is none.
@@ -44,53 +61,18 @@ pub enum Node {
     },
 }
 
-// What a case asks. A text is an integer's or a byte string's, and starts so far into the pool.
-pub enum Test {
-    Constr(u16),
-    Text {
-        integer: bool,
-        start: u16,
-        count: u16,
-    },
-    List(u16),
-    Tailed(u16),
-}
-
-pub struct Case {
-    pub test: Test,
-    pub child: u16,
-}
-
-pub struct Binding {
-    pub name: u16,
-    pub path: u16,
-}
-
-// A run of steps.
-pub struct Path {
-    pub first: u16,
-    pub count: u16,
-}
-
-pub struct Step {
-    pub kind: u8,
-    pub flag: u8,
-    pub index: u16,
-    pub of: u16,
-}
-
 pub fn node_kind(tree: &[u8], m: Map, k: usize) -> u8
     requires { ⌜ Mapped (now tree) m × (k < m .nodes .count) ⌝ }
     ensures { λ r. ⌜ r ≡ nodeKind (now (tree .entry)) k ⌝ }
 {
-    tree[NODE_SIZE * k]
+    kind_in(tree, NODE_SIZE * k)
 }
 
 pub fn node_zero(tree: &[u8], m: Map, k: usize) -> u8
     requires { ⌜ Mapped (now tree) m × (k < m .nodes .count) ⌝ }
     ensures { λ r. ⌜ r ≡ nodeZero (now (tree .entry)) k ⌝ }
 {
-    tree[NODE_SIZE * k + 1]
+    zero_in(tree, NODE_SIZE * k)
 }
 
 // The node's word i of five.
@@ -98,91 +80,69 @@ pub fn node_word(tree: &[u8], m: Map, k: usize, i: usize) -> u16
     requires { ⌜ Mapped (now tree) m × (k < m .nodes .count) × (i < 5) ⌝ }
     ensures { λ r. ⌜ r ≡ nodeWord (now (tree .entry)) k i ⌝ }
 {
-    word_at(tree, NODE_SIZE * k + 2 + 2 * i)
+    node_word_in(tree, NODE_SIZE * k, i)
 }
 
 pub fn case_kind(tree: &[u8], m: Map, i: usize) -> u8
     requires { ⌜ Mapped (now tree) m × (i < m .cases .count) ⌝ }
     ensures { λ r. ⌜ r ≡ caseKind (now (tree .entry)) i ⌝ }
 {
-    let at = m.cases.start + CASE_SIZE * i;
-    tree[at]
+    kind_in(tree, m.cases.start + CASE_SIZE * i)
 }
 
 pub fn case_zero(tree: &[u8], m: Map, i: usize) -> u8
     requires { ⌜ Mapped (now tree) m × (i < m .cases .count) ⌝ }
     ensures { λ r. ⌜ r ≡ caseZero (now (tree .entry)) i ⌝ }
 {
-    let at = m.cases.start + CASE_SIZE * i + 1;
-    tree[at]
+    zero_in(tree, m.cases.start + CASE_SIZE * i)
 }
 
 pub fn case_number(tree: &[u8], m: Map, i: usize) -> u16
     requires { ⌜ Mapped (now tree) m × (i < m .cases .count) ⌝ }
     ensures { λ r. ⌜ r ≡ caseNumber (now (tree .entry)) i ⌝ }
 {
-    word_at(tree, m.cases.start + CASE_SIZE * i + 2)
+    case_number_in(tree, m.cases.start + CASE_SIZE * i)
 }
 
 pub fn case_length(tree: &[u8], m: Map, i: usize) -> u16
     requires { ⌜ Mapped (now tree) m × (i < m .cases .count) ⌝ }
     ensures { λ r. ⌜ r ≡ caseLength (now (tree .entry)) i ⌝ }
 {
-    word_at(tree, m.cases.start + CASE_SIZE * i + 4)
+    case_length_in(tree, m.cases.start + CASE_SIZE * i)
 }
 
 pub fn case_child(tree: &[u8], m: Map, i: usize) -> u16
     requires { ⌜ Mapped (now tree) m × (i < m .cases .count) ⌝ }
     ensures { λ r. ⌜ r ≡ caseChild (now (tree .entry)) i ⌝ }
 {
-    word_at(tree, m.cases.start + CASE_SIZE * i + 6)
+    case_child_in(tree, m.cases.start + CASE_SIZE * i)
 }
 
-// What case i asks; its kind is known.
+// What case i asks.
 pub fn test_at(tree: &[u8], m: Map, i: usize) -> Test
-    requires { ⌜ Mapped (now tree) m × (i < m .cases .count) × (caseKind (now tree) i ≤ 4) ⌝ }
+    requires { ⌜ Mapped (now tree) m × (i < m .cases .count) ⌝ }
     ensures { λ r. ⌜ r ≡ testOf (now (tree .entry)) i ⌝ }
 {
-    let kind = case_kind(tree, m, i);
-    let a = case_number(tree, m, i);
-    let b = case_length(tree, m, i);
-    match kind {
-        0 => Test::Constr(a),
-        1 => Test::Text {
-            integer: true,
-            start: a,
-            count: b,
-        },
-        2 => Test::Text {
-            integer: false,
-            start: a,
-            count: b,
-        },
-        3 => Test::List(a),
-        _ => Test::Tailed(a),
-    }
+    test_in(tree, m.cases.start + CASE_SIZE * i)
 }
 
-// Case i, of a known kind.
 pub fn case_at(tree: &[u8], m: Map, i: usize) -> Case
-    requires { ⌜ Mapped (now tree) m × (i < m .cases .count) × (caseKind (now tree) i ≤ 4) ⌝ }
+    requires { ⌜ Mapped (now tree) m × (i < m .cases .count) ⌝ }
     ensures { λ r. ⌜ r ≡ caseOf (now (tree .entry)) i ⌝ }
 {
-    let test = test_at(tree, m, i);
-    let child = case_child(tree, m, i);
-    Case { test, child }
+    case_in(tree, m.cases.start + CASE_SIZE * i)
 }
 
 fn switch_at(tree: &[u8], m: Map, k: usize) -> Node
     requires { ⌜ Ruled (now tree) m × (k < m .nodes .count) × (nodeKind (now tree) k ≡ 0) ⌝ }
     ensures { λ r. ⌜ r ≡ nodeOf (now (tree .entry)) k ⌝ }
 {
-    let first = node_word(tree, m, k, 1);
+    let first = node_word(tree, m, k, node_words::FIRST_CASE);
     Node::Switch {
-        path: node_word(tree, m, k, 0),
+        path: node_word(tree, m, k, node_words::PATH),
         first,
-        cases: node_word(tree, m, k, 2),
-        default: node_word(tree, m, k, 4),
+        cases: node_word(tree, m, k, node_words::CASES),
+        default: node_word(tree, m, k, node_words::DEFAULT),
         test: test_at(tree, m, first as usize),
     }
 }
@@ -194,24 +154,24 @@ pub fn node_at(tree: &[u8], m: Map, k: usize) -> Node
 {
     let kind = node_kind(tree, m, k);
     match kind {
-        0 => switch_at(tree, m, k),
-        1 => Node::ListSwitch {
-            path: node_word(tree, m, k, 0),
-            first: node_word(tree, m, k, 1),
-            cases: node_word(tree, m, k, 2),
-            tails: node_word(tree, m, k, 3),
-            default: node_word(tree, m, k, 4),
+        node_kinds::SWITCH => switch_at(tree, m, k),
+        node_kinds::LIST_SWITCH => Node::ListSwitch {
+            path: node_word(tree, m, k, node_words::PATH),
+            first: node_word(tree, m, k, node_words::FIRST_CASE),
+            cases: node_word(tree, m, k, node_words::CASES),
+            tails: node_word(tree, m, k, node_words::TAIL_CASES),
+            default: node_word(tree, m, k, node_words::DEFAULT),
         },
-        2 => Node::Leaf {
-            clause: node_word(tree, m, k, 0),
-            first: node_word(tree, m, k, 1),
-            count: node_word(tree, m, k, 2),
+        node_kinds::LEAF => Node::Leaf {
+            clause: node_word(tree, m, k, node_words::CLAUSE),
+            first: node_word(tree, m, k, node_words::FIRST_BINDING),
+            count: node_word(tree, m, k, node_words::BINDINGS),
         },
         _ => Node::Hoist {
-            clause: node_word(tree, m, k, 0),
-            first: node_word(tree, m, k, 1),
-            count: node_word(tree, m, k, 2),
-            child: node_word(tree, m, k, 3),
+            clause: node_word(tree, m, k, node_words::CLAUSE),
+            first: node_word(tree, m, k, node_words::FIRST_BINDING),
+            count: node_word(tree, m, k, node_words::BINDINGS),
+            child: node_word(tree, m, k, node_words::CHILD),
         },
     }
 }
@@ -220,10 +180,7 @@ pub fn binding_at(tree: &[u8], m: Map, b: usize) -> Binding
     requires { ⌜ Mapped (now tree) m × (b < m .bindings .count) ⌝ }
     ensures { λ r. ⌜ r ≡ bindingOf (now (tree .entry)) b ⌝ }
 {
-    let at = m.bindings.start + BINDING_SIZE * b;
-    let name = word_at(tree, at);
-    let path = word_at(tree, at + 2);
-    Binding { name, path }
+    binding_in(tree, m.bindings.start + BINDING_SIZE * b)
 }
 
 // Path p, by the start of the paths alone: a caller who hands on no more of the map stores no more of it.
@@ -231,10 +188,7 @@ pub fn path_from(tree: &[u8], start: usize, p: usize) -> Path
     requires { ⌜ Mapped (now tree) (mapOf (now tree)) × (start ≡ pathsAt (now tree)) × (p < paths (now tree)) ⌝ }
     ensures { λ r. ⌜ r ≡ pathOf (now (tree .entry)) p ⌝ }
 {
-    let at = start + PATH_SIZE * p;
-    let first = word_at(tree, at);
-    let count = word_at(tree, at + 2);
-    Path { first, count }
+    path_in(tree, start + PATH_SIZE * p)
 }
 
 pub fn path_at(tree: &[u8], m: Map, p: usize) -> Path
@@ -244,38 +198,12 @@ pub fn path_at(tree: &[u8], m: Map, p: usize) -> Path
     path_from(tree, m.paths.start, p)
 }
 
-pub fn step_kind(tree: &[u8], m: Map, i: usize) -> u8
-    requires { ⌜ Mapped (now tree) m × (i < m .steps .count) ⌝ }
-    ensures { λ r. ⌜ r ≡ stepKind (now (tree .entry)) i ⌝ }
-{
-    let at = m.steps.start + STEP_SIZE * i;
-    tree[at]
-}
-
-pub fn step_flag(tree: &[u8], m: Map, i: usize) -> u8
-    requires { ⌜ Mapped (now tree) m × (i < m .steps .count) ⌝ }
-    ensures { λ r. ⌜ r ≡ stepFlag (now (tree .entry)) i ⌝ }
-{
-    let at = m.steps.start + STEP_SIZE * i + 1;
-    tree[at]
-}
-
 // Step i, by the start of the steps alone.
 pub fn step_from(tree: &[u8], start: usize, i: usize) -> Step
     requires { ⌜ Mapped (now tree) (mapOf (now tree)) × (start ≡ stepsAt (now tree)) × (i < steps (now tree)) ⌝ }
     ensures { λ r. ⌜ r ≡ stepOf (now (tree .entry)) i ⌝ }
 {
-    let at = start + STEP_SIZE * i;
-    let kind = tree[at];
-    let flag = tree[at + 1];
-    let index = word_at(tree, at + 2);
-    let of = word_at(tree, at + 4);
-    Step {
-        kind,
-        flag,
-        index,
-        of,
-    }
+    step_in(tree, start + STEP_SIZE * i)
 }
 
 pub fn step_at(tree: &[u8], m: Map, i: usize) -> Step

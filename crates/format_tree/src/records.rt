@@ -11,33 +11,19 @@ use crate::reading::node_kind;
 use crate::reading::node_word;
 use crate::reading::node_zero;
 use crate::reading::path_at;
-use crate::reading::step_flag;
-use crate::reading::step_kind;
+use crate::reading::step_at;
+use base_numbers::case_kinds;
+use base_numbers::node_kinds;
+use base_numbers::node_words;
+use base_numbers::step_kinds;
+use base_numbers::tree::NODE_BINDINGS_MOST;
+use format_parts::sections::run_in;
 ghost use mathlib.Core.Path.{_≡_};
 ghost use mathlib.Core.Bool.{true};
 ghost use Prim.Native.Nat.{_+_, _<_, _≤_};
 ghost use Rattle.spec_rules.specs.Searching.{every};
-ghost use Rattle.spec_rules.specs.SheetFile.{runIn};
 ghost use Rattle.spec_rules.specs.TreeReader.{Switch, List-switch, Leaf, Hoist-node, nodeOfKind, caseKind, caseKindOf, caseOfKind, isKind, switchParts, switchCases, listSwitchCases, bindingParts, nodeKeepsRules, caseKeepsRules, bindingKeepsRules, pathKeepsRules, stepKeepsRules};
 ghost use Rattle.format_tree.specs.Reading.{Mapped};
-
-pub const NODE_BINDINGS_MOST: usize = 192;
-
-// The run from first on lies in a section of n records, and first is 0 where count is 0.
-fn run_in(first: usize, count: usize, n: usize) -> bool
-    ensures { λ r. ⌜ r ≡ runIn first count n ⌝ }
-{
-    if n < count {
-        return false;
-    }
-    if n - count < first {
-        return false;
-    }
-    if 0 < count {
-        return true;
-    }
-    first == 0
-}
 
 // ---- nodes
 
@@ -45,11 +31,11 @@ fn switch_parts(tree: &[u8], m: Map, k: usize) -> bool
     requires { ⌜ Mapped (now tree) m × (k < m .nodes .count) ⌝ }
     ensures { λ r. ⌜ r ≡ switchParts (now (tree .entry)) k ⌝ }
 {
-    let path = node_word(tree, m, k, 0) as usize;
-    let first = node_word(tree, m, k, 1) as usize;
-    let cases = node_word(tree, m, k, 2) as usize;
-    let tails = node_word(tree, m, k, 3) as usize;
-    let default = node_word(tree, m, k, 4) as usize;
+    let path = node_word(tree, m, k, node_words::PATH) as usize;
+    let first = node_word(tree, m, k, node_words::FIRST_CASE) as usize;
+    let cases = node_word(tree, m, k, node_words::CASES) as usize;
+    let tails = node_word(tree, m, k, node_words::TAIL_CASES) as usize;
+    let default = node_word(tree, m, k, node_words::DEFAULT) as usize;
     if m.paths.count <= path {
         return false;
     }
@@ -78,9 +64,9 @@ fn switch_cases(tree: &[u8], m: Map, k: usize) -> bool
     requires { ⌜ Mapped (now tree) m × (k < m .nodes .count) × (switchParts (now tree) k ≡ true) ⌝ }
     ensures { λ r. ⌜ r ≡ switchCases (now (tree .entry)) k ⌝ }
 {
-    let first = node_word(tree, m, k, 1) as usize;
-    let cases = node_word(tree, m, k, 2) as usize;
-    let tails = node_word(tree, m, k, 3) as usize;
+    let first = node_word(tree, m, k, node_words::FIRST_CASE) as usize;
+    let cases = node_word(tree, m, k, node_words::CASES) as usize;
+    let tails = node_word(tree, m, k, node_words::TAIL_CASES) as usize;
     if cases < 1 {
         return false;
     }
@@ -88,7 +74,7 @@ fn switch_cases(tree: &[u8], m: Map, k: usize) -> bool
         return false;
     }
     let kind = case_kind(tree, m, first);
-    if 2 < kind {
+    if case_kinds::BYTES < kind {
         return false;
     }
     cases_of_kind(tree, m, kind, first, cases)
@@ -98,24 +84,24 @@ fn list_switch_cases(tree: &[u8], m: Map, k: usize) -> bool
     requires { ⌜ Mapped (now tree) m × (k < m .nodes .count) × (switchParts (now tree) k ≡ true) ⌝ }
     ensures { λ r. ⌜ r ≡ listSwitchCases (now (tree .entry)) k ⌝ }
 {
-    let first = node_word(tree, m, k, 1) as usize;
-    let cases = node_word(tree, m, k, 2) as usize;
-    let tails = node_word(tree, m, k, 3) as usize;
+    let first = node_word(tree, m, k, node_words::FIRST_CASE) as usize;
+    let cases = node_word(tree, m, k, node_words::CASES) as usize;
+    let tails = node_word(tree, m, k, node_words::TAIL_CASES) as usize;
     if cases + tails < 1 {
         return false;
     }
-    if !cases_of_kind(tree, m, 3, first, cases) {
+    if !cases_of_kind(tree, m, case_kinds::LIST, first, cases) {
         return false;
     }
-    cases_of_kind(tree, m, 4, first + cases, tails)
+    cases_of_kind(tree, m, case_kinds::LIST_WITH_TAIL, first + cases, tails)
 }
 
 fn binding_parts(tree: &[u8], m: Map, k: usize) -> bool
     requires { ⌜ Mapped (now tree) m × (k < m .nodes .count) ⌝ }
     ensures { λ r. ⌜ r ≡ bindingParts (now (tree .entry)) k ⌝ }
 {
-    let first = node_word(tree, m, k, 1) as usize;
-    let count = node_word(tree, m, k, 2) as usize;
+    let first = node_word(tree, m, k, node_words::FIRST_BINDING) as usize;
+    let count = node_word(tree, m, k, node_words::BINDINGS) as usize;
     if NODE_BINDINGS_MOST < count {
         return false;
     }
@@ -149,10 +135,10 @@ fn leaf_keeps_rules(tree: &[u8], m: Map, k: usize) -> bool
     if !binding_parts(tree, m, k) {
         return false;
     }
-    if node_word(tree, m, k, 3) != 0 {
+    if node_word(tree, m, k, node_words::CHILD) != 0 {
         return false;
     }
-    node_word(tree, m, k, 4) == 0
+    node_word(tree, m, k, node_words::UNUSED) == 0
 }
 
 fn hoist_keeps_rules(tree: &[u8], m: Map, k: usize) -> bool
@@ -162,11 +148,11 @@ fn hoist_keeps_rules(tree: &[u8], m: Map, k: usize) -> bool
     if !binding_parts(tree, m, k) {
         return false;
     }
-    let child = node_word(tree, m, k, 3) as usize;
+    let child = node_word(tree, m, k, node_words::CHILD) as usize;
     if m.nodes.count <= child {
         return false;
     }
-    node_word(tree, m, k, 4) == 0
+    node_word(tree, m, k, node_words::UNUSED) == 0
 }
 
 fn node_keeps_rules(tree: &[u8], m: Map, k: usize) -> bool
@@ -177,10 +163,10 @@ fn node_keeps_rules(tree: &[u8], m: Map, k: usize) -> bool
         return false;
     }
     match node_kind(tree, m, k) {
-        0 => switch_keeps_rules(tree, m, k),
-        1 => list_switch_keeps_rules(tree, m, k),
-        2 => leaf_keeps_rules(tree, m, k),
-        3 => hoist_keeps_rules(tree, m, k),
+        node_kinds::SWITCH => switch_keeps_rules(tree, m, k),
+        node_kinds::LIST_SWITCH => list_switch_keeps_rules(tree, m, k),
+        node_kinds::LEAF => leaf_keeps_rules(tree, m, k),
+        node_kinds::HOIST => hoist_keeps_rules(tree, m, k),
         _ => false,
     }
 }
@@ -208,11 +194,11 @@ fn case_of_kind(tree: &[u8], m: Map, i: usize) -> bool
     let number = case_number(tree, m, i) as usize;
     let length = case_length(tree, m, i) as usize;
     match case_kind(tree, m, i) {
-        0 => length == 0,
-        1 => run_in(number, length, m.pool.count),
-        2 => run_in(number, length, m.pool.count),
-        3 => length == 0,
-        4 => length == 0,
+        case_kinds::CONSTR => length == 0,
+        case_kinds::INT => run_in(number, length, m.pool.count),
+        case_kinds::BYTES => run_in(number, length, m.pool.count),
+        case_kinds::LIST => length == 0,
+        case_kinds::LIST_WITH_TAIL => length == 0,
         _ => false,
     }
 }
@@ -298,9 +284,10 @@ fn step_keeps_rules(tree: &[u8], m: Map, i: usize) -> bool
     requires { ⌜ Mapped (now tree) m × (i < m .steps .count) ⌝ }
     ensures { λ r. ⌜ r ≡ stepKeepsRules (now (tree .entry)) i ⌝ }
 {
-    let kind = step_kind(tree, m, i);
-    let flag = step_flag(tree, m, i);
-    if 4 < kind {
+    let step = step_at(tree, m, i);
+    let kind = step.kind;
+    let flag = step.flag;
+    if step_kinds::LISTTAIL < kind {
         return false;
     }
     if flag == 0 {
@@ -309,7 +296,7 @@ fn step_keeps_rules(tree: &[u8], m: Map, i: usize) -> bool
     if flag != 1 {
         return false;
     }
-    kind == 2
+    kind == step_kinds::CONSTR
 }
 
 pub fn steps_keep_rules(tree: &[u8], m: Map) -> bool

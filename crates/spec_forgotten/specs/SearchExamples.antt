@@ -4,6 +4,7 @@ use Prim.Native.Nat.{ℕ}
 use mathlib.Core.Path.{_≡_, refl}
 use mathlib.Core.List.{List, [], _∷_}
 use mathlib.Core.Option.{none, some}
+use Rattle.spec_rules.specs.Sections.{sheetFileOf}
 use Rattle.spec_rules.specs.SheetRefusals.{verdict, accepted}
 use Rattle.spec_rules.specs.Calls.{sheetTree}
 use Rattle.spec_rules.specs.Samples.{sheet7, sheet11}
@@ -12,12 +13,12 @@ use Rattle.spec_forgotten.specs.Marking.{hollowType}
 
 -- P7: `7` alone
 P7-gap : lowestGap sheet7 (sheetTree sheet7) ≡ some 1
-unfolding lowestGap sheetTree
+unfolding lowestGap sheetTree sheetFileOf
 P7-gap = refl
 
 -- P11: (1,2), (3,4)
 P11-gap : lowestGap sheet11 (sheetTree sheet11) ≡ some 1
-unfolding lowestGap sheetTree
+unfolding lowestGap sheetTree sheetFileOf
 P11-gap = refl
 
 -- two constructors: 1, 0
@@ -598,5 +599,5 @@ unfolding hollowType
 listOfPairs-hollow = refl
 
 P11-filled : hollowType sheet11 ≡ none
-unfolding hollowType
+unfolding hollowType sheetFileOf
 P11-filled = refl

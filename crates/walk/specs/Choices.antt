@@ -11,14 +11,14 @@ use Rattle.spec_rules.specs.Kinds.{integerRecord, bytesRecord, constructorRecor
 use Rattle.spec_rules.specs.Searching.{lowest}
 use Rattle.spec_rules.specs.Splitting.{Test, Int, Bytes, sameTest}
 use Rattle.spec_rules.specs.TreeReader.{caseKind, caseNumber, caseText, caseTest}
-use Rattle.format_tree.specs.declared.reading.Test.{Test as TestRead}
+use Rattle.format_records.specs.declared.reading.Test.{Test as TestRead}
 use Rattle.walk.specs.declared.choose.Chosen.{Chosen}
 use Rattle.walk.specs.declared.choose.Chosen.the-variants.{At, Nothing}
 
 -- the kind of record that a switch asks for whose first case has this test
 abbrev pub askedBy : TestRead → ℕ
 askedBy (TestRead.Constr a) = constructorRecord
-askedBy (TestRead.Text i s n) = pick i integerRecord bytesRecord
+askedBy (TestRead.Text kind s n) = pick (eqb kind intCase) integerRecord bytesRecord
 askedBy (TestRead.List k) = suc constructorRecord
 askedBy (TestRead.Tailed k) = suc constructorRecord
 

@@ -17,7 +17,7 @@ use Rattle.spec_rules.specs.SearchingLaws.{lowest-some, lowest-agree}
 use Rattle.spec_rules.specs.Splitting.{Test, Constr, Int, Bytes, ListOf, ListWithTail, testFields, sameTest}
 use Rattle.spec_rules.specs.Building.{Tree, Cases, ccons}
 use Rattle.spec_rules.specs.PanelFile.{records, recordKind, recordText, RecordKind, Integer-record, Bytes-record, List-record, Pair-record, Tuple-record, Constructor-record, Unknown-record, recordKindOf}
-use Rattle.spec_rules.specs.TreeReader.{caseKind, caseNumber, caseText, CaseKind, Constr-case, Int-case, Bytes-case, List-case, List-with-tail-case, Unknown-case, caseKindOf, testOfKind, caseTest, casesFor}
+use Rattle.spec_rules.specs.TreeReader.{caseKind, caseNumber, caseLength, caseText, CaseKind, Constr-case, Int-case, Bytes-case, List-case, List-with-tail-case, Unknown-case, caseKindOf, testOfKind, caseTest, casesFor}
 use Rattle.spec_rules.specs.Walking.{Position as Place, shown, shownAt, testKind, tailNumber, largestTail}
 use Rattle.spec_accepted.specs.KindsLaws.{record-byte, caseKindNumber, case-byte, byte-case, unknown-case}
 use Rattle.spec_accepted.specs.TreeFacts.{casesFor-some}
@@ -25,7 +25,8 @@ use Rattle.spec_accepted.specs.PanelFacts.{PanelShaped}
 use Rattle.format_panel.specs.declared.Map.{Map as PanelMap}
 use Rattle.format_panel.specs.declared.records.Record.{Record}
 use Rattle.format_panel.specs.Opened.{recordOf, Opened}
-use Rattle.format_tree.specs.Reading.{testOfFields, testOf}
+use Rattle.format_records.specs.Records.{testFrom}
+use Rattle.format_tree.specs.Reading.{testOf}
 use Rattle.walk.specs.declared.choose.Chosen.{Chosen}
 use Rattle.walk.specs.Choices.{askedBy, AllKind, AllText, firstCase, firstNumbered, firstText, chosenOf, ChosenIn, textTest}
 
@@ -36,10 +37,10 @@ askedFor (suc c) = c
 
 module _ (t : List ℕ) (i : ℕ) (h : caseKind t i ≤ bytesCase) where
   pub asked-is : askedBy (testOf t i) ≡ askedFor (caseKind t i)
-  unfolding testOf testOfFields
+  unfolding testOf testFrom
   asked-is = go (caseKindOf (caseKind t i)) refl
     where
-      go : (kind : CaseKind) → caseKindOf (caseKind t i) ≡ kind → askedBy (testOfFields t i (caseKindOf (caseKind t i))) ≡ askedFor (caseKind t i)
+      go : (kind : CaseKind) → caseKindOf (caseKind t i) ≡ kind → askedBy (testFrom (caseKindOf (caseKind t i)) (caseNumber t i) (caseLength t i)) ≡ askedFor (caseKind t i)
       go Constr-case e = let k = case-byte (caseKind t i) Constr-case e (omega arith) in rw (e, k)
       go Int-case e = let k = case-byte (caseKind t i) Int-case e (omega arith) in rw (e, k)
       go Bytes-case e = let k = case-byte (caseKind t i) Bytes-case e (omega arith) in rw (e, k)

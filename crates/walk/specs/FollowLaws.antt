@@ -21,9 +21,9 @@ use Rattle.spec_accepted.specs.PanelFacts.{PanelLaid, PanelShaped}
 use Rattle.format_panel.specs.declared.Map.{Map as PanelMap}
 use Rattle.format_panel.specs.declared.records.Record.{Record}
 use Rattle.format_panel.specs.Opened.{recordOf}
-use Rattle.format_tree.specs.declared.reading.Step.{Step as StepRead}
-use Rattle.format_tree.specs.declared.reading.Path.{Path as PathRead}
-use Rattle.format_tree.specs.declared.reading.Binding.{Binding as BindingRead}
+use Rattle.format_records.specs.declared.reading.Step.{Step as StepRead}
+use Rattle.format_records.specs.declared.reading.Path.{Path as PathRead}
+use Rattle.format_records.specs.declared.reading.Binding.{Binding as BindingRead}
 use Rattle.format_tree.specs.declared.layout.Map.{Map}
 use Rattle.format_tree.specs.Reading.{Ruled, stepOf, pathOf, bindingOf}
 use Rattle.format_tree.specs.ReadingLaws.{mapped-own, paths-start, steps-start, paths-count, bindings-count}

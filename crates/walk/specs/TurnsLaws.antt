@@ -22,7 +22,7 @@ use Rattle.spec_accepted.specs.TreeFacts.{TreeSound, case-listed, default-liste
 use Rattle.format_panel.specs.declared.Map.{Map as PanelMap}
 use Rattle.format_panel.specs.declared.records.Record.{Record}
 use Rattle.format_panel.specs.Opened.{recordOf, Opened}
-use Rattle.format_tree.specs.declared.reading.Test.{Test as TestRead}
+use Rattle.format_records.specs.declared.reading.Test.{Test as TestRead}
 use Rattle.format_tree.specs.Reading.{testOf}
 use Rattle.format_tree.specs.NodesLaws.{SwitchNode, ListSwitchNode, LeafNode, HoistNode, switch-node-children, list-switch-node-children, hoist-node-children}
 use Rattle.walk.specs.declared.nodes.Reached.{Reached}

@@ -1,9 +1,10 @@
 // The case of a run that is chosen by what a part shows. The cases of a run are of one kind, so that a search reads no more of a
 // case than what it compares, and answers the case's place; its child is taken from there. Rests on the cases of a tree file.
+use base_numbers::case_kinds;
 use base_numbers::record_kinds;
 use base_words::same_text;
+use format_records::reading::Test;
 use format_tree::layout::Map;
-use format_tree::reading::Test;
 use format_tree::reading::case_child;
 use format_tree::reading::case_length;
 use format_tree::reading::case_number;
@@ -43,10 +44,10 @@ pub fn asked_by(test: Test) -> u8
     match test {
         Test::Constr(_) => record_kinds::CONSTRUCTOR,
         Test::Text {
-            integer,
+            kind,
             start: _,
             count: _,
-        } => if integer {
+        } => if kind == case_kinds::INT {
             record_kinds::INTEGER
         } else {
             record_kinds::BYTES

@@ -6,7 +6,7 @@ use format_panel::Map as PanelMap;
 use format_panel::records::Record;
 use format_panel::records::part_at;
 use format_panel::records::record_at;
-use format_tree::reading::Step;
+use format_records::reading::Step;
 use format_tree::reading::path_from;
 use format_tree::reading::step_from;
 ghost use mathlib.Core.Path.{_≡_};

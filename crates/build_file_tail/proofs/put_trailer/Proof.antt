@@ -7,17 +7,11 @@ use Rattle.build_file_tail.proofs.put_trailer.Tie as tie
 put-number-requires : tie.Need-put-number-requires
 put-number-requires c κs = search needs
 
-mul-put-number : tie.Need-mul-put-number
-mul-put-number c = search needs
-
 add-put-number : tie.Need-add-put-number
 add-put-number c = search needs
 
 put-number-requires-2 : tie.Need-put-number-requires-2
 put-number-requires-2 c κs = search needs
-
-mul-put-number-2 : tie.Need-mul-put-number-2
-mul-put-number-2 c = search needs
 
 add-put-number-2 : tie.Need-add-put-number-2
 add-put-number-2 c = search needs
@@ -25,17 +19,11 @@ add-put-number-2 c = search needs
 put-number-requires-3 : tie.Need-put-number-requires-3
 put-number-requires-3 c κs = search needs
 
-mul-put-number-3 : tie.Need-mul-put-number-3
-mul-put-number-3 c = search needs
-
 add-put-number-3 : tie.Need-add-put-number-3
 add-put-number-3 c = search needs
 
 put-number-requires-4 : tie.Need-put-number-requires-4
 put-number-requires-4 c κs = search needs
-
-mul-put-number-4 : tie.Need-mul-put-number-4
-mul-put-number-4 c = search needs
 
 add-put-number-4 : tie.Need-add-put-number-4
 add-put-number-4 c = search needs
@@ -43,17 +31,11 @@ add-put-number-4 c = search needs
 put-number-requires-5 : tie.Need-put-number-requires-5
 put-number-requires-5 c κs = search needs
 
-mul-put-number-5 : tie.Need-mul-put-number-5
-mul-put-number-5 c = search needs
-
 add-put-number-5 : tie.Need-add-put-number-5
 add-put-number-5 c = search needs
 
 put-number-requires-6 : tie.Need-put-number-requires-6
 put-number-requires-6 c κs = search needs
-
-mul-put-number-6 : tie.Need-mul-put-number-6
-mul-put-number-6 c = search needs
 
 add-put-number-6 : tie.Need-add-put-number-6
 add-put-number-6 c = search needs
@@ -84,22 +66,16 @@ put-trailer-spec =
     tie.close
     (tie.spec
     put-number-requires
-    mul-put-number
     add-put-number
     put-number-requires-2
-    mul-put-number-2
     add-put-number-2
     put-number-requires-3
-    mul-put-number-3
     add-put-number-3
     put-number-requires-4
-    mul-put-number-4
     add-put-number-4
     put-number-requires-5
-    mul-put-number-5
     add-put-number-5
     put-number-requires-6
-    mul-put-number-6
     add-put-number-6
     add-put-number-7
     put-number-requires-7

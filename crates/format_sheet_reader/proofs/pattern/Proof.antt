@@ -52,10 +52,10 @@ use Rattle.format_sheet_reader.specs.Reading.{Opened}
 use Rattle.format_sheet_reader.specs.ReadingLaws.{patterns-start}
 use Rattle.format_sheet_reader.proofs.Reader as T
 use Rattle.format_sheet_reader.proofs.Reader.Laws as T′
-use Rattle.format_sheet_reader.proofs.places.pattern_in as callee
-use Rattle.format_sheet_reader.proofs.places.pattern_in.Symbol as callee-def
-use Rattle.format_sheet_reader.proofs.places.pattern_in.Symbol.{name as #reader·places·pattern-in}
-use Rattle.format_sheet_reader.proofs.places.pattern_in.Met as callee-thm
+use Rattle.format_sheet.proofs.records.pattern_in as callee
+use Rattle.format_sheet.proofs.records.pattern_in.Symbol as callee-def
+use Rattle.format_sheet.proofs.records.pattern_in.Symbol.{name as #format_sheet·records·pattern-in}
+use Rattle.format_sheet.proofs.records.pattern_in.Met as callee-thm
 use Rattle.format_sheet_reader.proofs.pattern.Key.{name as #reader·pattern}
 use Rattle.format_sheet_reader.proofs.pattern as pattern
 use Rattle.format_sheet_reader.proofs.pattern.Statement as stated
@@ -136,7 +136,7 @@ module _ {M : Type 1} (𝓤 : URA M) (H : Heap 𝓤) (A : Atoms 𝓤) (W : Given
       suffices ! _ (ends-at 𝓤 H A pattern.ended stayed (pattern.clauses 𝓤 H A mem run) W (((κ, tt), (q, tt), tt, (d, (n, tt)), at), tt) u r (tt, (tt, tt)) (tt, (tt, tt))) $ says ! e $
       move ! (1 ∷ []) $ frame ! $ nothing ! $ owned ! usize (Is usize) (uint-makes 𝓤 H A W w64) n _ (refl, ok) $ move ! (0 ∷ 1 ∷ []) $ fjoin ! $ move ! (2 ∷ 0 ∷ []) $ fjoin ! $ frame ! $ done !
 
-  module _ (C : Calls 𝓤 H) (Λ : Loops 𝓤 H) (fm : FmC 𝓤 H (W .laws) C) (known : Triple 𝓤 (C #reader·places·pattern-in) (Callee 𝓤 H A mem run)) where
+  module _ (C : Calls 𝓤 H) (Λ : Loops 𝓤 H) (fm : FmC 𝓤 H (W .laws) C) (known : Triple 𝓤 (C #format_sheet·records·pattern-in) (Callee 𝓤 H A mem run)) where
     walk : Holds (hasTy (T′.mir (named 0)) mach) × WT mach → ent 𝓤 (onEntry 𝓤 H A pattern.signature (κ, tt) (q, tt) (d, (n, tt)) at) (WpFn 𝓤 H C Λ code.function (mach ∷ vint w64 n ∷ []) Post)
     walk wt =
         qed W (raw (onEntry 𝓤 H A pattern.signature (κ, tt) (q, tt) (d, (n, tt)) at) ∷ []) ∵ enter ! C Λ code.function (mach ∷ vint w64 n ∷ []) _ $
@@ -154,13 +154,13 @@ module _ {M : Type 1} (𝓤 : URA M) (H : Heap 𝓤) (A : Atoms 𝓤) (W : Given
         move ! (11 ∷ 12 ∷ []) $ free1 ! $ move ! (9 ∷ 10 ∷ []) $ free1 ! $ move ! (7 ∷ 8 ∷ []) $ free1 ! $ move ! (5 ∷ 6 ∷ []) $ free1 ! $ move ! (3 ∷ 4 ∷ []) $ free1 ! $ free0 ! $ by ! (exits r u e))))))))))
 
 module _ {M : Type 1} (𝓤 : URA M) (H : Heap 𝓤) (A : Atoms 𝓤) (W : Given 𝓤 H A) (mem : Memory → SProp 𝓤) (run : Routine → Fun 𝓤) where
-  pattern-walks : (C : Calls 𝓤 H) (Λ : Loops 𝓤 H) → FmC 𝓤 H (W .laws) C → Triple 𝓤 (C #reader·places·pattern-in) (Callee 𝓤 H A mem run)
+  pattern-walks : (C : Calls 𝓤 H) (Λ : Loops 𝓤 H) → FmC 𝓤 H (W .laws) C → Triple 𝓤 (C #format_sheet·records·pattern-in) (Callee 𝓤 H A mem run)
       → Walks 𝓤 H A pattern.ended stayed (WpFn 𝓤 H C Λ code.function) (pattern.clauses 𝓤 H A mem run)
   pattern-walks C Λ fm known = walked 𝓤 H A pattern.ended stayed (pattern.clauses 𝓤 H A mem run) (WpFn 𝓤 H C Λ code.function) (λ κs. (LL.vals (T.the-type (namedLft 1 0 tt κs)) (T′.the-laws (namedLft 1 0 tt κs)), (uint-vals w64, tt))) (λ κs. (LL.tells (T.the-type (namedLft 1 0 tt κs)) (T′.the-laws (namedLft 1 0 tt κs)), (uint-tells w64, tt)))
       (λ κs qs bounds a g are. needs 𝓤 (Opened (a .0) × (a .1 .0 < patterns (now (a .0 .sheet)))) _ (λ there. walk 𝓤 H A W mem run (κs .0) (qs .0) (a .0) (a .1 .0) (are .1 .0 .1) there C Λ fm known (LL.lawful (T.the-type (namedLft 1 0 tt κs)) (T′.the-laws (namedLft 1 0 tt κs)) 𝓤 H A W .typed (a .0) _ (are .0) .0)))
 
 pattern-meets : {M : Type 1} (𝓤 : URA M) (H : Heap 𝓤) (A : Atoms 𝓤) (W : Given 𝓤 H A) (mem : Memory → SProp 𝓤) (run : Routine → Fun 𝓤) (𝓣 : Tables 𝓤 H)
-    → Triple 𝓤 (𝓣 .C #reader·places·pattern-in) (Callee 𝓤 H A mem run)
+    → Triple 𝓤 (𝓣 .C #format_sheet·records·pattern-in) (Callee 𝓤 H A mem run)
     → Meets 𝓤 H A pattern.signature (WpFn 𝓤 H (𝓣 .C) (𝓣 .Λ) code.function) (pattern.spec 𝓤 H A mem run)
 pattern-meets 𝓤 H A W mem run 𝓣 known = walk-meets 𝓤 H A pattern.ended stayed W (goes-none 𝓤 H A W 1 B yes (λ κs x f. refl), (goes-none 𝓤 H A W 1 (λ _. usize) yes (λ κs x f. refl), tt)) (pattern.clauses 𝓤 H A mem run) (WpFn 𝓤 H (𝓣 .C) (𝓣 .Λ) code.function) (WpFn-mono 𝓤 H (W .laws) 𝓣 code.function)
     (pattern-walks 𝓤 H A W mem run (𝓣 .C) (𝓣 .Λ) (fmOf 𝓤 H (W .laws) 𝓣) known)
@@ -171,4 +171,4 @@ pattern-spec 𝓤 H 𝓜 𝓖 𝓡 =
     entered 𝓤 H (tripleOf 𝓤 H (𝓖 .A) pattern.signature (pattern.spec 𝓤 H (𝓖 .A) (𝓜 .mem) (𝓡 .run)))
     (tables 𝓤 H 𝓜 𝓡 code.env .C) (tables 𝓤 H 𝓜 𝓡 code.env .Λ) #reader·pattern code.function (code.unfolded 𝓤 H 𝓜 𝓡)
     (pattern-meets 𝓤 H (𝓖 .A) (givenOf 𝓤 H 𝓜 𝓖) (𝓜 .mem) (𝓡 .run) (tablesOf 𝓤 H 𝓜 (tables 𝓤 H 𝓜 𝓡 code.env))
-    (cited 𝓤 H (Callee 𝓤 H (𝓖 .A) (𝓜 .mem) (𝓡 .run)) 𝓜 𝓡 code.env #reader·places·pattern-in callee-def.routine code.calls-format-sheet-reader·places·pattern-in (callee-thm.met 𝓤 H 𝓜 𝓖 𝓡)))
+    (cited 𝓤 H (Callee 𝓤 H (𝓖 .A) (𝓜 .mem) (𝓡 .run)) 𝓜 𝓡 code.env #format_sheet·records·pattern-in callee-def.routine code.calls-format-sheet·records·pattern-in (callee-thm.met 𝓤 H 𝓜 𝓖 𝓡)))

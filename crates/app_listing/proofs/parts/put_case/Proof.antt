@@ -1,5 +1,5 @@
 use Rattle.app_listing.specs.WritingLaws.{writes-then, writes-as}
-use Rattle.app_listing.specs.RecordsLaws.{case-kind-known, case-inside, case-line}
+use Rattle.app_listing.specs.RecordsLaws.{case-inside, case-line}
 use borrow.Author.Needs.{needs}
 use Rattle.app_listing.proofs.parts.put_case.Statement.{statement}
 use Rattle.app_listing.proofs.parts.put_case.Tie as tie
@@ -11,7 +11,7 @@ use Rattle.app_listing.proofs.texts.put_decimal.Reads as put-decimal-re
 use Rattle.format_tree.proofs.reading.case_at.Reads as case-at-reads
 
 case-at-requires : tie.Need-case-at-requires
-case-at-requires c κs = (c .before .before .pre .0 .mapped, c .before .before .pre .1, case-kind-known (c .before .before .pre .0) (c .before .before .args .i) (c .before .before .pre .1))
+case-at-requires c κs = (c .before .before .pre .0 .mapped, c .before .before .pre .1)
 
 put-requires : tie.Need-put-requires
 put-requires c κs = search needs

@@ -1,5 +1,5 @@
 use mathlib.Core.Path.{_≡_, sym, ap, subst, _∙_}
-use Rattle.format_tree.specs.declared.reading.Test.{Test}
+use Rattle.format_records.specs.declared.reading.Test.{Test}
 use Rattle.app_listing.specs.Records.{TestInside, testRead}
 use Rattle.app_listing.specs.WritingLaws.{writes-as}
 use Rattle.app_listing.specs.RecordsLaws.{text-inside, text-read}

@@ -1,7 +1,7 @@
 -- `build_cases::search::fields_of` meets its contract: each test has its own kind, number and length.
 use borrow.Author.Needs.{needs}
 use mathlib.Core.Path.{_≡_, sym, ap}
-use Rattle.build_arena.specs.declared.reading.Test.{Test}
+use Rattle.format_records.specs.declared.reading.Test.{Test}
 use Rattle.build_cases.specs.Fields.{fieldsOf}
 use Rattle.build_cases.proofs.search.fields_of.Statement.{statement}
 use Rattle.build_cases.proofs.search.fields_of.Tie as tie

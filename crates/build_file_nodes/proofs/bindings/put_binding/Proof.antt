@@ -28,35 +28,27 @@ element-copy-out-wide c =
 wide-requires : tie.Need-wide-requires
 wide-requires c κs = search needs
 
-put-word-requires : tie.Need-put-word-requires
-put-word-requires c κs = search needs
-
-add-put-word : tie.Need-add-put-word
-add-put-word c = search needs
-
-sub-put-word : tie.Need-sub-put-word
-sub-put-word c =
-    let s = c .before .before .before .before .before .before .before .before .before .before .before .before .before .before in
-    let binding-at = c .before .before .before .before .before .before .before .before .before .before .before .binding-at in
-    let used = c .before .before .before .before .before .before .before .used in
-    let wide = c .before .before .before .before .before .wide in
+sub-put-two-words : tie.Need-sub-put-two-words
+sub-put-two-words c =
+    let s = c .before .before .before .before .before .before .before .before .before .before in
+    let binding-at = c .before .before .before .before .before .before .before .binding-at in
+    let used = c .before .before .before .used in
+    let wide = c .before .wide in
     omega (arith, wide .ensures, used-some (usesOf (s .args .number .now) (s .args .list .now) (s .args .paths)) (usesOf (used .last .0) (used .last .1 .0) (used .result)) (binding-at .result .path) (used .ensures) (s .pre .2) (omega (arith, s .pre .0 .class, ap (λ z. z .path) (binding-at .ensures))))
 
-put-word-requires-2 : tie.Need-put-word-requires-2
-put-word-requires-2 c κs = search needs
+put-two-words-requires : tie.Need-put-two-words-requires
+put-two-words-requires c κs = search needs
 
 same-length : tie.Need-same-length
 same-length c = search needs
 
 returns : tie.Need-returns
 returns c =
-    let s = c .before .before .before .before .before .before .before .before .before .before .before .before .before .before .before .before .before in
-    let binding-at = c .before .before .before .before .before .before .before .before .before .before .before .before .before .before .binding-at in
-    let used = c .before .before .before .before .before .before .before .before .before .before .used in
-    let wide = c .before .before .before .before .before .before .before .before .wide in
-    let put-word = c .before .before .before .before .before .before .put-word in
-    let put-word2 = c .before .before .put-word2 in
-    binding-put (s .args .w .now) (s .args .b) (s .args .at) (usesOf (s .args .number .now) (s .args .list .now) (s .args .paths)) (usesOf (used .last .0) (used .last .1 .0) (used .result)) (s .args .tree .now) (binding-at .result .name) (binding-at .result .path) (wide .result) (ap (λ z. z .name) (binding-at .ensures)) (ap (λ z. z .path) (binding-at .ensures)) (used .ensures) (wide .ensures) (put-word .ensures) (put-word2 .ensures)
+    let s = c .before .before .before .before .before .before .before .before .before .before .before .before .before in
+    let binding-at = c .before .before .before .before .before .before .before .before .before .before .binding-at in
+    let used = c .before .before .before .before .before .before .used in
+    let wide = c .before .before .before .before .wide in
+    binding-put (s .args .w .now) (s .args .b) (s .args .at) (usesOf (s .args .number .now) (s .args .list .now) (s .args .paths)) (usesOf (used .last .0) (used .last .1 .0) (used .result)) (s .args .tree .now) (binding-at .result .name) (binding-at .result .path) (wide .result) (ap (λ z. z .name) (binding-at .ensures)) (ap (λ z. z .path) (binding-at .ensures)) (used .ensures) (wide .ensures) (c .before .before .put-two-words .ensures)
 
 pub put-binding-spec : {M : Type 1} → statement M
 put-binding-spec =
@@ -67,9 +59,7 @@ put-binding-spec =
     used-requires
     element-copy-out-wide
     wide-requires
-    put-word-requires
-    add-put-word
-    sub-put-word
-    put-word-requires-2
+    sub-put-two-words
+    put-two-words-requires
     same-length
     returns)

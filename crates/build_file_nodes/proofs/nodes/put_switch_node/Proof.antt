@@ -73,9 +73,12 @@ cast-top c =
     let s = c .before .before .before .before .before .before .before .before .before .before .before .before .before .before in
     omega (arith, s .pre .cases-fit)
 
+mul-put-node : tie.Need-mul-put-node
+mul-put-node c = omega (arith, c .before .before .before .before .before .before .before .before .before .before .before .before .before .before .before .before .pre .nodes-fit)
+
 put-node-requires : tie.Need-put-node-requires
 put-node-requires c κs =
-    let s = c .before .before .before .before .before .before .before .before .before .before .before .before .before .before .before in
+    let s = c .before .before .before .before .before .before .before .before .before .before .before .before .before .before .before .before in
     omega (arith, s .pre .tree-room, s .pre .nodes-fit)
 
 same-length : tie.Need-same-length
@@ -83,15 +86,15 @@ same-length c = search needs
 
 returns : tie.Need-returns
 returns c =
-    let s = c .before .before .before .before .before .before .before .before .before .before .before .before .before .before .before .before .before .before in
-    let node-word = c .before .before .before .before .before .before .before .before .before .before .before .before .before .before .before .node-word in
-    let node-word2 = c .before .before .before .before .before .before .before .before .before .before .before .before .before .before .node-word2 in
-    let node-word3 = c .before .before .before .before .before .before .before .before .before .before .before .before .before .node-word3 in
-    let node-word4 = c .before .before .before .before .before .before .before .before .before .before .before .before .node-word4 in
-    let moved-default = c .before .before .before .before .before .before .before .before .before .before .before .moved-default in
-    let used = c .before .before .before .before .before .before .before .before .used in
-    let wide = c .before .before .before .before .before .before .wide in
-    let node-kind = c .before .before .before .before .before .node-kind in
+    let s = c .before .before .before .before .before .before .before .before .before .before .before .before .before .before .before .before .before .before .before in
+    let node-word = c .before .before .before .before .before .before .before .before .before .before .before .before .before .before .before .before .node-word in
+    let node-word2 = c .before .before .before .before .before .before .before .before .before .before .before .before .before .before .before .node-word2 in
+    let node-word3 = c .before .before .before .before .before .before .before .before .before .before .before .before .before .before .node-word3 in
+    let node-word4 = c .before .before .before .before .before .before .before .before .before .before .before .before .before .node-word4 in
+    let moved-default = c .before .before .before .before .before .before .before .before .before .before .before .before .moved-default in
+    let used = c .before .before .before .before .before .before .before .before .before .used in
+    let wide = c .before .before .before .before .before .before .before .wide in
+    let node-kind = c .before .before .before .before .before .before .node-kind in
     let put-node = c .before .before .put-node in
     switch-node-put (s .args .w .now) (movedBy (s .args .shift .now)) (s .args .k) (s .args .tree .now) (reachOf (s .args .number .now) (s .args .list .now) (s .args .f)) (node-word .result) (node-word2 .result) (node-word3 .result) (moved-default .result) (usesOf (used .last .0) (used .last .1 .0) (used .result)) (wide .result) (node-kind .result) (node-word .ensures) (node-word2 .ensures) (node-word3 .ensures) (moved-default .ensures ∙ ap (movedDefault (movedBy (s .args .shift .now))) (node-word4 .ensures)) (used .ensures) (wide .ensures) (node-kind .ensures) (put-node .ensures)
 
@@ -112,6 +115,7 @@ put-switch-node-spec =
     sub-own
     node-kind-requires
     cast-top
+    mul-put-node
     put-node-requires
     same-length
     returns)

@@ -53,8 +53,8 @@ shared-slice-read-wide-2 c = let start = c .before .before .before .before .befo
 wide-requires-2 : tie.Need-wide-requires-2
 wide-requires-2 c κs = search needs
 
-put-fields-requires : tie.Need-put-fields-requires
-put-fields-requires c κs = let start = c .before .before .before .before .before .before .before .before .before .before .before .before .before in omega (arith, own-size (start .pre .0 .0) (start .pre .0 .1) (start .args .p) (start .pre .0 .2) (c .before .before .before .before .before .before .before .before .if1 .left), start .pre .1 .0, start .pre .1 .1)
+put-step-requires : tie.Need-put-step-requires
+put-step-requires c κs = let start = c .before .before .before .before .before .before .before .before .before .before .before .before .before in omega (arith, own-size (start .pre .0 .0) (start .pre .0 .1) (start .args .p) (start .pre .0 .2) (c .before .before .before .before .before .before .before .before .if1 .left), start .pre .1 .0, start .pre .1 .1)
 
 same-length : tie.Need-same-length
 same-length c = search needs
@@ -67,7 +67,7 @@ returns-2 c =
     let ty = c .before .before .before .before .before .before .before .type-at in
     let flag = c .before .before .before .before .before .before .flag-of in
     let index = c .before .before .before .wide2 in
-    own-step-put (start .pre .0 .0) (start .pre .0 .1) (start .args .p) (start .pre .0 .2) (c .before .before .before .before .before .before .before .before .before .before .before .if1 .left) (above .result) (type .result) (flag .result) (index .result) (ty .result) (above .ensures) (type .ensures) (ty .ensures) (flag .ensures) (index .ensures) (start .args .tree .now) (start .args .end) (start .pre .1 .0) (c .before .before .put-fields .ensures)
+    own-step-put (start .pre .0 .0) (start .pre .0 .1) (start .args .p) (start .pre .0 .2) (c .before .before .before .before .before .before .before .before .before .before .before .if1 .left) (above .result) (type .result) (flag .result) (index .result) (ty .result) (above .ensures) (type .ensures) (ty .ensures) (flag .ensures) (index .ensures) (start .args .tree .now) (start .args .end) (start .pre .1 .0) (c .before .before .put-step .ensures)
 
 pub put-step-spec : {M : Type 1} → statement M
 put-step-spec =
@@ -88,6 +88,6 @@ put-step-spec =
     add-wide-2
     shared-slice-read-wide-2
     wide-requires-2
-    put-fields-requires
+    put-step-requires
     same-length
     returns-2)

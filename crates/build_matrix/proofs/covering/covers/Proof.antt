@@ -1,7 +1,7 @@
 -- `covering::covers`: each arm is its part of the definition by the record, which is what rules says of the pattern.
 use borrow.Author.Needs.{needs}
 use mathlib.Core.Path.{_≡_, sym, ap, _∙_}
-use Rattle.build_arena.specs.declared.reading.Test.{Test}
+use Rattle.format_records.specs.declared.reading.Test.{Test}
 use Rattle.build_matrix.specs.Meant.{coversRead}
 use Rattle.build_matrix.specs.MeantLaws.{pool-text, covers-by, record-text}
 use Rattle.build_matrix.proofs.covering.covers.Statement.{statement}

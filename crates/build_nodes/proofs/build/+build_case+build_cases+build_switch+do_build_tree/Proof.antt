@@ -5,7 +5,7 @@ use mathlib.Core.Path.{_≡_, refl, ap, _∙_}
 use mathlib.Core.Bool.{true, false}
 use lib.ListN.{length}
 use Rattle.build_table.specs.Standing.{sheetPaths}
-use Rattle.build_arena.specs.declared.reading.Case.{Case}
+use Rattle.format_records.specs.declared.reading.Case.{Case}
 use Rattle.build_matrix.specs.Meant.{meant}
 use Rattle.build_matrix.specs.InNumbers.{inNumbers, matrixOf}
 use Rattle.build_nodes.specs.Built.{Partly}

@@ -16,15 +16,15 @@ returns c =
 node-word-requires : tie.Need-node-word-requires
 node-word-requires c κs = search needs
 
-cast-tails : tie.Need-cast-tails
-cast-tails c = search needs
+cast-t11 : tie.Need-cast-t11
+cast-t11 c = search needs
 
 returns-2 : tie.Need-returns-2
 returns-2 c =
     let back3 = c .before .before .before in
     let back5 = back3 .before .before in
-    children-hoist (back5 .pre .0) (back5 .args .k) (back5 .pre .1) (c .before .node-word .result)
-    (sym (back3 .node-kind .ensures) ∙ c .if2 .taken) (c .before .node-word .ensures)
+    children-hoist (back5 .pre .0) (back5 .args .k) (back5 .pre .1) (c .node-word .result)
+    (sym (back3 .node-kind .ensures) ∙ c .before .if2 .taken) (c .node-word .ensures)
 
 node-word-requires-2 : tie.Need-node-word-requires-2
 node-word-requires-2 c κs = search needs
@@ -41,23 +41,27 @@ cast-cases c = search needs
 node-word-requires-4 : tie.Need-node-word-requires-4
 node-word-requires-4 c κs = search needs
 
+cast-tails : tie.Need-cast-tails
+cast-tails c = search needs
+
+node-word-requires-5 : tie.Need-node-word-requires-5
+node-word-requires-5 c κs = search needs
+
 cast-default : tie.Need-cast-default
 cast-default c = search needs
 
-add-t11 : tie.Need-add-t11
-add-t11 c = search needs
+add-t13 : tie.Need-add-t13
+add-t13 c = search needs
 
 returns-3 : tie.Need-returns-3
 returns-3 c =
     let back3 = c .before .before .before in
-    let back4 = back3 .before in
-    let back5 = back4 .before in
-    let back6 = back5 .before in
+    let back6 = back3 .before .before .before in
     let back8 = back6 .before .before in
-    children-cases (back8 .pre .0) (back8 .args .k) (back8 .pre .1) (c .before .before .node-word2 .result) (c .before .node-word3 .result)
-    (back4 .node-word .result) (c .node-word4 .result) (λ e. back5 .if1 .left (back6 .node-kind .ensures ∙ e))
-    (λ e. back3 .if2 .left (back6 .node-kind .ensures ∙ e)) (c .before .before .node-word2 .ensures) (c .before .node-word3 .ensures)
-    (back4 .node-word .ensures) (c .node-word4 .ensures)
+    children-cases (back8 .pre .0) (back8 .args .k) (back8 .pre .1) (back3 .node-word2 .result) (c .before .before .node-word3 .result)
+    (c .before .node-word4 .result) (c .node-word5 .result) (λ e. back3 .before .before .if1 .left (back6 .node-kind .ensures ∙ e))
+    (λ e. back3 .before .if2 .left (back6 .node-kind .ensures ∙ e)) (back3 .node-word2 .ensures) (c .before .before .node-word3 .ensures)
+    (c .before .node-word4 .ensures) (c .node-word5 .ensures)
 
 pub children-of-spec : {M : Type 1} → statement M
 children-of-spec =
@@ -66,13 +70,15 @@ children-of-spec =
     node-kind-requires
     returns
     node-word-requires
-    cast-tails
+    cast-t11
     returns-2
     node-word-requires-2
     cast-first
     node-word-requires-3
     cast-cases
     node-word-requires-4
+    cast-tails
+    node-word-requires-5
     cast-default
-    add-t11
+    add-t13
     returns-3)

@@ -1,19 +1,24 @@
--- `format_tree::reading::case_at` meets its contract: the case's test and its child.
-use Rattle.format_tree.specs.Reading.{caseOf}
+-- `format_tree::reading::case_at` meets its contract: the map's start of the section is the file's, so that the record read is the rules'.
 use borrow.Author.Needs.{needs}
+use Rattle.spec_rules.specs.TreeReader.{caseKind, caseNumber, caseLength, caseChild}
+use Rattle.format_records.specs.Records.{testIn}
+use Rattle.format_tree.specs.Reading.{caseOf}
+use Rattle.format_tree.specs.ReadingLaws.{cases-start}
 use Rattle.format_tree.proofs.reading.case_at.Statement.{statement}
 use Rattle.format_tree.proofs.reading.case_at.Tie as tie
 
-test-at-requires : tie.Need-test-at-requires
-test-at-requires c κs = search needs
+mul-case-in : tie.Need-mul-case-in
+mul-case-in c = search needs
 
-case-child-requires : tie.Need-case-child-requires
-case-child-requires c κs = search needs
+add-case-in : tie.Need-add-case-in
+add-case-in c = search needs
+
+case-in-requires : tie.Need-case-in-requires
+case-in-requires c κs = search needs
 
 returns : tie.Need-returns
-unfolding caseOf
-returns c =
-    simp (← c .before .test-at .ensures, ← c .case-child .ensures)
+unfolding caseOf testIn caseKind caseNumber caseLength caseChild
+returns c = rw (cases-start (c .before .before .before .pre .0)) (c .case-in .ensures)
 
 pub case-at-spec : {M : Type 1} → statement M
-case-at-spec = tie.close (tie.spec test-at-requires case-child-requires returns)
+case-at-spec = tie.close (tie.spec mul-case-in add-case-in case-in-requires returns)

@@ -1,27 +1,22 @@
--- `format_tree::reading::case_length` meets its contract: what it reads, from the map's start on, is the rules' field.
+-- `format_tree::reading::case_length` meets its contract: the map's start of the section is the file's, so that the record read is the rules'.
 use borrow.Author.Needs.{needs}
-use mathlib.Core.Path.{_∙_}
-use Rattle.format_tree.specs.ReadingLaws.{case-length-is}
+use Rattle.spec_rules.specs.TreeReader.{caseLength}
+use Rattle.format_tree.specs.ReadingLaws.{cases-start}
 use Rattle.format_tree.proofs.reading.case_length.Statement.{statement}
 use Rattle.format_tree.proofs.reading.case_length.Tie as tie
 
-mul-word-at : tie.Need-mul-word-at
-mul-word-at c = search needs
+mul-case-length-in : tie.Need-mul-case-length-in
+mul-case-length-in c = search needs
 
-add-word-at : tie.Need-add-word-at
-add-word-at c = search needs
+add-case-length-in : tie.Need-add-case-length-in
+add-case-length-in c = search needs
 
-add-word-at-2 : tie.Need-add-word-at-2
-add-word-at-2 c = search needs
-
-word-at-requires : tie.Need-word-at-requires
-word-at-requires c κs = search needs
+case-length-in-requires : tie.Need-case-length-in-requires
+case-length-in-requires c κs = search needs
 
 returns : tie.Need-returns
-returns c =
-    let back3 = c .before .before .before in
-    c .word-at .ensures ∙ case-length-is (back3 .pre .0) (back3 .args .i)
+unfolding caseLength
+returns c = rw (cases-start (c .before .before .before .pre .0)) (c .case-length-in .ensures)
 
 pub case-length-spec : {M : Type 1} → statement M
-case-length-spec =
-    tie.close (tie.spec mul-word-at add-word-at add-word-at-2 word-at-requires returns)
+case-length-spec = tie.close (tie.spec mul-case-length-in add-case-length-in case-length-in-requires returns)

@@ -1,27 +1,22 @@
--- `format_tree::reading::case_number` meets its contract: what it reads, from the map's start on, is the rules' field.
+-- `format_tree::reading::case_number` meets its contract: the map's start of the section is the file's, so that the record read is the rules'.
 use borrow.Author.Needs.{needs}
-use mathlib.Core.Path.{_∙_}
-use Rattle.format_tree.specs.ReadingLaws.{case-number-is}
+use Rattle.spec_rules.specs.TreeReader.{caseNumber}
+use Rattle.format_tree.specs.ReadingLaws.{cases-start}
 use Rattle.format_tree.proofs.reading.case_number.Statement.{statement}
 use Rattle.format_tree.proofs.reading.case_number.Tie as tie
 
-mul-word-at : tie.Need-mul-word-at
-mul-word-at c = search needs
+mul-case-number-in : tie.Need-mul-case-number-in
+mul-case-number-in c = search needs
 
-add-word-at : tie.Need-add-word-at
-add-word-at c = search needs
+add-case-number-in : tie.Need-add-case-number-in
+add-case-number-in c = search needs
 
-add-word-at-2 : tie.Need-add-word-at-2
-add-word-at-2 c = search needs
-
-word-at-requires : tie.Need-word-at-requires
-word-at-requires c κs = search needs
+case-number-in-requires : tie.Need-case-number-in-requires
+case-number-in-requires c κs = search needs
 
 returns : tie.Need-returns
-returns c =
-    let back3 = c .before .before .before in
-    c .word-at .ensures ∙ case-number-is (back3 .pre .0) (back3 .args .i)
+unfolding caseNumber
+returns c = rw (cases-start (c .before .before .before .pre .0)) (c .case-number-in .ensures)
 
 pub case-number-spec : {M : Type 1} → statement M
-case-number-spec =
-    tie.close (tie.spec mul-word-at add-word-at add-word-at-2 word-at-requires returns)
+case-number-spec = tie.close (tie.spec mul-case-number-in add-case-number-in case-number-in-requires returns)

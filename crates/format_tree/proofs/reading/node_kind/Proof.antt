@@ -1,17 +1,20 @@
--- `format_tree::reading::node_kind` meets its contract: what it reads, from the map's start on, is the rules' field.
+-- `format_tree::reading::node_kind` meets its contract: the map's start of the section is the file's, so that the record read is the rules'.
 use borrow.Author.Needs.{needs}
-use Rattle.format_tree.specs.ReadingLaws.{node-kind-is}
+use native.Mathlib.Nat.{zero-add}
+use Rattle.spec_rules.specs.TreeReader.{nodeKind}
+use Rattle.format_tree.specs.ReadingLaws.{nodes-start}
 use Rattle.format_tree.proofs.reading.node_kind.Statement.{statement}
 use Rattle.format_tree.proofs.reading.node_kind.Tie as tie
 
-mul-result : tie.Need-mul-result
-mul-result c = search needs
+mul-kind-in : tie.Need-mul-kind-in
+mul-kind-in c = search needs
 
-shared-slice-read-result : tie.Need-shared-slice-read-result
-shared-slice-read-result c = search needs
+kind-in-requires : tie.Need-kind-in-requires
+kind-in-requires c κs = search needs
 
 returns : tie.Need-returns
-returns c = node-kind-is (c .before .pre .0) (c .before .args .k)
+unfolding nodeKind
+returns c = rw (nodes-start (c .before .before .pre .0), zero-add) (c .kind-in .ensures)
 
 pub node-kind-spec : {M : Type 1} → statement M
-node-kind-spec = tie.close (tie.spec mul-result shared-slice-read-result returns)
+node-kind-spec = tie.close (tie.spec mul-kind-in kind-in-requires returns)

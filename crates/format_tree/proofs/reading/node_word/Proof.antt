@@ -1,29 +1,20 @@
--- `format_tree::reading::node_word` meets its contract: what it reads, from the map's start on, is the rules' field.
+-- `format_tree::reading::node_word` meets its contract: the map's start of the section is the file's, so that the record read is the rules'.
 use borrow.Author.Needs.{needs}
-use mathlib.Core.Path.{_∙_}
-use Rattle.format_tree.specs.ReadingLaws.{node-word-is}
+use native.Mathlib.Nat.{zero-add}
+use Rattle.spec_rules.specs.TreeReader.{nodeWord}
+use Rattle.format_tree.specs.ReadingLaws.{nodes-start}
 use Rattle.format_tree.proofs.reading.node_word.Statement.{statement}
 use Rattle.format_tree.proofs.reading.node_word.Tie as tie
 
-mul-word-at : tie.Need-mul-word-at
-mul-word-at c = search needs
+mul-node-word-in : tie.Need-mul-node-word-in
+mul-node-word-in c = search needs
 
-add-word-at : tie.Need-add-word-at
-add-word-at c = search needs
-
-mul-word-at-2 : tie.Need-mul-word-at-2
-mul-word-at-2 c = search needs
-
-add-word-at-2 : tie.Need-add-word-at-2
-add-word-at-2 c = search needs
-
-word-at-requires : tie.Need-word-at-requires
-word-at-requires c κs = search needs
+node-word-in-requires : tie.Need-node-word-in-requires
+node-word-in-requires c κs = search needs
 
 returns : tie.Need-returns
-returns c = c .word-at .ensures ∙ node-word-is (c .before .before .pre .0) (c .before .before .args .k) (c .before .before .args .i)
+unfolding nodeWord
+returns c = rw (nodes-start (c .before .before .pre .0), zero-add) (c .node-word-in .ensures)
 
 pub node-word-spec : {M : Type 1} → statement M
-node-word-spec =
-    tie.close
-    (tie.spec mul-word-at add-word-at mul-word-at-2 add-word-at-2 word-at-requires returns)
+node-word-spec = tie.close (tie.spec mul-node-word-in node-word-in-requires returns)

@@ -31,7 +31,7 @@ test-at-requires c κs =
     let ruled = back5 .pre .0 in
     let k = back5 .args .k in
     let there = switch-first-case (ruled .rules) k (in-nodes ruled k (back5 .pre .1)) (back3 .node-word .result) (back5 .pre .2) (back3 .node-word .ensures) in
-    (ruled .mapped, omega (arith, there .0, cases-count (ruled .mapped)), there .1)
+    (ruled .mapped, omega (arith, there .0, cases-count (ruled .mapped)))
 
 returns : tie.Need-returns
 unfolding nodeOf nodeKindOf nodePath nodeFirstCase nodeCases nodeDefault

@@ -1,6 +1,6 @@
 -- `format_tree::records::binding_keeps_rules` meets its contract: its tests are those of the definition, in order.
 use borrow.Author.Needs.{needs}
-use Rattle.format_tree.specs.declared.reading.Binding.{Binding}
+use Rattle.format_records.specs.declared.reading.Binding.{Binding}
 use Rattle.spec_rules.specs.TreeReader.{bindingKeepsRules}
 use Rattle.format_tree.specs.ReadingLaws.{paths-count}
 use mathlib.Core.Path.{ap}

@@ -1,6 +1,6 @@
 -- `format_tree::records::path_keeps_rules` meets its contract: its tests are those of the definition, in order.
 use borrow.Author.Needs.{needs}
-use Rattle.format_tree.specs.declared.reading.Path.{Path}
+use Rattle.format_records.specs.declared.reading.Path.{Path}
 use Rattle.spec_rules.specs.TreeReader.{pathKeepsRules}
 use Rattle.format_tree.specs.ReadingLaws.{steps-count}
 use mathlib.Core.Path.{ap}

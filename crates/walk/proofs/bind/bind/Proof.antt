@@ -2,7 +2,7 @@
 -- Records and dropped elements of a panel fit a word.
 use borrow.Author.Needs.{needs}
 use mathlib.Core.List.{List}
-use Rattle.format_tree.specs.declared.reading.Binding.{Binding}
+use Rattle.format_records.specs.declared.reading.Binding.{Binding}
 use Rattle.walk.specs.declared.follow.Found.the-variants.{At}
 use Rattle.walk.specs.BindingsLaws.{left, bindings-start, binding-stuck, there-on, words-on, there-end, words-end}
 use Rattle.walk.specs.FollowLaws.{found-some, found-none, found-within, binding-followed, dropped-small}

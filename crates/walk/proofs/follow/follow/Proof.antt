@@ -2,7 +2,7 @@
 -- position is one of the panel.
 use borrow.Author.Needs.{needs}
 use Rattle.walk.specs.declared.follow.Found.the-variants.{At}
-use Rattle.format_tree.specs.declared.reading.Path.{Path}
+use Rattle.format_records.specs.declared.reading.Path.{Path}
 use Rattle.walk.specs.FollowLaws.{found-some, found-none, root-within, step-within, step-taken, path-run, path-start, path-on, path-stuck, path-end}
 use Rattle.walk.specs.Positions.{placed, foundOf, Within}
 use Rattle.spec_rules.specs.Walking.{panelRoot, takeStep, follow}
