@@ -19,7 +19,7 @@ use Rattle.spec_rules.specs.Listing.{refusedLine}
 use Rattle.spec_theorems.specs.Said.{WalkEnds, at-a-leaf, without-leaf, with-32}
 use Rattle.spec_theorems.specs.CallsLaws.{build-answers-only, fit-accepts-only}
 use Rattle.spec_theorems.specs.Theorems.{the-file-fits, the-buffer-has-the-file, few-are-bound, the-walk-ends}
-use Rattle.format_panel.specs.declared.Fitted.{Fitted}
+use Rattle.fit.specs.declared.Fitted.{Fitted}
 use Rattle.walk.specs.declared.Walked.{Walked}
 use Rattle.walk.specs.Answers.{answerOf}
 use Rattle.build_call.specs.declared.Built.{Built}

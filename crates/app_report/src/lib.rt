@@ -5,7 +5,7 @@ use app_listing::texts::put_text;
 use base_numbers::tree::BOUND_ROOM;
 use base_words::zero_all;
 use build_call::Built;
-use format_panel::Fitted;
+use fit::Fitted;
 use lines::put_leaf;
 use walk::Walked;
 ghost use mathlib.Core.Path.{_≡_};

@@ -25,7 +25,7 @@ ghost use Prim.Native.Nat.{_≤_};
 ghost use lib.ListN.{length};
 ghost use Rattle.base_words.specs.Words.{zeros};
 ghost use Rattle.spec_rules.specs.Limits.{treeRoom, workRoom};
-ghost use Rattle.format_panel.specs.Answers.{SheetAccepts};
+ghost use Rattle.format_sheet.specs.Check.{SheetAccepts};
 ghost use Rattle.build_table.specs.Tabled.{Tabled};
 ghost use Rattle.build_call.specs.Answers.{Gives, treeEnd};
 ghost use Rattle.build_call.specs.Raw.{Raw, Fitting, Hoistable, Whole};

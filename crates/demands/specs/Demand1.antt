@@ -23,8 +23,8 @@ use Rattle.spec_theorems.specs.Said.{Passes2, Passes3, Passes4, Passes5, Passes
 use Rattle.spec_theorems.specs.CallsLaws.{build-refused-writes, walk-refused-writes}
 use Rattle.spec_theorems.specs.Theorems.{accepted-exactly, tree-accepted-exactly, panel-accepted-exactly, refused-2-exactly, refused-3-exactly, refused-4-exactly, refused-5-exactly, refused-6-exactly, refused-7-exactly, refused-8-exactly, refused-9-exactly, refused-10-exactly, refused-11-exactly, refused-12-exactly, refused-13-exactly, refused-21-exactly, refused-22-exactly, refused-23-exactly, refused-24-exactly}
 use Rattle.spec_theorems.specs.Refusals.{refusal-14}
-use Rattle.format_panel.specs.declared.Fitted.{Fitted}
-use Rattle.format_panel.specs.declared.Fitted.the-variants.{Refused as NotFitted}
+use Rattle.fit.specs.declared.Fitted.{Fitted}
+use Rattle.fit.specs.declared.Fitted.the-variants.{Refused as NotFitted}
 use Rattle.format_panel.specs.declared.Located.{Located}
 use Rattle.format_panel.specs.declared.Located.the-variants.{At as LocatedAt, Refused as NotLocated}
 use Rattle.walk.specs.declared.Walked.{Walked}

@@ -27,7 +27,7 @@ use Rattle.spec_match.specs.Bindings.{SameUpToOrder}
 use Rattle.spec_theorems.specs.Said.{Builds, Fits, FirstMatch, NoMatch, timesBound}
 use Rattle.spec_theorems.specs.CallsLaws.{build-answers-only, fit-accepts-only, build-file}
 use Rattle.spec_theorems.specs.Theorems.{the-walk-ends-at-the-first-match, the-walk-ends-without-leaf, the-call-answers-the-first-match, the-call-answers-without-leaf, the-call-writes-the-first-match, a-clause-matches-or-none, the-file-says-the-tree, each-clause-is-hoisted-once, each-clause-is-hoisted-above-its-leaves}
-use Rattle.format_panel.specs.declared.Fitted.the-variants.{Fits as PanelFits}
+use Rattle.fit.specs.declared.Fitted.the-variants.{Fits as PanelFits}
 use Rattle.walk.specs.declared.Walked.{Walked}
 use Rattle.walk.specs.declared.Walked.the-variants.{Leaf, NoLeaf}
 use Rattle.walk.specs.Answers.{answerOf}

@@ -4,8 +4,8 @@ use mathlib.Core.List.{List}
 use Prim.Native.Nat.{ℕ}
 use native.Mathlib.Omega.{arith}
 use Rattle.spec_rules.specs.Calls.{Built as BuiltTree, BuildCall, leafOf, withoutLeaf, WalkCall, Span}
-use Rattle.format_panel.specs.declared.Fitted.{Fitted}
-use Rattle.format_panel.specs.declared.Fitted.the-variants.{Fits, Refused as NotFitted}
+use Rattle.fit.specs.declared.Fitted.{Fitted}
+use Rattle.fit.specs.declared.Fitted.the-variants.{Fits, Refused as NotFitted}
 use Rattle.format_panel.specs.declared.Located.{Located}
 use Rattle.format_panel.specs.declared.Located.the-variants.{At, Refused as NotLocated}
 use Rattle.walk.specs.declared.Walked.{Walked}

@@ -2,8 +2,8 @@
 -- Rests on the calls of the crate spec_rules; the walk's own answer is in the crate walk.
 use Rattle.spec_rules.specs.SheetRefusals.{Verdict, accepted, refused}
 use Rattle.spec_rules.specs.Calls.{Answer, answers, refuses, Span}
-use Rattle.format_panel.specs.declared.Fitted.{Fitted}
-use Rattle.format_panel.specs.declared.Fitted.the-variants.{Fits, Refused as NotFitted}
+use Rattle.fit.specs.declared.Fitted.{Fitted}
+use Rattle.fit.specs.declared.Fitted.the-variants.{Fits, Refused as NotFitted}
 use Rattle.format_panel.specs.declared.Located.{Located}
 use Rattle.format_panel.specs.declared.Located.the-variants.{At, Refused as NotLocated}
 

@@ -13,11 +13,12 @@ use Rattle.spec_rules.specs.SheetRefusals.{Verdict, accepted, refused, require}
 use Rattle.spec_rules.specs.PanelFile.{panelVerdict}
 use Rattle.spec_rules.specs.Calls.{Answer, answers, refuses, unless, BuildCall, WalkCall, Span, fitCall, textCall, hasText}
 use Rattle.spec_accepted.specs.PanelFacts.{PanelAccepted, accepted-panel, panel-text-inside}
-use Rattle.format_panel.specs.declared.Fitted.{Fitted}
-use Rattle.format_panel.specs.declared.Fitted.the-variants.{Fits, Refused as NotFitted}
+use Rattle.fit.specs.declared.Fitted.{Fitted}
+use Rattle.fit.specs.declared.Fitted.the-variants.{Fits, Refused as NotFitted}
 use Rattle.format_panel.specs.declared.Located.{Located}
 use Rattle.format_panel.specs.declared.Located.the-variants.{At, Refused as NotLocated}
-use Rattle.format_panel.specs.Answers.{fitted, fittedBy, located, locatedBy}
+use Rattle.format_panel.specs.Answers.{located, locatedBy}
+use Rattle.fit.specs.Answers.{fitted, fittedBy}
 use Rattle.walk.specs.declared.Walked.{Walked}
 use Rattle.walk.specs.declared.Walked.the-variants.{Leaf, NoLeaf, Refused as NotWalked}
 use Rattle.walk.specs.Answers.{answerOf, callOf}

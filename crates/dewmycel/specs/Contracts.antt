@@ -4,7 +4,7 @@ use mathlib.Core.Path.{_≡_}
 use mathlib.Core.List.{List}
 use Prim.Native.Nat.{ℕ}
 use Rattle.spec_rules.specs.Calls.{buildCall, fitCall, walkCall, textCall, textPart}
-use Rattle.format_panel.specs.declared.Fitted.{Fitted}
+use Rattle.fit.specs.declared.Fitted.{Fitted}
 use Rattle.format_panel.specs.declared.Located.{Located}
 use Rattle.walk.specs.declared.Walked.{Walked}
 use Rattle.walk.specs.Answers.{callOf as walkOf}

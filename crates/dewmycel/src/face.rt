@@ -1,7 +1,7 @@
 // The calls for C: each answer in one u64. Bits 0 to 15 are the refusal number, 0 for none; of a refusal bits 16 to 31 are its place.
 // A slice is a pointer and a length; what a caller in C owes is in include/dewmycel.h.
 use build_call::Built;
-use format_panel::Fitted;
+use fit::Fitted;
 use format_panel::Located;
 use walk::Walked;
 ghost use mathlib.Core.Path.{_≡_};

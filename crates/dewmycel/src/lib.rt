@@ -3,7 +3,7 @@
 pub mod face;
 
 use build_call::Built;
-use format_panel::Fitted;
+use fit::Fitted;
 use format_panel::Located;
 use walk::Walked;
 ghost use lib.ListN.{length};
@@ -20,7 +20,7 @@ pub fn build(sheet: &[u8], tree: &mut [u8], work: &mut [u8]) -> Built
 pub fn fit(sheet: &[u8], panel: &[u8]) -> Fitted
     ensures { λ r. ⌜ FitFits (now (sheet .entry)) (now (panel .entry)) r ⌝ }
 {
-    format_panel::fit(sheet, panel)
+    fit::fit(sheet, panel)
 }
 
 // The walk of a tree on a panel: refusals 1, 31, 21 to 24, 32; at a leaf its clause, and (name, record, dropped) for each binding.

@@ -3,20 +3,15 @@
 use mathlib.Core.Path.{_≡_}
 use mathlib.Core.List.{List}
 use Prim.Native.Nat.{ℕ}
-use Rattle.spec_rules.specs.SheetRefusals.{Verdict, accepted, refused, verdict}
+use Rattle.spec_rules.specs.SheetRefusals.{Verdict, accepted, refused}
 use Rattle.spec_rules.specs.PanelFile.{panelVerdict}
-use Rattle.spec_rules.specs.Calls.{Answer, answers, refuses, Span, fitCall, textCall}
-use Rattle.format_sheet.specs.declared.Map.{Map as SheetMap}
-use Rattle.format_sheet.specs.Sections.{mapOf as sheetMapOf}
+use Rattle.spec_rules.specs.Calls.{Answer, answers, refuses, Span, textCall}
 use Rattle.format_panel.specs.declared.Map.{Map}
 use Rattle.format_panel.specs.declared.Checked.{Checked}
 use Rattle.format_panel.specs.declared.Checked.the-variants.{Accepted, Refused}
 use Rattle.format_panel.specs.declared.Located.{Located}
 use Rattle.format_panel.specs.declared.Located.the-variants.{At}
 use Rattle.format_panel.specs.declared.Located.the-variants.{Refused as NotLocated}
-use Rattle.format_panel.specs.declared.Fitted.{Fitted}
-use Rattle.format_panel.specs.declared.Fitted.the-variants.{Fits}
-use Rattle.format_panel.specs.declared.Fitted.the-variants.{Refused as NotFitted}
 use Rattle.format_panel.specs.Opened.{mapOf}
 
 -- the check of a panel: its map, or the refusal
@@ -28,14 +23,10 @@ unfoldable pub checked : List ℕ → Checked
 unfolding panelVerdict checkedBy
 checked v = checkedBy v (panelVerdict v)
 
--- an accepted panel, and an accepted sheet, each with its map
+-- an accepted panel, with its map
 pub record Accepts (v : List ℕ) (m : Map) : Type 0 where
   pub verdict : panelVerdict v ≡ accepted
   pub map : m ≡ mapOf v
-
-pub record SheetAccepts (s : List ℕ) (m : SheetMap) : Type 0 where
-  pub verdict : Rattle.spec_rules.specs.SheetRefusals.verdict s ≡ accepted
-  pub map : m ≡ sheetMapOf s
 
 -- the text call: start and length in the file, or the refusal
 unfoldable pub locatedBy : Answer Span → Located
@@ -45,12 +36,3 @@ locatedBy (refuses number place) = NotLocated number place
 unfoldable pub located : List ℕ → ℕ → ℕ → Located
 unfolding textCall locatedBy
 located v place dropped = locatedBy (textCall v place dropped)
-
--- the fit check: it fits, or the refusal
-unfoldable pub fittedBy : Verdict → Fitted
-fittedBy accepted = Fits
-fittedBy (refused number place) = NotFitted number place
-
-unfoldable pub fitted : List ℕ → List ℕ → Fitted
-unfolding fitCall fittedBy
-fitted s v = fittedBy (fitCall s v)

@@ -11,15 +11,10 @@ use lib.ListN.{length}
 use Rattle.base_words.specs.Words.{textAt}
 use Rattle.base_words.specs.WordsLaws.{both-true, both-first-false, both-second-false}
 use Rattle.spec_rules.specs.Kinds.{bytesRecord}
-use Rattle.spec_rules.specs.RefusalNumbers.{panelLengthRefusal, panelLayoutRefusal, panelShapeRefusal, panelTextRefusal, panelMisfitRefusal, noTextRefusal}
-use Rattle.spec_rules.specs.SheetRefusals.{Verdict, accepted, refused, require, verdict}
-use Rattle.spec_rules.specs.Fitting.{panelFits}
+use Rattle.spec_rules.specs.RefusalNumbers.{panelLengthRefusal, panelLayoutRefusal, panelShapeRefusal, panelTextRefusal, noTextRefusal}
+use Rattle.spec_rules.specs.SheetRefusals.{Verdict, accepted, refused, require}
 use Rattle.spec_rules.specs.PanelFile.{records, recordKind, panelPoolAt, recordFirst, recordCount, panelLengthFits, panelLayoutFits, panelShapeFits, panelTextsFit, panelVerdict}
-use Rattle.spec_rules.specs.Calls.{fitCall, Answer, answers, refuses, Span, unless, hasText, textCall, partOfSpan, textPart}
-use Rattle.spec_accepted.specs.SheetFacts.{accepted-sheet}
-use Rattle.format_sheet.specs.declared.Map.{Map as SheetMap}
-use Rattle.format_sheet.specs.declared.Checked.the-variants.{Accepted as SheetAccepted, Refused as SheetRefused}
-use Rattle.format_sheet.specs.Check.{answer as sheetAnswer, checked as sheetChecked}
+use Rattle.spec_rules.specs.Calls.{Answer, answers, refuses, Span, unless, hasText, textCall, partOfSpan, textPart}
 use Rattle.spec_accepted.specs.PanelFacts.{accepted-panel}
 use Rattle.format_panel.specs.declared.Map.{Map}
 use Rattle.format_panel.specs.declared.Checked.the-variants.{Accepted, Refused}
@@ -27,11 +22,8 @@ use Rattle.format_panel.specs.declared.records.Record.{Record}
 use Rattle.format_panel.specs.declared.Located.{Located}
 use Rattle.format_panel.specs.declared.Located.the-variants.{At}
 use Rattle.format_panel.specs.declared.Located.the-variants.{Refused as NotLocated}
-use Rattle.format_panel.specs.declared.Fitted.the-variants.{Fits}
-use Rattle.format_panel.specs.declared.Fitted.the-variants.{Refused as NotFitted}
-use Rattle.format_panel.specs.Fit.{Ready}
 use Rattle.format_panel.specs.Opened.{mapOf, recordOf, Opened, opened}
-use Rattle.format_panel.specs.Answers.{checkedBy, checked, Accepts, SheetAccepts, fittedBy, fitted, locatedBy, located}
+use Rattle.format_panel.specs.Answers.{checkedBy, checked, Accepts, locatedBy, located}
 use Rattle.format_panel.specs.TextsLaws.{text-inside}
 
 -- ---- the check of a panel
@@ -156,50 +148,3 @@ module _ (v : List ℕ) (r dropped : ℕ) where
           omega (arith, inside e f)
       go accepted e false f x = let z : _≡_ {A = ℕ} 0 1 = cc in absurd (omega arith)
       go (refused number place) e b f x = let z : _≡_ {A = ℕ} 0 1 = cc in absurd (omega arith)
-
--- ---- the fit check
-pub sheet-accepts : (s : List ℕ) (m : SheetMap) → sheetChecked s ≡ SheetAccepted m → SheetAccepts s m
-unfolding sheetChecked
-sheet-accepts s m h = go (verdict s) refl h
-  where
-    go : (w : Verdict) → verdict s ≡ w → sheetAnswer s w ≡ SheetAccepted m → SheetAccepts s m
-    go accepted e x = record { verdict = e; map = cc }
-    go (refused number place) e x = let z : _≡_ {A = ℕ} 0 1 = cc in absurd (omega arith)
-
-pub sheet-refuses : (s : List ℕ) (number place : ℕ) → sheetChecked s ≡ SheetRefused number place → verdict s ≡ refused number place
-unfolding sheetChecked
-sheet-refuses s number place h = go (verdict s) refl h
-  where
-    go : (w : Verdict) → verdict s ≡ w → sheetAnswer s w ≡ SheetRefused number place → verdict s ≡ refused number place
-    go accepted e x = let z : _≡_ {A = ℕ} 0 1 = cc in absurd (omega arith)
-    go (refused n p) e x = cc
-
-module _ (s v : List ℕ) where
-  pub fit-sheet-refused : (number place : ℕ) → verdict s ≡ refused number place → NotFitted number place ≡ fitted s v
-  unfolding fitted fittedBy fitCall
-  fit-sheet-refused number place h = rw h
-
-  module _ (sm : SheetMap) (sheet : SheetAccepts s sm) where
-    pub fit-panel-refused : (number place : ℕ) → panelVerdict v ≡ refused number place → NotFitted number place ≡ fitted s v
-    unfolding fitted fittedBy fitCall
-    fit-panel-refused number place h = rw (sheet .verdict, h)
-
-    module _ (vm : Map) (panel : Accepts v vm) where
-      pub fit-yes : panelFits s v ≡ true → Fits ≡ fitted s v
-      unfolding fitted fittedBy fitCall
-      fit-yes h = rw (sheet .verdict, panel .verdict, h)
-
-      pub fit-no : panelFits s v ≡ false → NotFitted panelMisfitRefusal 0 ≡ fitted s v
-      unfolding fitted fittedBy fitCall
-      fit-no h = rw (sheet .verdict, panel .verdict, h)
-
-      pub fit-ready : Ready s sm v vm
-      fit-ready =
-          let a = accepted-sheet s (sheet .verdict) in
-          record {
-            sheet-laid = a .is-laid;
-            sheet-map = sheet .map;
-            is-typed = a .is-typed;
-            is-open = accepts-opened v vm panel;
-            is-shaped = accepted-panel v (panel .verdict) .is-shaped;
-          }

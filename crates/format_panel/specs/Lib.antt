@@ -9,6 +9,4 @@ pub mod ShapePass
 pub mod ShapeAnswer
 pub mod ShapeSteps
 pub mod TextsLaws
-pub mod Fit
-pub mod FitLaws
 pub mod AnswersLaws

@@ -1,17 +1,15 @@
 // The panel of document 01: its check (refusals 21 to 24), the text of a position (33) with the twin that returns the part of the
-// panel itself, and whether it fits a sheet (25). Each contract is one equation with a definition of the crate spec_rules.
+// panel itself. Each contract is one equation with a definition of the crate spec_rules.
 //
 // Cost. The check reads the trailer, each record twice (for its shape and for its text), each part once, and each byte of an integer
 // once: at most 512 records, 511 parts and 32,768 bytes of text, whatever the lists of a damaged panel say, since the pass over the
 // records ends at the first part that it meets a second time. Besides the panel it needs a table of 512 depths, which is lent on:
-// nothing is copied for a record or a part. The text call adds one record to the check. Fitting reads each record and each part
-// once, with its type and its type entry; its calls are at most 544 deep, one for each of 511 parts and 32 levels.
+// nothing is copied for a record or a part. The text call adds one record to the check.
 ghost use mathlib.Core.Path.{_≡_};
 ghost use Rattle.spec_rules.specs.RefusalNumbers.{noTextRefusal};
 ghost use Rattle.spec_rules.specs.Calls.{textPart};
-ghost use Rattle.format_panel.specs.Answers.{checked, located, fitted, Accepts, SheetAccepts};
+ghost use Rattle.format_panel.specs.Answers.{checked, located, Accepts};
 
-mod fitting;
 mod layout;
 pub mod records;
 mod shape;
@@ -19,7 +17,6 @@ mod texts;
 
 use base_numbers::record_kinds;
 use base_numbers::refusals;
-use fitting::fits;
 use layout::layout_fits;
 use layout::length_fits;
 use layout::map_of;
@@ -44,12 +41,6 @@ pub enum Checked {
 // Where the text of a position stands in the panel.
 pub enum Located {
     At { start: usize, count: usize },
-    Refused { number: u16, place: u16 },
-}
-
-// Whether a panel fits a sheet.
-pub enum Fitted {
-    Fits,
     Refused { number: u16, place: u16 },
 }
 
@@ -136,40 +127,4 @@ pub fn text_part<'a>(v: &'a [u8], r: u16, dropped: u16) -> &'a [u8]
     };
     let end = start + count;
     &v[start..end]
-}
-
-// 25, of an accepted sheet and an accepted panel.
-fn fit_both(s: &[u8], sm: format_sheet::Map, v: &[u8], vm: Map) -> Fitted
-    requires { ⌜ SheetAccepts (now s) sm × Accepts (now v) vm ⌝ }
-    ensures { λ res. ⌜ res ≡ fitted (now (s .entry)) (now (v .entry)) ⌝ }
-{
-    if fits(s, sm, v, vm) {
-        Fitted::Fits
-    } else {
-        Fitted::Refused {
-            number: refusals::PANEL_MISFIT,
-            place: 0,
-        }
-    }
-}
-
-// The fit check of an accepted sheet.
-fn fit_panel(s: &[u8], sm: format_sheet::Map, v: &[u8]) -> Fitted
-    requires { ⌜ SheetAccepts (now s) sm ⌝ }
-    ensures { λ res. ⌜ res ≡ fitted (now (s .entry)) (now (v .entry)) ⌝ }
-{
-    match check(v) {
-        Checked::Accepted(vm) => fit_both(s, sm, v, vm),
-        Checked::Refused { number, place } => Fitted::Refused { number, place },
-    }
-}
-
-// The fit check: refusals 2 to 11 of the sheet, 21 to 24 of the panel, then 25.
-pub fn fit(s: &[u8], v: &[u8]) -> Fitted
-    ensures { λ res. ⌜ res ≡ fitted (now (s .entry)) (now (v .entry)) ⌝ }
-{
-    match format_sheet::check(s) {
-        format_sheet::Checked::Accepted(sm) => fit_panel(s, sm, v),
-        format_sheet::Checked::Refused { number, place } => Fitted::Refused { number, place },
-    }
 }

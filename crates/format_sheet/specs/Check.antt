@@ -1,8 +1,10 @@
 -- The answer of the check of a sheet: 01's number and place, or where the sections are. `verdict` of spec_rules decides.
 use Prim.Native.Nat.{ℕ}
+use mathlib.Core.Path.{_≡_}
 use mathlib.Core.List.{List}
 use Rattle.spec_rules.specs.RefusalNumbers.{typesRefusal, transparentRefusal, shapeRefusal, textRefusal, misfitRefusal, nameTwiceRefusal}
 use Rattle.spec_rules.specs.SheetRefusals.{Verdict, accepted, refused, require, requireNone, typesFit, lowestTransparent, shapeFits, lowestBadText, lowestMisfit, lowestNameTwice, verdict}
+use Rattle.format_sheet.specs.declared.Map.{Map}
 use Rattle.format_sheet.specs.declared.Checked.{Checked}
 use Rattle.format_sheet.specs.declared.Checked.the-variants.{Accepted, Refused}
 use Rattle.format_sheet.specs.Sections.{mapOf}
@@ -15,6 +17,11 @@ answer s (refused number place) = Refused number place
 unfoldable pub checked : List ℕ → Checked
 unfolding verdict
 checked s = answer s (verdict s)
+
+-- an accepted sheet, with its map
+pub record SheetAccepts (s : List ℕ) (m : Map) : Type 0 where
+  pub verdict : Rattle.spec_rules.specs.SheetRefusals.verdict s ≡ accepted
+  pub map : m ≡ mapOf s
 
 -- ---- the verdict from its later stages on
 unfoldable pub fromClauses : List ℕ → Verdict

@@ -12,20 +12,20 @@ use Rattle.base_words.specs.WordsLaws.{both-true}
 use Rattle.spec_rules.specs.Limits.{sheetTrailer}
 use Rattle.spec_rules.specs.RefusalNumbers.{lengthRefusal, layoutRefusal, noClauseRefusal, countRefusal}
 use Rattle.spec_rules.specs.SheetFile.{clauses}
-use Rattle.spec_rules.specs.SheetRefusals.{Verdict, require, requireNone, lengthFits, layoutFits, hasClause, countsFit}
+use Rattle.spec_rules.specs.SheetRefusals.{Verdict, accepted, refused, require, requireNone, lengthFits, layoutFits, hasClause, countsFit, verdict}
 use Rattle.spec_rules.specs.SheetRefusalsLaws.{verdict-in-order}
 use Rattle.format_sheet.specs.declared.Starts.{Starts}
 use Rattle.format_sheet.specs.declared.Counts.{Counts}
 use Rattle.format_sheet.specs.declared.Map.{Map}
 use Rattle.format_sheet.specs.declared.Checked.{Checked}
-use Rattle.format_sheet.specs.declared.Checked.the-variants.{Refused}
+use Rattle.format_sheet.specs.declared.Checked.the-variants.{Accepted, Refused}
 use Rattle.format_sheet.specs.declared.Found.{Found}
 use Rattle.format_sheet.specs.declared.Found.the-variants.{At, Nothing}
 use Rattle.format_sheet.specs.Sections.{startsOf, countsOf, mapOf, startsFit, countsBetween, fewEnough}
 use Rattle.format_sheet.specs.SectionsLaws.{startsFit-is, countsBetween-is, fewEnough-is}
 use Rattle.format_sheet.specs.Found.{foundOf}
 use Rattle.format_sheet.specs.TestsLaws.{passed, stopped}
-use Rattle.format_sheet.specs.Check.{answer, checked, fromTypes, fromPatterns, fromClauses}
+use Rattle.format_sheet.specs.Check.{answer, checked, SheetAccepts, fromTypes, fromPatterns, fromClauses}
 
 -- ---- a test, and a search
 module _ (s : List ℕ) (number : ℕ) (rest : Verdict) where
@@ -87,3 +87,20 @@ clause-refused s rest e = rw e
 
 pub clause-there : (s : List ℕ) (rest : Verdict) {x : Checked} → hasClause s ≡ true → x ≡ answer s rest → x ≡ answer s (require (hasClause s) noClauseRefusal rest)
 clause-there s rest e g = rw e g
+
+-- ---- what an answer says of the verdict
+pub sheet-accepts : (s : List ℕ) (m : Map) → checked s ≡ Accepted m → SheetAccepts s m
+unfolding checked
+sheet-accepts s m h = go (verdict s) refl h
+  where
+    go : (w : Verdict) → verdict s ≡ w → answer s w ≡ Accepted m → SheetAccepts s m
+    go accepted e x = record { verdict = e; map = cc }
+    go (refused number place) e x = let z : _≡_ {A = ℕ} 0 1 = cc in absurd (omega arith)
+
+pub sheet-refuses : (s : List ℕ) (number place : ℕ) → checked s ≡ Refused number place → verdict s ≡ refused number place
+unfolding checked
+sheet-refuses s number place h = go (verdict s) refl h
+  where
+    go : (w : Verdict) → verdict s ≡ w → answer s w ≡ Refused number place → verdict s ≡ refused number place
+    go accepted e x = let z : _≡_ {A = ℕ} 0 1 = cc in absurd (omega arith)
+    go (refused n p) e x = cc

@@ -2,8 +2,8 @@
 // The file stdout has the answers as 01 gives them, by hand.
 mod make;
 
+use fit::Fitted;
 use format_panel::Checked;
-use format_panel::Fitted;
 use format_panel::Located;
 use make::chain;
 use make::end;
@@ -71,7 +71,7 @@ fn text_first(name: &[u8], b: &[u8], n: usize, r: u16, dropped: u16) {
 // The fit check.
 fn fit(name: &[u8], s: &[u8], v: &[u8]) {
     io::write_all(1, name);
-    match format_panel::fit(s, v) {
+    match fit::fit(s, v) {
         Fitted::Fits => {
             io::write_all(1, b": fits\n");
         }

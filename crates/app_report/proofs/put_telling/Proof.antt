@@ -1,6 +1,6 @@
 -- `app_report::put_telling` meets its contract: a panel that fits is walked, and a refusal of the fit check is told.
 use mathlib.Core.Path.{_≡_}
-use Rattle.format_panel.specs.declared.Fitted.{Fitted}
+use Rattle.fit.specs.declared.Fitted.{Fitted}
 use Rattle.app_listing.specs.WritingLaws.{writes-as}
 use Rattle.app_report.specs.AnswersLaws.{fit-accepted, told-built, told-refused}
 use borrow.Author.Needs.{needs}

@@ -1,7 +1,7 @@
 -- `dewmycel::face::dewmycel_fit` meets its contract: each way out is packed.
 use borrow.Author.Needs.{needs}
 use mathlib.Core.Path.{_≡_}
-use Rattle.format_panel.specs.declared.Fitted.the-variants.{Fits, Refused}
+use Rattle.fit.specs.declared.Fitted.the-variants.{Fits, Refused}
 use Rattle.dewmycel.specs.AnswersLaws.{fits-packed, unfit-packed}
 use Rattle.dewmycel.proofs.face.dewmycel_fit.Statement.{statement}
 use Rattle.dewmycel.proofs.face.dewmycel_fit.Tie as tie

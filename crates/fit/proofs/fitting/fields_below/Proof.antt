@@ -1,11 +1,11 @@
--- `format_panel::fitting::fields_below` meets its contract: a type's own constructors are constructors of the sheet.
+-- `fit::fitting::fields_below` meets its contract: a type's own constructors are constructors of the sheet.
 use Prim.Native.Nat.{_+_, _<_}
 use native.Mathlib.Omega.{arith}
 use borrow.Author.Tests.{eq-eqb, ne-eqb, le-leb, lt-leb}
 use Rattle.spec_rules.specs.SheetFile.{constructors}
-use Rattle.format_panel.specs.FitLaws.{fields-left}
-use Rattle.format_panel.proofs.fitting.fields_below.Statement.{statement}
-use Rattle.format_panel.proofs.fitting.fields_below.Tie as tie
+use Rattle.fit.specs.FitLaws.{fields-left}
+use Rattle.fit.proofs.fitting.fields_below.Statement.{statement}
+use Rattle.fit.proofs.fitting.fields_below.Tie as tie
 
 -- the constructor is one of the sheet's
 inside : (c : tie.After-struct-known5) → c .before .before .before .before .before .before .before .before .args .y .first + c .before .before .before .before .before .before .before .before .args .x .a < constructors (c .before .before .before .before .before .before .before .before .args .s .now)

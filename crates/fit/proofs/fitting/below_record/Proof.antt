@@ -1,15 +1,15 @@
--- `format_panel::fitting::below_record` meets its contract: each arm is the case of its kind.
+-- `fit::fitting::below_record` meets its contract: each arm is the case of its kind.
 use native.Mathlib.Omega.{arith}
 use mathlib.Core.Path.{refl}
 use mathlib.Core.Bool.{false}
 use borrow.Author.Needs.{needs}
 use Rattle.spec_rules.specs.PanelFile.{recordKindOf, Integer-record, Bytes-record, List-record, Pair-record, Tuple-record, Constructor-record, Unknown-record}
 use Rattle.spec_accepted.specs.KindsLaws.{record-unknown}
-use Rattle.format_panel.specs.FitLaws.{below-read, typing}
-use Rattle.format_panel.specs.Fit.{belowOfKind}
-use Rattle.format_panel.specs.declared.fitting.Below.the-variants.{Alone}
-use Rattle.format_panel.proofs.fitting.below_record.Statement.{statement}
-use Rattle.format_panel.proofs.fitting.below_record.Tie as tie
+use Rattle.fit.specs.FitLaws.{below-read, typing}
+use Rattle.fit.specs.Fit.{belowOfKind}
+use Rattle.fit.specs.declared.fitting.Below.the-variants.{Alone}
+use Rattle.fit.proofs.fitting.below_record.Statement.{statement}
+use Rattle.fit.proofs.fitting.below_record.Tie as tie
 
 record-at-requires : tie.Need-record-at-requires
 record-at-requires c κs = search needs

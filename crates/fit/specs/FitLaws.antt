@@ -22,13 +22,13 @@ use Rattle.format_sheet.specs.declared.records.TypeRecord.{TypeRecord}
 use Rattle.format_sheet.specs.declared.records.Run.{Run as Fields}
 use Rattle.format_sheet.specs.Records.{typeOf}
 use Rattle.format_sheet.specs.Records.{constructorOf as constructorAt}
 use Rattle.format_panel.specs.declared.Map.{Map}
 use Rattle.format_panel.specs.declared.records.Record.{Record}
-use Rattle.format_panel.specs.declared.fitting.Below.{Below}
-use Rattle.format_panel.specs.declared.fitting.Below.the-variants.{Alone, Parts}
+use Rattle.fit.specs.declared.fitting.Below.{Below}
+use Rattle.fit.specs.declared.fitting.Below.the-variants.{Alone, Parts}
 use Rattle.format_panel.specs.Opened.{recordOf}
 use Rattle.format_panel.specs.CountingLaws.{same-or-not}
-use Rattle.format_panel.specs.Fit.{fieldsBelow, belowOfKind, below, fitsBelow, Ready, Typing, EachTyped, Run}
+use Rattle.fit.specs.Fit.{fieldsBelow, belowOfKind, below, fitsBelow, Ready, Typing, EachTyped, Run}
 
 -- ---- a record fits exactly if what is left below it does
 picked : (f : ℕ → ℕ → Bool) (s v : List ℕ) (j n e step : ℕ) (b : Bool)

@@ -1,4 +1,4 @@
--- `format_panel::fitting::record_fits` and `parts_fit` meet their contracts, and end: what falls is the number of records past the record at
+-- `fit::fitting::record_fits` and `parts_fit` meet their contracts, and end: what falls is the number of records past the record at
 -- hand, and within one record the number of parts that are left.
 use Prim.Native.Nat.{ℕ, _<_, _+_, _-_, _*_}
 use native.Mathlib.Omega.{arith}
@@ -9,18 +9,18 @@ use borrow.Author.Needs.{needs}
 use borrow.Author.Tests.{not-true, not-false}
 use Rattle.spec_rules.specs.Limits.{recordsMost, panelMost}
 use Rattle.format_sheet.proofs.records.entry_at.Reads as entry-at-reads
-use Rattle.format_panel.specs.FitLaws.{fits-alone, fits-parts, run-below, run-short, run-next, next-entry, next-above, next-record, next-type-entry, next-type, parts-done, part-misfits, part-fits, next-step}
-use Rattle.format_panel.specs.declared.fitting.Below.the-variants.{Alone, Parts}
-use Rattle.format_panel.proofs.fitting.parts_fit.Reads as parts-fit
-use Rattle.format_panel.proofs.fitting.parts_fit.Kinds as parts-fit-kinds
-use Rattle.format_panel.proofs.fitting.+parts_fit+record_fits.Lts-parts_fit as parts-fit-lts
-use Rattle.format_panel.proofs.fitting.record_fits.Reads as record-fits
-use Rattle.format_panel.proofs.fitting.record_fits.Kinds as record-fits-kinds
-use Rattle.format_panel.proofs.fitting.+parts_fit+record_fits.Lts-record_fits as record-fits-lts
-use Rattle.format_panel.proofs.fitting.below_record.Reads as below-record-reads
+use Rattle.fit.specs.FitLaws.{fits-alone, fits-parts, run-below, run-short, run-next, next-entry, next-above, next-record, next-type-entry, next-type, parts-done, part-misfits, part-fits, next-step}
+use Rattle.fit.specs.declared.fitting.Below.the-variants.{Alone, Parts}
+use Rattle.fit.proofs.fitting.parts_fit.Reads as parts-fit
+use Rattle.fit.proofs.fitting.parts_fit.Kinds as parts-fit-kinds
+use Rattle.fit.proofs.fitting.+parts_fit+record_fits.Lts-parts_fit as parts-fit-lts
+use Rattle.fit.proofs.fitting.record_fits.Reads as record-fits
+use Rattle.fit.proofs.fitting.record_fits.Kinds as record-fits-kinds
+use Rattle.fit.proofs.fitting.+parts_fit+record_fits.Lts-record_fits as record-fits-lts
+use Rattle.fit.proofs.fitting.below_record.Reads as below-record-reads
 use Rattle.format_panel.proofs.records.part_at.Reads as part-at-reads
-use Rattle.format_panel.proofs.fitting.+parts_fit+record_fits.{statement}
-use Rattle.format_panel.proofs.fitting.+parts_fit+record_fits.Tie.{close}
+use Rattle.fit.proofs.fitting.+parts_fit+record_fits.{statement}
+use Rattle.fit.proofs.fitting.+parts_fit+record_fits.Tie.{close}
 
 abbrev μ-parts-fit : Measures 2 parts-fit-kinds.ps ℕ
 μ-parts-fit κs a = (recordsMost - 1 - a .1 .1 .1 .1 .0) * panelMost + (a .1 .1 .1 .1 .1 .1 .0 + 1)

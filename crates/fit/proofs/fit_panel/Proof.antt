@@ -1,10 +1,11 @@
--- `format_panel::fit_panel` meets its contract: on an accepted panel by fitting, else by the refusal of its check.
+-- `fit::fit_panel` meets its contract: on an accepted panel by fitting, else by the refusal of its check.
 use mathlib.Core.Path.{_≡_, sym, _∙_}
 use borrow.Author.Needs.{needs}
-use Rattle.format_panel.specs.AnswersLaws.{accepts, refuses-by, fit-panel-refused}
+use Rattle.format_panel.specs.AnswersLaws.{accepts, refuses-by}
+use Rattle.fit.specs.AnswersLaws.{fit-panel-refused}
 use Rattle.format_panel.specs.declared.Checked.the-variants.{Accepted, Refused}
-use Rattle.format_panel.proofs.fit_panel.Statement.{statement}
-use Rattle.format_panel.proofs.fit_panel.Tie as tie
+use Rattle.fit.proofs.fit_panel.Statement.{statement}
+use Rattle.fit.proofs.fit_panel.Tie as tie
 
 check-requires : tie.Need-check-requires
 check-requires c κs = search needs

@@ -1,11 +1,12 @@
 // Refusal 25: a panel fits the subject type of a sheet. Fitting a record calls fitting its parts, which calls fitting a record; a type
 // may contain itself, and it ends because a part's record has a larger number than its owner.
-use crate::Map;
-use crate::records::Record;
-use crate::records::part_at;
-use crate::records::record_at;
 use base_numbers::record_kinds;
 use base_numbers::type_kinds;
+use format_panel::Map as PanelMap;
+use format_panel::records::Record;
+use format_panel::records::part_at;
+use format_panel::records::record_at;
+use format_sheet::Map as SheetMap;
 use format_sheet::records::TypeRecord;
 use format_sheet::records::constructor_at;
 use format_sheet::records::entry_at;
@@ -16,7 +17,7 @@ ghost use Rattle.spec_rules.specs.Limits.{recordsMost};
 ghost use Rattle.spec_rules.specs.SheetFile.{types, subject};
 ghost use Rattle.spec_rules.specs.PanelFile.{records};
 ghost use Rattle.spec_rules.specs.Fitting.{partsFit, hasTypeTo, panelFits};
-ghost use Rattle.format_panel.specs.Fit.{listBelow, partsBelow, fieldsBelow, below, Ready, Run, Typing};
+ghost use Rattle.fit.specs.Fit.{listBelow, partsBelow, fieldsBelow, below, Ready, Run, Typing};
 
 // What is left to fit of a record and a type: nothing, or the record's parts, each to the type at its own entry.
 pub enum Below {
@@ -63,7 +64,7 @@ fn parts_below(x: Record, y: TypeRecord, kind: u8) -> Below
 }
 
 // A constructor is one of its type's, and has as many parts as that has fields.
-fn fields_below(s: &[u8], sm: format_sheet::Map, x: Record, y: TypeRecord) -> Below
+fn fields_below(s: &[u8], sm: SheetMap, x: Record, y: TypeRecord) -> Below
     requires { ⌜ Typing (now s) sm y ⌝ }
     ensures { λ r. ⌜ r ≡ fieldsBelow (now (s .entry)) x y ⌝ }
 {
@@ -86,7 +87,7 @@ fn fields_below(s: &[u8], sm: format_sheet::Map, x: Record, y: TypeRecord) -> Be
 }
 
 // Record r and type t agree in kind and count, and what is left.
-fn below_record(s: &[u8], sm: format_sheet::Map, v: &[u8], vm: Map, r: usize, t: usize) -> Below
+fn below_record(s: &[u8], sm: SheetMap, v: &[u8], vm: PanelMap, r: usize, t: usize) -> Below
     requires { ⌜ Ready (now s) sm (now v) vm × (r < records (now v)) × (t < types (now s)) ⌝ }
     ensures { λ res. ⌜ res ≡ below (now (s .entry)) (now (v .entry)) r t ⌝ }
 {
@@ -105,7 +106,7 @@ fn below_record(s: &[u8], sm: format_sheet::Map, v: &[u8], vm: Map, r: usize, t:
 }
 
 // Record r is of type t.
-fn record_fits(s: &[u8], sm: format_sheet::Map, v: &[u8], vm: Map, r: usize, t: usize) -> bool
+fn record_fits(s: &[u8], sm: SheetMap, v: &[u8], vm: PanelMap, r: usize, t: usize) -> bool
     requires { ⌜ Ready (now s) sm (now v) vm × (r < records (now v)) × (t < types (now s)) ⌝ }
     ensures { λ res. ⌜ res ≡ hasTypeTo recordsMost (now (s .entry)) (now (v .entry)) r t ⌝ }
 {
@@ -124,9 +125,9 @@ fn record_fits(s: &[u8], sm: format_sheet::Map, v: &[u8], vm: Map, r: usize, t: 
 // further on.
 fn parts_fit(
     s: &[u8],
-    sm: format_sheet::Map,
+    sm: SheetMap,
     v: &[u8],
-    vm: Map,
+    vm: PanelMap,
     owner: usize,
     j: usize,
     n: usize,
@@ -148,7 +149,7 @@ fn parts_fit(
 }
 
 // 25: the root is of the subject's type.
-pub(crate) fn fits(s: &[u8], sm: format_sheet::Map, v: &[u8], vm: Map) -> bool
+pub(crate) fn fits(s: &[u8], sm: SheetMap, v: &[u8], vm: PanelMap) -> bool
     requires { ⌜ Ready (now s) sm (now v) vm ⌝ }
     ensures { λ res. ⌜ res ≡ panelFits (now (s .entry)) (now (v .entry)) ⌝ }
 {

@@ -1,7 +1,7 @@
--- `format_panel::fitting::list_below` meets its contract.
+-- `fit::fitting::list_below` meets its contract.
 use borrow.Author.Tests.{eq-eqb, ne-eqb}
-use Rattle.format_panel.proofs.fitting.list_below.Statement.{statement}
-use Rattle.format_panel.proofs.fitting.list_below.Tie as tie
+use Rattle.fit.proofs.fitting.list_below.Statement.{statement}
+use Rattle.fit.proofs.fitting.list_below.Tie as tie
 
 returns : tie.Need-returns
 returns c = simp (ne-eqb _ _ (c .if1 .taken))

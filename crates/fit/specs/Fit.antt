@@ -17,11 +17,11 @@ use Rattle.format_sheet.specs.declared.Map.{Map as SheetMap}
 use Rattle.format_sheet.specs.declared.records.TypeRecord.{TypeRecord}
 use Rattle.format_sheet.specs.Sections.{mapOf as sheetMapOf}
 use Rattle.format_sheet.specs.Records.{typeOf}
 use Rattle.format_panel.specs.declared.Map.{Map}
 use Rattle.format_panel.specs.declared.records.Record.{Record}
-use Rattle.format_panel.specs.declared.fitting.Below.{Below}
-use Rattle.format_panel.specs.declared.fitting.Below.the-variants.{Alone, Parts}
+use Rattle.fit.specs.declared.fitting.Below.{Below}
+use Rattle.fit.specs.declared.fitting.Below.the-variants.{Alone, Parts}
 use Rattle.format_panel.specs.Opened.{Opened, recordOf}
 
 -- the elements of a list are all of the type at its one entry
 abbrev pub listBelow : Record → TypeRecord → Below

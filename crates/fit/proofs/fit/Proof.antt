@@ -1,10 +1,11 @@
--- `format_panel::fit` meets its contract: on an accepted sheet by its panel, else by the refusal of the sheet's check.
+-- `fit::fit` meets its contract: on an accepted sheet by its panel, else by the refusal of the sheet's check.
 use mathlib.Core.Path.{_≡_, sym, _∙_}
 use borrow.Author.Needs.{needs}
 use Rattle.format_sheet.specs.declared.Checked.the-variants.{Accepted, Refused}
-use Rattle.format_panel.specs.AnswersLaws.{sheet-accepts, sheet-refuses, fit-sheet-refused}
-use Rattle.format_panel.proofs.fit.Statement.{statement}
-use Rattle.format_panel.proofs.fit.Tie as tie
+use Rattle.format_sheet.specs.CheckLaws.{sheet-accepts, sheet-refuses}
+use Rattle.fit.specs.AnswersLaws.{fit-sheet-refused}
+use Rattle.fit.proofs.fit.Statement.{statement}
+use Rattle.fit.proofs.fit.Tie as tie
 
 check-requires : tie.Need-check-requires
 check-requires c κs = search needs

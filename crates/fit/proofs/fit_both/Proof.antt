@@ -1,8 +1,8 @@
--- `format_panel::fit_both` meets its contract: an accepted sheet and an accepted panel are all that fitting asks for.
+-- `fit::fit_both` meets its contract: an accepted sheet and an accepted panel are all that fitting asks for.
 use mathlib.Core.Path.{sym, _∙_}
-use Rattle.format_panel.specs.AnswersLaws.{fit-ready, fit-yes, fit-no}
-use Rattle.format_panel.proofs.fit_both.Statement.{statement}
-use Rattle.format_panel.proofs.fit_both.Tie as tie
+use Rattle.fit.specs.AnswersLaws.{fit-ready, fit-yes, fit-no}
+use Rattle.fit.proofs.fit_both.Statement.{statement}
+use Rattle.fit.proofs.fit_both.Tie as tie
 
 fits-requires : tie.Need-fits-requires
 fits-requires c κs = let a = c .before .before .args in fit-ready (a .s .now) (a .v .now) (a .sm) (c .before .before .pre .0) (a .vm) (c .before .before .pre .1)

@@ -1,8 +1,8 @@
--- `format_panel::fitting::fits` meets its contract: it fits the root to the subject's type.
+-- `fit::fitting::fits` meets its contract: it fits the root to the subject's type.
 use native.Mathlib.Omega.{arith}
-use Rattle.format_panel.specs.FitLaws.{subject-read, root-fits}
-use Rattle.format_panel.proofs.fitting.fits.Statement.{statement}
-use Rattle.format_panel.proofs.fitting.fits.Tie as tie
+use Rattle.fit.specs.FitLaws.{subject-read, root-fits}
+use Rattle.fit.proofs.fitting.fits.Statement.{statement}
+use Rattle.fit.proofs.fitting.fits.Tie as tie
 
 record-fits-requires : tie.Need-record-fits-requires
 record-fits-requires c κs =
