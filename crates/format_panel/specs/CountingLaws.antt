@@ -1,5 +1,5 @@
 -- Counting: sums of numbers that are at most 1, a sum that grows at one number, and a test that holds of one number at most.
--- Rests on the sums of the crate format_sheet, and on the laws of `times`.
+-- Rests on the sums of the crate format_parts, and on the laws of `times`.
 use mathlib.Core.Path.{_≡_, refl, _∙_}
 use mathlib.Core.Logic.{_⊎_, inl, inr, ⊎-elim}
 use mathlib.Core.Bool.{Bool, true, false}
@@ -10,7 +10,7 @@ use lib.Dec.{eqb}
 use Rattle.base_words.specs.Words.{pick}
 use Rattle.spec_rules.specs.Searching.{times}
 use Rattle.spec_rules.specs.SearchingLaws.{first-or-rest}
-use Rattle.format_sheet.specs.Sums.{sum, sum-same, sum-most, sum-split, sum-times}
+use Rattle.format_parts.specs.Sums.{sum, sum-same, sum-most, sum-split, sum-times}
 
 pub same-or-not : (q p : ℕ) → (q ≡ p) ⊎ (q ≡ p → ⊥)
 same-or-not q p = go (eqb q p) refl

@@ -17,7 +17,7 @@ use Rattle.spec_rules.specs.Searching.{times}
 use Rattle.spec_rules.specs.SearchingLaws.{times-some, times-found}
 use Rattle.spec_rules.specs.PanelFile.{records, parts, recordFirst, recordCount, part, isHigher, isPart, holds, recordWithin, panelShapeFits}
 use Rattle.spec_accepted.specs.PanelFacts.{Holds, holds-listed, listed-holds, recordWithin-part, PanelShaped, panel-shaped, panel-shape-depth, held-entry, held-record, one-part, record-is-part}
-use Rattle.format_sheet.specs.Sums.{sum, sum-same, sum-none, sum-exchange, sum-run}
+use Rattle.format_parts.specs.Sums.{sum, sum-same, sum-none, sum-exchange, sum-run}
 use Rattle.format_panel.specs.CountingLaws.{same-or-not, sum-grows, sum-all-one, sum-each-one, times-sum, times-alone}
 use Rattle.format_panel.specs.Shape.{Seen, fieldsFit, entersFirst, enterPart, enterParts, recordMet, enterRecord, enterRecords, atRoot, shapePasses}
 use Rattle.format_panel.specs.ShapeLaws.{listed, parts-on, records-on, higher-make, list-inside, within-make, shape-fields, shape-make}

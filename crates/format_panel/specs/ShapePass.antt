@@ -15,7 +15,7 @@ use Rattle.base_words.specs.WordsLaws.{both-true}
 use Rattle.spec_rules.specs.Limits.{recordsMost, panelDepthMost}
 use Rattle.spec_rules.specs.PanelFile.{records, recordFirst, recordCount, part, isHigher, recordWithin}
 use Rattle.spec_accepted.specs.PanelFacts.{Holds, recordWithin-part}
-use Rattle.format_sheet.specs.Sums.{sum}
+use Rattle.format_parts.specs.Sums.{sum}
 use Rattle.format_panel.specs.CountingLaws.{same-or-not, sum-next, sum-grows}
 use Rattle.format_panel.specs.Shape.{Seen, fieldsFit, entersFirst, enterPart, enterParts, recordMet, enterRecord, enterRecords}
 use Rattle.format_panel.specs.ShapeLaws.{listed, parts-on, parts-stop, records-on, records-stop, higher-true}

@@ -2,3 +2,4 @@
 pub mod Sections
 pub mod SectionsLaws
 pub mod TextsLaws
+pub mod Sums

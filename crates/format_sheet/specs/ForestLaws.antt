@@ -17,7 +17,7 @@ use Rattle.spec_rules.specs.SheetRefusals.{hasChildren, isRoot, isEntry, lists}
 use Rattle.spec_accepted.specs.SheetFacts.{Counted, Shaped, owns-listed, listed-owns}
 use Rattle.format_sheet.specs.Shape.{childrenFirst, childrenCount}
 use Rattle.format_sheet.specs.Names.{nameOfKind, ownName, joined, namesTo, namesIn}
-use Rattle.format_sheet.specs.Sums.{sum, sum-same, sum-more, sum-most, sum-none, sum-add, sum-part, sum-exchange, sum-picked, sum-times, sum-run}
+use Rattle.format_parts.specs.Sums.{sum, sum-same, sum-more, sum-most, sum-none, sum-add, sum-part, sum-exchange, sum-picked, sum-times, sum-run}
 
 -- f at each pattern; at each root; at each entry; at the children of p
 module _ (s : List ℕ) (f : ℕ → ℕ) where

@@ -17,7 +17,6 @@ pub mod TextsLaws
 pub mod Fitting
 pub mod FittingLaws
 pub mod AskingLaws
-pub mod Sums
 pub mod Names
 pub mod NamesLaws
 pub mod ForestLaws
