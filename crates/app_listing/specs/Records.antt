@@ -8,7 +8,7 @@ use Rattle.base_words.specs.Words.{textAt}
 use Rattle.spec_rules.specs.Kinds.{intCase}
 use Rattle.spec_rules.specs.TreeReader.{treePoolAt, nodeKind, nodeKindOf, caseTest, caseChild, bindingName, bindingPath, pathAt}
 use Rattle.spec_rules.specs.Listing.{switchWord, listswitchWord, leafWord, hoistWord, thenWord, ConstrTest, IntTest, BytesTest, ListTest, ListWithTailTest, decimal, hex, pathText, testText, casesText, bindingsText, defaultText, nodeText}
-use Rattle.format_tree.specs.declared.layout.Map.{Map}
+use Rattle.format_tree.specs.declared.layout.TreeMap.{TreeMap}
 use Rattle.format_records.specs.declared.reading.Test.{Test}
 use Rattle.format_tree.specs.declared.reading.Node.{Node}
 
@@ -36,7 +36,7 @@ testRead t (Test.List n) = ListTest ++ (decimal n ++ 41 ∷ [])
 testRead t (Test.Tailed n) = ListWithTailTest ++ (decimal n ++ 41 ∷ [])
 
 -- its text lies in the pool
-abbrev pub TestInside : Map → Test → Type 0
+abbrev pub TestInside : TreeMap → Test → Type 0
 TestInside m (Test.Constr a) = Unit {0}
 TestInside m (Test.Text kind start count) = start + count ≤ m .pool .count
 TestInside m (Test.List n) = Unit {0}
@@ -55,7 +55,7 @@ nodeRead t (Node.Hoist clause first count child) =
     hoistWord ++ (32 ∷ (decimal clause ++ (32 ∷ (thenWord ++ (32 ∷ (decimal child ++ bindingsText t first count))))))
 
 -- its path, its cases and its bindings are records of the file
-abbrev pub NodeInside : Map → Node → Type 0
+abbrev pub NodeInside : TreeMap → Node → Type 0
 NodeInside m (Node.Switch path first cases default test) = (path < m .paths .count) × (first + cases ≤ m .cases .count)
 NodeInside m (Node.ListSwitch path first cases tails default) = (path < m .paths .count) × (first + (cases + tails) ≤ m .cases .count)
 NodeInside m (Node.Leaf clause first count) = first + count ≤ m .bindings .count

@@ -13,7 +13,7 @@ use Rattle.spec_rules.specs.Kinds.{hoistNode, intCase, listWithTailCase, pairSt
 use Rattle.spec_rules.specs.TreeReader.{nodes, cases, nodeKind, nodeTailCases, nodeCases, NodeKind, Switch, List-switch, Leaf, Hoist-node, Unknown-node, nodeKindOf, nodePath, nodeFirstCase, nodeDefault, caseKind, caseNumber, caseLength, CaseKind, Constr-case, Int-case, Bytes-case, List-case, List-with-tail-case, Unknown-case, caseKindOf, testOfKind, caseText, caseTest, caseChild, stepOfFields, stepAt, stepsFrom, pathAt}
 use Rattle.spec_rules.specs.Listing.{treeWord, refusedWord, trueFlag, falseFlag, switchWord, elseWord, pairStepWord, tupleStepWord, constrStepWord, listStepWord, listtailStepWord, decimal, flagText, stepText, moreSteps, pathText, testText, casesText, bindingsText, defaultText, switchText, nodeText, nodeLines, firstLine, listing, refusedLine}
 use Rattle.spec_accepted.specs.KindsLaws.{node-byte, unknown-node, case-byte, unknown-case}
-use Rattle.format_tree.specs.declared.layout.Map.{Map}
+use Rattle.format_tree.specs.declared.layout.TreeMap.{TreeMap}
 use Rattle.format_records.specs.declared.reading.Test.{Test}
 use Rattle.format_tree.specs.declared.reading.Node.{Node}
 use Rattle.format_records.specs.declared.reading.Step.{Step}
@@ -83,7 +83,7 @@ pub lines-start : (t : List ℕ) (n : ℕ) → nodeLines t 0 (n - 0) ≡ nodeLin
 lines-start t n = rw sub-zero
 
 -- ---- the first line, and the line of a refused sheet
-pub listing-is : {t : List ℕ} {m : Map} → Mapped t m
+pub listing-is : {t : List ℕ} {m : TreeMap} → Mapped t m
     → (treeWord ++ (32 ∷ (decimal (m .nodes .count) ++ (32 ∷ (decimal (m .bindings .count) ++ 10 ∷ []))))) ++ nodeLines t 0 (m .nodes .count) ≡ listing t
 unfolding listing firstLine
 listing-is {t} {m} mapped = ap₂ (λ (n : ℕ) (b : ℕ). (treeWord ++ (32 ∷ (decimal n ++ (32 ∷ (decimal b ++ 10 ∷ []))))) ++ nodeLines t 0 n) (sym (nodes-count mapped)) (sym (bindings-count mapped))
@@ -140,7 +140,7 @@ module _ (t : List ℕ) (p : ℕ) (x : Path) (is : x ≡ pathOf t p) where
   unfolding pathText
   path-some h = ap pathText (sym (stepsFrom-some t (x .first) (x .count) h)) ∙ path-is
 
-  pub path-inside : {m : Map} → Ruled t m → p < m .paths .count → x .first + x .count ≤ m .steps .count
+  pub path-inside : {m : TreeMap} → Ruled t m → p < m .paths .count → x .first + x .count ≤ m .steps .count
   path-inside {m} ruled h =
       rw is
       (omega (arith, ruled .rules .path-steps p (omega (arith, paths-count (ruled .mapped))) .inside, steps-count (ruled .mapped)))
@@ -160,7 +160,7 @@ default-some d h =
     opened k = refl
 
 -- ---- a text of the pool
-module _ {t : List ℕ} {m : Map} (mapped : Mapped t m) (start count : ℕ) where
+module _ {t : List ℕ} {m : TreeMap} (mapped : Mapped t m) (start count : ℕ) where
   pub text-inside : start + count ≤ m .pool .count → m .pool .start + start + count ≤ length t
   text-inside h = omega (arith, mapped .pool-end)
 
@@ -171,7 +171,7 @@ module _ {t : List ℕ} {m : Map} (mapped : Mapped t m) (start count : ℕ) wher
       rw (e, pool-start mapped)
 
 -- ---- a case that was read
-module _ {t : List ℕ} {m : Map} (ruled : Ruled t m) (i : ℕ) (h : i < m .cases .count) where
+module _ {t : List ℕ} {m : TreeMap} (ruled : Ruled t m) (i : ℕ) (h : i < m .cases .count) where
   in-cases : i < cases t
   in-cases = omega (arith, cases-count (ruled .mapped))
 
@@ -215,7 +215,7 @@ module _ {t : List ℕ} {m : Map} (ruled : Ruled t m) (i : ℕ) (h : i < m .case
     case-line = rw is (ap (λ (l : List ℕ). 32 ∷ (l ++ (58 ∷ decimal (caseChild t i)))) case-read)
 
 -- ---- a node that was read
-module _ {t : List ℕ} {m : Map} (ruled : Ruled t m) (k : ℕ) (h : k < m .nodes .count) where
+module _ {t : List ℕ} {m : TreeMap} (ruled : Ruled t m) (k : ℕ) (h : k < m .nodes .count) where
   in-nodes : k < nodes t
   in-nodes = omega (arith, nodes-count (ruled .mapped))
 
@@ -269,7 +269,7 @@ module _ (t : List ℕ) (b : ℕ) (x : Binding) (is : x ≡ bindingOf t b) where
   unfolding bindingLine
   binding-line = rw is
 
-  pub binding-inside : {m : Map} → Ruled t m → b < m .bindings .count → x .path < m .paths .count
+  pub binding-inside : {m : TreeMap} → Ruled t m → b < m .bindings .count → x .path < m .paths .count
   binding-inside {m} ruled h =
       rw is
       (omega (arith, ruled .rules .binding-path b (omega (arith, bindings-count (ruled .mapped))), paths-count (ruled .mapped)))

@@ -1,7 +1,7 @@
 // The listing of a tree file, and the line of a refused sheet, written into a lent buffer.
 // Each call's contract gives its answer and every byte of the buffer; what is read rests on the reader of tree files.
 use base_words::zero_all;
-use format_tree::Checked;
+use format_tree::CheckedTree;
 use format_tree::check;
 use lines::put_listing;
 use lines::put_refused;
@@ -24,7 +24,7 @@ pub fn listing(tree: &[u8], out: &mut [u8]) -> Listed
     ensures { λ r. ⌜ callOf r (now (out .exit)) ≡ listingCall (now (tree .entry)) (length (now (out .entry))) ⌝ }
 {
     zero_all(out);
-    let Checked::Accepted(m) = check(tree) else {
+    let CheckedTree::Accepted(m) = check(tree) else {
         return Listed::Refused;
     };
     let end = put_listing(out, tree, m);

@@ -8,7 +8,7 @@ use crate::texts::put;
 use crate::texts::put_decimal;
 use crate::texts::put_numbered;
 use crate::texts::put_text;
-use format_tree::layout::Map;
+use format_tree::layout::TreeMap;
 use format_tree::reading::Node;
 use format_tree::reading::node_at;
 ghost use mathlib.Core.List.{[], _∷_, _++_};
@@ -24,7 +24,7 @@ fn put_switch(
     out: &mut [u8],
     at: usize,
     tree: &[u8],
-    m: Map,
+    m: TreeMap,
     path: u16,
     first: u16,
     cases: usize,
@@ -43,7 +43,7 @@ fn put_leaf(
     out: &mut [u8],
     at: usize,
     tree: &[u8],
-    m: Map,
+    m: TreeMap,
     clause: u16,
     first: u16,
     count: u16,
@@ -59,7 +59,7 @@ fn put_hoist(
     out: &mut [u8],
     at: usize,
     tree: &[u8],
-    m: Map,
+    m: TreeMap,
     clause: u16,
     first: u16,
     count: u16,
@@ -73,7 +73,7 @@ fn put_hoist(
     put_bindings(out, child_end, tree, m, first as usize, count as usize)
 }
 
-fn put_node(out: &mut [u8], at: usize, tree: &[u8], m: Map, node: Node) -> usize
+fn put_node(out: &mut [u8], at: usize, tree: &[u8], m: TreeMap, node: Node) -> usize
     requires { ⌜ Ruled (now tree) m × NodeInside m node ⌝ }
     ensures { λ r. ⌜ Writes (now (out .entry)) (now (out .exit)) at r (nodeRead (now (tree .entry)) node) ⌝ }
 {
@@ -113,7 +113,7 @@ fn put_node(out: &mut [u8], at: usize, tree: &[u8], m: Map, node: Node) -> usize
     }
 }
 
-fn put_line(out: &mut [u8], at: usize, tree: &[u8], m: Map, k: usize) -> usize
+fn put_line(out: &mut [u8], at: usize, tree: &[u8], m: TreeMap, k: usize) -> usize
     requires { ⌜ Ruled (now tree) m × (k < m .nodes .count) ⌝ }
     ensures { λ r. ⌜ Writes (now (out .entry)) (now (out .exit)) at r (nodeLine (now (tree .entry)) k) ⌝ }
 {
@@ -125,7 +125,7 @@ fn put_line(out: &mut [u8], at: usize, tree: &[u8], m: Map, k: usize) -> usize
 }
 
 // The lines of all nodes. It stops where the buffer is full, so that no more work is done than the buffer has room for.
-fn put_lines(out: &mut [u8], at: usize, tree: &[u8], m: Map) -> usize
+fn put_lines(out: &mut [u8], at: usize, tree: &[u8], m: TreeMap) -> usize
     requires { ⌜ Ruled (now tree) m ⌝ }
     ensures { λ r. ⌜ Writes (now (out .entry)) (now (out .exit)) at r (nodeLines (now (tree .entry)) 0 (m .nodes .count)) ⌝ }
 {
@@ -150,7 +150,7 @@ fn put_two_numbers(out: &mut [u8], word: &[u8], a: u16, b: u16) -> usize
     put(out, second, b'\n')
 }
 
-pub(crate) fn put_listing(out: &mut [u8], tree: &[u8], m: Map) -> usize
+pub(crate) fn put_listing(out: &mut [u8], tree: &[u8], m: TreeMap) -> usize
     requires { ⌜ Ruled (now tree) m ⌝ }
     ensures { λ r. ⌜ Writes (now (out .entry)) (now (out .exit)) 0 r (listingText (now (tree .entry))) ⌝ }
 {

@@ -8,7 +8,7 @@ use crate::texts::put_text;
 use base_numbers::case_kinds;
 use base_numbers::step_kinds;
 use format_records::reading::Test;
-use format_tree::layout::Map;
+use format_tree::layout::TreeMap;
 use format_tree::reading::binding_at;
 use format_tree::reading::case_at;
 use format_tree::reading::path_at;
@@ -34,7 +34,7 @@ fn put_constr_step(out: &mut [u8], at: usize, index: u16, flag: u8) -> usize
     put_text(out, end, b"_false")
 }
 
-fn put_step(out: &mut [u8], at: usize, tree: &[u8], m: Map, i: usize) -> usize
+fn put_step(out: &mut [u8], at: usize, tree: &[u8], m: TreeMap, i: usize) -> usize
     requires { ⌜ Ruled (now tree) m × (i < m .steps .count) ⌝ }
     ensures { λ r. ⌜ Writes (now (out .entry)) (now (out .exit)) at r (stepText (stepAt (now (tree .entry)) i)) ⌝ }
 {
@@ -50,7 +50,7 @@ fn put_step(out: &mut [u8], at: usize, tree: &[u8], m: Map, i: usize) -> usize
 }
 
 // The n steps from i on, each behind its `.`.
-fn put_more_steps(out: &mut [u8], at: usize, tree: &[u8], m: Map, i: usize, n: usize) -> usize
+fn put_more_steps(out: &mut [u8], at: usize, tree: &[u8], m: TreeMap, i: usize, n: usize) -> usize
     requires { ⌜ Ruled (now tree) m × (i + n ≤ m .steps .count) ⌝ }
     ensures { λ r. ⌜ Writes (now (out .entry)) (now (out .exit)) at r (moreSteps (stepsFrom (now (tree .entry)) i n)) ⌝ }
 {
@@ -64,7 +64,7 @@ fn put_more_steps(out: &mut [u8], at: usize, tree: &[u8], m: Map, i: usize, n: u
     end
 }
 
-pub fn put_path(out: &mut [u8], at: usize, tree: &[u8], m: Map, p: usize) -> usize
+pub fn put_path(out: &mut [u8], at: usize, tree: &[u8], m: TreeMap, p: usize) -> usize
     requires { ⌜ Ruled (now tree) m × (p < m .paths .count) ⌝ }
     ensures { λ r. ⌜ Writes (now (out .entry)) (now (out .exit)) at r (pathText (pathAt (now (tree .entry)) p)) ⌝ }
 {
@@ -101,7 +101,7 @@ fn put_text_test(out: &mut [u8], at: usize, integer: bool, text: &[u8]) -> usize
     put(out, end, b')')
 }
 
-fn put_test(out: &mut [u8], at: usize, tree: &[u8], m: Map, test: Test) -> usize
+fn put_test(out: &mut [u8], at: usize, tree: &[u8], m: TreeMap, test: Test) -> usize
     requires { ⌜ Mapped (now tree) m × TestInside m test ⌝ }
     ensures { λ r. ⌜ Writes (now (out .entry)) (now (out .exit)) at r (testRead (now (tree .entry)) test) ⌝ }
 {
@@ -117,7 +117,7 @@ fn put_test(out: &mut [u8], at: usize, tree: &[u8], m: Map, test: Test) -> usize
     }
 }
 
-fn put_case(out: &mut [u8], at: usize, tree: &[u8], m: Map, i: usize) -> usize
+fn put_case(out: &mut [u8], at: usize, tree: &[u8], m: TreeMap, i: usize) -> usize
     requires { ⌜ Ruled (now tree) m × (i < m .cases .count) ⌝ }
     ensures { λ r. ⌜ Writes (now (out .entry)) (now (out .exit)) at r (caseLine (now (tree .entry)) i) ⌝ }
 {
@@ -129,7 +129,7 @@ fn put_case(out: &mut [u8], at: usize, tree: &[u8], m: Map, i: usize) -> usize
     put_decimal(out, colon, case.child)
 }
 
-pub fn put_cases(out: &mut [u8], at: usize, tree: &[u8], m: Map, i: usize, n: usize) -> usize
+pub fn put_cases(out: &mut [u8], at: usize, tree: &[u8], m: TreeMap, i: usize, n: usize) -> usize
     requires { ⌜ Ruled (now tree) m × (i + n ≤ m .cases .count) ⌝ }
     ensures { λ r. ⌜ Writes (now (out .entry)) (now (out .exit)) at r (casesText (now (tree .entry)) i n) ⌝ }
 {
@@ -154,7 +154,7 @@ pub fn put_default(out: &mut [u8], at: usize, default: u16) -> usize
 
 // ---- bindings
 
-fn put_binding(out: &mut [u8], at: usize, tree: &[u8], m: Map, b: usize) -> usize
+fn put_binding(out: &mut [u8], at: usize, tree: &[u8], m: TreeMap, b: usize) -> usize
     requires { ⌜ Ruled (now tree) m × (b < m .bindings .count) ⌝ }
     ensures { λ r. ⌜ Writes (now (out .entry)) (now (out .exit)) at r (bindingLine (now (tree .entry)) b) ⌝ }
 {
@@ -164,7 +164,7 @@ fn put_binding(out: &mut [u8], at: usize, tree: &[u8], m: Map, b: usize) -> usiz
     put_path(out, equals, tree, m, binding.path as usize)
 }
 
-pub fn put_bindings(out: &mut [u8], at: usize, tree: &[u8], m: Map, b: usize, n: usize) -> usize
+pub fn put_bindings(out: &mut [u8], at: usize, tree: &[u8], m: TreeMap, b: usize, n: usize) -> usize
     requires { ⌜ Ruled (now tree) m × (b + n ≤ m .bindings .count) ⌝ }
     ensures { λ r. ⌜ Writes (now (out .entry)) (now (out .exit)) at r (bindingsText (now (tree .entry)) b n) ⌝ }
 {

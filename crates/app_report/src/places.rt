@@ -4,7 +4,7 @@ use app_listing::texts::put_hex;
 use app_listing::texts::put_numbered;
 use app_listing::texts::put_text;
 use base_numbers::record_kinds;
-use format_panel::Checked;
+use format_panel::CheckedPanel;
 use format_panel::records::Record;
 use format_panel::records::record_at;
 ghost use mathlib.Core.Path.{_≡_};
@@ -59,7 +59,7 @@ fn put_record(out: &mut [u8], at: usize, v: &[u8], x: Record, r: u16, dropped: u
 pub fn put_place(out: &mut [u8], at: usize, v: &[u8], r: u16, dropped: u16) -> usize
     ensures { λ res. ⌜ Writes (now (out .entry)) (now (out .exit)) at res (placeText (now (v .entry)) r dropped) ⌝ }
 {
-    let Checked::Accepted(m) = format_panel::check(v) else {
+    let CheckedPanel::Accepted(m) = format_panel::check(v) else {
         return at;
     };
     let i = r as usize;

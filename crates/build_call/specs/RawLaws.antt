@@ -34,9 +34,9 @@ use Rattle.build_arena.specs.Arena.{arenaEnd, Held}
 use Rattle.build_arena.specs.NumberedLaws.{nodes-held, leaf-node}
 use Rattle.build_table.specs.Standing.{pathOf, sheetPaths, pathsFrom}
 use Rattle.build_table.specs.Tabled.{Checked, Tabled}
-use Rattle.format_sheet.specs.declared.Map.{Map}
+use Rattle.format_sheet.specs.declared.SheetMap.{SheetMap}
 use Rattle.build_scopes.specs.declared.Scopes.{Scopes}
-use Rattle.build_scopes.specs.Marks.{Ready, ReadyWith}
+use Rattle.build_scopes.specs.Marks.{ReadyTree, ReadyWith}
 use Rattle.build_scopes.specs.Numbers.{descent, never, firstNumber, firstLeafNode, idleNumber, BindCounts}
 use Rattle.build_scopes.specs.NumbersLaws.{descent-in}
 use Rattle.build_scopes.specs.Scoped.{Scoped, ScopedWith}
@@ -135,12 +135,12 @@ module _ {s : List ℕ} (ok : Accepted s) where
 
   module _ (w : List ℕ) (long : arenaEnd ≤ length w) (nodes : nodesIn (rawTree s) ≤ nodesMost) (bindings : length (bindingsIn (rawTree s)) ≤ bindingsMost)
       (held : Held w (sheetPaths s) 0 0 0 (rawTree s)) where
-    by-held : Ready w (rawTree s)
+    by-held : ReadyTree w (rawTree s)
     by-held =
         ready-held w (sheetPaths s) (rawTree s) (clauses s) held long nodes bindings (plainTree-plain (sheetPatterns s)) raw-made few-clauses raw-there
 
     -- the same, over the paths of all patterns
-    raw-ready : Ready w (rawTree s)
+    raw-ready : ReadyTree w (rawTree s)
     raw-ready = record {
       table = sheetPaths s;
       nodes = nodes-held w (sheetPaths s) (rawTree s) held long nodes (omega (arith, casesIn-less (clauses s) (rawTree s) raw-made raw-there)) bindings;
@@ -357,7 +357,7 @@ module _ {s : List ℕ} (ok : Accepted s) where
       small : length (sheetTreeFile s) < treeRoom
       small = sheet-file-small s (builds v)
 
-      pub tail-is-ready : (m : Map) (t : List ℕ) → Checked s m → Tabled s t → treeRoom ≤ length middle
+      pub tail-is-ready : (m : SheetMap) (t : List ℕ) → Checked s m → Tabled s t → treeRoom ≤ length middle
           → TailReady s m t classes (r .paths) middle (casesFromTops r) (bindingsFromTops r) (pathsFromTops r)
       unfolding sheetTreeFile
       tail-is-ready m t ch tabled room =

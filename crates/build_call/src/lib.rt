@@ -4,7 +4,7 @@ use base_numbers::refusals;
 use base_numbers::tree::TREE_ROOM;
 use base_numbers::tree::WORK_ROOM;
 use base_words::zero_all;
-use format_sheet::Checked;
+use format_sheet::CheckedSheet;
 use trees::build_tree;
 ghost use mathlib.Core.Path.{_≡_};
 ghost use Prim.Native.Nat.{_≤_};
@@ -35,8 +35,8 @@ fn build_sheet(s: &[u8], tree: &mut [u8], work: &mut [u8]) -> Built
     ensures { λ r. ⌜ Gives (now (s .entry)) (buildAnswer (now (s .entry)) (length (now (tree .entry))) (length (now (work .entry)))) (now (tree .entry)) (now (tree .exit)) r ⌝ }
 {
     match format_sheet::check(s) {
-        Checked::Accepted(m) => build_tree(s, m, tree, work),
-        Checked::Refused { number, place } => Built::Refused { number, place },
+        CheckedSheet::Accepted(m) => build_tree(s, m, tree, work),
+        CheckedSheet::Refused { number, place } => Built::Refused { number, place },
     }
 }
 

@@ -19,7 +19,7 @@ use build_scopes::Scopes;
 use build_scopes::get_hoist_paths;
 use build_table::TABLE;
 use build_table::fill;
-use format_sheet::Map;
+use format_sheet::SheetMap;
 ghost use mathlib.Core.Path.{_≡_};
 ghost use Prim.Native.Nat.{_≤_};
 ghost use lib.ListN.{length};
@@ -40,7 +40,7 @@ pub fn refused(number: u16) -> Built
 // The file: nodes, cases and bindings, then what follows them.
 fn write_tree(
     s: &[u8],
-    m: Map,
+    m: SheetMap,
     table: &[u8],
     w: &[u8],
     nodes: usize,
@@ -68,7 +68,7 @@ fn write_tree(
 // With its scopes: 13 for all bindings, 14, or the file.
 fn write_hoisted(
     s: &[u8],
-    m: Map,
+    m: SheetMap,
     table: &[u8],
     w: &[u8],
     nodes: usize,
@@ -98,7 +98,7 @@ fn write_hoisted(
 // Its scopes, over a table with room for the nodes: `sets` then has the clauses with a leaf at or below each of them.
 fn hoist_with(
     s: &[u8],
-    m: Map,
+    m: SheetMap,
     table: &[u8],
     w: &[u8],
     nodes: usize,
@@ -118,7 +118,7 @@ fn hoist_with(
 // The table is a small one where that is enough.
 fn hoist_tree(
     s: &[u8],
-    m: Map,
+    m: SheetMap,
     table: &[u8],
     w: &[u8],
     nodes: usize,
@@ -141,7 +141,7 @@ fn hoist_tree(
 // The tree in the arena, with the counts of its building: 12, 13, or on to its scopes.
 pub fn finish(
     s: &[u8],
-    m: Map,
+    m: SheetMap,
     table: &[u8],
     w: &[u8],
     nodes: usize,
@@ -166,7 +166,7 @@ pub fn finish(
 }
 
 // The tree of an accepted sheet, on buffers that are large enough, the tree's all zero.
-pub fn build_tree(s: &[u8], m: Map, tree: &mut [u8], work: &mut [u8]) -> Built
+pub fn build_tree(s: &[u8], m: SheetMap, tree: &mut [u8], work: &mut [u8]) -> Built
     requires { ⌜ SheetAccepts (now s) m × (treeRoom ≤ length (now tree)) × (workRoom ≤ length (now work)) × (now tree ≡ zeros (length (now tree))) ⌝ }
     ensures { λ r. ⌜ Gives (now (s .entry)) (treeEnd (now (s .entry))) (now (tree .entry)) (now (tree .exit)) r ⌝ }
 {

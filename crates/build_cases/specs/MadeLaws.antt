@@ -17,7 +17,7 @@ use Rattle.spec_rules.specs.SplittingLaws.{All}
 use Rattle.spec_match.specs.Depth.{only}
 use Rattle.build_arena.specs.Arena.{casesStart, casesMost, bindingsStart, arenaEnd}
 use Rattle.build_arena.specs.WritingLaws.{Kept, kept-trans, kept-weaken}
-use Rattle.format_sheet.specs.declared.Map.{Map}
+use Rattle.format_sheet.specs.declared.SheetMap.{SheetMap}
 use Rattle.build_matrix.specs.declared.PerRow.{PerRow}
 use Rattle.build_matrix.specs.Live.{liveIn}
 use Rattle.build_matrix.specs.HeldRows.{heldTests}
@@ -25,7 +25,7 @@ use Rattle.build_matrix.specs.Lists.{numbersIn, HoldsRows}
 use Rattle.build_matrix.specs.Matrices.{TestIn}
 use Rattle.build_matrix.specs.MatricesLaws.{tests-in}
 use Rattle.build_matrix.specs.Reading.{heldIn}
-use Rattle.build_matrix.specs.Ready.{Ready, TestKnown}
+use Rattle.build_matrix.specs.Ready.{ReadyTable, TestKnown}
 use Rattle.build_matrix.specs.PuttingLaws.{all-map}
 use Rattle.build_matrix.specs.InNumbersLaws.{tests-read}
 use Rattle.build_cases.specs.declared.tests.Longest.{Longest}
@@ -112,7 +112,7 @@ module _ {s w w₁ : List ℕ} {first mid : ℕ} (ps : List ℕ) (l : Longest) (
         }
 
 -- ---- the column of a class, of rows that are clauses
-module _ {s : List ℕ} {m : Map} {t : List ℕ} (ready : Ready s m t) (rows : List ℕ) (low : All (λ c. c < clauses s) rows) (opened : List ℕ)
+module _ {s : List ℕ} {m : SheetMap} {t : List ℕ} (ready : ReadyTable s m t) (rows : List ℕ) (low : All (λ c. c < clauses s) rows) (opened : List ℕ)
     (class : ℕ) (known : class < patternsMost) (tests : PerRow) (are : HoldsRows tests (heldTests (heldIn t opened class) rows)) where
   column-tests : numbersIn tests ≡ heldTests (liveIn s opened class) rows
   column-tests = are .are ∙ tests-read ready rows low class known opened

@@ -19,7 +19,7 @@ use Rattle.spec_rules.specs.Splitting.{Test, ListOf, Met, rising, joined, textS
 use Rattle.spec_match.specs.Depth.{isTail, isExact}
 use Rattle.spec_accepted.specs.SheetFacts.{Accepted}
 use Rattle.spec_accepted.specs.PatternsLaws.{pattern-of-kind, many-along}
-use Rattle.format_sheet.specs.declared.Map.{Map}
+use Rattle.format_sheet.specs.declared.SheetMap.{SheetMap}
 use Rattle.format_sheet.specs.declared.records.PatternRecord.{PatternRecord}
 use Rattle.format_sheet.specs.Records as records
 use Rattle.build_arena.specs.Arena.{casesMost}
@@ -229,7 +229,7 @@ pub record-small : {s : List ℕ} → IsBytes s → (p : ℕ) (r : PatternRecord
 unfolding patternA patternFirst patternCount
 record-small bytes p r e = rw e (record { a-small = wordAt-small bytes _; first-small = wordAt-small bytes _; count-small = wordAt-small bytes _ })
 
-module _ {s : List ℕ} {m : Map} (c : Checked s m) (p : ℕ) (k : TestKnown s p) (r : PatternRecord) (is : r ≡ records.patternOf s p) where
+module _ {s : List ℕ} {m : SheetMap} (c : Checked s m) (p : ℕ) (k : TestKnown s p) (r : PatternRecord) (is : r ≡ records.patternOf s p) where
   kind-is : r .kind ≡ patternKind s p
   kind-is = ap (λ (x : PatternRecord). x .kind) is
 

@@ -8,7 +8,7 @@ use build_matrix::Held;
 use build_matrix::rows::put_row;
 use build_matrix::rows::test_at;
 use build_matrix::wide;
-use format_sheet::Map;
+use format_sheet::SheetMap;
 use format_sheet::records::pattern_at;
 ghost use mathlib.Core.Path.{_≡_};
 ghost use mathlib.Core.List.{_++_};
@@ -56,7 +56,7 @@ pub fn column_tests<'a>(
 }
 
 // The longest lengths of the lists among the first n of these tests.
-pub fn longest_of(s: &[u8], m: Map, tests: &[u8; CLAUSES_MOST], n: usize) -> Longest
+pub fn longest_of(s: &[u8], m: SheetMap, tests: &[u8; CLAUSES_MOST], n: usize) -> Longest
     requires { ⌜ Checked (now s) m × WholeRows (asRows (now tests) n) × All (TestKnown (now s)) (take n (now tests)) ⌝ }
     ensures { λ r. ⌜ r ≡ longestOf (now (s .entry)) (take n (now (tests .entry))) ⌝ }
 {

@@ -16,7 +16,7 @@ use base_numbers::sheet::PATTERNS_MOST;
 use base_numbers::tree::CASES_MOST;
 use column::column_tests;
 use column::longest_of;
-use format_sheet::Map;
+use format_sheet::SheetMap;
 use rows::meet_rows;
 ghost use Prim.Native.Nat.{_<_, _≤_};
 ghost use lib.ListN.{length, take};
@@ -27,7 +27,7 @@ ghost use Rattle.build_table.specs.Tabled.{Checked};
 ghost use Rattle.build_matrix.specs.Live.{liveIn};
 ghost use Rattle.build_matrix.specs.HeldRows.{heldTests};
 ghost use Rattle.build_matrix.specs.Lists.{asRows, WholeRows};
-ghost use Rattle.build_matrix.specs.Ready.{Ready, TestKnown};
+ghost use Rattle.build_matrix.specs.Ready.{ReadyTable, TestKnown};
 ghost use Rattle.build_arena.specs.Arena.{casesMost, arenaEnd};
 ghost use Rattle.build_cases.specs.Made.{columnOf, MeetsTo};
 
@@ -46,7 +46,7 @@ pub enum Meeting {
 // The cases of the first n of these tests, from case `first` on: those without a tail, then those with one.
 fn meet_both(
     s: &[u8],
-    m: Map,
+    m: SheetMap,
     tests: &[u8; CLAUSES_MOST],
     n: usize,
     work: &mut [u8],
@@ -72,7 +72,7 @@ fn meet_both(
 // The cases of the first n of these rows in the column of a class, from case `first` on.
 pub fn meet_cases<'a>(
     s: &[u8],
-    m: Map,
+    m: SheetMap,
     table: &[u8],
     rows: &'a [u8; CLAUSES_MOST],
     n: usize,
@@ -81,7 +81,7 @@ pub fn meet_cases<'a>(
     work: &mut [u8],
     first: usize,
 ) -> Meeting
-    requires { ⌜ Ready (now s) m (now table) × WholeRows (asRows (now rows) n) × All (λ c. c < clauses (now s)) (take n (now rows)) × (class < patternsMost) ⌝ }
+    requires { ⌜ ReadyTable (now s) m (now table) × WholeRows (asRows (now rows) n) × All (λ c. c < clauses (now s)) (take n (now rows)) × (class < patternsMost) ⌝ }
     requires { ⌜ (arenaEnd ≤ length (now work)) × (first ≤ casesMost) ⌝ }
     ensures { λ r. ⌜ MeetsTo (now (s .entry)) (columnOf (now (s .entry)) (heldTests (liveIn (now (s .entry)) (now (opened .entry)) class) (take n (now (rows .entry))))) first (now (work .entry)) (now (work .exit)) r ⌝ }
 {

@@ -6,7 +6,7 @@ use base_numbers::tree::CASES_MOST;
 use build_arena::writing::put_case;
 use format_records::reading::Case;
 use format_records::reading::Test;
-use format_sheet::Map;
+use format_sheet::SheetMap;
 ghost use mathlib.Core.Path.{_≡_};
 ghost use Rattle.spec_accepted.specs.SheetFacts.{Laid};
 ghost use Rattle.format_sheet.specs.Sections.{mapOf};
@@ -15,7 +15,7 @@ ghost use Rattle.build_cases.specs.Fields.{Fit};
 ghost use Rattle.build_cases.specs.SoFar.{Begun, meetOne, Meets};
 
 // The number of cases after this one is met, if it is new and there is room for it.
-pub fn meet(s: &[u8], m: Map, work: &mut [u8], from: usize, to: usize, test: Test) -> usize
+pub fn meet(s: &[u8], m: SheetMap, work: &mut [u8], from: usize, to: usize, test: Test) -> usize
     requires { ⌜ Laid (now s) × (m ≡ mapOf (now s)) × Fit (now s) (kindOf test) (numberOf test) (lengthOf test) ⌝ }
     requires { ⌜ Begun (now s) (now work) from to ⌝ }
     ensures { λ r. ⌜ Meets (now (s .entry)) (now (work .entry)) from to (meetOne (now (s .entry)) from test) r (now (work .exit)) ⌝ }

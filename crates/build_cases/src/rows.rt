@@ -8,7 +8,7 @@ use crate::tests::test_of;
 use base_numbers::pattern_kinds;
 use base_numbers::sheet::CLAUSES_MOST;
 use build_matrix::wide;
-use format_sheet::Map;
+use format_sheet::SheetMap;
 use format_sheet::records::pattern_at;
 ghost use mathlib.Core.Path.{_≡_};
 ghost use Prim.Native.Nat.{_-_, _≤_};
@@ -25,7 +25,7 @@ ghost use Rattle.build_cases.specs.Rows.{riseTo, meetTest, meetTests};
 // The cases of lists with k elements, k + 1, .. up to `end` met.
 fn meet_rising(
     s: &[u8],
-    m: Map,
+    m: SheetMap,
     work: &mut [u8],
     from: usize,
     to: usize,
@@ -49,7 +49,7 @@ fn meet_rising(
 // The cases met that the row of pattern p joins, of those with a tail or of those without.
 fn meet_test(
     s: &[u8],
-    m: Map,
+    m: SheetMap,
     l: Longest,
     tail: bool,
     p: usize,
@@ -76,7 +76,7 @@ fn meet_test(
 // The pass: the cases met that the first n of these tests join, of those with a tail or of those without.
 pub fn meet_rows(
     s: &[u8],
-    m: Map,
+    m: SheetMap,
     tests: &[u8; CLAUSES_MOST],
     n: usize,
     l: Longest,

@@ -13,7 +13,7 @@ use Rattle.spec_rules.specs.TreeFile.{pathsUsed, pathTable, casesIn, nodesFrom,
 use Rattle.spec_file.specs.PathsLaws.{Covers}
 use Rattle.build_scopes.specs.declared.Scopes.{Scopes}
 use Rattle.build_scopes.specs.Numbers.{BindCounts}
-use Rattle.build_scopes.specs.Marks.{Ready}
+use Rattle.build_scopes.specs.Marks.{ReadyTree}
 use Rattle.build_scopes.specs.Scoped.{Scoped}
 use Rattle.build_file_nodes.specs.declared.nodes.Tops.{Tops}
 
@@ -21,7 +21,7 @@ use Rattle.build_file_nodes.specs.declared.nodes.Tops.{Tops}
 -- the leaves of a clause have as many bindings each, and the hoisted tree is within refusals 12 and 13
 pub record WritingAsked (w : List ℕ) (nodes cases : ℕ) (x : Scopes) (clauses : ℕ) : Type 0 where
   pub tree : Tree
-  pub ready : Ready w tree
+  pub ready : ReadyTree w tree
   pub node-count : nodesIn tree ≡ nodes
   pub case-count : casesIn tree ≡ cases
   pub few : clauses ≤ clausesMost

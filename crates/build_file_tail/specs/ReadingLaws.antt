@@ -10,7 +10,7 @@ use Rattle.spec_rules.specs.Limits.{patternsMost, stepSize}
 use Rattle.spec_rules.specs.SheetFile.{types, patterns}
 use Rattle.spec_rules.specs.TreeFile.{pathSteps}
 use Rattle.spec_file.specs.LengthLaws.{length-pathSteps}
-use Rattle.format_sheet.specs.declared.Map.{Map}
+use Rattle.format_sheet.specs.declared.SheetMap.{SheetMap}
 use Rattle.format_sheet.specs.declared.records.TypeRecord.{TypeRecord}
 use Rattle.format_sheet.specs.Records.{typeOf as typeOfRecord}
 use Rattle.format_records.specs.Records.{stepRecord}
@@ -22,7 +22,7 @@ use Rattle.build_file_tail.specs.Tail.{Puts, ownSteps, flagOf}
 use Rattle.build_file_tail.specs.StoringLaws.{puts-nothing, puts-as}
 use Rattle.build_file_tail.specs.StepsLaws.{step-bytes, no-step, above-known}
 
-module _ {s : List ℕ} {m : Map} {t : List ℕ} (ch : Checked s m) (tabled : Tabled s t) (p : ℕ) (h : p < patterns s) where
+module _ {s : List ℕ} {m : SheetMap} {t : List ℕ} (ch : Checked s m) (tabled : Tabled s t) (p : ℕ) (h : p < patterns s) where
   -- ---- where the table has it
   pub known-small : p < patternsMost
   known-small = omega (arith, h, ch .ok .is-counted .patterns-most)

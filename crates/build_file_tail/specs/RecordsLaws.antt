@@ -16,7 +16,7 @@ use Rattle.spec_rules.specs.Rows.{Path, bit}
 use Rattle.spec_rules.specs.TreeFile.{pathsBytes}
 use Rattle.spec_file.specs.Writable.{stepsIn}
 use Rattle.format_sheet.specs.declared.records.TypeRecord.{TypeRecord}
-use Rattle.format_sheet.specs.declared.Map.{Map}
+use Rattle.format_sheet.specs.declared.SheetMap.{SheetMap}
 use Rattle.format_sheet.specs.SectionsLaws.{mapped}
 use Rattle.build_table.specs.Standing.{pathOf}
 use Rattle.build_table.specs.Tabled.{Checked, Tabled}
@@ -78,7 +78,7 @@ module _ {s t : List ℕ} (tabled : Tabled s t) {classes : List ℕ} {n : ℕ} (
   path-counts = ap together (counts-lengths n 0 (omega arith)) ∙ together-steps (usedPaths s classes 0 n)
 
 -- ---- the pool, by the sheet's map
-module _ {s : List ℕ} {m : Map} (ch : Checked s m) where
+module _ {s : List ℕ} {m : SheetMap} (ch : Checked s m) where
   pub pool-size : m .counts .pool ≡ poolSize s
   pool-size = mapped s m (ch .is-map) .of-pool
 

@@ -16,7 +16,7 @@ use Rattle.spec_rules.specs.Rows.{Step, Path, bit}
 use Rattle.spec_rules.specs.Building.{Tree}
 use Rattle.spec_rules.specs.Hoisting.{bindingsIn}
 use Rattle.spec_rules.specs.TreeFile.{firstOf, nodesFrom, casesFrom, bindingsBytes, pathsBytes, stepsBytes}
-use Rattle.format_sheet.specs.declared.Map.{Map}
+use Rattle.format_sheet.specs.declared.SheetMap.{SheetMap}
 use Rattle.format_sheet.specs.declared.records.TypeRecord.{TypeRecord}
 use Rattle.build_table.specs.Standing.{pathOf}
 use Rattle.build_table.specs.Table.{depthAt}
@@ -92,7 +92,7 @@ tailBytes pool table cases bindings at =
     (at + length (pathsBytes 0 table) + length (stepsBytes table) + length pool)))
 
 -- what writing the tail asks: the sheet's table, the classes, where the sections before start, and room
-pub record TailReady (s : List ℕ) (m : Map) (t classes : List ℕ) (n : ℕ) (tree : List ℕ) (cases bindings at : ℕ) : Type 0 where
+pub record TailReady (s : List ℕ) (m : SheetMap) (t classes : List ℕ) (n : ℕ) (tree : List ℕ) (cases bindings at : ℕ) : Type 0 where
   pub checked : Checked s m
   pub tabled : Tabled s t
   pub used : Used (patterns s) classes n

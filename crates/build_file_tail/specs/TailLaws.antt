@@ -13,7 +13,7 @@ use Rattle.spec_rules.specs.SheetFile.{poolSize, pool}
 use Rattle.spec_rules.specs.TreeFile.{pathSteps, pathsBytes, stepsBytes}
 use Rattle.spec_file.specs.Writable.{stepsIn}
 use Rattle.spec_file.specs.LengthLaws.{length-pathsBytes, length-stepsBytes}
-use Rattle.format_sheet.specs.declared.Map.{Map}
+use Rattle.format_sheet.specs.declared.SheetMap.{SheetMap}
 use Rattle.build_table.specs.Standing.{pathOf}
 use Rattle.build_table.specs.Table.{tableSize}
 use Rattle.build_file_tail.specs.Tail.{Puts, Begun, Used, usedPaths, countIn, together, pathRecords, trailerBytes, tailBytes, TailReady}
@@ -49,7 +49,7 @@ module _ (s classes before : List ℕ) (at n : ℕ) where
     stepped-all l = begun-all b (ap (λ (xs : List ℕ). stepsBytes (map (pathOf s) xs)) (rest-none classes i i n l))
 
 -- ---- room
-module _ {s : List ℕ} {m : Map} {t classes : List ℕ} {n : ℕ} {tree : List ℕ} {cases bindings at : ℕ} (r : TailReady s m t classes n tree cases bindings at) where
+module _ {s : List ℕ} {m : SheetMap} {t classes : List ℕ} {n : ℕ} {tree : List ℕ} {cases bindings at : ℕ} (r : TailReady s m t classes n tree cases bindings at) where
   length-used : length (usedPaths s classes 0 n) ≡ n
   length-used = length-map (textAt classes 0 n) (pathOf s) ∙ length-textAt classes 0 n (omega (arith, r .used .inside))
 

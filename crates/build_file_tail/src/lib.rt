@@ -6,7 +6,7 @@ mod steps;
 use base_numbers::tree::TREE_TRAILER;
 use base_numbers::tree_trailer;
 use base_words::put_word;
-use format_sheet::Map;
+use format_sheet::SheetMap;
 use records::put_paths;
 use steps::put_all_steps;
 ghost use mathlib.Core.Path.{_≡_};
@@ -19,7 +19,7 @@ ghost use Rattle.spec_rules.specs.SheetFile.{poolSize, pool};
 ghost use Rattle.build_table.specs.Tabled.{Checked};
 ghost use Rattle.build_file_tail.specs.Tail.{Puts, TailReady, usedPaths, trailerBytes, tailBytes};
 
-fn copy_pool(s: &[u8], m: Map, tree: &mut [u8], at: usize) -> usize
+fn copy_pool(s: &[u8], m: SheetMap, tree: &mut [u8], at: usize) -> usize
     requires { ⌜ Checked (now s) m × (at + poolSize (now s) ≤ length (now tree)) ⌝ }
     ensures { λ r. ⌜ Puts (now (tree .entry)) (now (tree .exit)) at r (pool (now (s .entry))) ⌝ }
 {
@@ -66,7 +66,7 @@ fn put_trailer(
 // All that follows the bindings: the paths of the first `count` classes, their steps, the pool and the trailer; where the file ends.
 pub fn put_tail(
     s: &[u8],
-    m: Map,
+    m: SheetMap,
     table: &[u8],
     classes: &[u8],
     count: usize,

@@ -12,7 +12,7 @@ use build_table::SAME;
 use build_table::STEP;
 use build_table::TYPE;
 use format_records::writing;
-use format_sheet::Map;
+use format_sheet::SheetMap;
 use format_sheet::records::TypeRecord;
 use format_sheet::records::type_at;
 ghost use mathlib.Core.Path.{_≡_};
@@ -44,7 +44,7 @@ fn flag_of(step: u8, ty: TypeRecord) -> u8
 }
 
 // The step to p itself, if there is one, so that it ends at `end`; where it starts.
-fn put_step(s: &[u8], m: Map, table: &[u8], p: usize, tree: &mut [u8], end: usize) -> usize
+fn put_step(s: &[u8], m: SheetMap, table: &[u8], p: usize, tree: &mut [u8], end: usize) -> usize
     requires { ⌜ Checked (now s) m × Tabled (now s) (now table) × (p < patterns (now s)) ⌝ }
     requires { ⌜ (length (pathSteps (ownSteps (stepOf (now s) p))) ≤ end) × (end ≤ length (now tree)) ⌝ }
     ensures { λ r. ⌜ Puts (now (tree .entry)) (now (tree .exit)) r end (pathSteps (ownSteps (stepOf (now (s .entry)) p))) ⌝ }
@@ -62,7 +62,7 @@ fn put_step(s: &[u8], m: Map, table: &[u8], p: usize, tree: &mut [u8], end: usiz
 }
 
 // The steps of the class's path.
-fn put_steps(s: &[u8], m: Map, table: &[u8], class: usize, tree: &mut [u8], at: usize) -> usize
+fn put_steps(s: &[u8], m: SheetMap, table: &[u8], class: usize, tree: &mut [u8], at: usize) -> usize
     requires { ⌜ Checked (now s) m × Tabled (now s) (now table) × (class < patterns (now s)) ⌝ }
     requires { ⌜ at + length (pathSteps (pathOf (now s) class)) ≤ length (now tree) ⌝ }
     ensures { λ r. ⌜ Puts (now (tree .entry)) (now (tree .exit)) at r (pathSteps (pathOf (now (s .entry)) class)) ⌝ }
@@ -80,7 +80,7 @@ fn put_steps(s: &[u8], m: Map, table: &[u8], class: usize, tree: &mut [u8], at: 
 // The steps of the paths of the first `count` classes.
 pub fn put_all_steps(
     s: &[u8],
-    m: Map,
+    m: SheetMap,
     table: &[u8],
     classes: &[u8],
     count: usize,

@@ -19,7 +19,7 @@ use Rattle.spec_rules.specs.Patterns.{patternKindOf}
 use Rattle.spec_rules.specs.SheetRefusals.{hasChildren}
 use Rattle.spec_rules.specs.SplittingLaws.{All}
 use Rattle.spec_accepted.specs.SheetFacts.{Counted, Parent, Owns, Shaped, Accepted, assign-parent, many-parent, owned-entry, owned-pattern}
-use Rattle.format_sheet.specs.declared.Map.{Map}
+use Rattle.format_sheet.specs.declared.SheetMap.{SheetMap}
 use Rattle.format_sheet.specs.declared.records.PatternRecord.{PatternRecord}
 use Rattle.format_sheet.specs.declared.records.Run.{Run}
 use Rattle.format_sheet.specs.Records.{patternOf}
@@ -38,7 +38,7 @@ use Rattle.build_matrix.specs.LiveLaws.{cell-some}
 use Rattle.build_matrix.specs.Bound.{numbersHeld, openedNumbers, leafNumbers}
 use Rattle.build_matrix.specs.InNumbersLaws.{rising-below}
 use Rattle.build_matrix.specs.ReadingLaws.{all-at, slice-on, slice-end}
-use Rattle.build_matrix.specs.Ready.{Ready}
+use Rattle.build_matrix.specs.Ready.{ReadyTable}
 use Rattle.build_matrix.specs.Lists.{numbersIn, classesIn}
 use Rattle.build_leaves.specs.declared.Given.{Given}
 use Rattle.build_leaves.specs.Bindings.{Bound, bound, boundOne, boundAll, ownOf, firstClause, Room, Started, Entries, Parts, Gives, LeafAsked, WithRow}
@@ -71,7 +71,7 @@ room-after s w w' top r qs h e =
     record { long = omega (arith, h .long, length-after s w w' top r qs e); most = omega arith }
 
 -- ---- where the records are
-pub started : {s : List ℕ} {m : Map} {t : List ℕ} → Ready s m t → Started s t (m .at .patterns) (m .at .children)
+pub started : {s : List ℕ} {m : SheetMap} {t : List ℕ} → ReadyTable s m t → Started s t (m .at .patterns) (m .at .children)
 started {s = s} {m = m} ready =
     let at = mapped s m (ready .checked .is-map) in
     record { ok = ready .checked .ok; tabled = ready .tabled; from-patterns = at .at-patterns; from-children = at .at-children }

@@ -9,7 +9,7 @@ use build_table::CELL;
 use build_table::CLASS;
 use build_table::OWNER;
 use build_table::at;
-use format_sheet::Map;
+use format_sheet::SheetMap;
 use format_sheet::records::child_in;
 use format_sheet::records::children_of;
 use format_sheet::records::pattern_in;
@@ -24,7 +24,7 @@ ghost use Rattle.build_table.specs.Seen.{bindsOf, bindsOfEach};
 ghost use Rattle.build_table.specs.Tabled.{Tabled};
 ghost use Rattle.build_matrix.specs.Live.{openedTest};
 ghost use Rattle.build_matrix.specs.Bound.{numbersHeld, leafNumbers};
-ghost use Rattle.build_matrix.specs.Ready.{Ready};
+ghost use Rattle.build_matrix.specs.Ready.{ReadyTable};
 ghost use Rattle.build_leaves.specs.Bindings.{bound, boundOne, boundAll, ownOf, Room, Started, Entries, Parts, Gives, LeafAsked};
 
 // The binding of pattern p, behind the `top` bindings there are.
@@ -180,8 +180,8 @@ fn put_all_bindings(
 
 // The bindings of clause c's root. They are put as put_bindings puts them, and not by a call of it: the loop over children alone calls
 // it, so that it is compiled into that loop, and a call is made only for a pattern with something inside.
-fn put_root(s: &[u8], m: Map, table: &[u8], c: usize, work: &mut [u8], top: usize) -> usize
-    requires { ⌜ Ready (now s) m (now table) × (c < clauses (now s)) × Room (now work) top ⌝ }
+fn put_root(s: &[u8], m: SheetMap, table: &[u8], c: usize, work: &mut [u8], top: usize) -> usize
+    requires { ⌜ ReadyTable (now s) m (now table) × (c < clauses (now s)) × Room (now work) top ⌝ }
     ensures { λ r. ⌜ bound (now (work .exit)) r ≡ boundAll (now (s .entry)) (bound (now (work .entry)) top) (bindsOf (now (s .entry)) (root (now (s .entry)) c)) ⌝ }
 {
     let records = m.at.patterns;
@@ -198,7 +198,7 @@ fn put_root(s: &[u8], m: Map, table: &[u8], c: usize, work: &mut [u8], top: usiz
 // What clause c's test in the column of the class opened, if it was opened as that column was tested, after `time` others.
 fn put_opened(
     s: &[u8],
-    m: Map,
+    m: SheetMap,
     table: &[u8],
     opened: &[u8; PATTERNS_MOST],
     c: usize,
@@ -207,7 +207,7 @@ fn put_opened(
     work: &mut [u8],
     top: usize,
 ) -> usize
-    requires { ⌜ Ready (now s) m (now table) × (c < clauses (now s)) × (class < patternsMost) × (time < patternsMost) × Room (now work) top ⌝ }
+    requires { ⌜ ReadyTable (now s) m (now table) × (c < clauses (now s)) × (class < patternsMost) × (time < patternsMost) × Room (now work) top ⌝ }
     ensures { λ r. ⌜ bound (now (work .exit)) r ≡ boundAll (now (s .entry)) (bound (now (work .entry)) top) (numbersHeld (now (s .entry)) (openedTest (now (s .entry)) (now (opened .entry)) c time class)) ⌝ }
 {
     let cell = at(table, CELL + PATTERNS_MOST * c + class);
@@ -246,7 +246,7 @@ fn class_at(list: &[u8; PATTERNS_MOST], i: usize) -> usize
 // What the leaf of clause c binds, where the first n classes of `tested` were tested, behind the `top` bindings there are; the number of all.
 pub fn leaf_bindings<'a>(
     s: &[u8],
-    m: Map,
+    m: SheetMap,
     table: &[u8],
     c: usize,
     tested: &'a [u8; PATTERNS_MOST],
@@ -255,7 +255,7 @@ pub fn leaf_bindings<'a>(
     work: &mut [u8],
     top: usize,
 ) -> usize
-    requires { ⌜ Ready (now s) m (now table) × LeafAsked (now s) c (now tested) n × Room (now work) top ⌝ }
+    requires { ⌜ ReadyTable (now s) m (now table) × LeafAsked (now s) c (now tested) n × Room (now work) top ⌝ }
     ensures { λ r. ⌜ bound (now (work .exit)) r ≡ boundAll (now (s .entry)) (bound (now (work .entry)) top) (leafNumbers (now (s .entry)) (now (opened .entry)) (take n (now (tested .entry))) c) ⌝ }
 {
     let mut next = put_root(s, m, table, c, work, top);

@@ -13,7 +13,7 @@ use Rattle.spec_rules.specs.SheetFile.{clauses}
 use Rattle.spec_rules.specs.SheetRefusals.{isIn}
 use Rattle.spec_rules.specs.SplittingLaws.{All}
 use Rattle.spec_accepted.specs.SheetFacts.{Accepted}
-use Rattle.format_sheet.specs.declared.Map.{Map}
+use Rattle.format_sheet.specs.declared.SheetMap.{SheetMap}
 use Rattle.build_table.specs.Standing.{ownerOf, cellOf}
 use Rattle.build_table.specs.TabledLaws.{cell-most, cell-inside, cell-owner-inside}
 use Rattle.build_matrix.specs.declared.Matrix.{Matrix}
@@ -31,7 +31,7 @@ use Rattle.build_matrix.specs.MatricesLaws.{all-in}
 use Rattle.build_matrix.specs.Numbered.{Numbered, SoundOf, chosenIn, defaultNumbered}
 use Rattle.build_matrix.specs.TreesLaws.{few-columns}
 use Rattle.build_matrix.specs.Reading.{ownerIn, cellHeld, heldIn, InTable}
-use Rattle.build_matrix.specs.Ready.{Ready}
+use Rattle.build_matrix.specs.Ready.{ReadyTable}
 use Rattle.build_matrix.specs.PuttingLaws.{all-map}
 use Rattle.build_matrix.specs.InNumbers.{inNumbers, WholeMatrix, StandsFor, Readable, Splits, chosenRead, defaultRead}
 
@@ -79,7 +79,7 @@ rising-below n from [] r = tt
 rising-below n from (c ∷ cs) r = (r .1, rising-below n (c + 1) cs (r .2))
 
 -- ---- of a sheet and its table
-module _ {s : List ℕ} {m : Map} {t : List ℕ} (ready : Ready s m t) where
+module _ {s : List ℕ} {m : SheetMap} {t : List ℕ} (ready : ReadyTable s m t) where
   ok : Accepted s
   ok = ready .checked .ok
 

@@ -17,7 +17,7 @@ use Rattle.spec_rules.specs.Splitting.{sameTest, testFields, covers}
 use Rattle.spec_accepted.specs.KindsLaws.{pattern-byte}
 use Rattle.spec_accepted.specs.PatternsLaws.{pattern-of-kind, many-along}
 use Rattle.spec_accepted.specs.SheetFacts.{Accepted, text-inside as text-in}
-use Rattle.format_sheet.specs.declared.Map.{Map}
+use Rattle.format_sheet.specs.declared.SheetMap.{SheetMap}
 use Rattle.format_sheet.specs.declared.records.PatternRecord.{PatternRecord}
 use Rattle.format_sheet.specs.Records.{patternOf as recordOf}
 use Rattle.build_table.specs.Standing.{kindOf, typeOf, testOfKind, isTest, patternOf}
@@ -193,9 +193,9 @@ text-pattern-most kind = go (eqb kind intCase)
     go true = (omega arith, omega arith)
     go false = (omega arith, omega arith)
 
-module _ (s : List ℕ) (m : Map) (c : Checked s m) (a n b k : ℕ) where
+module _ (s : List ℕ) (m : SheetMap) (c : Checked s m) (a n b k : ℕ) where
   pool-is : m .at .pool ≡ poolAt s
-  pool-is = ap (λ (x : Map). x .at .pool) (c .is-map)
+  pool-is = ap (λ (x : SheetMap). x .at .pool) (c .is-map)
 
   pub text-there : (i : ℕ) (l : ℕ) → i + l ≤ poolSize s → m .at .pool + i + l ≤ length s
   text-there i l h = omega (arith, pool-is, text-in (c .ok .is-laid) i l h)

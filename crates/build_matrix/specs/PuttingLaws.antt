@@ -18,7 +18,7 @@ use Rattle.spec_rules.specs.SheetFile.{patterns, children, patternKind, child}
 use Rattle.spec_rules.specs.SheetRefusals.{isIn}
 use Rattle.spec_rules.specs.SplittingLaws.{All}
 use Rattle.spec_accepted.specs.SheetFacts.{Accepted, Parent, Owns, owned-pattern, owned-entry, assign-parent, many-parent}
-use Rattle.format_sheet.specs.declared.Map.{Map}
+use Rattle.format_sheet.specs.declared.SheetMap.{SheetMap}
 use Rattle.format_sheet.specs.declared.records.PatternRecord.{PatternRecord}
 use Rattle.format_sheet.specs.Records.{patternOf}
 use Rattle.build_table.specs.Standing.{classOf, isTest}
@@ -35,7 +35,7 @@ use Rattle.build_matrix.specs.Lists.{classesIn, Holds}
 use Rattle.build_matrix.specs.ListsLaws.{holds-same, whole}
 use Rattle.build_matrix.specs.Ordered.{putClass, putEach, pathBefore, is-class, each-classes, each-append}
 use Rattle.build_matrix.specs.Reading.{firstIn, Ranked}
-use Rattle.build_matrix.specs.Ready.{Ready, Listed, Puts, putTests, Roomy, Children, Gives, itselfOrInside, TestKnown}
+use Rattle.build_matrix.specs.Ready.{ReadyTable, Listed, Puts, putTests, Roomy, Children, Gives, itselfOrInside, TestKnown}
 
 -- ---- a class put from the front of an array: i are passed
 abbrev pub Passed : (ℕ → ℕ → Bool) → ℕ → List ℕ → ℕ → ℕ → Type 0
@@ -107,7 +107,7 @@ all-map P Q f [] h = tt
 all-map P Q f (x ∷ xs) h = (f x (h .0), all-map P Q f xs (h .1))
 
 -- ---- of a sheet and its table
-module _ {s : List ℕ} {m : Map} {t : List ℕ} (ready : Ready s m t) where
+module _ {s : List ℕ} {m : SheetMap} {t : List ℕ} (ready : ReadyTable s m t) where
   ok : Accepted s
   ok = ready .checked .ok
 

@@ -10,7 +10,7 @@ use Rattle.spec_rules.specs.Limits.{patternsMost}
 use Rattle.spec_rules.specs.SheetFile.{patterns, patternFirst, patternCount}
 use Rattle.spec_rules.specs.SplittingLaws.{All}
 use Rattle.spec_accepted.specs.SheetFacts.{Parent}
-use Rattle.format_sheet.specs.declared.Map.{Map}
+use Rattle.format_sheet.specs.declared.SheetMap.{SheetMap}
 use Rattle.build_table.specs.Standing.{classOf, isTest}
 use Rattle.build_table.specs.Table.{tableSize}
 use Rattle.build_table.specs.Tabled.{Checked, Tabled}
@@ -23,7 +23,7 @@ use Rattle.build_matrix.specs.Lists.{classesIn, Whole}
 use Rattle.build_matrix.specs.Ordered.{putClass, putEach, pathBefore}
 use Rattle.build_matrix.specs.Reading.{firstIn, Ranked}
 
-pub record Ready (s : List ℕ) (m : Map) (t : List ℕ) : Type 0 where
+pub record ReadyTable (s : List ℕ) (m : SheetMap) (t : List ℕ) : Type 0 where
   pub checked : Checked s m
   pub tabled : Tabled s t
 

@@ -14,7 +14,7 @@ use Rattle.spec_rules.specs.SheetRefusals.{isIn}
 use Rattle.spec_rules.specs.Splitting.{Test as RuleTest}
 use Rattle.spec_rules.specs.SplittingLaws.{All}
 use Rattle.spec_accepted.specs.SheetFacts.{Accepted}
-use Rattle.format_sheet.specs.declared.Map.{Map}
+use Rattle.format_sheet.specs.declared.SheetMap.{SheetMap}
 use Rattle.build_table.specs.Standing.{classOf}
 use Rattle.build_table.specs.Seen.{testsOf, openedTests}
 use Rattle.build_matrix.specs.declared.Classes.{Classes}
@@ -33,7 +33,7 @@ use Rattle.build_matrix.specs.Matrices.{TestIn, gather, rootTests, marke
 use Rattle.build_matrix.specs.Numbered.{SoundOf, firstNumbered, opensIn, caseNumbered}
 use Rattle.build_matrix.specs.TreesLaws.{sound-first, few-columns, sound-case, opens-known}
 use Rattle.build_matrix.specs.ReadingLaws.{all-at, slice-on, slice-end}
-use Rattle.build_matrix.specs.Ready.{Ready, Listed, putTests, Roomy, TestKnown}
+use Rattle.build_matrix.specs.Ready.{ReadyTable, Listed, putTests, Roomy, TestKnown}
 use Rattle.build_matrix.specs.PuttingLaws.{each-least, all-map, tests-known, opened-known, listed}
 use Rattle.build_matrix.specs.InNumbers.{inNumbers, WholeMatrix, StandsFor}
 use Rattle.build_matrix.specs.InNumbersLaws.{stands-for}
@@ -93,7 +93,7 @@ columns-none s = let e : clauses s - clauses s ≡ 0 = omega arith in rw e
 pub columns-all : (s : List ℕ) → columnsFrom s 0 ≡ putTests s (gather (rootTests s) (upFrom 0 (clauses s))) []
 columns-all s = ap (λ (cs : List ℕ). putTests s (gather (rootTests s) cs) []) (rows-none (clauses s))
 
-module _ {s : List ℕ} {m : Map} {t : List ℕ} (ready : Ready s m t) where
+module _ {s : List ℕ} {m : SheetMap} {t : List ℕ} (ready : ReadyTable s m t) where
   ok : Accepted s
   ok = ready .checked .ok
 
@@ -273,7 +273,7 @@ pub opens-none : (s l : List ℕ) (n : ℕ) → opensFrom s l n n ≡ []
 unfolding gather putEach
 opens-none s l n = rw (slice-end l n n refl)
 
-module _ {s : List ℕ} {m : Map} {t : List ℕ} (ready : Ready s m t) (l : List ℕ) (n : ℕ) (enough : n ≤ length l) (known : All (TestKnown s) (take n l)) where
+module _ {s : List ℕ} {m : SheetMap} {t : List ℕ} (ready : ReadyTable s m t) (l : List ℕ) (n : ℕ) (enough : n ≤ length l) (known : All (TestKnown s) (take n l)) where
   module _ (room : length (putTests s (gather (openedTests s) (take n l)) []) ≤ patternsMost) where
     opens-few : (i : ℕ) → i ≤ n → length (opensFrom s l n i) ≤ patternsMost
     opens-few i h =
@@ -308,7 +308,7 @@ module _ {s : List ℕ} {m : Map} {t : List ℕ} (ready : Ready s m t) (l : List
         opened-columns = holds-same k opens-more
 
 -- ---- room for the columns of a case
-module _ {s : List ℕ} {m : Map} {t : List ℕ} (ready : Ready s m t) (x : Matrix) (whole : WholeMatrix x) (sound : SoundOf s (inNumbers x))
+module _ {s : List ℕ} {m : SheetMap} {t : List ℕ} (ready : ReadyTable s m t) (x : Matrix) (whole : WholeMatrix x) (sound : SoundOf s (inNumbers x))
     (class : ℕ) (there : isIn class (classesIn (x .columns)) ≡ true) (u : RuleTest) where
   case-few : length ((caseNumbered s class u (inNumbers x)) .columns) + length ((caseNumbered s class u (inNumbers x)) .tested) ≤ patternsMost
   case-few = few-columns (ready .checked .ok) (caseNumbered s class u (inNumbers x)) (sound-case (ready .checked .ok) (inNumbers x) sound class there u)

@@ -9,7 +9,7 @@ use build_table::CLASS;
 use build_table::at;
 use build_table::before;
 use build_table::is_test;
-use format_sheet::Map;
+use format_sheet::SheetMap;
 use format_sheet::records::child_at;
 use format_sheet::records::pattern_at;
 ghost use mathlib.Core.Path.{_≡_};
@@ -25,7 +25,7 @@ ghost use Rattle.build_table.specs.Seen.{testsOf, testsOfEach, openedTests};
 ghost use Rattle.build_matrix.specs.Lists.{asClasses, Holds, Whole, firstPlace};
 ghost use Rattle.build_matrix.specs.Ordered.{putClass, withoutClass};
 ghost use Rattle.build_matrix.specs.Reading.{firstIn};
-ghost use Rattle.build_matrix.specs.Ready.{Ready, Listed, Puts, putTests, Roomy, Children, itselfOrInside, Gives, TestKnown};
+ghost use Rattle.build_matrix.specs.Ready.{ReadyTable, Listed, Puts, putTests, Roomy, Children, itselfOrInside, Gives, TestKnown};
 
 // No class.
 pub fn empty() -> Classes
@@ -149,8 +149,8 @@ fn itself_or_inside(test: bool, class: usize, first: usize, count: usize) -> Giv
 }
 
 // One decision over kinds 0 to 9.
-fn gives(s: &[u8], m: Map, table: &[u8], p: usize) -> Given
-    requires { ⌜ Ready (now s) m (now table) × (p < patterns (now s)) ⌝ }
+fn gives(s: &[u8], m: SheetMap, table: &[u8], p: usize) -> Given
+    requires { ⌜ ReadyTable (now s) m (now table) × (p < patterns (now s)) ⌝ }
     ensures { λ r. ⌜ Gives (now (s .entry)) p r ⌝ }
 {
     let r = pattern_at(s, m, p);
@@ -179,13 +179,13 @@ fn gives(s: &[u8], m: Map, table: &[u8], p: usize) -> Given
 // The columns of pattern p put among those in the list.
 pub fn map_pattern_to_row(
     s: &[u8],
-    m: Map,
+    m: SheetMap,
     table: &[u8],
     list: &mut [u8; PATTERNS_MOST],
     count: usize,
     p: usize,
 ) -> usize
-    requires { ⌜ Ready (now s) m (now table) × Listed (now s) (asClasses (now list) count) × (p < patterns (now s)) × Roomy (now s) (testsOf (now s) p) (asClasses (now list) count) ⌝ }
+    requires { ⌜ ReadyTable (now s) m (now table) × Listed (now s) (asClasses (now list) count) × (p < patterns (now s)) × Roomy (now s) (testsOf (now s) p) (asClasses (now list) count) ⌝ }
     ensures { λ r. ⌜ Holds (asClasses (now (list .exit)) r) (putTests (now (s .entry)) (testsOf (now (s .entry)) p) (take count (now (list .entry)))) ⌝ }
 {
     let given = gives(s, m, table, p);
@@ -201,7 +201,7 @@ pub fn map_pattern_to_row(
 // The same of n children of `parent` from entry j on, the last first.
 fn map_patterns_to_row(
     s: &[u8],
-    m: Map,
+    m: SheetMap,
     table: &[u8],
     list: &mut [u8; PATTERNS_MOST],
     count: usize,
@@ -209,7 +209,7 @@ fn map_patterns_to_row(
     j: usize,
     n: usize,
 ) -> usize
-    requires { ⌜ Ready (now s) m (now table) × Listed (now s) (asClasses (now list) count) × Children (now s) parent j n × Roomy (now s) (testsOfEach (now s) j n) (asClasses (now list) count) ⌝ }
+    requires { ⌜ ReadyTable (now s) m (now table) × Listed (now s) (asClasses (now list) count) × Children (now s) parent j n × Roomy (now s) (testsOfEach (now s) j n) (asClasses (now list) count) ⌝ }
     ensures { λ r. ⌜ Holds (asClasses (now (list .exit)) r) (putTests (now (s .entry)) (testsOfEach (now (s .entry)) j n) (take count (now (list .entry)))) ⌝ }
 {
     if n == 0 {
@@ -222,13 +222,13 @@ fn map_patterns_to_row(
 // The columns that test p opens to put among those in the list: those of its children, which a text has not.
 pub fn open(
     s: &[u8],
-    m: Map,
+    m: SheetMap,
     table: &[u8],
     list: &mut [u8; PATTERNS_MOST],
     count: usize,
     p: usize,
 ) -> usize
-    requires { ⌜ Ready (now s) m (now table) × Listed (now s) (asClasses (now list) count) × TestKnown (now s) p × Roomy (now s) (openedTests (now s) p) (asClasses (now list) count) ⌝ }
+    requires { ⌜ ReadyTable (now s) m (now table) × Listed (now s) (asClasses (now list) count) × TestKnown (now s) p × Roomy (now s) (openedTests (now s) p) (asClasses (now list) count) ⌝ }
     ensures { λ r. ⌜ Holds (asClasses (now (list .exit)) r) (putTests (now (s .entry)) (openedTests (now (s .entry)) p) (take count (now (list .entry)))) ⌝ }
 {
     let r = pattern_at(s, m, p);

@@ -4,7 +4,7 @@ use base_numbers::case_kinds;
 use base_numbers::pattern_kinds;
 use base_words::same_text;
 use format_records::reading::Test;
-use format_sheet::Map;
+use format_sheet::SheetMap;
 use format_sheet::records::PatternRecord;
 use format_sheet::records::pattern_at;
 ghost use mathlib.Core.Path.{_≡_};
@@ -17,7 +17,7 @@ ghost use Rattle.build_matrix.specs.Ready.{TestKnown};
 ghost use Rattle.build_matrix.specs.Meant.{joinsTest, InPool, coversConstructor, textPattern, coversText, coversTailed, coversList};
 
 // Two texts of the pool are the same.
-fn same_texts(s: &[u8], m: Map, a: usize, n: usize, b: usize, k: usize) -> bool
+fn same_texts(s: &[u8], m: SheetMap, a: usize, n: usize, b: usize, k: usize) -> bool
     requires { ⌜ Checked (now s) m × (a + n ≤ poolSize (now s)) × (b + k ≤ poolSize (now s)) ⌝ }
     ensures { λ r. ⌜ r ≡ sameText (poolText (now (s .entry)) a n) (poolText (now (s .entry)) b k) ⌝ }
 {
@@ -47,7 +47,7 @@ fn text_pattern(kind: u8) -> u8
     }
 }
 
-fn covers_text(s: &[u8], m: Map, r: PatternRecord, kind: u8, start: u16, count: u16) -> bool
+fn covers_text(s: &[u8], m: SheetMap, r: PatternRecord, kind: u8, start: u16, count: u16) -> bool
     requires { ⌜ Checked (now s) m × (start + count ≤ poolSize (now s)) × ((integerPattern ≤ r .kind) → (r .kind ≤ byteStringPattern) → r .first + r .count ≤ poolSize (now s)) ⌝ }
     ensures { λ x. ⌜ x ≡ coversText (now (s .entry)) r kind start count ⌝ }
 {
@@ -76,7 +76,7 @@ fn covers_list(r: PatternRecord, n: u16) -> bool
 }
 
 // The test of pattern p belongs to the case.
-pub fn covers(s: &[u8], m: Map, p: usize, test: Test) -> bool
+pub fn covers(s: &[u8], m: SheetMap, p: usize, test: Test) -> bool
     requires { ⌜ Checked (now s) m × TestKnown (now s) p × InPool (now s) test ⌝ }
     ensures { λ r. ⌜ r ≡ joinsTest (now (s .entry)) test p ⌝ }
 {

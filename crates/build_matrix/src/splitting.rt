@@ -19,7 +19,7 @@ use crate::wide;
 use base_numbers::sheet::CLAUSES_MOST;
 use base_numbers::sheet::PATTERNS_MOST;
 use format_records::reading::Test;
-use format_sheet::Map;
+use format_sheet::SheetMap;
 use format_sheet::records::root_at;
 ghost use mathlib.Core.Path.{_≡_};
 ghost use mathlib.Core.Bool.{true};
@@ -38,7 +38,7 @@ ghost use Rattle.build_matrix.specs.HeldRows.{joinOf, opensOf};
 ghost use Rattle.build_matrix.specs.Matrices.{gather, rootTests, marked};
 ghost use Rattle.build_matrix.specs.Numbered.{SoundOf, firstNumbered, caseNumbered};
 ghost use Rattle.build_matrix.specs.Lists.{asClasses, asRows, Holds, HoldsRows, WholeRows};
-ghost use Rattle.build_matrix.specs.Ready.{Ready, putTests, TestKnown};
+ghost use Rattle.build_matrix.specs.Ready.{ReadyTable, putTests, TestKnown};
 ghost use Rattle.build_matrix.specs.Meant.{meant, joinsTest, InPool, HeldKnown, joinRow, openRow, JoinsTo};
 ghost use Rattle.build_matrix.specs.InNumbers.{inNumbers, matrixOf, WholeMatrix, StandsFor, Splits, defaultRead};
 
@@ -57,8 +57,8 @@ fn all_rows(n: usize) -> PerRow
 }
 
 // The columns of all clauses.
-fn first_columns(s: &[u8], m: Map, table: &[u8]) -> Classes
-    requires { ⌜ Ready (now s) m (now table) ⌝ }
+fn first_columns(s: &[u8], m: SheetMap, table: &[u8]) -> Classes
+    requires { ⌜ ReadyTable (now s) m (now table) ⌝ }
     ensures { λ r. ⌜ Holds r (putTests (now (s .entry)) (gather (rootTests (now (s .entry))) (upFrom 0 (clauses (now (s .entry))))) []) ⌝ }
 {
     let mut list = [0u8; PATTERNS_MOST];
@@ -72,8 +72,8 @@ fn first_columns(s: &[u8], m: Map, table: &[u8]) -> Classes
 }
 
 // The matrix of the clauses.
-pub fn first_matrix(s: &[u8], m: Map, table: &[u8]) -> Matrix
-    requires { ⌜ Ready (now s) m (now table) ⌝ }
+pub fn first_matrix(s: &[u8], m: SheetMap, table: &[u8]) -> Matrix
+    requires { ⌜ ReadyTable (now s) m (now table) ⌝ }
     ensures { λ r. ⌜ StandsFor r (firstNumbered (now (s .entry))) ⌝ }
 {
     let rows = all_rows(m.counts.clauses);
@@ -121,7 +121,7 @@ struct Counts {
 // The row of clause c, which has this in the column: a wildcard joins, and a test that belongs to the case.
 fn join_row(
     s: &[u8],
-    m: Map,
+    m: SheetMap,
     rows: &mut [u8; CLAUSES_MOST],
     opens: &mut [u8; CLAUSES_MOST],
     o: Counts,
@@ -156,7 +156,7 @@ fn join_row(
 // Of the first n of these rows those of a case of the column of a class, and the tests that they open; how many of each.
 fn join_rows<'a, 'b>(
     s: &[u8],
-    m: Map,
+    m: SheetMap,
     table: &[u8],
     from: &'a [u8; CLAUSES_MOST],
     n: usize,
@@ -166,7 +166,7 @@ fn join_rows<'a, 'b>(
     rows: &'b mut [u8; CLAUSES_MOST],
     opens: &'b mut [u8; CLAUSES_MOST],
 ) -> Counts
-    requires { ⌜ Ready (now s) m (now table) × WholeRows (asRows (now from) n) × All (λ c. c < clauses (now s)) (take n (now from)) × (class < patternsMost) × InPool (now s) test ⌝ }
+    requires { ⌜ ReadyTable (now s) m (now table) × WholeRows (asRows (now from) n) × All (λ c. c < clauses (now s)) (take n (now from)) × (class < patternsMost) × InPool (now s) test ⌝ }
     requires { ⌜ (length (now rows) ≡ clausesMost) × (length (now opens) ≡ clausesMost) ⌝ }
     ensures { λ r. ⌜ JoinsTo (asRows (now (rows .exit)) (r .rows)) (asRows (now (opens .exit)) (r .opens)) (joinOf (joinsTest (now (s .entry)) test) (liveIn (now (s .entry)) (now (opened .entry)) class) (take n (now (from .entry)))) (opensOf (joinsTest (now (s .entry)) test) (liveIn (now (s .entry)) (now (opened .entry)) class) (take n (now (from .entry)))) ⌝ }
 {
@@ -197,13 +197,13 @@ fn mark(opened: &mut [u8; PATTERNS_MOST], opens: &[u8; CLAUSES_MOST], n: usize, 
 // The columns that the first n of these tests open to, the last test's first.
 fn open_all(
     s: &[u8],
-    m: Map,
+    m: SheetMap,
     table: &[u8],
     opens: &[u8; CLAUSES_MOST],
     n: usize,
     list: &mut [u8; PATTERNS_MOST],
 ) -> usize
-    requires { ⌜ Ready (now s) m (now table) × WholeRows (asRows (now opens) n) × All (TestKnown (now s)) (take n (now opens)) × (length (putTests (now s) (gather (openedTests (now s)) (take n (now opens))) []) ≤ patternsMost) ⌝ }
+    requires { ⌜ ReadyTable (now s) m (now table) × WholeRows (asRows (now opens) n) × All (TestKnown (now s)) (take n (now opens)) × (length (putTests (now s) (gather (openedTests (now s)) (take n (now opens))) []) ≤ patternsMost) ⌝ }
     requires { ⌜ length (now list) ≡ patternsMost ⌝ }
     ensures { λ r. ⌜ Holds (asClasses (now (list .exit)) r) (putTests (now (s .entry)) (gather (openedTests (now (s .entry))) (take n (now (opens .entry)))) []) ⌝ }
 {
@@ -220,7 +220,7 @@ fn open_all(
 // other columns, and this one tested. The rows are asked before their tests are marked as opened.
 pub fn case_matrix<'a, 'b>(
     s: &[u8],
-    m: Map,
+    m: SheetMap,
     table: &[u8],
     rows: &'a [u8; CLAUSES_MOST],
     columns: &'a [u8; PATTERNS_MOST],
@@ -232,7 +232,7 @@ pub fn case_matrix<'a, 'b>(
     new_rows: &'b mut [u8; CLAUSES_MOST],
     new_columns: &'b mut [u8; PATTERNS_MOST],
 ) -> Sizes
-    requires { ⌜ Ready (now s) m (now table) × WholeMatrix (matrixOf (now rows) (now columns) (now tested) (now opened) n) × SoundOf (now s) (inNumbers (matrixOf (now rows) (now columns) (now tested) (now opened) n)) × (isIn class (take (n .columns) (now columns)) ≡ true) × InPool (now s) test ⌝ }
+    requires { ⌜ ReadyTable (now s) m (now table) × WholeMatrix (matrixOf (now rows) (now columns) (now tested) (now opened) n) × SoundOf (now s) (inNumbers (matrixOf (now rows) (now columns) (now tested) (now opened) n)) × (isIn class (take (n .columns) (now columns)) ≡ true) × InPool (now s) test ⌝ }
     requires { ⌜ (length (now «new_rows») ≡ clausesMost) × (length (now «new_columns») ≡ patternsMost) ⌝ }
     ensures { λ r. ⌜ StandsFor (matrixOf (now («new_rows» .exit)) (now («new_columns» .exit)) (now (tested .exit)) (now (opened .exit)) r) (caseNumbered (now (s .entry)) class (meant (now (s .entry)) test) (inNumbers (matrixOf (now (rows .entry)) (now (columns .entry)) (now (tested .entry)) (now (opened .entry)) n))) ⌝ }
 {

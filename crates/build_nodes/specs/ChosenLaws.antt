@@ -18,7 +18,7 @@ use Rattle.spec_rules.specs.Building.{Tree, absent, leaf, hoist, switch, listsw
 use Rattle.spec_rules.specs.Hoisting.{nodesIn}
 use Rattle.spec_rules.specs.TreeFile.{pathNumber, nodeBytes, casesIn, defaultField}
 use Rattle.spec_match.specs.Depth.{isTail, isExact, only}
-use Rattle.format_sheet.specs.declared.Map.{Map}
+use Rattle.format_sheet.specs.declared.SheetMap.{SheetMap}
 use Rattle.build_table.specs.Standing.{sheetPaths, pathOf, classOf}
 use Rattle.build_matrix.specs.declared.Matrix.{Matrix}
 use Rattle.build_matrix.specs.HeldRows.{heldTests}
@@ -71,7 +71,7 @@ unfolding testsIn
 column-met s k x first w w' r o e h = subst (MeetsTo s (metColumn s k x) first w w') e h
 
 -- ---- no room for the cases
-module _ {s : List ℕ} {m : Map} {t : List ℕ} {x : Matrix} {k : ℕ} (col : AskedColumn s m t x k) {tops : Tops} where
+module _ {s : List ℕ} {m : SheetMap} {t : List ℕ} {x : Matrix} {k : ℕ} (col : AskedColumn s m t x k) {tops : Tops} where
   pub no-room : (w w' : List ℕ) (r : Built) (z : Meeting) → z ≡ TooMany → MeetsTo s (metColumn s k x) (tops .cases) w w' z → r ≡ record { fits = false; tops = tops }
       → Builds (sheetPaths s) w w' (treeAt s (inNumbers x)) tops r
   no-room w w' r z none met e =
@@ -86,7 +86,7 @@ module _ {s : List ℕ} {m : Map} {t : List ℕ} {x : Matrix} {k : ℕ} (col : A
       })
 
 -- ---- the cases met
-pub record Opened (s : List ℕ) (m : Map) (t : List ℕ) (x : Matrix) (k : ℕ) (w : List ℕ) (tops : Tops) (w₁ : List ℕ) (c : CasesMet) (from : Tops) : Type 0 where
+pub record Opened (s : List ℕ) (m : SheetMap) (t : List ℕ) (x : Matrix) (k : ℕ) (w : List ℕ) (tops : Tops) (w₁ : List ℕ) (c : CasesMet) (from : Tops) : Type 0 where
   pub col : AskedColumn s m t x k
   pub room : Roomy w tops
   pub node-room : tops .nodes < nodesMost
@@ -94,13 +94,13 @@ pub record Opened (s : List ℕ) (m : Map) (t : List ℕ) (x : Matrix) (k : ℕ)
   pub from-is : from ≡ record { nodes = tops .nodes + 1; cases = c .end; bindings = tops .bindings; leaves = tops .leaves }
 
 -- as the code has them
-pub opened : {s : List ℕ} {m : Map} {t : List ℕ} {x : Matrix} {k : ℕ} → AskedColumn s m t x k → {w : List ℕ} {tops : Tops} → Roomy w tops → tops .nodes < nodesMost
+pub opened : {s : List ℕ} {m : SheetMap} {t : List ℕ} {x : Matrix} {k : ℕ} → AskedColumn s m t x k → {w : List ℕ} {tops : Tops} → Roomy w tops → tops .nodes < nodesMost
     → {w₁ : List ℕ} (r : Meeting) (c : CasesMet) → r ≡ MetTo c → MeetsTo s (metColumn s k x) (tops .cases) w w₁ r
     → Opened s m t x k w tops w₁ c (record { nodes = tops .nodes + 1; cases = c .end; bindings = tops .bindings; leaves = tops .leaves })
 opened {s} {m} {t} {x} {k} col {w} {tops} room l {w₁} r c e h =
     record { col = col; room = room; node-room = l; made = column-met s k x (tops .cases) w w₁ r (MetTo c) e h; from-is = refl }
 
-module _ {s : List ℕ} {m : Map} {t : List ℕ} {x : Matrix} {k : ℕ} {w : List ℕ} {tops : Tops} {w₁ : List ℕ} {c : CasesMet} {from : Tops}
+module _ {s : List ℕ} {m : SheetMap} {t : List ℕ} {x : Matrix} {k : ℕ} {w : List ℕ} {tops : Tops} {w₁ : List ℕ} {c : CasesMet} {from : Tops}
     (o : Opened s m t x k w tops w₁ c from) where
   end-is : c .end ≡ tops .cases + length (caseList s k (inNumbers x))
   end-is = omega (arith, o .made .mid-is, o .made .end-is, order-parts (chosenColumn s k (inNumbers x)))
@@ -157,13 +157,13 @@ module _ {s : List ℕ} {m : Map} {t : List ℕ} {x : Matrix} {k : ℕ} {w : Lis
       })
 
 -- ---- the cases built, and the default's matrix made
-pub record Cased (s : List ℕ) (m : Map) (t : List ℕ) (x : Matrix) (k : ℕ) (w : List ℕ) (tops : Tops) (w₁ : List ℕ) (c : CasesMet) (from : Tops) (w₂ : List ℕ) (r : Built) (d : Matrix) : Type 0 where
+pub record Cased (s : List ℕ) (m : SheetMap) (t : List ℕ) (x : Matrix) (k : ℕ) (w : List ℕ) (tops : Tops) (w₁ : List ℕ) (c : CasesMet) (from : Tops) (w₂ : List ℕ) (r : Built) (d : Matrix) : Type 0 where
   pub begun : Opened s m t x k w tops w₁ c from
   pub fit : r .fits ≡ true
   pub built : BuildsCases (sheetPaths s) (caseTree s k (inNumbers x)) (caseList s k (inNumbers x)) (tops .cases) w₁ w₂ from r
   pub stands : StandsFor d (defaultRead t k (inNumbers x))
 
-module _ {s : List ℕ} {m : Map} {t : List ℕ} {x : Matrix} {k : ℕ} {w : List ℕ} {tops : Tops} {w₁ : List ℕ} {c : CasesMet} {from : Tops} {w₂ : List ℕ} {r : Built} {d : Matrix}
+module _ {s : List ℕ} {m : SheetMap} {t : List ℕ} {x : Matrix} {k : ℕ} {w : List ℕ} {tops : Tops} {w₁ : List ℕ} {c : CasesMet} {from : Tops} {w₂ : List ℕ} {r : Built} {d : Matrix}
     (y : Cased s m t x k w tops w₁ c from w₂ r d) where
   abbrev o : Opened s m t x k w tops w₁ c from
   o = y .begun

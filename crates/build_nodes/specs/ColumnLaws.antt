@@ -24,7 +24,7 @@ use Rattle.spec_accepted.specs.SheetFacts.{Accepted}
 use Rattle.spec_match.specs.Depth.{isTail, isExact, only, nodeOn, met-here, met-there, only-met}
 use Rattle.spec_match.specs.Tests.{isTest, TestRow, row-test}
 use Rattle.spec_match.specs.Switches.{ownTest, own-met}
-use Rattle.format_sheet.specs.declared.Map.{Map}
+use Rattle.format_sheet.specs.declared.SheetMap.{SheetMap}
 use Rattle.build_table.specs.Standing.{pathOf, patternOf}
 use Rattle.build_matrix.specs.declared.Matrix.{Matrix}
 use Rattle.build_matrix.specs.declared.Held.{Held}
@@ -117,7 +117,7 @@ each-met P qs h = go [] (inOrder qs) refl
     )
 
 -- ---- the column chosen, and the matrices that it is split into
-module _ {s : List ℕ} {m : Map} {t : List ℕ} {x : Matrix} {k : ℕ} (col : AskedColumn s m t x k) where
+module _ {s : List ℕ} {m : SheetMap} {t : List ℕ} {x : Matrix} {k : ℕ} (col : AskedColumn s m t x k) where
   abbrev ok : Accepted s
   ok = col .ready .checked .ok
 

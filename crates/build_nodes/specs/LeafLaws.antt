@@ -14,7 +14,7 @@ use Rattle.spec_rules.specs.Building.{leaf}
 use Rattle.spec_rules.specs.Hoisting.{nodesIn}
 use Rattle.spec_rules.specs.TreeFile.{firstOf, nodeBytes, casesIn}
 use Rattle.spec_accepted.specs.SheetFacts.{Accepted}
-use Rattle.format_sheet.specs.declared.Map.{Map}
+use Rattle.format_sheet.specs.declared.SheetMap.{SheetMap}
 use Rattle.build_table.specs.Standing.{sheetPaths}
 use Rattle.build_table.specs.Seen.{bindingAt}
 use Rattle.build_matrix.specs.declared.Matrix.{Matrix}
@@ -111,7 +111,7 @@ module _ {s : List ℕ} (ok : Accepted s) {x : Matrix} (there : MatrixThere s x)
       })
 
 -- the column that the table tells
-module _ {s : List ℕ} {m : Map} {t : List ℕ} {x : Matrix} {w : List ℕ} {tops : Tops} (asked : Asked s m t x w tops) where
+module _ {s : List ℕ} {m : SheetMap} {t : List ℕ} {x : Matrix} {w : List ℕ} {tops : Tops} (asked : Asked s m t x w tops) where
   pub asked-readable : Readable t x
   asked-readable = readable (asked .ready) x (asked .there .whole) (asked .there .sound)
 

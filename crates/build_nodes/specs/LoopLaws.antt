@@ -19,7 +19,7 @@ use Rattle.spec_rules.specs.TreeFile.{casesIn}
 use Rattle.spec_file.specs.Writable.{testKind}
 use Rattle.spec_file.specs.RecordsLaws.{testNumber, testLength}
 use Rattle.spec_match.specs.Lists.{all-back}
-use Rattle.format_sheet.specs.declared.Map.{Map}
+use Rattle.format_sheet.specs.declared.SheetMap.{SheetMap}
 use Rattle.build_table.specs.Standing.{sheetPaths}
 use Rattle.build_matrix.specs.declared.Matrix.{Matrix}
 use Rattle.build_matrix.specs.Numbered.{Numbered, caseNumbered, treeAt}
@@ -58,7 +58,7 @@ module _ (s : List ℕ) where
       go (splitting.ListWithTail n) e = rw e (refl, tt)
 
 -- ---- a case
-module _ {s : List ℕ} {m : Map} {t : List ℕ} {x : Matrix} {k : ℕ} {test : Test} {w : List ℕ} {tops : Tops} (asked : AskedCase s m t x k test w tops) (y : Matrix)
+module _ {s : List ℕ} {m : SheetMap} {t : List ℕ} {x : Matrix} {k : ℕ} {test : Test} {w : List ℕ} {tops : Tops} (asked : AskedCase s m t x k test w tops) (y : Matrix)
     (stands : StandsFor y (caseNumbered s k (meant s test) (inNumbers x))) where
   -- its matrix y
   pub case-asked : Asked s m t y w tops
@@ -75,14 +75,14 @@ module _ {s : List ℕ} {m : Map} {t : List ℕ} {x : Matrix} {k : ℕ} {test : 
 
 -- ---- a turn
 -- i cases are built, and there is one more
-pub record Turn (s : List ℕ) (m : Map) (t : List ℕ) (x : Matrix) (k first : ℕ) (w₀ : List ℕ) (from : Tops) (i : ℕ) (l w : List ℕ) (tops : Tops) : Type 0 where
+pub record Turn (s : List ℕ) (m : SheetMap) (t : List ℕ) (x : Matrix) (k first : ℕ) (w₀ : List ℕ) (from : Tops) (i : ℕ) (l w : List ℕ) (tops : Tops) : Type 0 where
   pub col : AskedColumn s m t x k
   pub asked : AskedCases s k (inNumbers x) first w₀ from
   pub part : Partly (sheetPaths s) (caseTree s k (inNumbers x)) (caseList s k (inNumbers x)) first i w₀ w from tops
   pub inside : i < from .cases - first
   pub kept : StillTested (x .tested .count) (x .tested .list) l
 
-module _ {s : List ℕ} {m : Map} {t : List ℕ} {x : Matrix} {k first : ℕ} {w₀ : List ℕ} {from : Tops} {i : ℕ} {l w : List ℕ} {tops : Tops}
+module _ {s : List ℕ} {m : SheetMap} {t : List ℕ} {x : Matrix} {k first : ℕ} {w₀ : List ℕ} {from : Tops} {i : ℕ} {l w : List ℕ} {tops : Tops}
     (turn : Turn s m t x k first w₀ from i l w tops) where
   abbrev begun : CasesOpen (caseList s k (inNumbers x)) first w₀ from
   begun = turn .asked .begun
@@ -158,7 +158,7 @@ module _ {s : List ℕ} {m : Map} {t : List ℕ} {x : Matrix} {k first : ℕ} {w
             }
 
 -- ---- the loop
-module _ {s : List ℕ} {m : Map} {t : List ℕ} {x : Matrix} {k : ℕ} (col : AskedColumn s m t x k) {first : ℕ} {w₀ : List ℕ} {from : Tops}
+module _ {s : List ℕ} {m : SheetMap} {t : List ℕ} {x : Matrix} {k : ℕ} (col : AskedColumn s m t x k) {first : ℕ} {w₀ : List ℕ} {from : Tops}
     (asked : AskedCases s k (inNumbers x) first w₀ from) where
   abbrev Done : ℕ → List ℕ → Tops → Type 0
   Done i w tops = Partly (sheetPaths s) (caseTree s k (inNumbers x)) (caseList s k (inNumbers x)) first i w₀ w from tops

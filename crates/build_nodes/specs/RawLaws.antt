@@ -10,10 +10,10 @@ use Rattle.spec_rules.specs.Limits.{clausesMost, bindingsMost}
 use Rattle.spec_rules.specs.Building.{Tree}
 use Rattle.spec_rules.specs.Hoisting.{nodesIn, bindingsIn, hasLeaf}
 use Rattle.spec_rules.specs.TreeFile.{casesIn}
-use Rattle.format_sheet.specs.declared.Map.{Map}
+use Rattle.format_sheet.specs.declared.SheetMap.{SheetMap}
 use Rattle.build_table.specs.Standing.{sheetPaths}
 use Rattle.build_matrix.specs.declared.Matrix.{Matrix}
-use Rattle.build_matrix.specs.Ready.{Ready}
+use Rattle.build_matrix.specs.Ready.{ReadyTable}
 use Rattle.build_matrix.specs.Numbered.{Numbered, SoundOf, firstNumbered, treeAt}
 use Rattle.build_matrix.specs.InNumbers.{inNumbers, StandsFor}
 use Rattle.build_matrix.specs.TreesLaws.{sound-first, first-tree, first-some}
@@ -33,7 +33,7 @@ zeros-zero zero i = refl
 zeros-zero (suc n) zero = refl
 zeros-zero (suc n) (suc i) = zeros-zero n i
 
-module _ {s : List ℕ} {m : Map} {t : List ℕ} (ready : Ready s m t) (x : Matrix) (stands : StandsFor x (firstNumbered s)) (w : List ℕ) (long : arenaEnd ≤ length w) where
+module _ {s : List ℕ} {m : SheetMap} {t : List ℕ} (ready : ReadyTable s m t) (x : Matrix) (stands : StandsFor x (firstNumbered s)) (w : List ℕ) (long : arenaEnd ≤ length w) where
   pub raw-asked : Asked s m t x w noTops
   raw-asked =
       record {

@@ -10,11 +10,11 @@ use Rattle.spec_rules.specs.Patterns.{Pat}
 use Rattle.spec_rules.specs.Splitting.{Test, Met, isMet, casesOf}
 use Rattle.spec_rules.specs.SplittingLaws.{All}
 use Rattle.spec_rules.specs.Building.{Tree}
-use Rattle.format_sheet.specs.declared.Map.{Map}
+use Rattle.format_sheet.specs.declared.SheetMap.{SheetMap}
 use Rattle.build_matrix.specs.declared.Matrix.{Matrix}
 use Rattle.build_matrix.specs.declared.Choice.the-variants.{Column}
 use Rattle.format_records.specs.declared.reading.Test as reading
-use Rattle.build_matrix.specs.Ready.{Ready}
+use Rattle.build_matrix.specs.Ready.{ReadyTable}
 use Rattle.build_matrix.specs.Meant.{meant, InPool}
 use Rattle.build_matrix.specs.Numbered.{Numbered, SoundOf, defaultNumbered, caseNumbered, chosenIn, testsIn, treeAt}
 use Rattle.build_matrix.specs.InNumbers.{inNumbers, WholeMatrix}
@@ -32,8 +32,8 @@ pub record MatrixThere (s : List ℕ) (x : Matrix) : Type 0 where
   pub some-row : 1 ≤ length ((inNumbers x) .rows)
 
 -- what building it asks
-pub record Asked (s : List ℕ) (m : Map) (t : List ℕ) (x : Matrix) (w : List ℕ) (tops : Tops) : Type 0 where
-  pub ready : Ready s m t
+pub record Asked (s : List ℕ) (m : SheetMap) (t : List ℕ) (x : Matrix) (w : List ℕ) (tops : Tops) : Type 0 where
+  pub ready : ReadyTable s m t
   pub there : MatrixThere s x
   pub room : Roomy w tops
 
@@ -57,13 +57,13 @@ abbrev pub defaultTree : List ℕ → ℕ → Numbered → Tree
 defaultTree s k M = treeAt s (defaultNumbered s k M)
 
 -- it is the one chosen
-pub record AskedColumn (s : List ℕ) (m : Map) (t : List ℕ) (x : Matrix) (k : ℕ) : Type 0 where
-  pub ready : Ready s m t
+pub record AskedColumn (s : List ℕ) (m : SheetMap) (t : List ℕ) (x : Matrix) (k : ℕ) : Type 0 where
+  pub ready : ReadyTable s m t
   pub there : MatrixThere s x
   pub chosen : chosenIn s (inNumbers x) ≡ Column k
 
 -- what building a case asks: its test is one of them
-pub record AskedCase (s : List ℕ) (m : Map) (t : List ℕ) (x : Matrix) (k : ℕ) (test : reading.Test) (w : List ℕ) (tops : Tops) : Type 0 where
+pub record AskedCase (s : List ℕ) (m : SheetMap) (t : List ℕ) (x : Matrix) (k : ℕ) (test : reading.Test) (w : List ℕ) (tops : Tops) : Type 0 where
   pub col : AskedColumn s m t x k
   pub pool : InPool s test
   pub met : isMet (meant s test) (casesOf (chosenColumn s k (inNumbers x))) ≡ true

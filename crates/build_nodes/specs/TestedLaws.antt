@@ -7,7 +7,7 @@ use native.Mathlib.Omega.{arith}
 use lib.ListN.{length, take, length-append}
 use lib.Seq.{take-take, take-at, length-take-le}
 use Rattle.spec_rules.specs.Limits.{patternsMost}
-use Rattle.format_sheet.specs.declared.Map.{Map}
+use Rattle.format_sheet.specs.declared.SheetMap.{SheetMap}
 use Rattle.build_matrix.specs.declared.Matrix.{Matrix}
 use Rattle.build_matrix.specs.Lists.{classesIn, numbersIn, asClasses}
 use Rattle.build_matrix.specs.ListsLaws.{holds-count}
@@ -38,7 +38,7 @@ pub still-numbers : (x : Matrix) {l : List ℕ} → StillTested (x .tested .coun
 still-numbers x kept =
     ap {B = Numbered} (λ (z : List ℕ). record { rows = numbersIn (x .rows); columns = classesIn (x .columns); tested = z; opened = x .opened }) (kept .same)
 
-module _ {s : List ℕ} {m : Map} {t : List ℕ} {x : Matrix} {k : ℕ} (col : AskedColumn s m t x k) {l : List ℕ}
+module _ {s : List ℕ} {m : SheetMap} {t : List ℕ} {x : Matrix} {k : ℕ} (col : AskedColumn s m t x k) {l : List ℕ}
     (kept : StillTested (x .tested .count) (x .tested .list) l) where
   pub still-column : AskedColumn s m t (testedIn x l) k
   still-column =

@@ -23,7 +23,7 @@ use build_matrix::splitting::default_matrix;
 use build_matrix::wide;
 use format_parts::sections::first_of;
 use format_records::reading::Test;
-use format_sheet::Map;
+use format_sheet::SheetMap;
 ghost use mathlib.Core.Path.{_≡_};
 ghost use Prim.Native.Nat.{_<_, _≤_, _+_, _*_, _-_};
 ghost use lib.ListN.{length, take};
@@ -33,7 +33,7 @@ ghost use Rattle.spec_rules.specs.Kinds.{listSwitchNode, switchNode};
 ghost use Rattle.spec_rules.specs.Limits.{patternsMost, nodesMost, nodeSize};
 ghost use Rattle.spec_rules.specs.TreeFile.{nodeBytes};
 ghost use Rattle.build_table.specs.Standing.{sheetPaths};
-ghost use Rattle.build_matrix.specs.Ready.{Ready};
+ghost use Rattle.build_matrix.specs.Ready.{ReadyTable};
 ghost use Rattle.build_matrix.specs.Meant.{meant};
 ghost use Rattle.build_matrix.specs.Bound.{clauseLeaf};
 ghost use Rattle.build_matrix.specs.Numbered.{treeAt};
@@ -46,7 +46,7 @@ ghost use Rattle.build_nodes.specs.Steps.{caseList, caseTree, StillTeste
 // The leaf of a clause, where the first `time` of these classes were tested.
 fn put_leaf<'a>(
     s: &[u8],
-    m: Map,
+    m: SheetMap,
     table: &[u8],
     clause: usize,
     tested: &'a [u8; PATTERNS_MOST],
@@ -55,7 +55,7 @@ fn put_leaf<'a>(
     work: &mut [u8],
     tops: Tops,
 ) -> Tops
-    requires { ⌜ Ready (now s) m (now table) × LeafAsked (now s) clause (now tested) time × Roomy (now work) tops × (tops .nodes < nodesMost) ⌝ }
+    requires { ⌜ ReadyTable (now s) m (now table) × LeafAsked (now s) clause (now tested) time × Roomy (now work) tops × (tops .nodes < nodesMost) ⌝ }
     ensures { λ r. ⌜ Put (sheetPaths (now (s .entry))) (now (work .entry)) (now (work .exit)) (clauseLeaf (now (s .entry)) (now (opened .entry)) (take time (now (tested .entry))) clause) tops r ⌝ }
 {
     let top = leaf_bindings(
@@ -125,7 +125,7 @@ fn put_switch(work: &mut [u8], k: usize, class: usize, first: usize, met: CasesM
 // The tree of the case of this test, of the column of class k.
 fn build_case<'a>(
     s: &[u8],
-    m: Map,
+    m: SheetMap,
     table: &[u8],
     rows: &'a [u8; CLAUSES_MOST],
     columns: &'a [u8; PATTERNS_MOST],
@@ -163,7 +163,7 @@ fn build_case<'a>(
 // The cases whose records stand from number `first` on, up to the number of cases there are: each gets its child's number and its tree.
 fn build_cases<'a>(
     s: &[u8],
-    m: Map,
+    m: SheetMap,
     table: &[u8],
     rows: &'a [u8; CLAUSES_MOST],
     columns: &'a [u8; PATTERNS_MOST],
@@ -212,7 +212,7 @@ fn build_cases<'a>(
 // A switch on the column of class k.
 fn build_switch<'a>(
     s: &[u8],
-    m: Map,
+    m: SheetMap,
     table: &[u8],
     rows: &'a [u8; CLAUSES_MOST],
     columns: &'a [u8; PATTERNS_MOST],
@@ -276,7 +276,7 @@ fn build_switch<'a>(
 // The tree of the matrix of these parts, which has a row, from the tops on.
 pub fn do_build_tree<'a>(
     s: &[u8],
-    m: Map,
+    m: SheetMap,
     table: &[u8],
     rows: &'a [u8; CLAUSES_MOST],
     columns: &'a [u8; PATTERNS_MOST],

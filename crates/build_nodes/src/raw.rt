@@ -6,16 +6,16 @@ use crate::tops::Tops;
 use base_numbers::sheet::CLAUSES_MOST;
 use build_matrix::Sizes;
 use build_matrix::splitting::first_matrix;
-use format_sheet::Map;
+use format_sheet::SheetMap;
 ghost use Prim.Native.Nat.{_≤_};
 ghost use lib.ListN.{length};
-ghost use Rattle.build_matrix.specs.Ready.{Ready};
+ghost use Rattle.build_matrix.specs.Ready.{ReadyTable};
 ghost use Rattle.build_arena.specs.Arena.{arenaEnd};
 ghost use Rattle.build_nodes.specs.Raw.{BuildsRaw};
 
 // By the sheet's table.
-pub fn build_tree(s: &[u8], m: Map, table: &[u8], work: &mut [u8]) -> Built
-    requires { ⌜ Ready (now s) m (now table) × (arenaEnd ≤ length (now work)) ⌝ }
+pub fn build_tree(s: &[u8], m: SheetMap, table: &[u8], work: &mut [u8]) -> Built
+    requires { ⌜ ReadyTable (now s) m (now table) × (arenaEnd ≤ length (now work)) ⌝ }
     ensures { λ r. ⌜ BuildsRaw (now (s .entry)) (now (work .exit)) r ⌝ }
 {
     let x = first_matrix(s, m, table);

@@ -24,7 +24,7 @@ use Rattle.build_scopes.specs.declared.marks.Children.{Children}
 
 -- ---- a tree whose scopes are looked for
 -- the tree a is in the arena before it is hoisted, and its clauses are at most 32
-pub record Ready (w : List ℕ) (a : Tree) : Type 0 where
+pub record ReadyTree (w : List ℕ) (a : Tree) : Type 0 where
   pub table : List Path
   pub nodes : Nodes w table a
   pub plain : Plain a
@@ -34,7 +34,7 @@ pub record Ready (w : List ℕ) (a : Tree) : Type 0 where
 -- one of so many nodes
 pub record ReadyWith (w : List ℕ) (nodes : ℕ) : Type 0 where
   pub tree : Tree
-  pub ready : Ready w tree
+  pub ready : ReadyTree w tree
   pub count : nodesIn tree ≡ nodes
 
 -- node k is a leaf ..
@@ -79,7 +79,7 @@ pub record LastMarked (a : Tree) (from : ℕ) (last : List ℕ) : Type 0 where
 -- a tree with the marks of one of its clauses
 pub record ClauseMarks (w : List ℕ) (c : ℕ) (sets : List ℕ) : Type 0 where
   pub tree : Tree
-  pub ready : Ready w tree
+  pub ready : ReadyTree w tree
   pub small : c < clausesMost
   pub marked : Marked tree c 0 (column c sets)
   pub long : nodesIn tree ≤ length sets

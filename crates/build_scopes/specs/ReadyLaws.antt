@@ -30,7 +30,7 @@ use Rattle.build_arena.specs.NumberedLaws.{length-subtrees, each-append, each-a
 use Rattle.build_scopes.specs.Numbers.{descent, descentOf}
 use Rattle.build_scopes.specs.SwitchLaws.{hasLeaf-switch, lastLeaf-switch, childrenWith-switch, hasLeaf-some, made-cases-there, made-some-case}
 use Rattle.build_scopes.specs.NumbersLaws.{other-has, either-turn}
-use Rattle.build_scopes.specs.Marks.{Ready, LeafThere, SwitchThere, Marked, LastMarked, SwitchInside, NodeInside, markedCases, firstMarked, markedDefault, markedChildren, firstChild, lastChild, nodeMarked, lastOf}
+use Rattle.build_scopes.specs.Marks.{ReadyTree, LeafThere, SwitchThere, Marked, LastMarked, SwitchInside, NodeInside, markedCases, firstMarked, markedDefault, markedChildren, firstChild, lastChild, nodeMarked, lastOf}
 
 -- ---- subtrees of a plain and well made tree are so
 record Good (n : ℕ) (s : Tree) : Type 0 where
@@ -73,7 +73,7 @@ unfolding subtreeAt
 good-at n a pl m j l = each-at (IsGood n) 0 (subtrees a) (each-good n a 0 pl m) j (omega (arith, length-subtrees a))
 
 -- ---- each node is a leaf or a switch
-pub node-there : (w : List ℕ) (a : Tree) → Ready w a → (k : ℕ) → k < nodesIn a → LeafThere w a k ⊎ SwitchThere w a k
+pub node-there : (w : List ℕ) (a : Tree) → ReadyTree w a → (k : ℕ) → k < nodesIn a → LeafThere w a k ⊎ SwitchThere w a k
 unfolding Plain WellMade isPresent isSwitch
 node-there w a r k l = go (subtreeAt a k) refl
   where
@@ -107,7 +107,7 @@ node-there w a r k l = go (subtreeAt a k) refl
     go (listswitch p cs ts d) e = inr (switched (ap isSwitch e))
 
 -- ---- what may be read there
-module _ (w : List ℕ) (a : Tree) (r : Ready w a) (k : ℕ) (l : k < nodesIn a) where
+module _ (w : List ℕ) (a : Tree) (r : ReadyTree w a) (k : ℕ) (l : k < nodesIn a) where
   switch-inside : (m : ℕ) → nodesIn a ≤ m → SwitchThere w a k → SwitchInside w k m
   switch-inside m most t =
       let s = t .shown in
@@ -203,7 +203,7 @@ module _ (w : List ℕ) (a : Tree) (c : ℕ) (has : List ℕ) where
           (λ stop. pick (hasLeaf c s) (descent stop c k s) (descentOf stop c (k + nodesIn s) cs z)) (omega arith)
           (λ stop. pick-false (hasLeaf c s) (descent stop c k s) (descentOf stop c (k + nodesIn s) cs z) x) (ih (other-has (hasLeaf c s) (hasLeafOf c cs) e x)))
 
-  module _ (r : Ready w a) (k : ℕ) (l : k < nodesIn a) (m : Marked a c (k + 1) has) where
+  module _ (r : ReadyTree w a) (k : ℕ) (l : k < nodesIn a) (m : Marked a c (k + 1) has) where
     abbrev s : Tree
     s = subtreeAt a k
 
@@ -317,7 +317,7 @@ module _ (w : List ℕ) (a : Tree) (last : List ℕ) where
       (rest-within (subtrees a) k s (subtrees q ++ subtreesOf cs) h) (t .1) m
       ∙ ap (λ z. some (getD last (caseChild w z) 0)) e)
 
-  module _ (r : Ready w a) (k : ℕ) (l : k < nodesIn a) (m : LastMarked a (k + 1) last) where
+  module _ (r : ReadyTree w a) (k : ℕ) (l : k < nodesIn a) (m : LastMarked a (k + 1) last) where
     abbrev byCases : ℕ
     byCases = caseChild w (nodeWord w k firstCaseWord + (nodeWord w k casesWord + nodeWord w k tailCasesWord) - 1)
 

@@ -11,12 +11,12 @@ use Rattle.spec_rules.specs.Hoisting.{nodesIn, hasLeaf}
 use Rattle.spec_rules.specs.Calls.{lowestIdle}
 use Rattle.build_scopes.specs.declared.Scopes.{Scopes}
 use Rattle.build_scopes.specs.Numbers.{scopeNumber, firstNumber, scopeNode, firstLeafNode, idleNumber}
-use Rattle.build_scopes.specs.Marks.{Ready, LastMarked, SetsMarked}
+use Rattle.build_scopes.specs.Marks.{ReadyTree, LastMarked, SetsMarked}
 
 -- the tree in the arena, with the clause of the last leaf of each node and the clauses with a leaf there
 pub record Surveyed (w last sets : List ℕ) : Type 0 where
   pub tree : Tree
-  pub ready : Ready w tree
+  pub ready : ReadyTree w tree
   pub last-marked : LastMarked tree 0 last
   pub last-long : nodesIn tree ≤ length last
   pub sets-marked : SetsMarked tree 0 sets

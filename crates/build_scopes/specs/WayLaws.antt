@@ -25,7 +25,7 @@ use Rattle.build_arena.specs.Numbered.{subtreeAt, casesUnder, defaultUnder}
 use Rattle.build_arena.specs.NumberedLaws.{subtreeAt-root}
 use Rattle.build_scopes.specs.Numbers.{descent, descentOf, never, scopeNumber, firstNumber}
 use Rattle.build_scopes.specs.SwitchLaws.{descent-switch, present-nodes}
-use Rattle.build_scopes.specs.Marks.{Ready, LeafThere, SwitchThere, Marked, SetsMarked, LastMarked, ClauseMarks, ScopeMarks, SwitchInside, ScopeInside, bitAt, column, markedChildren, firstChild, nodeMarked, nodeSet, lastOf, scopeHere}
+use Rattle.build_scopes.specs.Marks.{ReadyTree, LeafThere, SwitchThere, Marked, SetsMarked, LastMarked, ClauseMarks, ScopeMarks, SwitchInside, ScopeInside, bitAt, column, markedChildren, firstChild, nodeMarked, nodeSet, lastOf, scopeHere}
 use Rattle.build_scopes.specs.SetsLaws.{length-column, column-set, nodeSet-marked}
 use Rattle.build_scopes.specs.ReadyLaws.{node-there, node-inside, marked-children, node-marked, first-led, last-of}
 
@@ -37,7 +37,7 @@ first-or-more k j l = go (j - k) refl
     go zero e = inl (omega arith)
     go (suc d) e = inr (omega arith)
 
-module _ (w : List ℕ) (a : Tree) (r : Ready w a) (k : ℕ) (l : k < nodesIn a) where
+module _ (w : List ℕ) (a : Tree) (r : ReadyTree w a) (k : ℕ) (l : k < nodesIn a) where
   -- one more node marked
   mark-more : (c : ℕ) (has : List ℕ) (one : ℕ) → k < length has → one ≡ nodeMarked w has c k → Marked a c (k + 1) has → Marked a c k (set has k one)
   mark-more c has one h e m = record { mark = each }
@@ -81,7 +81,7 @@ pub record OnWay (stop : Tree → Bool) (a : Tree) (c k : ℕ) : Type 0 where
   pub leaf-there : hasLeaf c (subtreeAt a k) ≡ true
   pub same : descent stop c k (subtreeAt a k) ≡ descent stop c 0 a
 
-pub way-start : (stop : Tree → Bool) (w : List ℕ) (a : Tree) (c : ℕ) → Ready w a → hasLeaf c a ≡ true → OnWay stop a c 0
+pub way-start : (stop : Tree → Bool) (w : List ℕ) (a : Tree) (c : ℕ) → ReadyTree w a → hasLeaf c a ≡ true → OnWay stop a c 0
 way-start stop w a c r h =
     record {
       inside = present-nodes a (r .there);
@@ -89,7 +89,7 @@ way-start stop w a c r h =
       same = ap (descent stop c 0) (subtreeAt-root a);
     }
 
-pub way-inside : (stop : Tree → Bool) (w : List ℕ) (a : Tree) (c k : ℕ) → Ready w a → OnWay stop a c k → k < nodesMost
+pub way-inside : (stop : Tree → Bool) (w : List ℕ) (a : Tree) (c k : ℕ) → ReadyTree w a → OnWay stop a c k → k < nodesMost
 way-inside stop w a c k r o = omega (arith, o .inside, r .nodes .nodes-most)
 
 -- it ends here
@@ -109,7 +109,7 @@ pub record NextOnWay (stop : Tree → Bool) (a : Tree) (c k n : ℕ) : Type 0 wh
   pub above : k < n
   pub next : OnWay stop a c n
 
-pub way-next : (stop : Tree → Bool) (w : List ℕ) (a : Tree) (c k : ℕ) (has : List ℕ) → Ready w a → Marked a c 0 has → OnWay stop a c k → SwitchThere w a k
+pub way-next : (stop : Tree → Bool) (w : List ℕ) (a : Tree) (c k : ℕ) (has : List ℕ) → ReadyTree w a → Marked a c 0 has → OnWay stop a c k → SwitchThere w a k
     → stop (subtreeAt a k) ≡ false → NextOnWay stop a c k (firstChild w has k)
 way-next stop w a c k has r m o t e =
     let led = first-led w a c has r k (o .inside) (mark-from a c (k + 1) has m) t (o .leaf-there) in
@@ -128,7 +128,7 @@ way-next stop w a c k has r m o t e =
     }
 
 -- ---- the scope
-module _ (w : List ℕ) (a : Tree) (c k : ℕ) (last has : List ℕ) (r : Ready w a) (m : Marked a c 0 has) (q : LastMarked a 0 last) (l : k < nodesIn a)
+module _ (w : List ℕ) (a : Tree) (c k : ℕ) (last has : List ℕ) (r : ReadyTree w a) (m : Marked a c 0 has) (q : LastMarked a 0 last) (l : k < nodesIn a)
     (h : hasLeaf c (subtreeAt a k) ≡ true) where
   last-clause : isClause c (lastLeaf (subtreeAt a k)) ≡ eqb c (getD last k 0)
   unfolding isClause

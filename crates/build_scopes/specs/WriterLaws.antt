@@ -26,7 +26,7 @@ use Rattle.build_scopes.specs.declared.Scopes.{Scopes}
 use Rattle.build_scopes.specs.Numbers.{firstNumber, firstLeafNode, hoistByNumber, hoistByNumberOf, BindCounts}
 use Rattle.build_scopes.specs.NumbersLaws.{hoistAll-number}
 use Rattle.build_scopes.specs.FirstLeafLaws.{first-leaf}
-use Rattle.build_scopes.specs.Marks.{Ready}
+use Rattle.build_scopes.specs.Marks.{ReadyTree}
 use Rattle.build_scopes.specs.Scoped.{Scoped}
 
 -- ---- a tree that is ready
@@ -46,7 +46,7 @@ mutual
 
 -- a plain, well made tree of at most 32 clauses, held in the arena within its room
 pub ready-held : (w : List ℕ) (table : List Path) (a : Tree) (n : ℕ) → Held w table 0 0 0 a → arenaEnd ≤ length w → nodesIn a ≤ nodesMost → length (bindingsIn a) ≤ bindingsMost
-    → Plain a → WellMade n a → n ≤ clausesMost → isPresent a ≡ true → Ready w a
+    → Plain a → WellMade n a → n ≤ clausesMost → isPresent a ≡ true → ReadyTree w a
 ready-held w table a n h room nodes bindings plain made few there =
     record {
       table = table;
@@ -58,13 +58,13 @@ ready-held w table a n h room nodes bindings plain made few there =
 
 -- ---- the whole tree by the answer
 -- THEOREM: hoisting each clause above the node that was found is rule 7
-pub scoped-hoisted : (w : List ℕ) (a : Tree) (n : ℕ) (x : Scopes) → Ready w a → Scoped a n x
+pub scoped-hoisted : (w : List ℕ) (a : Tree) (n : ℕ) (x : Scopes) → ReadyTree w a → Scoped a n x
     → hoistAll n a ≡ hoistByNumber (λ c. getD (x .node) c 0) (λ c. firstBindings c a) n 0 a
 scoped-hoisted w a n x r s =
     hoistAll-number (λ c. getD (x .node) c 0) (λ c. firstBindings c a) n a (r .plain) (r .nodes .nodes-most) (s .node) (λ c l. refl)
 
 -- THEOREM: the bindings of a clause's hoist are those of the leaf that was found
-pub scoped-leaf : (w : List ℕ) (f : ℕ → ℕ) (a : Tree) (n : ℕ) (x : Scopes) → Ready w a → BindCounts f a → Scoped a n x → (c : ℕ) → c < n → hasLeaf c a ≡ true
+pub scoped-leaf : (w : List ℕ) (f : ℕ → ℕ) (a : Tree) (n : ℕ) (x : Scopes) → ReadyTree w a → BindCounts f a → Scoped a n x → (c : ℕ) → c < n → hasLeaf c a ≡ true
     → subtreeAt a (getD (x .leaf) c 0) ≡ leaf c (firstBindings c a)
 unfolding firstLeafNode
 scoped-leaf w f a n x r b s c l h =

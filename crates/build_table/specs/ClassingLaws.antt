@@ -20,7 +20,7 @@ use Rattle.spec_rules.specs.Limits.{patternsMost, depthMost}
 use Rattle.spec_rules.specs.Kinds.{dataType, integerPattern, listWithTailPattern, constructorPattern}
 use Rattle.spec_rules.specs.SheetFile.{subject, patterns, root}
 use Rattle.spec_rules.specs.Patterns.{oneConstructor}
-use Rattle.format_sheet.specs.declared.Map.{Map}
+use Rattle.format_sheet.specs.declared.SheetMap.{SheetMap}
 use Rattle.format_sheet.specs.declared.records.PatternRecord.{PatternRecord}
 use Rattle.format_sheet.specs.declared.records.TypeRecord.{TypeRecord}
 use Rattle.format_sheet.specs.Records.{patternOf, typeOf as typeOfRecord}
@@ -278,7 +278,7 @@ module _ (t : List ℕ) (p : ℕ) (test : Bool) where
   tested-no r e n = sym (pick-false test (set t (cellsAt + patternsMost * getD t (clauseAt + p) 0 + getD t (classAt + p) 0) (p + 1)) t (sym e ∙ n))
 
 -- the cell is in the table
-pub cell-inside : {s t : List ℕ} {m : Map} {p : ℕ} → Checked s m → p < patterns s → Placed s t p → Classed s t p → (clause class : ℕ) → clause ≡ getD t (clauseAt + p) 0 → class ≡ getD t (classAt + p) 0
+pub cell-inside : {s t : List ℕ} {m : SheetMap} {p : ℕ} → Checked s m → p < patterns s → Placed s t p → Classed s t p → (clause class : ℕ) → clause ≡ getD t (clauseAt + p) 0 → class ≡ getD t (classAt + p) 0
     → cellsAt + patternsMost * clause + class < tableSize
 cell-inside {s} {t} {m} {p} ch h pl cl clause class ec ek =
     let ok = ch .ok in

@@ -17,7 +17,7 @@ use Rattle.spec_rules.specs.Patterns.{PatternKind, Discard, Variable, Assign, I
 use Rattle.spec_rules.specs.SheetRefusals.{hasChildren}
 use Rattle.spec_accepted.specs.KindsLaws.{patternNumber, byte-pattern, pattern-byte}
 use Rattle.spec_accepted.specs.SheetFacts.{Owns, Parent, owned-entry, owned-pattern}
-use Rattle.format_sheet.specs.declared.Map.{Map}
+use Rattle.format_sheet.specs.declared.SheetMap.{SheetMap}
 use Rattle.format_sheet.specs.declared.records.PatternRecord.{PatternRecord}
 use Rattle.format_sheet.specs.declared.records.TypeRecord.{TypeRecord}
 use Rattle.format_sheet.specs.declared.records.Run.{Run}
@@ -74,7 +74,7 @@ module _ (s : List ℕ) (p step e stride owner n : ℕ) where
       rw (eu, number, ev) (sym (placedEach-next t i l))
 
 -- ---- what a loop over children asks
-module _ {s : List ℕ} {m : Map} (ch : Checked s m) {p n e stride : ℕ} (parts : Parts s p n e stride) where
+module _ {s : List ℕ} {m : SheetMap} (ch : Checked s m) {p n e stride : ℕ} (parts : Parts s p n e stride) where
   pub parts-owns : (i : ℕ) → i < n → Owns s p (patternFirst s p + i)
   parts-owns i l = record { parent = parts .has; from = omega arith; to = omega (arith, parts .most) }
 
@@ -106,7 +106,7 @@ pub data-kind : (kind count : ℕ) → kind ≡ dataType → eqb count 1 ≡ bot
 data-kind kind count e = rw (eq-eqb kind dataType e)
 
 -- ---- what the record of a pattern and of its type say, as the code has read them
-module _ {s : List ℕ} {m : Map} {t : List ℕ} {p : ℕ} {r : PatternRecord} {ty : TypeRecord} {owner : ℕ} (rd : Reading s m t p r ty owner) where
+module _ {s : List ℕ} {m : SheetMap} {t : List ℕ} {p : ℕ} {r : PatternRecord} {ty : TypeRecord} {owner : ℕ} (rd : Reading s m t p r ty owner) where
   pub reading-kind : (kind : PatternKind) → r .kind ≡ patternNumber kind → kindOf s p ≡ kind
   unfolding kindOf
   reading-kind kind e = byte-pattern (patternKind s p) kind (sym (kind-is s p r (rd .is-pattern)) ∙ e)

@@ -12,7 +12,7 @@ use Rattle.spec_rules.specs.Searching.{lowest}
 use Rattle.spec_rules.specs.SheetFile.{entries, patterns, clauses, patternCount}
 use Rattle.spec_rules.specs.Columns.{stepIndex}
 use Rattle.spec_accepted.specs.SheetFacts.{Parent, Accepted}
-use Rattle.format_sheet.specs.declared.Map.{Map}
+use Rattle.format_sheet.specs.declared.SheetMap.{SheetMap}
 use Rattle.format_sheet.specs.declared.records.PatternRecord.{PatternRecord}
 use Rattle.format_sheet.specs.declared.records.TypeRecord.{TypeRecord}
 use Rattle.format_sheet.specs.Sections.{mapOf}
@@ -21,7 +21,7 @@ use Rattle.build_table.specs.Standing.{clauseOf, pathOf, typeOf, ownerOf
 use Rattle.build_table.specs.Table.{classAt, ownerAt, aboveAt, typeAt, stepAt, indexAt, depthAt, clauseAt, indicesAt, cellsAt, tableSize, aboveIn, sameStepIn}
 
 -- an accepted sheet, and its map
-pub record Checked (s : List ℕ) (m : Map) : Type 0 where
+pub record Checked (s : List ℕ) (m : SheetMap) : Type 0 where
   pub is-map : m ≡ mapOf s
   pub ok : Accepted s
 
@@ -69,7 +69,7 @@ pub record Parts (s : List ℕ) (p n e stride : ℕ) : Type 0 where
   pub enough : ((stride ≡ 0) × (e < entries s)) ⊎ ((stride ≡ 1) × (e + n ≤ entries s))
 
 -- what was read of pattern p: its record, its type's record, its owner
-pub record Reading (s : List ℕ) (m : Map) (t : List ℕ) (p : ℕ) (r : PatternRecord) (ty : TypeRecord) (owner : ℕ) : Type 0 where
+pub record Reading (s : List ℕ) (m : SheetMap) (t : List ℕ) (p : ℕ) (r : PatternRecord) (ty : TypeRecord) (owner : ℕ) : Type 0 where
   pub checked : Checked s m
   pub long : length t ≡ tableSize
   pub known : p < patterns s

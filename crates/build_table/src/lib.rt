@@ -6,7 +6,7 @@ use base_numbers::sheet::DEPTH_MOST;
 use base_numbers::sheet::PATTERNS_MOST;
 use base_numbers::step_kinds;
 use base_numbers::type_kinds;
-use format_sheet::Map;
+use format_sheet::SheetMap;
 use format_sheet::records::PatternRecord;
 use format_sheet::records::TypeRecord;
 use format_sheet::records::child_at;
@@ -82,7 +82,7 @@ fn put_child(table: &mut [u8], p: usize, q: usize, step: u8, index: usize, tipo:
 // The n first children of p, with their types at entry e and each `stride` further on.
 fn put_children(
     s: &[u8],
-    m: Map,
+    m: SheetMap,
     table: &mut [u8],
     p: usize,
     n: usize,
@@ -123,7 +123,7 @@ fn one_constructor(ty: TypeRecord) -> bool
 // The fields of constructor pattern p: inside p, if it is a test.
 fn place_fields(
     s: &[u8],
-    m: Map,
+    m: SheetMap,
     table: &mut [u8],
     p: usize,
     r: PatternRecord,
@@ -164,7 +164,7 @@ fn place_fields(
 // The elements and the tail of list p, all inside p.
 fn place_tailed(
     s: &[u8],
-    m: Map,
+    m: SheetMap,
     table: &mut [u8],
     p: usize,
     r: PatternRecord,
@@ -191,7 +191,7 @@ fn place_tailed(
 }
 
 // What pattern p gives to its children: one decision over kinds 0 to 9.
-fn place_children(s: &[u8], m: Map, table: &mut [u8], p: usize)
+fn place_children(s: &[u8], m: SheetMap, table: &mut [u8], p: usize)
     requires { ⌜ Checked (now s) m × (length (now table) ≡ tableSize) × (p < patterns (now s)) × Placed (now s) (now table) p ⌝ }
     ensures { λ _. ⌜ now (table .exit) ≡ placedBelow (now (s .entry)) (now (table .entry)) p (kindOf (now (s .entry)) p) ⌝ }
 {
@@ -311,7 +311,7 @@ fn put_indices(table: &mut [u8], p: usize)
 }
 
 // Whether pattern p stands in a column: an integer, byte string, list, or constructor of a several-constructor type.
-pub fn is_test(s: &[u8], m: Map, table: &[u8], p: usize) -> bool
+pub fn is_test(s: &[u8], m: SheetMap, table: &[u8], p: usize) -> bool
     requires { ⌜ Checked (now s) m × (length (now table) ≡ tableSize) × (p < patterns (now s)) × (getD (now table) (typeAt + p) 0 ≡ typeOf (now s) p) ⌝ }
     ensures { λ r. ⌜ r ≡ isTest (now (s .entry)) p ⌝ }
 {
@@ -329,7 +329,7 @@ pub fn is_test(s: &[u8], m: Map, table: &[u8], p: usize) -> bool
 }
 
 // Pattern p in its clause's column, if it is a test.
-fn put_test(s: &[u8], m: Map, table: &mut [u8], p: usize)
+fn put_test(s: &[u8], m: SheetMap, table: &mut [u8], p: usize)
     requires { ⌜ Checked (now s) m × (length (now table) ≡ tableSize) × (p < patterns (now s)) × Placed (now s) (now table) p × Classed (now s) (now table) p ⌝ }
     ensures { λ _. ⌜ now (table .exit) ≡ tested (now (table .entry)) (isTest (now (s .entry)) p) p ⌝ }
 {
@@ -351,7 +351,7 @@ fn put_root(table: &mut [u8], r: usize, c: usize, tipo: usize)
 }
 
 // The root of each clause.
-fn put_roots(s: &[u8], m: Map, table: &mut [u8])
+fn put_roots(s: &[u8], m: SheetMap, table: &mut [u8])
     requires { ⌜ Checked (now s) m × (length (now table) ≡ tableSize) ⌝ }
     ensures { λ _. ⌜ now (table .exit) ≡ rootedEach (now (s .entry)) (now (table .entry)) 0 (clauses (now (s .entry))) ⌝ }
 {
@@ -363,7 +363,7 @@ fn put_roots(s: &[u8], m: Map, table: &mut [u8])
 }
 
 // Pattern p, whose own fields are set: its class, its indices, its cell, and what it gives to its children.
-fn fill_at(s: &[u8], m: Map, table: &mut [u8], p: usize)
+fn fill_at(s: &[u8], m: SheetMap, table: &mut [u8], p: usize)
     requires { ⌜ Checked (now s) m × (p < patterns (now s)) × Filled (now s) (now table) p p p p ⌝ }
     ensures { λ _. ⌜ Filled (now (s .entry)) (now (table .exit)) (p + 1) (p + 1) (p + 1) (p + 1) ⌝ }
 {
@@ -374,7 +374,7 @@ fn fill_at(s: &[u8], m: Map, table: &mut [u8], p: usize)
 }
 
 // The table of a checked sheet, in bytes that are all zero.
-pub fn fill(s: &[u8], m: Map, table: &mut [u8])
+pub fn fill(s: &[u8], m: SheetMap, table: &mut [u8])
     requires { ⌜ Checked (now s) m × (now table ≡ zeros tableSize) ⌝ }
     ensures { λ _. ⌜ Tabled (now (s .entry)) (now (table .exit)) ⌝ }
 {

@@ -11,15 +11,15 @@ use Rattle.spec_rules.specs.Fitting.{panelFits}
 use Rattle.spec_rules.specs.Calls.{fitCall}
 use Rattle.spec_accepted.specs.SheetFacts.{accepted-sheet}
 use Rattle.spec_accepted.specs.PanelFacts.{accepted-panel}
-use Rattle.format_sheet.specs.declared.Map.{Map as SheetMap}
+use Rattle.format_sheet.specs.declared.SheetMap.{SheetMap}
 use Rattle.format_sheet.specs.Check.{SheetAccepts}
-use Rattle.format_panel.specs.declared.Map.{Map as PanelMap}
+use Rattle.format_panel.specs.declared.PanelMap.{PanelMap}
 use Rattle.format_panel.specs.Answers.{Accepts}
 use Rattle.format_panel.specs.AnswersLaws.{accepts-opened}
 use Rattle.fit.specs.declared.Fitted.the-variants.{Fits}
 use Rattle.fit.specs.declared.Fitted.the-variants.{Refused as NotFitted}
 use Rattle.fit.specs.Answers.{fittedBy, fitted}
-use Rattle.fit.specs.Fit.{Ready}
+use Rattle.fit.specs.Fit.{ReadyToFit}
 
 module _ (s v : List ℕ) where
   pub fit-sheet-refused : (number place : ℕ) → verdict s ≡ refused number place → NotFitted number place ≡ fitted s v
@@ -40,7 +40,7 @@ module _ (s v : List ℕ) where
       unfolding fitted fittedBy fitCall
       fit-no h = rw (sheet .verdict, panel .verdict, h)
 
-      pub fit-ready : Ready s sm v vm
+      pub fit-ready : ReadyToFit s sm v vm
       fit-ready =
           let a = accepted-sheet s (sheet .verdict) in
           record {

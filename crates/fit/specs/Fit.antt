@@ -13,11 +13,11 @@ use Rattle.spec_rules.specs.PanelFile.{records, recordKind, RecordKind, Integer
 use Rattle.spec_rules.specs.Fitting.{partsFit}
 use Rattle.spec_accepted.specs.SheetFacts.{Laid, Typed}
 use Rattle.spec_accepted.specs.PanelFacts.{Holds, PanelShaped}
-use Rattle.format_sheet.specs.declared.Map.{Map as SheetMap}
+use Rattle.format_sheet.specs.declared.SheetMap.{SheetMap}
 use Rattle.format_sheet.specs.declared.records.TypeRecord.{TypeRecord}
 use Rattle.format_sheet.specs.Sections.{mapOf as sheetMapOf}
 use Rattle.format_sheet.specs.Records.{typeOf}
-use Rattle.format_panel.specs.declared.Map.{Map}
+use Rattle.format_panel.specs.declared.PanelMap.{PanelMap}
 use Rattle.format_panel.specs.declared.records.Record.{Record}
 use Rattle.fit.specs.declared.fitting.Below.{Below}
 use Rattle.fit.specs.declared.fitting.Below.the-variants.{Alone, Parts}
@@ -58,7 +58,7 @@ fitsBelow f s v (Alone fits) = fits
 fitsBelow f s v (Parts first count entry step) = partsFit f s v first count entry step
 
 -- a sheet whose types fit and a panel whose shape does, each with its map
-pub record Ready (s : List ℕ) (sm : SheetMap) (v : List ℕ) (vm : Map) : Type 0 where
+pub record ReadyToFit (s : List ℕ) (sm : SheetMap) (v : List ℕ) (vm : PanelMap) : Type 0 where
   pub sheet-laid : Laid s
   pub sheet-map : sm ≡ sheetMapOf s
   pub is-typed : Typed s

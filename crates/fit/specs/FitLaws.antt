@@ -17,18 +17,18 @@ use Rattle.spec_rules.specs.Patterns.{constructorOf, takesArguments}
 use Rattle.spec_rules.specs.PanelFile.{records, parts, recordKind, recordA, recordFirst, recordCount, part, RecordKind, Integer-record, Bytes-record, List-record, Pair-record, Tuple-record, Constructor-record, Unknown-record, recordKindOf, hasParts}
 use Rattle.spec_rules.specs.Fitting.{partsFit, recordFits, hasTypeTo, panelFits}
 use Rattle.spec_accepted.specs.PanelFacts.{Holds, Holder, held-entry, held-record, hasType-open, partsFit-some}
-use Rattle.format_sheet.specs.declared.Map.{Map as SheetMap}
+use Rattle.format_sheet.specs.declared.SheetMap.{SheetMap}
 use Rattle.format_sheet.specs.declared.records.TypeRecord.{TypeRecord}
 use Rattle.format_sheet.specs.declared.records.Run.{Run as Fields}
 use Rattle.format_sheet.specs.Records.{typeOf}
 use Rattle.format_sheet.specs.Records.{constructorOf as constructorAt}
-use Rattle.format_panel.specs.declared.Map.{Map}
+use Rattle.format_panel.specs.declared.PanelMap.{PanelMap}
 use Rattle.format_panel.specs.declared.records.Record.{Record}
 use Rattle.fit.specs.declared.fitting.Below.{Below}
 use Rattle.fit.specs.declared.fitting.Below.the-variants.{Alone, Parts}
 use Rattle.format_panel.specs.Opened.{recordOf}
 use Rattle.format_panel.specs.CountingLaws.{same-or-not}
-use Rattle.fit.specs.Fit.{fieldsBelow, belowOfKind, below, fitsBelow, Ready, Typing, EachTyped, Run}
+use Rattle.fit.specs.Fit.{fieldsBelow, belowOfKind, below, fitsBelow, ReadyToFit, Typing, EachTyped, Run}
 
 -- ---- a record fits exactly if what is left below it does
 picked : (f : ℕ → ℕ → Bool) (s v : List ℕ) (j n e step : ℕ) (b : Bool)
@@ -54,7 +54,7 @@ below-of-kind f s v r t Constructor-record =
     (both (eqb (typeKind s t) dataType) (both (leb (recordA v r + 1) (typeCount s t)) (eqb (constructorCount s (typeFirst s t + recordA v r)) (recordCount v r))))
 below-of-kind f s v r t Unknown-record = refl
 
-module _ (s : List ℕ) (sm : SheetMap) (v : List ℕ) (vm : Map) (ready : Ready s sm v vm) where
+module _ (s : List ℕ) (sm : SheetMap) (v : List ℕ) (vm : PanelMap) (ready : ReadyToFit s sm v vm) where
   module _ (r t : ℕ) (known : r < records v) where
     pub fits-below : hasTypeTo recordsMost s v r t ≡ fitsBelow (hasTypeTo recordsMost s v) s v (below s v r t)
     unfolding below
@@ -78,7 +78,7 @@ unfolding below
 below-read s v r t x y ex ey kind b k e = e ∙ rw (← k, ex, ey)
 
 -- ---- the parts that are left are in the record's list, and each has its type entry
-module _ (s : List ℕ) (sm : SheetMap) (v : List ℕ) (vm : Map) (ready : Ready s sm v vm) where
+module _ (s : List ℕ) (sm : SheetMap) (v : List ℕ) (vm : PanelMap) (ready : ReadyToFit s sm v vm) where
   pub typing : (t : ℕ) (y : TypeRecord) → t < types s → y ≡ typeOf s t → Typing s sm y
   typing t y l e = record {
     sheet-laid = ready .sheet-laid;
@@ -210,9 +210,9 @@ fields-left s x y c kind small read count =
     rw (eq-eqb _ _ kind, le-leb (x .a + 1) (y .count) (omega arith), eq-eqb _ _ (ap (λ (z : Fields). z .count) (sym read) ∙ count), read)
 
 -- ---- the root and the subject's type
-pub subject-read : (s : List ℕ) (sm : SheetMap) (v : List ℕ) (vm : Map) → Ready s sm v vm → sm .subject ≡ subject s
+pub subject-read : (s : List ℕ) (sm : SheetMap) (v : List ℕ) (vm : PanelMap) → ReadyToFit s sm v vm → sm .subject ≡ subject s
 subject-read s sm v vm ready = ap (λ (m : SheetMap). m .subject) (ready .sheet-map)
 
-pub root-fits : (s : List ℕ) (sm : SheetMap) (v : List ℕ) (vm : Map) → Ready s sm v vm → (b : Bool) → b ≡ hasTypeTo recordsMost s v 0 (sm .subject) → b ≡ panelFits s v
+pub root-fits : (s : List ℕ) (sm : SheetMap) (v : List ℕ) (vm : PanelMap) → ReadyToFit s sm v vm → (b : Bool) → b ≡ hasTypeTo recordsMost s v 0 (sm .subject) → b ≡ panelFits s v
 unfolding panelFits
 root-fits s sm v vm ready b e = e ∙ ap (hasTypeTo recordsMost s v 0) (subject-read s sm v vm ready)

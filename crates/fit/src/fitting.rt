@@ -2,11 +2,11 @@
 // may contain itself, and it ends because a part's record has a larger number than its owner.
 use base_numbers::record_kinds;
 use base_numbers::type_kinds;
-use format_panel::Map as PanelMap;
+use format_panel::PanelMap;
 use format_panel::records::Record;
 use format_panel::records::part_at;
 use format_panel::records::record_at;
-use format_sheet::Map as SheetMap;
+use format_sheet::SheetMap;
 use format_sheet::records::TypeRecord;
 use format_sheet::records::constructor_at;
 use format_sheet::records::entry_at;
@@ -17,7 +17,7 @@ ghost use Rattle.spec_rules.specs.Limits.{recordsMost};
 ghost use Rattle.spec_rules.specs.SheetFile.{types, subject};
 ghost use Rattle.spec_rules.specs.PanelFile.{records};
 ghost use Rattle.spec_rules.specs.Fitting.{partsFit, hasTypeTo, panelFits};
-ghost use Rattle.fit.specs.Fit.{listBelow, partsBelow, fieldsBelow, below, Ready, Run, Typing};
+ghost use Rattle.fit.specs.Fit.{listBelow, partsBelow, fieldsBelow, below, ReadyToFit, Run, Typing};
 
 // What is left to fit of a record and a type: nothing, or the record's parts, each to the type at its own entry.
 pub enum Below {
@@ -88,7 +88,7 @@ fn fields_below(s: &[u8], sm: SheetMap, x: Record, y: TypeRecord) -> Below
 
 // Record r and type t agree in kind and count, and what is left.
 fn below_record(s: &[u8], sm: SheetMap, v: &[u8], vm: PanelMap, r: usize, t: usize) -> Below
-    requires { ⌜ Ready (now s) sm (now v) vm × (r < records (now v)) × (t < types (now s)) ⌝ }
+    requires { ⌜ ReadyToFit (now s) sm (now v) vm × (r < records (now v)) × (t < types (now s)) ⌝ }
     ensures { λ res. ⌜ res ≡ below (now (s .entry)) (now (v .entry)) r t ⌝ }
 {
     let x = record_at(v, r);
@@ -107,7 +107,7 @@ fn below_record(s: &[u8], sm: SheetMap, v: &[u8], vm: PanelMap, r: usize, t: usi
 
 // Record r is of type t.
 fn record_fits(s: &[u8], sm: SheetMap, v: &[u8], vm: PanelMap, r: usize, t: usize) -> bool
-    requires { ⌜ Ready (now s) sm (now v) vm × (r < records (now v)) × (t < types (now s)) ⌝ }
+    requires { ⌜ ReadyToFit (now s) sm (now v) vm × (r < records (now v)) × (t < types (now s)) ⌝ }
     ensures { λ res. ⌜ res ≡ hasTypeTo recordsMost (now (s .entry)) (now (v .entry)) r t ⌝ }
 {
     match below_record(s, sm, v, vm, r, t) {
@@ -134,7 +134,7 @@ fn parts_fit(
     e: usize,
     step: usize,
 ) -> bool
-    requires { ⌜ Ready (now s) sm (now v) vm × Run (now s) (now v) owner j n e step ⌝ }
+    requires { ⌜ ReadyToFit (now s) sm (now v) vm × Run (now s) (now v) owner j n e step ⌝ }
     ensures { λ res. ⌜ res ≡ partsFit (hasTypeTo recordsMost (now (s .entry)) (now (v .entry))) (now (s .entry)) (now (v .entry)) j n e step ⌝ }
 {
     if n == 0 {
@@ -150,7 +150,7 @@ fn parts_fit(
 
 // 25: the root is of the subject's type.
 pub(crate) fn fits(s: &[u8], sm: SheetMap, v: &[u8], vm: PanelMap) -> bool
-    requires { ⌜ Ready (now s) sm (now v) vm ⌝ }
+    requires { ⌜ ReadyToFit (now s) sm (now v) vm ⌝ }
     ensures { λ res. ⌜ res ≡ panelFits (now (s .entry)) (now (v .entry)) ⌝ }
 {
     record_fits(s, sm, v, vm, 0, sm.subject)

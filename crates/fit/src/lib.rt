@@ -12,8 +12,8 @@ mod fitting;
 
 use base_numbers::refusals;
 use fitting::fits;
-use format_panel::Map as PanelMap;
-use format_sheet::Map as SheetMap;
+use format_panel::PanelMap;
+use format_sheet::SheetMap;
 
 // Whether a panel fits a sheet.
 pub enum Fitted {
@@ -42,8 +42,8 @@ fn fit_panel(s: &[u8], sm: SheetMap, v: &[u8]) -> Fitted
     ensures { λ res. ⌜ res ≡ fitted (now (s .entry)) (now (v .entry)) ⌝ }
 {
     match format_panel::check(v) {
-        format_panel::Checked::Accepted(vm) => fit_both(s, sm, v, vm),
-        format_panel::Checked::Refused { number, place } => Fitted::Refused { number, place },
+        format_panel::CheckedPanel::Accepted(vm) => fit_both(s, sm, v, vm),
+        format_panel::CheckedPanel::Refused { number, place } => Fitted::Refused { number, place },
     }
 }
 
@@ -52,7 +52,7 @@ pub fn fit(s: &[u8], v: &[u8]) -> Fitted
     ensures { λ res. ⌜ res ≡ fitted (now (s .entry)) (now (v .entry)) ⌝ }
 {
     match format_sheet::check(s) {
-        format_sheet::Checked::Accepted(sm) => fit_panel(s, sm, v),
-        format_sheet::Checked::Refused { number, place } => Fitted::Refused { number, place },
+        format_sheet::CheckedSheet::Accepted(sm) => fit_panel(s, sm, v),
+        format_sheet::CheckedSheet::Refused { number, place } => Fitted::Refused { number, place },
     }
 }

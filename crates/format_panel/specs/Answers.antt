@@ -6,25 +6,25 @@ use Prim.Native.Nat.{ℕ}
 use Rattle.spec_rules.specs.SheetRefusals.{Verdict, accepted, refused}
 use Rattle.spec_rules.specs.PanelFile.{panelVerdict}
 use Rattle.spec_rules.specs.Calls.{Answer, answers, refuses, Span, textCall}
-use Rattle.format_panel.specs.declared.Map.{Map}
-use Rattle.format_panel.specs.declared.Checked.{Checked}
-use Rattle.format_panel.specs.declared.Checked.the-variants.{Accepted, Refused}
+use Rattle.format_panel.specs.declared.PanelMap.{PanelMap}
+use Rattle.format_panel.specs.declared.CheckedPanel.{CheckedPanel}
+use Rattle.format_panel.specs.declared.CheckedPanel.the-variants.{Accepted, Refused}
 use Rattle.format_panel.specs.declared.Located.{Located}
 use Rattle.format_panel.specs.declared.Located.the-variants.{At}
 use Rattle.format_panel.specs.declared.Located.the-variants.{Refused as NotLocated}
 use Rattle.format_panel.specs.Opened.{mapOf}
 
 -- the check of a panel: its map, or the refusal
-unfoldable pub checkedBy : List ℕ → Verdict → Checked
+unfoldable pub checkedBy : List ℕ → Verdict → CheckedPanel
 checkedBy v accepted = Accepted (mapOf v)
 checkedBy v (refused number place) = Refused number place
 
-unfoldable pub checked : List ℕ → Checked
+unfoldable pub checked : List ℕ → CheckedPanel
 unfolding panelVerdict checkedBy
 checked v = checkedBy v (panelVerdict v)
 
 -- an accepted panel, with its map
-pub record Accepts (v : List ℕ) (m : Map) : Type 0 where
+pub record Accepts (v : List ℕ) (m : PanelMap) : Type 0 where
   pub verdict : panelVerdict v ≡ accepted
   pub map : m ≡ mapOf v
 

@@ -16,8 +16,8 @@ use Rattle.spec_rules.specs.SheetRefusals.{Verdict, accepted, refused, require}
 use Rattle.spec_rules.specs.PanelFile.{records, recordKind, panelPoolAt, recordFirst, recordCount, panelLengthFits, panelLayoutFits, panelShapeFits, panelTextsFit, panelVerdict}
 use Rattle.spec_rules.specs.Calls.{Answer, answers, refuses, Span, unless, hasText, textCall, partOfSpan, textPart}
 use Rattle.spec_accepted.specs.PanelFacts.{accepted-panel}
-use Rattle.format_panel.specs.declared.Map.{Map}
-use Rattle.format_panel.specs.declared.Checked.the-variants.{Accepted, Refused}
+use Rattle.format_panel.specs.declared.PanelMap.{PanelMap}
+use Rattle.format_panel.specs.declared.CheckedPanel.the-variants.{Accepted, Refused}
 use Rattle.format_panel.specs.declared.records.Record.{Record}
 use Rattle.format_panel.specs.declared.Located.{Located}
 use Rattle.format_panel.specs.declared.Located.the-variants.{At}
@@ -44,13 +44,13 @@ module _ (v : List ℕ) where
   unfolding checked panelVerdict checkedBy
   refused-24 a b c d = rw (a, b, c, d)
 
-  pub accepted-map : (m : Map) → m ≡ mapOf v → panelLengthFits v ≡ true → panelLayoutFits v ≡ true → panelShapeFits v ≡ true → panelTextsFit v ≡ true
+  pub accepted-map : (m : PanelMap) → m ≡ mapOf v → panelLengthFits v ≡ true → panelLayoutFits v ≡ true → panelShapeFits v ≡ true → panelTextsFit v ≡ true
       → Accepted m ≡ checked v
   unfolding checked panelVerdict checkedBy
   accepted-map m e a b c d = rw (a, b, c, d, e)
 
 -- what an answer says of the verdict
-pub accepts : (v : List ℕ) (m : Map) → checked v ≡ Accepted m → Accepts v m
+pub accepts : (v : List ℕ) (m : PanelMap) → checked v ≡ Accepted m → Accepts v m
 unfolding checked checkedBy
 accepts v m h = go (panelVerdict v) refl h
   where
@@ -67,7 +67,7 @@ refuses-by v number place h = go (panelVerdict v) refl h
     go (refused n p) e x = cc
 
 -- an accepted panel with its map is open
-pub accepts-opened : (v : List ℕ) (m : Map) → Accepts v m → Opened v m
+pub accepts-opened : (v : List ℕ) (m : PanelMap) → Accepts v m → Opened v m
 accepts-opened v m a = opened v m (accepted-panel v (a .verdict) .is-laid) (a .map)
 
 -- ---- the text call
@@ -99,7 +99,7 @@ module _ (v : List ℕ) (r dropped : ℕ) where
       other-kind y h e =
           has-not y (both-second-false (ltb r (records v)) _ (both-first-false (leb (recordKind v r) bytesRecord) _ (lt-leb _ _ (rw read at h)))) e
 
-      module _ (m : Map) (map : m ≡ mapOf v) (l : r < records v) (short : x .kind ≤ bytesRecord) where
+      module _ (m : PanelMap) (map : m ≡ mapOf v) (l : r < records v) (short : x .kind ≤ bytesRecord) where
         pub text-start : m .«pool_at» + x .first + x .count ≤ length v
         text-start =
             let a = accepted-panel v ok in

@@ -12,7 +12,7 @@ use Rattle.spec_rules.specs.Limits.{recordSize, partSize, panelTrailer, records
 use Rattle.spec_rules.specs.SheetRefusals.{wholeBetween}
 use Rattle.spec_rules.specs.PanelFile.{panelStart, recordsAt, partsAt, panelPoolAt, panelPoolEnd, panelSizes, records, parts, recordKind, recordZero, recordA, recordFirst, recordCount, panelLayoutFits}
 use Rattle.spec_accepted.specs.PanelFacts.{PanelLaid}
-use Rattle.format_panel.specs.declared.Map.{Map}
+use Rattle.format_panel.specs.declared.PanelMap.{PanelMap}
 use Rattle.format_panel.specs.declared.records.Record.{Record}
 use Rattle.format_panel.specs.Opened.{mapOf, recordOf}
 
@@ -30,7 +30,7 @@ module _ (v : List ℕ) where
   layout-read a b c ea eb ec = rw (ea, eb, ec)
 
   pub map-read : (b c : ℕ) → PanelLaid v → b ≡ panelStart v 1 → c ≡ panelStart v 2
-      → _≡_ {A = Map} (record { «parts_at» = b; «pool_at» = c; «pool_end» = length v - panelTrailer; records = b / recordSize; parts = (c - b) / partSize }) (mapOf v)
+      → _≡_ {A = PanelMap} (record { «parts_at» = b; «pool_at» = c; «pool_end» = length v - panelTrailer; records = b / recordSize; parts = (c - b) / partSize }) (mapOf v)
   unfolding records parts partsAt panelPoolAt panelPoolEnd
   map-read b c laid eb ec =
       rw (eb, ec, laid .records-start, sub-zero)

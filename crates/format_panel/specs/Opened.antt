@@ -5,10 +5,10 @@ use mathlib.Core.List.{List}
 use Prim.Native.Nat.{ℕ, _-_}
 use Rattle.spec_rules.specs.PanelFile.{partsAt, panelPoolAt, panelPoolEnd, records, parts, panelPoolSize, recordKind, recordZero, recordA, recordFirst, recordCount}
 use Rattle.spec_accepted.specs.PanelFacts.{PanelLaid}
-use Rattle.format_panel.specs.declared.Map.{Map}
+use Rattle.format_panel.specs.declared.PanelMap.{PanelMap}
 use Rattle.format_panel.specs.declared.records.Record.{Record}
 
-abbrev pub mapOf : List ℕ → Map
+abbrev pub mapOf : List ℕ → PanelMap
 mapOf v = record {
   «parts_at» = partsAt v;
   «pool_at» = panelPoolAt v;
@@ -21,7 +21,7 @@ abbrev pub recordOf : List ℕ → ℕ → Record
 recordOf v r = record { kind = recordKind v r; zero = recordZero v r; a = recordA v r; first = recordFirst v r; count = recordCount v r }
 
 -- m is the map of the panel v, whose layout fits
-pub record Opened (v : List ℕ) (m : Map) : Type 0 where
+pub record Opened (v : List ℕ) (m : PanelMap) : Type 0 where
   pub laid : PanelLaid v
   pub parts-at : m .«parts_at» ≡ partsAt v
   pub pool-at : m .«pool_at» ≡ panelPoolAt v
@@ -29,16 +29,16 @@ pub record Opened (v : List ℕ) (m : Map) : Type 0 where
   pub records-are : m .records ≡ records v
   pub parts-are : m .parts ≡ parts v
 
-pub opened : (v : List ℕ) (m : Map) → PanelLaid v → m ≡ mapOf v → Opened v m
+pub opened : (v : List ℕ) (m : PanelMap) → PanelLaid v → m ≡ mapOf v → Opened v m
 opened v m laid e = record {
   laid = laid;
-  parts-at = ap (λ (x : Map). x .«parts_at») e;
-  pool-at = ap (λ (x : Map). x .«pool_at») e;
-  pool-end = ap (λ (x : Map). x .«pool_end») e;
-  records-are = ap (λ (x : Map). x .records) e;
-  parts-are = ap (λ (x : Map). x .parts) e;
+  parts-at = ap (λ (x : PanelMap). x .«parts_at») e;
+  pool-at = ap (λ (x : PanelMap). x .«pool_at») e;
+  pool-end = ap (λ (x : PanelMap). x .«pool_end») e;
+  records-are = ap (λ (x : PanelMap). x .records) e;
+  parts-are = ap (λ (x : PanelMap). x .parts) e;
 }
 
-pub pool-read : (v : List ℕ) (m : Map) → Opened v m → m .«pool_end» - m .«pool_at» ≡ panelPoolSize v
+pub pool-read : (v : List ℕ) (m : PanelMap) → Opened v m → m .«pool_end» - m .«pool_at» ≡ panelPoolSize v
 unfolding panelPoolSize
 pool-read v m o = rw (o .pool-end, o .pool-at)

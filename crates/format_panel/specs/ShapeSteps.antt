@@ -17,7 +17,7 @@ use Rattle.spec_rules.specs.SheetFile.{runIn}
 use Rattle.spec_rules.specs.PanelFile.{records, parts, panelPoolSize, recordKind, recordZero, recordA, recordFirst, recordCount, part, RecordKind, Integer-record, Bytes-record, List-record, Pair-record, Tuple-record, Constructor-record, Unknown-record, recordKindOf, hasParts, recordFieldsFit, isHigher}
 use Rattle.spec_accepted.specs.KindsLaws.{record-unknown}
 use Rattle.spec_accepted.specs.PanelFacts.{kind-holder}
-use Rattle.format_panel.specs.declared.Map.{Map}
+use Rattle.format_panel.specs.declared.PanelMap.{PanelMap}
 use Rattle.format_panel.specs.declared.records.Record.{Record}
 use Rattle.format_panel.specs.Opened.{Opened, recordOf}
 use Rattle.format_panel.specs.CountingLaws.{same-or-not}
@@ -87,7 +87,7 @@ module _ (v : List ℕ) (r : ℕ) where
     no-kind h = rw (of-kind Unknown-record (record-unknown (recordKind v r) h))
 
 -- ---- an entry
-module _ (v : List ℕ) (m : Map) (o : Opened v m) where
+module _ (v : List ℕ) (m : PanelMap) (o : Opened v m) where
   pub part-read : (j p : ℕ) → p ≡ wordAt v (m .«parts_at» + partSize * j) → p ≡ part v j
   unfolding part
   part-read j p e = e ∙ rw (o .parts-at)

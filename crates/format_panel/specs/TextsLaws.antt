@@ -16,7 +16,7 @@ use Rattle.spec_rules.specs.Texts.{canonical, shortText}
 use Rattle.spec_rules.specs.PanelFile.{records, recordKind, recordFirst, recordCount, recordText, RecordKind, Integer-record, Bytes-record, List-record, Pair-record, Tuple-record, Constructor-record, Unknown-record, recordKindOf, recordTextOfKind, recordTextFits}
 use Rattle.spec_accepted.specs.KindsLaws.{record-byte}
 use Rattle.spec_accepted.specs.PanelFacts.{PanelShaped, panel-text-inside}
-use Rattle.format_panel.specs.declared.Map.{Map}
+use Rattle.format_panel.specs.declared.PanelMap.{PanelMap}
 use Rattle.format_panel.specs.declared.records.Record.{Record}
 use Rattle.format_panel.specs.Opened.{Opened, recordOf}
 use Rattle.format_panel.specs.CountingLaws.{same-or-not}
@@ -58,7 +58,7 @@ module _ (v : List ℕ) (r : ℕ) (x : Record) (read : x ≡ recordOf v r) where
   pub short-bytes : x .kind ≡ bytesRecord → x .count ≤ textMost → true ≡ recordTextFits v r
   short-bytes h short = rw (bytes-text h, le-leb _ _ short)
 
-  module _ (m : Map) (o : Opened v m) where
+  module _ (m : PanelMap) (o : Opened v m) where
     pub short-integer : (b : Bool) → x .kind ≤ bytesRecord → (x .kind ≡ bytesRecord → ⊥) → x .count ≤ textMost → b ≡ canonical (textAt v (m .«pool_at» + x .first) (x .count)) → b ≡ recordTextFits v r
     unfolding recordText
     short-integer b h d short e =

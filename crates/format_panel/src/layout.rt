@@ -1,6 +1,6 @@
 // Refusals 21 and 22 of a panel: its length, the layout of its sections, and how many records it has.
 // Only the trailer is read here.
-use crate::Map;
+use crate::PanelMap;
 use base_numbers::BYTE_SIZE;
 use base_numbers::WORD_SIZE;
 use base_numbers::panel::PANEL_LENGTH_BACK;
@@ -70,13 +70,13 @@ pub(crate) fn layout_fits(v: &[u8]) -> bool
 }
 
 // Where the sections stand, and how many records and parts there are.
-pub(crate) fn map_of(v: &[u8]) -> Map
+pub(crate) fn map_of(v: &[u8]) -> PanelMap
     requires { ⌜ PanelLaid (now v) ⌝ }
     ensures { λ r. ⌜ r ≡ mapOf (now (v .entry)) ⌝ }
 {
     let parts_at = start(v, panel_starts::PARTS);
     let pool_at = start(v, panel_starts::POOL);
-    Map {
+    PanelMap {
         parts_at,
         pool_at,
         pool_end: v.len() - PANEL_TRAILER,

@@ -25,7 +25,7 @@ use shape::shape_fits;
 use texts::texts_fit;
 
 // Where the sections of a panel stand, and how many records and parts it has. The records start at 0.
-pub struct Map {
+pub struct PanelMap {
     pub parts_at: usize,
     pub pool_at: usize,
     pub pool_end: usize,
@@ -33,8 +33,8 @@ pub struct Map {
     pub parts: usize,
 }
 
-pub enum Checked {
-    Accepted(Map),
+pub enum CheckedPanel {
+    Accepted(PanelMap),
     Refused { number: u16, place: u16 },
 }
 
@@ -45,35 +45,35 @@ pub enum Located {
 }
 
 // The check of a panel: 21 length, 22 layout and count of records, 23 shape, 24 text.
-pub fn check(v: &[u8]) -> Checked
+pub fn check(v: &[u8]) -> CheckedPanel
     ensures { λ r. ⌜ r ≡ checked (now (v .entry)) ⌝ }
 {
     if !length_fits(v) {
-        return Checked::Refused {
+        return CheckedPanel::Refused {
             number: refusals::PANEL_LENGTH,
             place: 0,
         };
     }
     if !layout_fits(v) {
-        return Checked::Refused {
+        return CheckedPanel::Refused {
             number: refusals::PANEL_LAYOUT,
             place: 0,
         };
     }
     let m = map_of(v);
     if !shape_fits(v, m) {
-        return Checked::Refused {
+        return CheckedPanel::Refused {
             number: refusals::PANEL_SHAPE,
             place: 0,
         };
     }
     if !texts_fit(v, m) {
-        return Checked::Refused {
+        return CheckedPanel::Refused {
             number: refusals::PANEL_TEXT,
             place: 0,
         };
     }
-    Checked::Accepted(m)
+    CheckedPanel::Accepted(m)
 }
 
 // 33: the position is not an integer or byte string of the panel with 0 dropped.
@@ -87,7 +87,7 @@ fn not_text() -> Located
 }
 
 // The text of record r with so many elements dropped, in an accepted panel.
-fn text_in(v: &[u8], m: Map, r: u16, dropped: u16) -> Located
+fn text_in(v: &[u8], m: PanelMap, r: u16, dropped: u16) -> Located
     requires { ⌜ Accepts (now v) m ⌝ }
     ensures { λ res. ⌜ res ≡ located (now (v .entry)) r dropped ⌝ }
 {
@@ -113,8 +113,8 @@ pub fn text(v: &[u8], r: u16, dropped: u16) -> Located
     ensures { λ res. ⌜ res ≡ located (now (v .entry)) r dropped ⌝ }
 {
     match check(v) {
-        Checked::Accepted(m) => text_in(v, m, r, dropped),
-        Checked::Refused { number, place } => Located::Refused { number, place },
+        CheckedPanel::Accepted(m) => text_in(v, m, r, dropped),
+        CheckedPanel::Refused { number, place } => Located::Refused { number, place },
     }
 }
 

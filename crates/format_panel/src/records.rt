@@ -1,6 +1,6 @@
 // The records and the parts of a panel whose sections are laid out: each is read once, as a struct or a number by value.
 // Each reader asks that the record or the part is there.
-use crate::Map;
+use crate::PanelMap;
 use base_numbers::panel::PART_SIZE;
 use base_numbers::panel::RECORD_SIZE;
 use base_numbers::record_fields;
@@ -36,7 +36,7 @@ pub fn record_at(v: &[u8], r: usize) -> Record
 }
 
 // Part j of a panel: the number of a record.
-pub fn part_at(v: &[u8], m: Map, j: usize) -> usize
+pub fn part_at(v: &[u8], m: PanelMap, j: usize) -> usize
     requires { ⌜ Opened (now v) m × (j < parts (now v)) ⌝ }
     ensures { λ res. ⌜ res ≡ part (now (v .entry)) j ⌝ }
 {

@@ -1,7 +1,7 @@
 // Refusal 23 of a panel: its shape, in one pass over the records in order and the parts of each in order. A part's number is
 // larger than its owner's, so that when a record is at hand its depth is known, or it is nobody's part. The depths are in one
 // buffer that is lent on, 0 for a record that was not met yet; each step answers whether no rule is broken.
-use crate::Map;
+use crate::PanelMap;
 use crate::records::Record;
 use crate::records::part_at;
 use crate::records::record_at;
@@ -58,7 +58,7 @@ fn fields_fit(x: Record, held: usize, pool: usize) -> bool
 }
 
 // Entry j, in the list of record r: its record is higher than r, met for the first time, and not too deep.
-fn enter_part(v: &[u8], m: Map, depths: &mut [u8], r: usize, j: usize) -> bool
+fn enter_part(v: &[u8], m: PanelMap, depths: &mut [u8], r: usize, j: usize) -> bool
     requires { ⌜ Opened (now v) m × (length (now depths) ≡ recordsMost) × (r < records (now v)) × (j < parts (now v)) ⌝ }
     ensures { λ res. ⌜ seen (now (depths .exit)) res ≡ enterPart (now (v .entry)) (met (now (depths .entry))) r j ⌝ }
 {
@@ -81,7 +81,7 @@ fn enter_part(v: &[u8], m: Map, depths: &mut [u8], r: usize, j: usize) -> bool
 }
 
 // The n entries from j on, in the list of record r.
-fn enter_parts(v: &[u8], m: Map, depths: &mut [u8], r: usize, j: usize, n: usize) -> bool
+fn enter_parts(v: &[u8], m: PanelMap, depths: &mut [u8], r: usize, j: usize, n: usize) -> bool
     requires { ⌜ Opened (now v) m × (length (now depths) ≡ recordsMost) × (r < records (now v)) × (j + n ≤ parts (now v)) ⌝ }
     ensures { λ res. ⌜ seen (now (depths .exit)) res ≡ enterParts (now (v .entry)) (met (now (depths .entry))) r j n ⌝ }
 {
@@ -96,7 +96,7 @@ fn enter_parts(v: &[u8], m: Map, depths: &mut [u8], r: usize, j: usize, n: usize
 }
 
 // Record r: it was met, as the root or as somebody's part; its fields fit; and then its parts.
-fn enter_record(v: &[u8], m: Map, depths: &mut [u8], r: usize) -> bool
+fn enter_record(v: &[u8], m: PanelMap, depths: &mut [u8], r: usize) -> bool
     requires { ⌜ Opened (now v) m × (length (now depths) ≡ recordsMost) × (r < records (now v)) ⌝ }
     ensures { λ res. ⌜ seen (now (depths .exit)) res ≡ enterRecord (now (v .entry)) (met (now (depths .entry))) r ⌝ }
 {
@@ -113,7 +113,7 @@ fn enter_record(v: &[u8], m: Map, depths: &mut [u8], r: usize) -> bool
     enter_parts(v, m, depths, r, x.first, x.count)
 }
 
-fn enter_records(v: &[u8], m: Map, depths: &mut [u8]) -> bool
+fn enter_records(v: &[u8], m: PanelMap, depths: &mut [u8]) -> bool
     requires { ⌜ Opened (now v) m × (length (now depths) ≡ recordsMost) ⌝ }
     ensures { λ res. ⌜ seen (now (depths .exit)) res ≡ enterRecords (now (v .entry)) (met (now (depths .entry))) 0 (records (now (v .entry))) ⌝ }
 {
@@ -128,7 +128,7 @@ fn enter_records(v: &[u8], m: Map, depths: &mut [u8]) -> bool
 }
 
 // 23: every record but the root is one part of a lower record, each part is in one list, and no record is deeper than 32.
-pub(crate) fn shape_fits(v: &[u8], m: Map) -> bool
+pub(crate) fn shape_fits(v: &[u8], m: PanelMap) -> bool
     requires { ⌜ Opened (now v) m ⌝ }
     ensures { λ r. ⌜ r ≡ panelShapeFits (now (v .entry)) ⌝ }
 {

@@ -1,5 +1,5 @@
 // Refusal 24 of a panel: an integer is canonical, and a text has at most 64 bytes.
-use crate::Map;
+use crate::PanelMap;
 use crate::records::record_at;
 use base_numbers::record_kinds;
 use base_numbers::sheet::TEXT_MOST;
@@ -11,7 +11,7 @@ ghost use Rattle.spec_accepted.specs.PanelFacts.{PanelShaped};
 ghost use Rattle.format_panel.specs.Opened.{Opened};
 
 // The text of record r, if it has one.
-fn text_fits(v: &[u8], m: Map, r: usize) -> bool
+fn text_fits(v: &[u8], m: PanelMap, r: usize) -> bool
     requires { ⌜ Opened (now v) m × PanelShaped (now v) × (r < records (now v)) ⌝ }
     ensures { λ res. ⌜ res ≡ recordTextFits (now (v .entry)) r ⌝ }
 {
@@ -30,7 +30,7 @@ fn text_fits(v: &[u8], m: Map, r: usize) -> bool
 }
 
 // 24, of every record.
-pub(crate) fn texts_fit(v: &[u8], m: Map) -> bool
+pub(crate) fn texts_fit(v: &[u8], m: PanelMap) -> bool
     requires { ⌜ Opened (now v) m × PanelShaped (now v) ⌝ }
     ensures { λ r. ⌜ r ≡ panelTextsFit (now (v .entry)) ⌝ }
 {

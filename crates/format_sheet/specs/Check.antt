@@ -4,22 +4,22 @@ use mathlib.Core.Path.{_≡_}
 use mathlib.Core.List.{List}
 use Rattle.spec_rules.specs.RefusalNumbers.{typesRefusal, transparentRefusal, shapeRefusal, textRefusal, misfitRefusal, nameTwiceRefusal}
 use Rattle.spec_rules.specs.SheetRefusals.{Verdict, accepted, refused, require, requireNone, typesFit, lowestTransparent, shapeFits, lowestBadText, lowestMisfit, lowestNameTwice, verdict}
-use Rattle.format_sheet.specs.declared.Map.{Map}
-use Rattle.format_sheet.specs.declared.Checked.{Checked}
-use Rattle.format_sheet.specs.declared.Checked.the-variants.{Accepted, Refused}
+use Rattle.format_sheet.specs.declared.SheetMap.{SheetMap}
+use Rattle.format_sheet.specs.declared.CheckedSheet.{CheckedSheet}
+use Rattle.format_sheet.specs.declared.CheckedSheet.the-variants.{Accepted, Refused}
 use Rattle.format_sheet.specs.Sections.{mapOf}
 
 -- a verdict on the sheet s as the code answers it
-abbrev pub answer : List ℕ → Verdict → Checked
+abbrev pub answer : List ℕ → Verdict → CheckedSheet
 answer s accepted = Accepted (mapOf s)
 answer s (refused number place) = Refused number place
 
-unfoldable pub checked : List ℕ → Checked
+unfoldable pub checked : List ℕ → CheckedSheet
 unfolding verdict
 checked s = answer s (verdict s)
 
 -- an accepted sheet, with its map
-pub record SheetAccepts (s : List ℕ) (m : Map) : Type 0 where
+pub record SheetAccepts (s : List ℕ) (m : SheetMap) : Type 0 where
   pub verdict : Rattle.spec_rules.specs.SheetRefusals.verdict s ≡ accepted
   pub map : m ≡ mapOf s
 

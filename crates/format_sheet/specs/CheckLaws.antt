@@ -16,9 +16,9 @@ use Rattle.spec_rules.specs.SheetRefusals.{Verdict, accepted, refused, require,
 use Rattle.spec_rules.specs.SheetRefusalsLaws.{verdict-in-order}
 use Rattle.format_sheet.specs.declared.Starts.{Starts}
 use Rattle.format_sheet.specs.declared.Counts.{Counts}
-use Rattle.format_sheet.specs.declared.Map.{Map}
-use Rattle.format_sheet.specs.declared.Checked.{Checked}
-use Rattle.format_sheet.specs.declared.Checked.the-variants.{Accepted, Refused}
+use Rattle.format_sheet.specs.declared.SheetMap.{SheetMap}
+use Rattle.format_sheet.specs.declared.CheckedSheet.{CheckedSheet}
+use Rattle.format_sheet.specs.declared.CheckedSheet.the-variants.{Accepted, Refused}
 use Rattle.format_sheet.specs.declared.Found.{Found}
 use Rattle.format_sheet.specs.declared.Found.the-variants.{At, Nothing}
 use Rattle.format_sheet.specs.Sections.{startsOf, countsOf, mapOf, startsFit, countsBetween, fewEnough}
@@ -30,10 +30,10 @@ use Rattle.format_sheet.specs.Check.{answer, checked, SheetAccepts, from
 -- ---- a test, and a search
 module _ (s : List ℕ) (number : ℕ) (rest : Verdict) where
   module _ {r : Bool} (test : Bool) (e : r ≡ test) where
-    pub test-stops : not r ≡ true → _≡_ {A = Checked} (Refused number 0) (answer s (require test number rest))
+    pub test-stops : not r ≡ true → _≡_ {A = CheckedSheet} (Refused number 0) (answer s (require test number rest))
     test-stops n = let f : test ≡ false = stopped e n in rw f
 
-    pub test-passes : {x : Checked} → not r ≡ false → x ≡ answer s rest → x ≡ answer s (require test number rest)
+    pub test-passes : {x : CheckedSheet} → not r ≡ false → x ≡ answer s rest → x ≡ answer s (require test number rest)
     test-passes y g = let f : test ≡ true = passed e y in rw f g
 
   found-at : (o : Option ℕ) (place : ℕ) → _≡_ {A = Found} (At place) (foundOf o) → o ≡ some place
@@ -45,10 +45,10 @@ module _ (s : List ℕ) (number : ℕ) (rest : Verdict) where
   found-nothing (some k) e = cc
 
   module _ {r : Found} (o : Option ℕ) (e : r ≡ foundOf o) where
-    pub search-stops : (place : ℕ) → r ≡ At place → _≡_ {A = Checked} (Refused number place) (answer s (requireNone o number rest))
+    pub search-stops : (place : ℕ) → r ≡ At place → _≡_ {A = CheckedSheet} (Refused number place) (answer s (requireNone o number rest))
     search-stops place n = let f : o ≡ some place = found-at o place (sym n ∙ e) in rw f
 
-    pub search-passes : {x : Checked} → r ≡ Nothing → x ≡ answer s rest → x ≡ answer s (requireNone o number rest)
+    pub search-passes : {x : CheckedSheet} → r ≡ Nothing → x ≡ answer s rest → x ≡ answer s (requireNone o number rest)
     search-passes y g = let f : o ≡ none = found-nothing o (sym y ∙ e) in rw f g
 
 -- ---- the first stages
@@ -79,17 +79,17 @@ module _ (s : List ℕ) (at : Starts) (e : at ≡ startsOf s) where
     unfolding hasClause
     some-clause z = let k : n .clauses ≡ clauses s = ap (λ (x : Counts). x .clauses) counts-are in lt-ltb 0 (clauses s) (omega arith)
 
-    pub map-is : (subject : ℕ) → subject ≡ mapOf s .subject → _≡_ {A = Map} (record { at = at; counts = n; subject = subject }) (mapOf s)
+    pub map-is : (subject : ℕ) → subject ≡ mapOf s .subject → _≡_ {A = SheetMap} (record { at = at; counts = n; subject = subject }) (mapOf s)
     map-is subject g = rw (e, counts-are, g)
 
-pub clause-refused : (s : List ℕ) (rest : Verdict) → hasClause s ≡ false → _≡_ {A = Checked} (Refused noClauseRefusal 0) (answer s (require (hasClause s) noClauseRefusal rest))
+pub clause-refused : (s : List ℕ) (rest : Verdict) → hasClause s ≡ false → _≡_ {A = CheckedSheet} (Refused noClauseRefusal 0) (answer s (require (hasClause s) noClauseRefusal rest))
 clause-refused s rest e = rw e
 
-pub clause-there : (s : List ℕ) (rest : Verdict) {x : Checked} → hasClause s ≡ true → x ≡ answer s rest → x ≡ answer s (require (hasClause s) noClauseRefusal rest)
+pub clause-there : (s : List ℕ) (rest : Verdict) {x : CheckedSheet} → hasClause s ≡ true → x ≡ answer s rest → x ≡ answer s (require (hasClause s) noClauseRefusal rest)
 clause-there s rest e g = rw e g
 
 -- ---- what an answer says of the verdict
-pub sheet-accepts : (s : List ℕ) (m : Map) → checked s ≡ Accepted m → SheetAccepts s m
+pub sheet-accepts : (s : List ℕ) (m : SheetMap) → checked s ≡ Accepted m → SheetAccepts s m
 unfolding checked
 sheet-accepts s m h = go (verdict s) refl h
   where

@@ -11,10 +11,10 @@ use Rattle.spec_rules.specs.SheetFile.{patterns, clauses, patternKind, patternF
 use Rattle.spec_rules.specs.Patterns.{patternKindOf}
 use Rattle.spec_rules.specs.SheetRefusals.{hasChildren, repeats, nameTwice}
 use Rattle.spec_accepted.specs.SheetFacts.{Owns, owned-pattern}
-use Rattle.format_sheet.specs.declared.Map.{Map}
+use Rattle.format_sheet.specs.declared.SheetMap.{SheetMap}
 use Rattle.format_sheet.specs.declared.records.Run.{Run}
 use Rattle.format_sheet.specs.Shape.{childrenFirst, childrenCount, childrenOf}
-use Rattle.format_sheet.specs.Fitting.{Ready}
+use Rattle.format_sheet.specs.Fitting.{ReadySheet}
 use Rattle.format_sheet.specs.Names.{ownName, joined, namesIn, Names, inBuffer, held, Adds, Lacks}
 use Rattle.format_sheet.specs.NamesLaws.{names-open, clause-names, joined-next, joined-end, joined-begin, lacks-all, lacks-less, lacks-nothing}
 use Rattle.format_sheet.specs.ForestLaws.{names-few}
@@ -42,7 +42,7 @@ adds-both a b c xs ys f g = record {
   holds = g .holds ∙ ap (λ (z : List ℕ). z ++ ys) (f .holds) ∙ append-assoc (held a) xs ys;
 }
 
-module _ (s : List ℕ) (m : Map) (ready : Ready s m) (p : ℕ) (h : p < patterns s) where
+module _ (s : List ℕ) (m : SheetMap) (ready : ReadySheet s m) (p : ℕ) (h : p < patterns s) where
   pub own-room : (n : ℕ) → n + length (namesIn s p) ≤ patternsMost → n + length (ownName s p) ≤ patternsMost
   own-room n few =
       omega (arith, ap length (names-open s (ready .is-shaped) (ready .is-counted) p h) ∙ length-append (ownName s p) (joined (λ j. namesIn s (child s j)) (childrenFirst s p) (childrenCount s p)))
@@ -86,10 +86,10 @@ module _ (s : List ℕ) (m : Map) (ready : Ready s m) (p : ℕ) (h : p < pattern
         rw names-are (adds-both names start next (ownName s p) inside own (lacks-nothing start next inside (insideFrom k) lacks (joined-end s (λ j. namesIn s (child s j)) (r .first) (r .count) k l)))
 
 -- ---- the names of a clause, from none in a buffer of whatever it holds
-pub clause-room : (s : List ℕ) (m : Map) → Ready s m → (c q : ℕ) → c < clauses s → q ≡ root s c → 0 + length (namesIn s q) ≤ patternsMost
+pub clause-room : (s : List ℕ) (m : SheetMap) → ReadySheet s m → (c q : ℕ) → c < clauses s → q ≡ root s c → 0 + length (namesIn s q) ≤ patternsMost
 clause-room s m ready c q h e = omega (arith, names-few s (ready .is-shaped) (ready .is-counted) c h, ap (λ (x : ℕ). length (namesIn s x)) e)
 
-pub clause-held : (s : List ℕ) (m : Map) → Ready s m → (c q : ℕ) → c < clauses s → q ≡ root s c → (l : List ℕ) → length l ≡ patternsMost → (r : Names)
+pub clause-held : (s : List ℕ) (m : SheetMap) → ReadySheet s m → (c q : ℕ) → c < clauses s → q ≡ root s c → (l : List ℕ) → length l ≡ patternsMost → (r : Names)
     → Adds (inBuffer l 0) (namesIn s q) r → (length (r .found) ≡ patternsMost) × (r .count ≤ patternsMost) × (repeats (held r) ≡ nameTwice s c)
 unfolding nameTwice
 clause-held s m ready c q h e l long r a = (

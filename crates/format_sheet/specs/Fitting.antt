@@ -10,7 +10,7 @@ use Rattle.spec_rules.specs.Kinds.{intType, bytesType, listType, pairType, tupl
 use Rattle.spec_rules.specs.SheetFile.{patterns, entries, typeKind, typeFirst, typeCount, constructorFirst, constructorCount, patternA, patternFirst, patternCount, child}
 use Rattle.spec_rules.specs.Patterns.{PatternKind, Discard, Variable, Assign, Integer, ByteString, ListOfAll, ListWithRest, Constructor, Pair, Tuple, Unknown, pattern, along, constructorOf, takesArguments, fits, fitAll}
 use Rattle.spec_accepted.specs.SheetFacts.{Laid, Counted, Typed, Shaped, Parent}
-use Rattle.format_sheet.specs.declared.Map.{Map}
+use Rattle.format_sheet.specs.declared.SheetMap.{SheetMap}
 use Rattle.format_sheet.specs.declared.records.PatternRecord.{PatternRecord}
 use Rattle.format_sheet.specs.declared.records.TypeRecord.{TypeRecord}
 use Rattle.format_sheet.specs.declared.fitting.Question.{Question}
@@ -18,7 +18,7 @@ use Rattle.format_sheet.specs.declared.fitting.Question.the-variants.{Se
 use Rattle.format_sheet.specs.Sections.{mapOf}
 
 -- a sheet that passed refusals 2 to 8, and its map
-pub record Ready (s : List ℕ) (m : Map) : Type 0 where
+pub record ReadySheet (s : List ℕ) (m : SheetMap) : Type 0 where
   pub is-map : m ≡ mapOf s
   pub is-laid : Laid s
   pub is-counted : Counted s

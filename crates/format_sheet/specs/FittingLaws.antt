@@ -18,12 +18,12 @@ use Rattle.spec_rules.specs.SplittingLaws.{both-end}
 use Rattle.spec_accepted.specs.KindsLaws.{pattern-byte}
 use Rattle.spec_accepted.specs.SheetFacts.{Owns, owned-pattern, owned-entry}
 use Rattle.spec_accepted.specs.PatternsLaws.{along-none, along-some, many-along, pattern-of-kind}
-use Rattle.format_sheet.specs.declared.Map.{Map}
+use Rattle.format_sheet.specs.declared.SheetMap.{SheetMap}
 use Rattle.format_sheet.specs.declared.fitting.Question.{Question}
 use Rattle.format_sheet.specs.declared.fitting.Question.the-variants.{Settled, Inside, Each}
 use Rattle.format_sheet.specs.Sections.{mapOf}
 use Rattle.format_sheet.specs.SectionsLaws.{mapped}
-use Rattle.format_sheet.specs.Fitting.{Ready, Room, asksFor, asked, answered}
+use Rattle.format_sheet.specs.Fitting.{ReadySheet, Room, asksFor, asked, answered}
 
 -- ---- what is left to ask answers whether the pattern fits
 answered-for : (s : List ℕ) (t : ℕ) (b : Bool) (j n e step : ℕ) → answered s t (asksFor b j n e step) ≡ both b (fitAll (along (pattern s) s j n e step) s)
@@ -31,7 +31,7 @@ unfolding answered
 answered-for s t true j n e step = refl
 answered-for s t false j n e step = refl
 
-module _ (s : List ℕ) (m : Map) (ready : Ready s m) (p t : ℕ) (h : p < patterns s) where
+module _ (s : List ℕ) (m : SheetMap) (ready : ReadySheet s m) (p t : ℕ) (h : p < patterns s) where
   opens-as : (kind : PatternKind) → patternKindOf (patternKind s p) ≡ kind → pattern s p t ≡ ofKind (pattern s) s p t kind
   opens-as = pattern-of-kind s (ready .is-shaped) (ready .is-counted) p t h
 
@@ -45,7 +45,7 @@ module _ (s : List ℕ) (m : Map) (ready : Ready s m) (p t : ℕ) (h : p < patte
       go (suc zero) e l = rw (opens-as Variable (rw e))
       go (suc (suc k)) e l = absurd (omega arith)
 
-module _ (s : List ℕ) (m : Map) (ready : Ready s m) (p t : ℕ) (h : p < patterns s) where
+module _ (s : List ℕ) (m : SheetMap) (ready : ReadySheet s m) (p t : ℕ) (h : p < patterns s) where
   -- the tail of a list with tail
   tail-fits : patternKindOf (patternKind s p) ≡ ListWithRest → fits (pattern s (child s (patternFirst s p + (patternCount s p - 1))) t) s ≡ true
   unfolding hasChildren
@@ -96,7 +96,7 @@ never-inside : (b : Bool) (x y z w q : ℕ) → asksFor b x y z w ≡ Inside q �
 never-inside true x y z w q f = let o : _≡_ {A = ℕ} 0 1 = cc in omega arith
 never-inside false x y z w q f = let o : _≡_ {A = ℕ} 0 1 = cc in omega arith
 
-module _ (s : List ℕ) (m : Map) (ready : Ready s m) (p t : ℕ) (h : p < patterns s) (k : t < types s) where
+module _ (s : List ℕ) (m : SheetMap) (ready : ReadySheet s m) (p t : ℕ) (h : p < patterns s) (k : t < types s) where
   -- a list's elements are all of the one type that its type has an entry for
   element-entry : eqb (typeKind s t) listType ≡ true → typeFirst s t < entries s
   element-entry b =
@@ -199,7 +199,7 @@ pub record Here (s : List ℕ) (parent j n e step : ℕ) : Type 0 where
   pub few-entries : e + step ≤ entriesMost
   pub next : Room s parent (j + 1) (n - 1) (e + step) step
 
-pub here : (s : List ℕ) (m : Map) → Ready s m → (parent j n e step : ℕ) → Room s parent j n e step → (n ≡ 0 → ⊥) → Here s parent j n e step
+pub here : (s : List ℕ) (m : SheetMap) → ReadySheet s m → (parent j n e step : ℕ) → Room s parent j n e step → (n ≡ 0 → ⊥) → Here s parent j n e step
 here s m ready parent j n e step r some =
     let owned : Owns s parent j = record { parent = r .has; from = r .from; to = omega (arith, r .to) } in
     let there : j < children s = owned-entry (ready .is-shaped) parent j (r .known) owned in
@@ -240,12 +240,12 @@ module _ (s : List ℕ) (j n e step : ℕ) where
     all-go-on o w = let f : fit ≡ true = not-false fit o in w ∙ sym (all-some ∙ rw f)
 
 -- how many children there can be
-pub room-few : (s : List ℕ) (m : Map) → Ready s m → (parent j n e step : ℕ) → Room s parent j n e step → n ≤ childrenMost
+pub room-few : (s : List ℕ) (m : SheetMap) → ReadySheet s m → (parent j n e step : ℕ) → Room s parent j n e step → n ≤ childrenMost
 room-few s m ready parent j n e step r =
     let run = ready .is-shaped .children-run parent (r .known) (r .has) in
     omega (arith, ready .is-counted .children-most, run .inside, r .to)
 
 -- ---- a clause's pattern
-pub misfit-is : (s : List ℕ) (m : Map) → m ≡ mapOf s → (c p : ℕ) → p ≡ root s c → {fit : Bool} → fit ≡ fits (pattern s p (m .subject)) s → not fit ≡ misfit s c
+pub misfit-is : (s : List ℕ) (m : SheetMap) → m ≡ mapOf s → (c p : ℕ) → p ≡ root s c → {fit : Bool} → fit ≡ fits (pattern s p (m .subject)) s → not fit ≡ misfit s c
 unfolding misfit clausePattern
 misfit-is s m e c p x z = ap not (z ∙ ap₂ (λ (a b : ℕ). fits (pattern s a b) s) x (mapped s m e .of-subject))

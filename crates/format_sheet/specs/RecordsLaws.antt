@@ -8,7 +8,7 @@ use Rattle.base_words.specs.Words.{wordAt}
 use Rattle.spec_rules.specs.Limits.{typeSize, constructorSize, entrySize, patternSize, childSize, clauseSize}
 use Rattle.spec_rules.specs.SheetFile.{types, constructors, entries, patterns, children, clauses, typeKind, typeFlag, typeFirst, typeCount, constructorFirst, constructorCount, entry, patternKind, patternZero, patternA, patternFirst, patternCount, child, root}
 use Rattle.spec_accepted.specs.SheetFacts.{Laid, type-inside, constructor-inside, entry-inside, clause-inside}
-use Rattle.format_sheet.specs.declared.Map.{Map}
+use Rattle.format_sheet.specs.declared.SheetMap.{SheetMap}
 use Rattle.format_sheet.specs.declared.records.Run.{Run}
 use Rattle.format_sheet.specs.declared.records.PatternRecord.{PatternRecord}
 use Rattle.format_sheet.specs.Sections.{mapOf}
@@ -24,7 +24,7 @@ pattern-parts s at a run ea er =
     let count : run .count ≡ wordAt s (at + 6) = ap (λ (x : Run). x .count) er ∙ ap (wordAt s) six in
     rw (ea, first, count)
 
-module _ {s : List ℕ} {m : Map} (l : Laid s) (e : m ≡ mapOf s) where
+module _ {s : List ℕ} {m : SheetMap} (l : Laid s) (e : m ≡ mapOf s) where
   pub type-room : (t : ℕ) → t < types s → m .at .types + typeSize * t + typeSize ≤ length s
   type-room t h = omega (arith, mapped s m e .at-types, type-inside l t h)
 
@@ -37,7 +37,7 @@ module _ {s : List ℕ} {m : Map} (l : Laid s) (e : m ≡ mapOf s) where
   pub root-room : (c : ℕ) → c < clauses s → m .at .clauses + clauseSize * c + clauseSize ≤ length s
   root-room c h = omega (arith, mapped s m e .at-clauses, clause-inside l c h)
 
-module _ (s : List ℕ) {m : Map} (e : m ≡ mapOf s) where
+module _ (s : List ℕ) {m : SheetMap} (e : m ≡ mapOf s) where
   pub type-is : (t : ℕ) → typeFrom s (m .at .types + typeSize * t) ≡ typeOf s t
   unfolding typeKind typeFlag typeFirst typeCount
   type-is t = rw (mapped s m e .at-types)

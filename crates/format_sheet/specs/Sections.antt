@@ -10,7 +10,7 @@ use Rattle.spec_rules.specs.SheetFile.{subject, typesAt, constructorsAt, entrie
 use Rattle.spec_rules.specs.SheetRefusals.{wholeRecords, wholeBetween}
 use Rattle.format_sheet.specs.declared.Starts.{Starts}
 use Rattle.format_sheet.specs.declared.Counts.{Counts}
-use Rattle.format_sheet.specs.declared.Map.{Map}
+use Rattle.format_sheet.specs.declared.SheetMap.{SheetMap}
 
 abbrev pub startsOf : List ℕ → Starts
 startsOf s = record {
@@ -35,7 +35,7 @@ countsOf s = record {
   pool = poolSize s;
 }
 
-abbrev pub mapOf : List ℕ → Map
+abbrev pub mapOf : List ℕ → SheetMap
 mapOf s = record { at = startsOf s; counts = countsOf s; subject = subject s }
 
 -- 3, of starts

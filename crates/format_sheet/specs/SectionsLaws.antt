@@ -10,7 +10,7 @@ use Rattle.spec_rules.specs.SheetFile.{subject, typesAt, constructorsAt, entrie
 use Rattle.spec_rules.specs.SheetRefusals.{wholeBetween, layoutFits, countsFit}
 use Rattle.spec_accepted.specs.RunsLaws.{section-rises}
 use Rattle.format_sheet.specs.declared.Starts.{Starts}
-use Rattle.format_sheet.specs.declared.Map.{Map}
+use Rattle.format_sheet.specs.declared.SheetMap.{SheetMap}
 use Rattle.format_sheet.specs.Sections.{startsOf, countsOf, mapOf, placesOf, startsFit, countsBetween, fewEnough}
 
 pub startsFit-is : (s : List ℕ) → startsFit (startsOf s) ≡ layoutFits s
@@ -50,7 +50,7 @@ rising at h =
     }
 
 -- the fields of a map, as numbers of the sheet
-pub record Mapped (s : List ℕ) (m : Map) : Type 0 where
+pub record Mapped (s : List ℕ) (m : SheetMap) : Type 0 where
   pub at-types : m .at .types ≡ typesAt s
   pub at-constructors : m .at .constructors ≡ constructorsAt s
   pub at-entries : m .at .entries ≡ entriesAt s
@@ -68,22 +68,22 @@ pub record Mapped (s : List ℕ) (m : Map) : Type 0 where
   pub of-pool : m .counts .pool ≡ poolSize s
   pub of-subject : m .subject ≡ subject s
 
-pub mapped : (s : List ℕ) (m : Map) → m ≡ mapOf s → Mapped s m
+pub mapped : (s : List ℕ) (m : SheetMap) → m ≡ mapOf s → Mapped s m
 mapped s m e = record {
-  at-types = ap (λ (x : Map). x .at .types) e;
-  at-constructors = ap (λ (x : Map). x .at .constructors) e;
-  at-entries = ap (λ (x : Map). x .at .entries) e;
-  at-patterns = ap (λ (x : Map). x .at .patterns) e;
-  at-children = ap (λ (x : Map). x .at .children) e;
-  at-clauses = ap (λ (x : Map). x .at .clauses) e;
-  at-pool = ap (λ (x : Map). x .at .pool) e;
-  at-end = ap (λ (x : Map). x .at .end) e;
-  of-types = ap (λ (x : Map). x .counts .types) e;
-  of-constructors = ap (λ (x : Map). x .counts .constructors) e;
-  of-entries = ap (λ (x : Map). x .counts .entries) e;
-  of-patterns = ap (λ (x : Map). x .counts .patterns) e;
-  of-children = ap (λ (x : Map). x .counts .children) e;
-  of-clauses = ap (λ (x : Map). x .counts .clauses) e;
-  of-pool = ap (λ (x : Map). x .counts .pool) e;
-  of-subject = ap (λ (x : Map). x .subject) e;
+  at-types = ap (λ (x : SheetMap). x .at .types) e;
+  at-constructors = ap (λ (x : SheetMap). x .at .constructors) e;
+  at-entries = ap (λ (x : SheetMap). x .at .entries) e;
+  at-patterns = ap (λ (x : SheetMap). x .at .patterns) e;
+  at-children = ap (λ (x : SheetMap). x .at .children) e;
+  at-clauses = ap (λ (x : SheetMap). x .at .clauses) e;
+  at-pool = ap (λ (x : SheetMap). x .at .pool) e;
+  at-end = ap (λ (x : SheetMap). x .at .end) e;
+  of-types = ap (λ (x : SheetMap). x .counts .types) e;
+  of-constructors = ap (λ (x : SheetMap). x .counts .constructors) e;
+  of-entries = ap (λ (x : SheetMap). x .counts .entries) e;
+  of-patterns = ap (λ (x : SheetMap). x .counts .patterns) e;
+  of-children = ap (λ (x : SheetMap). x .counts .children) e;
+  of-clauses = ap (λ (x : SheetMap). x .counts .clauses) e;
+  of-pool = ap (λ (x : SheetMap). x .counts .pool) e;
+  of-subject = ap (λ (x : SheetMap). x .subject) e;
 }

@@ -17,7 +17,7 @@ use Rattle.spec_rules.specs.SheetRefusals.{hasChildren, tailFits, fieldsFit, is
 use Rattle.spec_accepted.specs.KindsLaws.{patternNumber, pattern-number, pattern-byte}
 use Rattle.spec_accepted.specs.RunsLaws.{run-in, every-below}
 use Rattle.spec_accepted.specs.SheetFacts.{fields-run}
-use Rattle.format_sheet.specs.declared.Map.{Map}
+use Rattle.format_sheet.specs.declared.SheetMap.{SheetMap}
 use Rattle.format_sheet.specs.declared.records.PatternRecord.{PatternRecord}
 use Rattle.format_sheet.specs.declared.records.Run.{Run}
 use Rattle.format_sheet.specs.Sections.{mapOf}
@@ -140,7 +140,7 @@ no-tail s p Tuple h = refl
 no-tail s p Unknown h = refl
 
 -- the ways through the record of pattern p: its zero byte, its own fields, its tail
-module _ (s : List ℕ) (m : Map) (e : m ≡ mapOf s) (p : ℕ) (r : PatternRecord) (f : r ≡ patternOf s p) where
+module _ (s : List ℕ) (m : SheetMap) (e : m ≡ mapOf s) (p : ℕ) (r : PatternRecord) (f : r ≡ patternOf s p) where
   kind-is : r .kind ≡ patternKind s p
   kind-is = ap (λ (x : PatternRecord). x .kind) f
 

@@ -16,7 +16,7 @@ use Rattle.spec_rules.specs.Patterns.{PatternKind, Discard, Variable, Assign, I
 use Rattle.spec_rules.specs.SheetRefusals.{textOfKind, badText}
 use Rattle.spec_accepted.specs.KindsLaws.{pattern-byte}
 use Rattle.spec_accepted.specs.SheetFacts.{Laid, Shaped, text-inside}
-use Rattle.format_sheet.specs.declared.Map.{Map}
+use Rattle.format_sheet.specs.declared.SheetMap.{SheetMap}
 use Rattle.format_sheet.specs.declared.records.PatternRecord.{PatternRecord}
 use Rattle.format_sheet.specs.Sections.{mapOf}
 use Rattle.format_sheet.specs.SectionsLaws.{mapped}
@@ -64,7 +64,7 @@ module _ (s : List ℕ) (p : ℕ) (r : PatternRecord) (f : r ≡ patternOf s p) 
       rw (other-kind s p (patternKindOf (patternKind s p)) (λ e. i (kind-is ∙ pattern-byte (patternKind s p) Integer e (omega arith)))
       (λ e. b (kind-is ∙ pattern-byte (patternKind s p) ByteString e (omega arith))))
 
-  module _ (m : Map) (e : m ≡ mapOf s) where
+  module _ (m : SheetMap) (e : m ≡ mapOf s) where
     pub text-room : Laid s → Shaped s → p < patterns s → r .kind ≡ integerPattern → m .at .pool + r .first + r .count ≤ length s
     text-room l sh h k =
         omega (arith, mapped s m e .at-pool, first-is, count-is, text-inside l (patternFirst s p) (patternCount s p) (sh .text-run p h (omega (arith, kind-is, k)) (omega (arith, kind-is, k)) .inside))

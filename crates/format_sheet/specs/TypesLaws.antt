@@ -10,7 +10,7 @@ use Rattle.spec_rules.specs.Kinds.{dataType, opaqueFlag}
 use Rattle.spec_rules.specs.SheetFile.{subject, types, constructors, entries, typeKind, typeFlag, typeFirst, typeCount, entry, runIn}
 use Rattle.spec_rules.specs.SheetRefusals.{typeParts, typeFlags, typeKeepsRules, constructorKeepsRules, entryKeepsRules, transparent}
 use Rattle.spec_accepted.specs.SheetFacts.{Typed}
-use Rattle.format_sheet.specs.declared.Map.{Map}
+use Rattle.format_sheet.specs.declared.SheetMap.{SheetMap}
 use Rattle.format_sheet.specs.declared.records.TypeRecord.{TypeRecord}
 use Rattle.format_sheet.specs.declared.records.Run.{Run}
 use Rattle.format_sheet.specs.Sections.{mapOf}
@@ -19,7 +19,7 @@ use Rattle.format_sheet.specs.Types.{partsFit, flagsFit}
 use Rattle.format_sheet.specs.TestsLaws.{passed, stopped}
 
 -- ---- 6
-module _ (s : List ℕ) (m : Map) (e : m ≡ mapOf s) where
+module _ (s : List ℕ) (m : SheetMap) (e : m ≡ mapOf s) where
   module _ (t : ℕ) (r : TypeRecord) (f : r ≡ typeOf s t) where
     parts-are : partsFit r (m .counts .entries) (m .counts .constructors) ≡ typeParts s t
     unfolding partsFit typeParts

@@ -1,7 +1,7 @@
 // Refusal 10: a pattern fits its type, argument counts included. Fitting a pattern calls fitting its children, which calls fitting
 // a pattern; a child's number is above its parent's, so 192 less the pattern number falls.
 use crate::Found;
-use crate::Map;
+use crate::SheetMap;
 use crate::records::PatternRecord;
 use crate::records::TypeRecord;
 use crate::records::child_at;
@@ -23,7 +23,7 @@ ghost use Rattle.spec_rules.specs.SheetRefusals.{misfit, lowestMisfit};
 ghost use Rattle.spec_accepted.specs.SheetFacts.{Laid};
 ghost use Rattle.format_sheet.specs.Sections.{mapOf};
 ghost use Rattle.format_sheet.specs.Found.{foundOf};
-ghost use Rattle.format_sheet.specs.Fitting.{Ready, Room, asksFor, argumentsFit, asked};
+ghost use Rattle.format_sheet.specs.Fitting.{ReadySheet, Room, asksFor, argumentsFit, asked};
 
 // What is left to ask of a pattern whose own kind and count were held against its type: nothing, it fits or does not; that the
 // one pattern inside it fits the same type; or that each of `count` children from entry `first` on fits the type at its own type
@@ -65,7 +65,7 @@ fn asks_parts(r: PatternRecord, ty: TypeRecord, kind: u8) -> Question
 }
 
 // Of a constructor: the type has it, with as many fields.
-fn asks_fields(s: &[u8], m: Map, r: PatternRecord, ty: TypeRecord) -> Question
+fn asks_fields(s: &[u8], m: SheetMap, r: PatternRecord, ty: TypeRecord) -> Question
     requires { ⌜ Laid (now s) × (m ≡ mapOf (now s)) × (ty .kind ≡ dataType → ty .first + ty .count ≤ constructors (now s)) ⌝ }
     ensures { λ x. ⌜ x ≡ argumentsFit (now (s .entry)) r ty ⌝ }
 {
@@ -80,8 +80,8 @@ fn asks_fields(s: &[u8], m: Map, r: PatternRecord, ty: TypeRecord) -> Question
 }
 
 // The pattern p held against type t.
-fn asks(s: &[u8], m: Map, p: usize, t: usize) -> Question
-    requires { ⌜ Ready (now s) m × (p < patterns (now s)) × (t < types (now s)) ⌝ }
+fn asks(s: &[u8], m: SheetMap, p: usize, t: usize) -> Question
+    requires { ⌜ ReadySheet (now s) m × (p < patterns (now s)) × (t < types (now s)) ⌝ }
     ensures { λ r. ⌜ r ≡ asked (now (s .entry)) p t (patternKindOf (patternKind (now (s .entry)) p)) ⌝ }
 {
     let r = pattern_at(s, m, p);
@@ -115,8 +115,8 @@ fn asks(s: &[u8], m: Map, p: usize, t: usize) -> Question
 }
 
 // Pattern p fits type t.
-fn fits(s: &[u8], m: Map, p: usize, t: usize) -> bool
-    requires { ⌜ Ready (now s) m × (p < patterns (now s)) × (t < types (now s)) ⌝ }
+fn fits(s: &[u8], m: SheetMap, p: usize, t: usize) -> bool
+    requires { ⌜ ReadySheet (now s) m × (p < patterns (now s)) × (t < types (now s)) ⌝ }
     ensures { λ r. ⌜ r ≡ Fits (pattern (now (s .entry)) p t) (now (s .entry)) ⌝ }
 {
     let left = asks(s, m, p, t);
@@ -133,8 +133,8 @@ fn fits(s: &[u8], m: Map, p: usize, t: usize) -> bool
 }
 
 // Each of n children of `parent` from entry j on fits the type at its own type entry, the first at e.
-fn fits_all(s: &[u8], m: Map, parent: usize, j: usize, n: usize, e: usize, step: usize) -> bool
-    requires { ⌜ Ready (now s) m × Room (now s) parent j n e step ⌝ }
+fn fits_all(s: &[u8], m: SheetMap, parent: usize, j: usize, n: usize, e: usize, step: usize) -> bool
+    requires { ⌜ ReadySheet (now s) m × Room (now s) parent j n e step ⌝ }
     ensures { λ r. ⌜ r ≡ fitAll (along (pattern (now (s .entry))) (now (s .entry)) j n e step) (now (s .entry)) ⌝ }
 {
     if n == 0 {
@@ -147,16 +147,16 @@ fn fits_all(s: &[u8], m: Map, parent: usize, j: usize, n: usize, e: usize, step:
 }
 
 // The pattern of clause c does not fit the subject's type.
-fn misfits(s: &[u8], m: Map, c: usize) -> bool
-    requires { ⌜ Ready (now s) m × (c < clauses (now s)) ⌝ }
+fn misfits(s: &[u8], m: SheetMap, c: usize) -> bool
+    requires { ⌜ ReadySheet (now s) m × (c < clauses (now s)) ⌝ }
     ensures { λ r. ⌜ r ≡ misfit (now (s .entry)) c ⌝ }
 {
     !fits(s, m, root_at(s, m, c), m.subject)
 }
 
 // 10.
-pub(crate) fn lowest_misfit(s: &[u8], m: Map) -> Found
-    requires { ⌜ Ready (now s) m ⌝ }
+pub(crate) fn lowest_misfit(s: &[u8], m: SheetMap) -> Found
+    requires { ⌜ ReadySheet (now s) m ⌝ }
     ensures { λ r. ⌜ r ≡ foundOf (lowestMisfit (now (s .entry))) ⌝ }
 {
     let mut c: usize = 0;

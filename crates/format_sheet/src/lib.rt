@@ -32,7 +32,7 @@ use types::types_fit;
 ghost use mathlib.Core.Path.{_≡_};
 ghost use Rattle.spec_accepted.specs.SheetFacts.{Laid, Counted, Typed};
 ghost use Rattle.format_sheet.specs.Sections.{mapOf};
-ghost use Rattle.format_sheet.specs.Fitting.{Ready};
+ghost use Rattle.format_sheet.specs.Fitting.{ReadySheet};
 ghost use Rattle.format_sheet.specs.Check.{answer, checked, fromTypes, fromPatterns, fromClauses};
 
 // Where the sections start; the pool ends where the trailer begins.
@@ -58,14 +58,14 @@ pub struct Counts {
     pub pool: usize,
 }
 
-pub struct Map {
+pub struct SheetMap {
     pub at: Starts,
     pub counts: Counts,
     pub subject: usize,
 }
 
-pub enum Checked {
-    Accepted(Map),
+pub enum CheckedSheet {
+    Accepted(SheetMap),
     Refused { number: u16, place: u16 },
 }
 
@@ -76,38 +76,38 @@ pub enum Found {
 }
 
 // 10 and 11.
-fn check_clauses(s: &[u8], m: Map) -> Checked
-    requires { ⌜ Ready (now s) m ⌝ }
+fn check_clauses(s: &[u8], m: SheetMap) -> CheckedSheet
+    requires { ⌜ ReadySheet (now s) m ⌝ }
     ensures { λ r. ⌜ r ≡ answer (now (s .entry)) (fromClauses (now (s .entry))) ⌝ }
 {
     if let Found::At(c) = lowest_misfit(s, m) {
-        return Checked::Refused {
+        return CheckedSheet::Refused {
             number: refusals::MISFIT,
             place: c,
         };
     }
     if let Found::At(c) = lowest_name_twice(s, m) {
-        return Checked::Refused {
+        return CheckedSheet::Refused {
             number: refusals::NAME_TWICE,
             place: c,
         };
     }
-    Checked::Accepted(m)
+    CheckedSheet::Accepted(m)
 }
 
 // 8 to 11.
-fn check_patterns(s: &[u8], m: Map) -> Checked
+fn check_patterns(s: &[u8], m: SheetMap) -> CheckedSheet
     requires { ⌜ Laid (now s) × (m ≡ mapOf (now s)) × Counted (now s) × Typed (now s) ⌝ }
     ensures { λ r. ⌜ r ≡ answer (now (s .entry)) (fromPatterns (now (s .entry))) ⌝ }
 {
     if !shape_fits(s, m) {
-        return Checked::Refused {
+        return CheckedSheet::Refused {
             number: refusals::SHAPE,
             place: 0,
         };
     }
     if let Found::At(p) = lowest_bad_text(s, m) {
-        return Checked::Refused {
+        return CheckedSheet::Refused {
             number: refusals::TEXT,
             place: p,
         };
@@ -116,18 +116,18 @@ fn check_patterns(s: &[u8], m: Map) -> Checked
 }
 
 // 6 to 11.
-fn check_types(s: &[u8], m: Map) -> Checked
+fn check_types(s: &[u8], m: SheetMap) -> CheckedSheet
     requires { ⌜ Laid (now s) × (m ≡ mapOf (now s)) × Counted (now s) ⌝ }
     ensures { λ r. ⌜ r ≡ answer (now (s .entry)) (fromTypes (now (s .entry))) ⌝ }
 {
     if !types_fit(s, m) {
-        return Checked::Refused {
+        return CheckedSheet::Refused {
             number: refusals::TYPES,
             place: 0,
         };
     }
     if let Found::At(t) = lowest_transparent(s, m) {
-        return Checked::Refused {
+        return CheckedSheet::Refused {
             number: refusals::TRANSPARENT,
             place: t,
         };
@@ -136,31 +136,31 @@ fn check_types(s: &[u8], m: Map) -> Checked
 }
 
 // 01's refusals 2 to 11, in their order. It asks nothing of its caller.
-pub fn check(s: &[u8]) -> Checked
+pub fn check(s: &[u8]) -> CheckedSheet
     ensures { λ r. ⌜ r ≡ checked (now (s .entry)) ⌝ }
 {
     if !length_fits(s) {
-        return Checked::Refused {
+        return CheckedSheet::Refused {
             number: refusals::LENGTH,
             place: 0,
         };
     }
     let at = starts_of(s);
     if !layout_fits(at) {
-        return Checked::Refused {
+        return CheckedSheet::Refused {
             number: refusals::LAYOUT,
             place: 0,
         };
     }
     let counts = counts_of(at);
     if counts.clauses == 0 {
-        return Checked::Refused {
+        return CheckedSheet::Refused {
             number: refusals::NO_CLAUSE,
             place: 0,
         };
     }
     if !counts_fit(counts) {
-        return Checked::Refused {
+        return CheckedSheet::Refused {
             number: refusals::COUNT,
             place: 0,
         };
@@ -168,7 +168,7 @@ pub fn check(s: &[u8]) -> Checked
     let subject = subject_of(s);
     check_types(
         s,
-        Map {
+        SheetMap {
             at,
             counts,
             subject,

@@ -1,7 +1,7 @@
 // Refusal 11: a clause binds no name twice. The names of a clause are collected from left to right, in one buffer that is lent on
 // with the number of names in it, and each is looked for among those after it.
 use crate::Found;
-use crate::Map;
+use crate::SheetMap;
 use crate::records::child_in;
 use crate::records::children_in;
 use crate::records::pattern_in;
@@ -19,7 +19,7 @@ ghost use Rattle.spec_rules.specs.SheetRefusals.{isIn, repeats as Repeats, name
 ghost use Rattle.spec_accepted.specs.SheetFacts.{Laid};
 ghost use Rattle.format_sheet.specs.Sections.{mapOf};
 ghost use Rattle.format_sheet.specs.Found.{foundOf};
-ghost use Rattle.format_sheet.specs.Fitting.{Ready};
+ghost use Rattle.format_sheet.specs.Fitting.{ReadySheet};
 ghost use Rattle.format_sheet.specs.Names.{ownName, namesIn, inBuffer, held, Adds};
 
 // One name more.
@@ -55,7 +55,7 @@ fn collect(
     found: &mut [u16],
     count: usize,
 ) -> usize
-    requires { ⌜ Ready (now s) (mapOf (now s)) × (records ≡ patternsAt (now s)) × (list ≡ childrenAt (now s)) × (p < patterns (now s)) ⌝ }
+    requires { ⌜ ReadySheet (now s) (mapOf (now s)) × (records ≡ patternsAt (now s)) × (list ≡ childrenAt (now s)) × (p < patterns (now s)) ⌝ }
     requires { ⌜ (length (now found) ≡ patternsMost) × (count + length (namesIn (now s) p) ≤ patternsMost) ⌝ }
     ensures { λ r. ⌜ Adds (inBuffer (now (found .entry)) count) (namesIn (now (s .entry)) p) (inBuffer (now (found .exit)) r) ⌝ }
 {
@@ -106,8 +106,8 @@ fn repeats(found: &[u16], count: usize) -> bool
 }
 
 // What the buffer holds before does not matter.
-fn name_twice(s: &[u8], m: Map, c: usize, found: &mut [u16]) -> bool
-    requires { ⌜ Ready (now s) m × (c < clauses (now s)) × (length (now found) ≡ patternsMost) ⌝ }
+fn name_twice(s: &[u8], m: SheetMap, c: usize, found: &mut [u16]) -> bool
+    requires { ⌜ ReadySheet (now s) m × (c < clauses (now s)) × (length (now found) ≡ patternsMost) ⌝ }
     ensures { λ r. ⌜ r ≡ nameTwice (now (s .entry)) c ⌝ }
 {
     let count = collect(s, m.at.patterns, m.at.children, root_at(s, m, c), found, 0);
@@ -115,8 +115,8 @@ fn name_twice(s: &[u8], m: Map, c: usize, found: &mut [u16]) -> bool
 }
 
 // 11.
-pub(crate) fn lowest_name_twice(s: &[u8], m: Map) -> Found
-    requires { ⌜ Ready (now s) m ⌝ }
+pub(crate) fn lowest_name_twice(s: &[u8], m: SheetMap) -> Found
+    requires { ⌜ ReadySheet (now s) m ⌝ }
     ensures { λ r. ⌜ r ≡ foundOf (lowestNameTwice (now (s .entry))) ⌝ }
 {
     let mut found = [0u16; PATTERNS_MOST];

@@ -1,6 +1,6 @@
 // The records of a sheet whose sections are laid out: each is read once, as a struct by value.
 // Each reader asks that the map is the sheet's and that the record is there.
-use crate::Map;
+use crate::SheetMap;
 use base_numbers::pattern_kinds;
 use base_numbers::record_fields;
 use base_numbers::run_fields;
@@ -88,21 +88,21 @@ pub fn pattern_from(s: &[u8], at: usize) -> PatternRecord
     }
 }
 
-pub fn type_at(s: &[u8], m: Map, t: usize) -> TypeRecord
+pub fn type_at(s: &[u8], m: SheetMap, t: usize) -> TypeRecord
     requires { ⌜ Laid (now s) × (m ≡ mapOf (now s)) × (t < types (now s)) ⌝ }
     ensures { λ r. ⌜ r ≡ typeOf (now (s .entry)) t ⌝ }
 {
     type_from(s, m.at.types + TYPE_SIZE * t)
 }
 
-pub fn constructor_at(s: &[u8], m: Map, c: usize) -> Run
+pub fn constructor_at(s: &[u8], m: SheetMap, c: usize) -> Run
     requires { ⌜ Laid (now s) × (m ≡ mapOf (now s)) × (c < constructors (now s)) ⌝ }
     ensures { λ r. ⌜ r ≡ constructorOf (now (s .entry)) c ⌝ }
 {
     run_from(s, m.at.constructors + CONSTRUCTOR_SIZE * c)
 }
 
-pub fn entry_at(s: &[u8], m: Map, e: usize) -> usize
+pub fn entry_at(s: &[u8], m: SheetMap, e: usize) -> usize
     requires { ⌜ Laid (now s) × (m ≡ mapOf (now s)) × (e < entries (now s)) ⌝ }
     ensures { λ r. ⌜ r ≡ entry (now (s .entry)) e ⌝ }
 {
@@ -117,7 +117,7 @@ pub fn pattern_in(s: &[u8], start: usize, p: usize) -> PatternRecord
     pattern_from(s, start + PATTERN_SIZE * p)
 }
 
-pub fn pattern_at(s: &[u8], m: Map, p: usize) -> PatternRecord
+pub fn pattern_at(s: &[u8], m: SheetMap, p: usize) -> PatternRecord
     requires { ⌜ Laid (now s) × (m ≡ mapOf (now s)) × (p < patterns (now s)) ⌝ }
     ensures { λ r. ⌜ r ≡ patternOf (now (s .entry)) p ⌝ }
 {
@@ -132,14 +132,14 @@ pub fn child_in(s: &[u8], start: usize, j: usize) -> usize
     word_at(s, start + CHILD_SIZE * j) as usize
 }
 
-pub fn child_at(s: &[u8], m: Map, j: usize) -> usize
+pub fn child_at(s: &[u8], m: SheetMap, j: usize) -> usize
     requires { ⌜ Laid (now s) × (m ≡ mapOf (now s)) × (j < children (now s)) ⌝ }
     ensures { λ r. ⌜ r ≡ child (now (s .entry)) j ⌝ }
 {
     child_in(s, m.at.children, j)
 }
 
-pub fn root_at(s: &[u8], m: Map, c: usize) -> usize
+pub fn root_at(s: &[u8], m: SheetMap, c: usize) -> usize
     requires { ⌜ Laid (now s) × (m ≡ mapOf (now s)) × (c < clauses (now s)) ⌝ }
     ensures { λ r. ⌜ r ≡ root (now (s .entry)) c ⌝ }
 {
@@ -184,7 +184,7 @@ pub fn children_in(s: &[u8], start: usize, p: usize) -> Run
     }
 }
 
-pub fn children_of(s: &[u8], m: Map, p: usize) -> Run
+pub fn children_of(s: &[u8], m: SheetMap, p: usize) -> Run
     requires { ⌜ Laid (now s) × (m ≡ mapOf (now s)) × (p < patterns (now s)) ⌝ }
     ensures { λ r. ⌜ r ≡ childrenOf (now (s .entry)) p ⌝ }
 {

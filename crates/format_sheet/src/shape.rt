@@ -1,6 +1,6 @@
 // Refusal 8: every pattern, child and root keeps 01's rules. All its failures have place 0, so the order of the tests is free:
 // each comes after those that make it safe and linear.
-use crate::Map;
+use crate::SheetMap;
 use crate::records::PatternRecord;
 use crate::records::child_at;
 use crate::records::child_in;
@@ -80,7 +80,7 @@ fn fields_fit(r: PatternRecord, children: usize, pool: usize) -> bool
 }
 
 // The last of `count` children from `first` on is a variable or discard.
-fn tail_fits(s: &[u8], m: Map, first: usize, count: usize) -> bool
+fn tail_fits(s: &[u8], m: SheetMap, first: usize, count: usize) -> bool
     requires { ⌜ Laid (now s) × (m ≡ mapOf (now s)) × ChildrenKnown (now s) ⌝ }
     requires { ⌜ (2 ≤ count) × (first + count ≤ children (now s)) ⌝ }
     ensures { λ r. ⌜ r ≡ leb (patternKind (now (s .entry)) (child (now (s .entry)) (first + (count - 1)))) variablePattern ⌝ }
@@ -91,7 +91,7 @@ fn tail_fits(s: &[u8], m: Map, first: usize, count: usize) -> bool
 }
 
 // The record of pattern p, without what its children are.
-fn record_fits(s: &[u8], m: Map, p: usize) -> bool
+fn record_fits(s: &[u8], m: SheetMap, p: usize) -> bool
     requires { ⌜ Laid (now s) × (m ≡ mapOf (now s)) × ChildrenKnown (now s) × (p < patterns (now s)) ⌝ }
     ensures { λ r. ⌜ r ≡ recordFits (now (s .entry)) p ⌝ }
 {
@@ -108,7 +108,7 @@ fn record_fits(s: &[u8], m: Map, p: usize) -> bool
     tail_fits(s, m, r.first, r.count)
 }
 
-fn records_fit(s: &[u8], m: Map) -> bool
+fn records_fit(s: &[u8], m: SheetMap) -> bool
     requires { ⌜ Laid (now s) × (m ≡ mapOf (now s)) × ChildrenKnown (now s) ⌝ }
     ensures { λ r. ⌜ r ≡ every (recordFits (now (s .entry))) 0 (patterns (now (s .entry))) ⌝ }
 {
@@ -122,7 +122,7 @@ fn records_fit(s: &[u8], m: Map) -> bool
     true
 }
 
-fn root_known(s: &[u8], m: Map, c: usize) -> bool
+fn root_known(s: &[u8], m: SheetMap, c: usize) -> bool
     requires { ⌜ Laid (now s) × (m ≡ mapOf (now s)) × (c < clauses (now s)) ⌝ }
     ensures { λ r. ⌜ r ≡ rootKeepsRules (now (s .entry)) c ⌝ }
 {
@@ -130,7 +130,7 @@ fn root_known(s: &[u8], m: Map, c: usize) -> bool
 }
 
 // Each root is a pattern.
-fn roots_known(s: &[u8], m: Map) -> bool
+fn roots_known(s: &[u8], m: SheetMap) -> bool
     requires { ⌜ Laid (now s) × (m ≡ mapOf (now s)) ⌝ }
     ensures { λ r. ⌜ r ≡ every (rootKeepsRules (now (s .entry))) 0 (clauses (now (s .entry))) ⌝ }
 {
@@ -144,7 +144,7 @@ fn roots_known(s: &[u8], m: Map) -> bool
     true
 }
 
-fn child_known(s: &[u8], m: Map, j: usize) -> bool
+fn child_known(s: &[u8], m: SheetMap, j: usize) -> bool
     requires { ⌜ Laid (now s) × (m ≡ mapOf (now s)) × (j < children (now s)) ⌝ }
     ensures { λ r. ⌜ r ≡ childKnown (now (s .entry)) j ⌝ }
 {
@@ -152,7 +152,7 @@ fn child_known(s: &[u8], m: Map, j: usize) -> bool
 }
 
 // Each entry of the child list is a pattern.
-fn children_known(s: &[u8], m: Map) -> bool
+fn children_known(s: &[u8], m: SheetMap) -> bool
     requires { ⌜ Laid (now s) × (m ≡ mapOf (now s)) ⌝ }
     ensures { λ r. ⌜ r ≡ every (childKnown (now (s .entry))) 0 (children (now (s .entry))) ⌝ }
 {
@@ -166,7 +166,7 @@ fn children_known(s: &[u8], m: Map) -> bool
     true
 }
 
-fn is_above(s: &[u8], m: Map, p: usize, j: usize) -> bool
+fn is_above(s: &[u8], m: SheetMap, p: usize, j: usize) -> bool
     requires { ⌜ Laid (now s) × (m ≡ mapOf (now s)) × ChildrenKnown (now s) × (j < children (now s)) ⌝ }
     ensures { λ r. ⌜ r ≡ isAbove (now (s .entry)) p j ⌝ }
 {
@@ -174,7 +174,7 @@ fn is_above(s: &[u8], m: Map, p: usize, j: usize) -> bool
 }
 
 // Each child of pattern p has a larger number.
-fn children_above(s: &[u8], m: Map, p: usize) -> bool
+fn children_above(s: &[u8], m: SheetMap, p: usize) -> bool
     requires { ⌜ Laid (now s) × (m ≡ mapOf (now s)) × ChildrenKnown (now s) × RunsInside (now s) × (p < patterns (now s)) ⌝ }
     ensures { λ r. ⌜ r ≡ allAbove (now (s .entry)) p ⌝ }
 {
@@ -189,7 +189,7 @@ fn children_above(s: &[u8], m: Map, p: usize) -> bool
     true
 }
 
-fn all_children_above(s: &[u8], m: Map) -> bool
+fn all_children_above(s: &[u8], m: SheetMap) -> bool
     requires { ⌜ Laid (now s) × (m ≡ mapOf (now s)) × ChildrenKnown (now s) × RunsInside (now s) ⌝ }
     ensures { λ r. ⌜ r ≡ every (allAbove (now (s .entry))) 0 (patterns (now (s .entry))) ⌝ }
 {
@@ -222,7 +222,7 @@ fn within(s: &[u8], records: usize, list: usize, p: usize, deep: usize) -> bool
     true
 }
 
-fn depth_fits(s: &[u8], m: Map, c: usize) -> bool
+fn depth_fits(s: &[u8], m: SheetMap, c: usize) -> bool
     requires { ⌜ Laid (now s) × (m ≡ mapOf (now s)) × ChildrenKnown (now s) × RunsInside (now s) ⌝ }
     requires { ⌜ RootsKnown (now s) × (c < clauses (now s)) ⌝ }
     ensures { λ r. ⌜ r ≡ depthFits (now (s .entry)) c ⌝ }
@@ -236,7 +236,7 @@ fn depth_fits(s: &[u8], m: Map, c: usize) -> bool
     )
 }
 
-fn depths_fit(s: &[u8], m: Map) -> bool
+fn depths_fit(s: &[u8], m: SheetMap) -> bool
     requires { ⌜ Laid (now s) × (m ≡ mapOf (now s)) × ChildrenKnown (now s) × RunsInside (now s) ⌝ }
     requires { ⌜ RootsKnown (now s) ⌝ }
     ensures { λ r. ⌜ r ≡ every (depthFits (now (s .entry))) 0 (clauses (now (s .entry))) ⌝ }
@@ -252,7 +252,7 @@ fn depths_fit(s: &[u8], m: Map) -> bool
 }
 
 // 8.
-pub(crate) fn shape_fits(s: &[u8], m: Map) -> bool
+pub(crate) fn shape_fits(s: &[u8], m: SheetMap) -> bool
     requires { ⌜ Laid (now s) × (m ≡ mapOf (now s)) × Counted (now s) ⌝ }
     ensures { λ r. ⌜ r ≡ shapeFits (now (s .entry)) ⌝ }
 {

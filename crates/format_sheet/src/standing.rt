@@ -1,7 +1,7 @@
 // Refusal 8, what is counted: each entry is in one pattern's list, and each pattern is one clause's root or one entry.
 // Things are met and counted in a buffer of 192 bytes that is lent on, so that no section is searched once for each pattern and
 // nothing is copied.
-use crate::Map;
+use crate::SheetMap;
 use crate::records::child_at;
 use crate::records::children_of;
 use crate::records::root_at;
@@ -70,7 +70,7 @@ fn all_met_once(times: &[u8], n: usize) -> bool
 }
 
 // Each entry is in one pattern's list. A list that meets an entry again ends the search, so that no entry is met a third time.
-pub(crate) fn entries_listed_once(s: &[u8], m: Map) -> bool
+pub(crate) fn entries_listed_once(s: &[u8], m: SheetMap) -> bool
     requires { ⌜ Laid (now s) × (m ≡ mapOf (now s)) × Counted (now s) × RunsInside (now s) ⌝ }
     ensures { λ r. ⌜ r ≡ every (listedOnce (now (s .entry))) 0 (children (now (s .entry))) ⌝ }
 {
@@ -88,7 +88,7 @@ pub(crate) fn entries_listed_once(s: &[u8], m: Map) -> bool
 }
 
 // Each root met.
-fn meet_roots(s: &[u8], m: Map, times: &mut [u8])
+fn meet_roots(s: &[u8], m: SheetMap, times: &mut [u8])
     requires { ⌜ Laid (now s) × (m ≡ mapOf (now s)) × Counted (now s) × RootsKnown (now s) × NoneMet (now times) ⌝ }
     ensures { λ _. ⌜ RootsMet (now (s .entry)) (now (times .exit)) ⌝ }
 {
@@ -100,7 +100,7 @@ fn meet_roots(s: &[u8], m: Map, times: &mut [u8])
 }
 
 // Each entry of the child list met, after the roots.
-fn meet_children(s: &[u8], m: Map, times: &mut [u8])
+fn meet_children(s: &[u8], m: SheetMap, times: &mut [u8])
     requires { ⌜ Laid (now s) × (m ≡ mapOf (now s)) × Counted (now s) × ChildrenKnown (now s) × RootsMet (now s) (now times) ⌝ }
     ensures { λ _. ⌜ AllMet (now (s .entry)) (now (times .exit)) ⌝ }
 {
@@ -112,7 +112,7 @@ fn meet_children(s: &[u8], m: Map, times: &mut [u8])
 }
 
 // Each pattern is one clause's root or one entry.
-pub(crate) fn patterns_stand_once(s: &[u8], m: Map) -> bool
+pub(crate) fn patterns_stand_once(s: &[u8], m: SheetMap) -> bool
     requires { ⌜ Laid (now s) × (m ≡ mapOf (now s)) × Counted (now s) × RootsKnown (now s) × ChildrenKnown (now s) ⌝ }
     ensures { λ r. ⌜ r ≡ every (standsOnce (now (s .entry))) 0 (patterns (now (s .entry))) ⌝ }
 {

@@ -1,6 +1,6 @@
 // Refusal 9: an integer is canonical, and a text has at most 64 bytes.
 use crate::Found;
-use crate::Map;
+use crate::SheetMap;
 use crate::records::pattern_at;
 use base_numbers::pattern_kinds;
 use base_numbers::sheet::TEXT_MOST;
@@ -13,7 +13,7 @@ ghost use Rattle.spec_accepted.specs.SheetFacts.{Laid, Counted, Shaped};
 ghost use Rattle.format_sheet.specs.Sections.{mapOf};
 ghost use Rattle.format_sheet.specs.Found.{foundOf};
 
-fn bad_text(s: &[u8], m: Map, p: usize) -> bool
+fn bad_text(s: &[u8], m: SheetMap, p: usize) -> bool
     requires { ⌜ Laid (now s) × (m ≡ mapOf (now s)) × Shaped (now s) × (p < patterns (now s)) ⌝ }
     ensures { λ r. ⌜ r ≡ badText (now (s .entry)) p ⌝ }
 {
@@ -32,7 +32,7 @@ fn bad_text(s: &[u8], m: Map, p: usize) -> bool
 }
 
 // 9.
-pub(crate) fn lowest_bad_text(s: &[u8], m: Map) -> Found
+pub(crate) fn lowest_bad_text(s: &[u8], m: SheetMap) -> Found
     requires { ⌜ Laid (now s) × (m ≡ mapOf (now s)) × Counted (now s) × Shaped (now s) ⌝ }
     ensures { λ r. ⌜ r ≡ foundOf (lowestBadText (now (s .entry))) ⌝ }
 {

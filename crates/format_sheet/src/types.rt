@@ -1,6 +1,6 @@
 // Refusals 6 and 7: types, constructors, type entries and the subject keep 01's rules, and no type is transparent.
 use crate::Found;
-use crate::Map;
+use crate::SheetMap;
 use crate::records::TypeRecord;
 use crate::records::constructor_at;
 use crate::records::entry_at;
@@ -71,7 +71,7 @@ fn flags_fit(kind: u8, flag: u8) -> bool
     flag <= type_flags::OPAQUE_DECORATED
 }
 
-fn type_keeps_rules(s: &[u8], m: Map, t: usize) -> bool
+fn type_keeps_rules(s: &[u8], m: SheetMap, t: usize) -> bool
     requires { ⌜ Laid (now s) × (m ≡ mapOf (now s)) × (t < types (now s)) ⌝ }
     ensures { λ r. ⌜ r ≡ typeKeepsRules (now (s .entry)) t ⌝ }
 {
@@ -82,7 +82,7 @@ fn type_keeps_rules(s: &[u8], m: Map, t: usize) -> bool
     flags_fit(r.kind, r.flag)
 }
 
-fn constructor_keeps_rules(s: &[u8], m: Map, c: usize) -> bool
+fn constructor_keeps_rules(s: &[u8], m: SheetMap, c: usize) -> bool
     requires { ⌜ Laid (now s) × (m ≡ mapOf (now s)) × (c < constructors (now s)) ⌝ }
     ensures { λ r. ⌜ r ≡ constructorKeepsRules (now (s .entry)) c ⌝ }
 {
@@ -90,14 +90,14 @@ fn constructor_keeps_rules(s: &[u8], m: Map, c: usize) -> bool
     run_in(r.first, r.count, m.counts.entries)
 }
 
-fn entry_keeps_rules(s: &[u8], m: Map, e: usize) -> bool
+fn entry_keeps_rules(s: &[u8], m: SheetMap, e: usize) -> bool
     requires { ⌜ Laid (now s) × (m ≡ mapOf (now s)) × (e < entries (now s)) ⌝ }
     ensures { λ r. ⌜ r ≡ entryKeepsRules (now (s .entry)) e ⌝ }
 {
     entry_at(s, m, e) < m.counts.types
 }
 
-fn types_keep_rules(s: &[u8], m: Map) -> bool
+fn types_keep_rules(s: &[u8], m: SheetMap) -> bool
     requires { ⌜ Laid (now s) × (m ≡ mapOf (now s)) ⌝ }
     ensures { λ r. ⌜ r ≡ every (typeKeepsRules (now (s .entry))) 0 (types (now (s .entry))) ⌝ }
 {
@@ -111,7 +111,7 @@ fn types_keep_rules(s: &[u8], m: Map) -> bool
     true
 }
 
-fn constructors_keep_rules(s: &[u8], m: Map) -> bool
+fn constructors_keep_rules(s: &[u8], m: SheetMap) -> bool
     requires { ⌜ Laid (now s) × (m ≡ mapOf (now s)) ⌝ }
     ensures { λ r. ⌜ r ≡ every (constructorKeepsRules (now (s .entry))) 0 (constructors (now (s .entry))) ⌝ }
 {
@@ -125,7 +125,7 @@ fn constructors_keep_rules(s: &[u8], m: Map) -> bool
     true
 }
 
-fn entries_keep_rules(s: &[u8], m: Map) -> bool
+fn entries_keep_rules(s: &[u8], m: SheetMap) -> bool
     requires { ⌜ Laid (now s) × (m ≡ mapOf (now s)) ⌝ }
     ensures { λ r. ⌜ r ≡ every (entryKeepsRules (now (s .entry))) 0 (entries (now (s .entry))) ⌝ }
 {
@@ -140,7 +140,7 @@ fn entries_keep_rules(s: &[u8], m: Map) -> bool
 }
 
 // 6.
-pub(crate) fn types_fit(s: &[u8], m: Map) -> bool
+pub(crate) fn types_fit(s: &[u8], m: SheetMap) -> bool
     requires { ⌜ Laid (now s) × (m ≡ mapOf (now s)) ⌝ }
     ensures { λ r. ⌜ r ≡ typesFit (now (s .entry)) ⌝ }
 {
@@ -157,7 +157,7 @@ pub(crate) fn types_fit(s: &[u8], m: Map) -> bool
 }
 
 // Data, opaque flag 1 only, one constructor with one field.
-fn transparent(s: &[u8], m: Map, t: usize) -> bool
+fn transparent(s: &[u8], m: SheetMap, t: usize) -> bool
     requires { ⌜ Laid (now s) × Typed (now s) × (m ≡ mapOf (now s)) × (t < types (now s)) ⌝ }
     ensures { λ r. ⌜ r ≡ Transparent (now (s .entry)) t ⌝ }
 {
@@ -176,7 +176,7 @@ fn transparent(s: &[u8], m: Map, t: usize) -> bool
 }
 
 // 7.
-pub(crate) fn lowest_transparent(s: &[u8], m: Map) -> Found
+pub(crate) fn lowest_transparent(s: &[u8], m: SheetMap) -> Found
     requires { ⌜ Laid (now s) × Counted (now s) × Typed (now s) × (m ≡ mapOf (now s)) ⌝ }
     ensures { λ r. ⌜ r ≡ foundOf (lowestTransparent (now (s .entry))) ⌝ }
 {

@@ -12,9 +12,9 @@ use Rattle.spec_rules.specs.SheetFile.{patternsAt, clausesAt, patterns, clauses
 use Rattle.spec_rules.specs.SheetRefusals.{Verdict, accepted, refused, verdict}
 use Rattle.spec_accepted.specs.SheetFacts.{Accepted, accepted-sheet}
 use Rattle.format_sheet.specs.declared.Starts.{Starts}
-use Rattle.format_sheet.specs.declared.Map.{Map}
-use Rattle.format_sheet.specs.declared.Checked.{Checked}
-use Rattle.format_sheet.specs.declared.Checked.the-variants as checks
+use Rattle.format_sheet.specs.declared.SheetMap.{SheetMap}
+use Rattle.format_sheet.specs.declared.CheckedSheet.{CheckedSheet}
+use Rattle.format_sheet.specs.declared.CheckedSheet.the-variants as checks
 use Rattle.format_sheet.specs.declared.records.PatternRecord.{PatternRecord}
 use Rattle.format_sheet.specs.Sections.{startsOf, mapOf}
 use Rattle.format_sheet.specs.SectionsLaws.{mapped}
@@ -68,19 +68,19 @@ checked-is : (s : List ℕ) → checked s ≡ answer s (verdict s)
 unfolding checked
 checked-is s = refl
 
-answer-refused : (s : List ℕ) (v : Verdict) (number place : ℕ) → _≡_ {A = Checked} (checks.Refused number place) (answer s v) → v ≡ refused number place
+answer-refused : (s : List ℕ) (v : Verdict) (number place : ℕ) → _≡_ {A = CheckedSheet} (checks.Refused number place) (answer s v) → v ≡ refused number place
 answer-refused s accepted number place e = cc
 answer-refused s (refused n k) number place e = cc
 
-answer-accepted : (s : List ℕ) (v : Verdict) (m : Map) → _≡_ {A = Checked} (checks.Accepted m) (answer s v) → (v ≡ accepted) × (m ≡ mapOf s)
+answer-accepted : (s : List ℕ) (v : Verdict) (m : SheetMap) → _≡_ {A = CheckedSheet} (checks.Accepted m) (answer s v) → (v ≡ accepted) × (m ≡ mapOf s)
 answer-accepted s accepted m e = (refl, cc)
 answer-accepted s (refused n k) m e = (cc, cc)
 
-pub clause-refused : (s : List ℕ) (c number place : ℕ) → _≡_ {A = Checked} (checks.Refused number place) (checked s) → _≡_ {A = Clause} (Refused number place) (clausePatternOf s c)
+pub clause-refused : (s : List ℕ) (c number place : ℕ) → _≡_ {A = CheckedSheet} (checks.Refused number place) (checked s) → _≡_ {A = Clause} (Refused number place) (clausePatternOf s c)
 clause-refused s c number place e =
     ap (clauseOf s c) (sym (answer-refused s (verdict s) number place (e ∙ checked-is s))) ∙ sym (clausePatternOf-is s c)
 
-module _ (s : List ℕ) (c : ℕ) (m : Map) (e : _≡_ {A = Checked} (checks.Accepted m) (checked s)) where
+module _ (s : List ℕ) (c : ℕ) (m : SheetMap) (e : _≡_ {A = CheckedSheet} (checks.Accepted m) (checked s)) where
   is-accepted : verdict s ≡ accepted
   is-accepted = answer-accepted s (verdict s) m (e ∙ checked-is s) .0
 
@@ -91,7 +91,7 @@ module _ (s : List ℕ) (c : ℕ) (m : Map) (e : _≡_ {A = Checked} (checks.Acc
   clauses-are = mapped s m is-map .of-clauses
 
   pub root-pattern-asked : (c < m .counts .clauses) → Accepted s × (m .at ≡ startsOf s) × (c < clauses s)
-  root-pattern-asked h = (accepted-sheet s is-accepted, ap (λ (x : Map). x .at) is-map, subst (λ (n : ℕ). c < n) clauses-are h)
+  root-pattern-asked h = (accepted-sheet s is-accepted, ap (λ (x : SheetMap). x .at) is-map, subst (λ (n : ℕ). c < n) clauses-are h)
 
   pub clause-missing : m .counts .clauses ≤ c → _≡_ {A = Clause} NoClause (clausePatternOf s c)
   clause-missing h =

@@ -3,7 +3,7 @@
 // on plain parameters; `clause_pattern`, above them, has plain parameters and asks nothing of its caller.
 mod places;
 
-use format_sheet::Checked;
+use format_sheet::CheckedSheet;
 use format_sheet::Starts;
 use format_sheet::check;
 use format_sheet::records::PatternRecord;
@@ -79,8 +79,8 @@ pub fn clause_pattern(s: &[u8], c: u16) -> Clause
     ensures { λ r. ⌜ r ≡ clausePatternOf (now (s .entry)) c ⌝ }
 {
     match check(s) {
-        Checked::Refused { number, place } => Clause::Refused { number, place },
-        Checked::Accepted(m) => {
+        CheckedSheet::Refused { number, place } => Clause::Refused { number, place },
+        CheckedSheet::Accepted(m) => {
             let n = c as usize;
             if n >= m.counts.clauses {
                 return Clause::NoClause;

@@ -13,8 +13,8 @@ use Rattle.base_words.specs.WordsLaws.{both-true, both-assoc}
 use Rattle.spec_rules.specs.Limits.{treeTrailer}
 use Rattle.spec_rules.specs.TreeReader.{treeLength, lengthTrue, startsRise, nodesInPreOrder, treeFits}
 use Rattle.spec_accepted.specs.TreeFacts.{TreeRuled, TreeSound, tree-laid, tree-ruled, tree-sound}
-use Rattle.format_tree.specs.declared.layout.Map.{Map}
-use Rattle.format_tree.specs.declared.Checked.the-variants.{Accepted, Refused}
+use Rattle.format_tree.specs.declared.layout.TreeMap.{TreeMap}
+use Rattle.format_tree.specs.declared.CheckedTree.the-variants.{Accepted, Refused}
 use Rattle.format_tree.specs.Reading.{mapOf, Mapped, Ruled, checkedBy, checked, recordsKeepRules}
 use Rattle.format_tree.specs.ReadingLaws.{mapped}
 
@@ -36,7 +36,7 @@ rules-kept t h =
     tree-ruled t (p .0) (q .0) (r .0) (s .0) (s .1)
 
 -- m is the map that was read of a file with a true length and rising starts
-module _ (t : List ℕ) (bytes : Bytes t) (long : lengthTrue t ≡ true) (rise : startsRise t ≡ true) (m : Map) (is : m ≡ mapOf t) where
+module _ (t : List ℕ) (bytes : Bytes t) (long : lengthTrue t ≡ true) (rise : startsRise t ≡ true) (m : TreeMap) (is : m ≡ mapOf t) where
   pub map-read : Mapped t m
   map-read = rw is (mapped t bytes (tree-laid t long rise))
 
@@ -63,16 +63,16 @@ module _ (t : List ℕ) where
         pub refused-order : nodesInPreOrder t ≡ false → Refused ≡ checked t
         refused-order e = by-test false (fits-by-stages t ∙ rw (long, rise, keep, e))
 
-        pub accepted-all : (m : Map) → m ≡ mapOf t → nodesInPreOrder t ≡ true → Accepted m ≡ checked t
+        pub accepted-all : (m : TreeMap) → m ≡ mapOf t → nodesInPreOrder t ≡ true → Accepted m ≡ checked t
         accepted-all m is e = ap Accepted is ∙ by-test true (fits-by-stages t ∙ rw (long, rise, keep, e))
 
 -- ---- an accepted file
-pub record Accept (t : List ℕ) (m : Map) : Type 0 where
+pub record Accept (t : List ℕ) (m : TreeMap) : Type 0 where
   pub map-is : Mapped t m
   pub fits : treeFits t ≡ true
   pub sound : TreeSound t
 
-pub accepted-is : (t : List ℕ) (m : Map) → Bytes t → checked t ≡ Accepted m → Accept t m
+pub accepted-is : (t : List ℕ) (m : TreeMap) → Bytes t → checked t ≡ Accepted m → Accept t m
 unfolding checked
 accepted-is t m bytes e = go (treeFits t) refl
   where

@@ -15,7 +15,7 @@ use Rattle.spec_rules.specs.Searching.{every}
 use Rattle.spec_rules.specs.SplittingLaws.{both-end}
 use Rattle.spec_rules.specs.TreeReader.{nodes, nodeKind, nodeWord, nodeFirstCase, nodeCases, nodeTailCases, nodeDefault, nodeChild, caseChild, caseChildren, defaultChild, nodeChildren, nodesInPreOrder}
 use Rattle.spec_accepted.specs.TreeFacts.{switch-children, hoist-children}
-use Rattle.format_tree.specs.declared.layout.Map.{Map}
+use Rattle.format_tree.specs.declared.layout.TreeMap.{TreeMap}
 use Rattle.format_tree.specs.declared.order.Children.{Children}
 use Rattle.format_tree.specs.Reading.{Ruled}
 use Rattle.format_tree.specs.ReadingLaws.{nodes-count, cases-count}
@@ -143,7 +143,7 @@ module _ (t : List ℕ) (e i n : ℕ) (some : 1 ≤ n) where
       sym (chain-then t e i n some (d ∷ []) ∙ rw (x, p) (both-end (eqb d (endOf t (caseChild t (i + n - 1))))))
 
 -- ---- last children and ends, as the map counts nodes
-module _ {t : List ℕ} {m : Map} (w : Ruled t m) where
+module _ {t : List ℕ} {m : TreeMap} (w : Ruled t m) where
   pub in-nodes : (k : ℕ) → k < m .nodes .count → k < nodes t
   in-nodes k h = omega (arith, nodes-count (w .mapped))
 
@@ -182,7 +182,7 @@ module _ {t : List ℕ} {m : Map} (w : Ruled t m) where
       sym (pre-order-is t (children-in (w .rules)) ∙ rw (lt-ltb 0 (nodes t) (omega arith), c, x))
 
 -- ---- where the children of a node stand
-module _ {t : List ℕ} {m : Map} (w : Ruled t m) (k : ℕ) (h : k < m .nodes .count) where
+module _ {t : List ℕ} {m : TreeMap} (w : Ruled t m) (k : ℕ) (h : k < m .nodes .count) where
   pub children-leaf : nodeKind t k ≡ leafNode → ChildrenAre t m k Children.Nothing
   children-leaf e = leaf-children (w .rules) k (in-nodes w k h) e
 

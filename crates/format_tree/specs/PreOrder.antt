@@ -8,7 +8,7 @@ use lib.Dec.{eqb, ltb}
 use Rattle.base_words.specs.Words.{both}
 use Rattle.spec_rules.specs.Searching.{every}
 use Rattle.spec_rules.specs.TreeReader.{nodes, nodeChildren, caseChildren, defaultChild}
-use Rattle.format_tree.specs.declared.layout.Map.{Map}
+use Rattle.format_tree.specs.declared.layout.TreeMap.{TreeMap}
 use Rattle.format_tree.specs.declared.order.Children.{Children}
 
 -- the last of the children cs, and k where there is none
@@ -51,7 +51,7 @@ AllBelow n [] = Unit {0}
 AllBelow n (c ∷ cs) = (c < n) × AllBelow n cs
 
 -- the children of node k as the code has them; a run of cases has one, and lies in its section
-abbrev pub ChildrenAre : List ℕ → Map → ℕ → Children → Type 0
+abbrev pub ChildrenAre : List ℕ → TreeMap → ℕ → Children → Type 0
 ChildrenAre t m k (Children.Cases first count default) =
     (nodeChildren t k ≡ caseChildren t first count ++ defaultChild default) × (1 ≤ count) × (first + count ≤ m .cases .count)
 ChildrenAre t m k (Children.One c) = nodeChildren t k ≡ c ∷ []

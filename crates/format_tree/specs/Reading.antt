@@ -16,12 +16,12 @@ use Rattle.format_records.specs.declared.reading.Binding.{Binding}
 use Rattle.format_records.specs.declared.reading.Path.{Path}
 use Rattle.format_records.specs.declared.reading.Step.{Step}
 use Rattle.format_records.specs.Records.{testFrom}
-use Rattle.format_tree.specs.declared.layout.Map.{Map}
-use Rattle.format_tree.specs.declared.Checked.{Checked}
-use Rattle.format_tree.specs.declared.Checked.the-variants.{Accepted, Refused}
+use Rattle.format_tree.specs.declared.layout.TreeMap.{TreeMap}
+use Rattle.format_tree.specs.declared.CheckedTree.{CheckedTree}
+use Rattle.format_tree.specs.declared.CheckedTree.the-variants.{Accepted, Refused}
 use Rattle.format_tree.specs.declared.reading.Node.{Node}
 
-abbrev pub mapOf : List ℕ → Map
+abbrev pub mapOf : List ℕ → TreeMap
 mapOf t = record {
   nodes = record { start = nodesAt t; count = nodes t };
   cases = record { start = casesAt t; count = cases t };
@@ -32,7 +32,7 @@ mapOf t = record {
 }
 
 -- m is the map of a file whose starts rise by whole records: the sections lie back to back, the first from 0 on
-pub record Mapped (t : List ℕ) (m : Map) : Type 0 where
+pub record Mapped (t : List ℕ) (m : TreeMap) : Type 0 where
   pub is : m ≡ mapOf t
   pub from-zero : m .nodes .start ≡ 0
   pub nodes-end : nodeSize * m .nodes .count ≡ m .cases .start
@@ -44,7 +44,7 @@ pub record Mapped (t : List ℕ) (m : Map) : Type 0 where
   pub short : length t ≤ 65535
 
 -- a mapped file whose records keep the rules
-pub record Ruled (t : List ℕ) (m : Map) : Type 0 where
+pub record Ruled (t : List ℕ) (m : TreeMap) : Type 0 where
   pub mapped : Mapped t m
   pub rules : TreeRuled t
 
@@ -78,11 +78,11 @@ abbrev pub stepOf : List ℕ → ℕ → Step
 stepOf t i = record { kind = stepKind t i; flag = stepFlag t i; index = stepIndexAt t i; of = stepType t i }
 
 -- 31 unless the file keeps every rule
-abbrev pub checkedBy : Bool → List ℕ → Checked
+abbrev pub checkedBy : Bool → List ℕ → CheckedTree
 checkedBy true t = Accepted (mapOf t)
 checkedBy false t = Refused
 
-unfoldable pub checked : List ℕ → Checked
+unfoldable pub checked : List ℕ → CheckedTree
 checked t = checkedBy (treeFits t) t
 
 -- the rules of records, all of them

@@ -15,46 +15,46 @@ use Rattle.spec_rules.specs.TreeReader.{treeStart, treePoolEnd, nodesAt, casesA
 use Rattle.spec_accepted.specs.TreeFacts.{TreeLaid, tree-length-small}
 use Rattle.format_parts.specs.declared.sections.Section.{Section}
 use Rattle.format_parts.specs.Sections.{sectionOf}
-use Rattle.format_tree.specs.declared.layout.Map.{Map}
+use Rattle.format_tree.specs.declared.layout.TreeMap.{TreeMap}
 use Rattle.format_tree.specs.Reading.{mapOf, Mapped}
 
 -- ---- starts and counts
-module _ {t : List ℕ} {m : Map} (w : Mapped t m) where
+module _ {t : List ℕ} {m : TreeMap} (w : Mapped t m) where
   pub nodes-start : nodesAt t ≡ 0
-  nodes-start = sym (ap (λ (n : Map). n .nodes .start) (w .is)) ∙ w .from-zero
+  nodes-start = sym (ap (λ (n : TreeMap). n .nodes .start) (w .is)) ∙ w .from-zero
 
   pub cases-start : casesAt t ≡ m .cases .start
-  cases-start = sym (ap (λ (n : Map). n .cases .start) (w .is))
+  cases-start = sym (ap (λ (n : TreeMap). n .cases .start) (w .is))
 
   pub bindings-start : bindingsAt t ≡ m .bindings .start
-  bindings-start = sym (ap (λ (n : Map). n .bindings .start) (w .is))
+  bindings-start = sym (ap (λ (n : TreeMap). n .bindings .start) (w .is))
 
   pub paths-start : pathsAt t ≡ m .paths .start
-  paths-start = sym (ap (λ (n : Map). n .paths .start) (w .is))
+  paths-start = sym (ap (λ (n : TreeMap). n .paths .start) (w .is))
 
   pub steps-start : stepsAt t ≡ m .steps .start
-  steps-start = sym (ap (λ (n : Map). n .steps .start) (w .is))
+  steps-start = sym (ap (λ (n : TreeMap). n .steps .start) (w .is))
 
   pub pool-start : treePoolAt t ≡ m .pool .start
-  pool-start = sym (ap (λ (n : Map). n .pool .start) (w .is))
+  pool-start = sym (ap (λ (n : TreeMap). n .pool .start) (w .is))
 
   pub nodes-count : nodes t ≡ m .nodes .count
-  nodes-count = sym (ap (λ (n : Map). n .nodes .count) (w .is))
+  nodes-count = sym (ap (λ (n : TreeMap). n .nodes .count) (w .is))
 
   pub cases-count : cases t ≡ m .cases .count
-  cases-count = sym (ap (λ (n : Map). n .cases .count) (w .is))
+  cases-count = sym (ap (λ (n : TreeMap). n .cases .count) (w .is))
 
   pub bindings-count : bindings t ≡ m .bindings .count
-  bindings-count = sym (ap (λ (n : Map). n .bindings .count) (w .is))
+  bindings-count = sym (ap (λ (n : TreeMap). n .bindings .count) (w .is))
 
   pub paths-count : paths t ≡ m .paths .count
-  paths-count = sym (ap (λ (n : Map). n .paths .count) (w .is))
+  paths-count = sym (ap (λ (n : TreeMap). n .paths .count) (w .is))
 
   pub steps-count : steps t ≡ m .steps .count
-  steps-count = sym (ap (λ (n : Map). n .steps .count) (w .is))
+  steps-count = sym (ap (λ (n : TreeMap). n .steps .count) (w .is))
 
   pub pool-count : treePoolSize t ≡ m .pool .count
-  pool-count = sym (ap (λ (n : Map). n .pool .count) (w .is))
+  pool-count = sym (ap (λ (n : TreeMap). n .pool .count) (w .is))
 
   -- the map that was given is the file's own
   pub mapped-own : Mapped t (mapOf t)
@@ -76,7 +76,7 @@ pub map-is : (t : List ℕ) (a b c d e f : ℕ)
     → a ≡ treeStart t 0 → b ≡ treeStart t 1 → c ≡ treeStart t 2 → d ≡ treeStart t 3 → e ≡ treeStart t 4 → f ≡ treeStart t 5
     → (na ca ba pa sa po : Section) → na ≡ sectionOf a b nodeSize → ca ≡ sectionOf b c caseSize → ba ≡ sectionOf c d bindingSize → pa ≡ sectionOf d e pathSize
     → sa ≡ sectionOf e f stepSize → po ≡ sectionOf f (length t - treeTrailer) 1
-    → _≡_ {A = Map} (record { nodes = na; cases = ca; bindings = ba; paths = pa; steps = sa; pool = po }) (mapOf t)
+    → _≡_ {A = TreeMap} (record { nodes = na; cases = ca; bindings = ba; paths = pa; steps = sa; pool = po }) (mapOf t)
 unfolding nodesAt casesAt bindingsAt pathsAt stepsAt treePoolAt treePoolEnd nodes cases bindings paths steps treePoolSize
 map-is t a b c d e f ea eb ec ed ee ef na ca ba pa sa po en ek em ep es eo = simp (en, ek, em, ep, es, eo, ea, eb, ec, ed, ee, ef, div-one)
 

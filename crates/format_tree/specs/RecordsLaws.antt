@@ -13,7 +13,7 @@ use Rattle.spec_rules.specs.Searching.{every}
 use Rattle.spec_rules.specs.SheetFile.{runIn}
 use Rattle.spec_rules.specs.TreeReader.{nodes, cases, paths, nodeWord, nodePath, nodeFirstCase, nodeCases, nodeTailCases, nodeDefault, switchParts}
 use Rattle.spec_accepted.specs.RunsLaws.{run-in}
-use Rattle.format_tree.specs.declared.layout.Map.{Map}
+use Rattle.format_tree.specs.declared.layout.TreeMap.{TreeMap}
 use Rattle.format_tree.specs.Reading.{Mapped}
 use Rattle.format_tree.specs.ReadingLaws.{cases-count}
 
@@ -39,7 +39,7 @@ module _ (f : ℕ → Bool) where
   every-rest-end i j n h = let a : n - j ≡ 0 = omega arith in rw a
 
 -- the run of cases of a switch whose parts are in their sections, as its words were read
-pub switch-run-in : {t : List ℕ} {m : Map} → Mapped t m → (k f n u : ℕ) → switchParts t k ≡ true → f ≡ nodeWord t k firstCaseWord → n ≡ nodeWord t k casesWord → u ≡ nodeWord t k tailCasesWord
+pub switch-run-in : {t : List ℕ} {m : TreeMap} → Mapped t m → (k f n u : ℕ) → switchParts t k ≡ true → f ≡ nodeWord t k firstCaseWord → n ≡ nodeWord t k casesWord → u ≡ nodeWord t k tailCasesWord
     → f + (n + u) ≤ m .cases .count
 unfolding switchParts nodeFirstCase nodeCases nodeTailCases
 switch-run-in {t} w k f n u h ef en eu =

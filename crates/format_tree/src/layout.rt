@@ -21,7 +21,7 @@ ghost use Rattle.spec_rules.specs.TreeReader.{treeStart, lengthTrue, startsRise
 ghost use Rattle.spec_accepted.specs.TreeFacts.{TreeLaid};
 ghost use Rattle.format_tree.specs.Reading.{mapOf};
 
-pub struct Map {
+pub struct TreeMap {
     pub nodes: Section,
     pub cases: Section,
     pub bindings: Section,
@@ -82,7 +82,7 @@ pub fn starts_rise(tree: &[u8]) -> bool
 }
 
 // The sections of a file whose starts rise.
-pub fn sections(tree: &[u8]) -> Map
+pub fn sections(tree: &[u8]) -> TreeMap
     requires { ⌜ TreeLaid (now tree) ⌝ }
     ensures { λ r. ⌜ r ≡ mapOf (now (tree .entry)) ⌝ }
 {
@@ -98,7 +98,7 @@ pub fn sections(tree: &[u8]) -> Map
     let paths = section_of(paths_at, steps_at, PATH_SIZE);
     let steps = section_of(steps_at, pool_at, STEP_SIZE);
     let pool = section_of(pool_at, tree.len() - TREE_TRAILER, BYTE_SIZE);
-    Map {
+    TreeMap {
         nodes,
         cases,
         bindings,

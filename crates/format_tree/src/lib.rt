@@ -1,7 +1,7 @@
 // The reader of a tree file: every condition of "A reader asks, else 31", and the reading of its records.
 // A check reads each record once, and nodes and cases once more for their order; it takes no memory but a few words. Each condition
 // is the rules' definition of its name; what is read of an accepted file rests on the facts of the crate spec_accepted.
-use layout::Map;
+use layout::TreeMap;
 use layout::length_true;
 use layout::sections;
 use layout::starts_rise;
@@ -19,12 +19,12 @@ mod order;
 pub mod reading;
 mod records;
 
-pub enum Checked {
-    Accepted(Map),
+pub enum CheckedTree {
+    Accepted(TreeMap),
     Refused,
 }
 
-fn records_keep_rules(tree: &[u8], m: Map) -> bool
+fn records_keep_rules(tree: &[u8], m: TreeMap) -> bool
     requires { ⌜ Mapped (now tree) m ⌝ }
     ensures { λ r. ⌜ r ≡ recordsKeepRules (now (tree .entry)) ⌝ }
 {
@@ -44,21 +44,21 @@ fn records_keep_rules(tree: &[u8], m: Map) -> bool
 }
 
 // The map of a file that keeps every rule.
-pub fn check(tree: &[u8]) -> Checked
+pub fn check(tree: &[u8]) -> CheckedTree
     ensures { λ r. ⌜ r ≡ checked (now (tree .entry)) ⌝ }
 {
     if !length_true(tree) {
-        return Checked::Refused;
+        return CheckedTree::Refused;
     }
     if !starts_rise(tree) {
-        return Checked::Refused;
+        return CheckedTree::Refused;
     }
     let m = sections(tree);
     if !records_keep_rules(tree, m) {
-        return Checked::Refused;
+        return CheckedTree::Refused;
     }
     if !nodes_in_pre_order(tree, m) {
-        return Checked::Refused;
+        return CheckedTree::Refused;
     }
-    Checked::Accepted(m)
+    CheckedTree::Accepted(m)
 }

@@ -2,7 +2,7 @@
 // later child is where the subtree of the child before it ends, and the subtree of node 0 ends where the nodes do.
 // A subtree's end is found by going from a node to its last child as far as there is one. This is done for children that are not
 // the last alone, so that each node is met once on the way to an end: the cost is that of one pass over nodes and cases.
-use crate::layout::Map;
+use crate::layout::TreeMap;
 use crate::reading::case_child;
 use crate::reading::node_kind;
 use crate::reading::node_word;
@@ -27,7 +27,7 @@ enum Children {
     Nothing,
 }
 
-fn children_of(tree: &[u8], m: Map, k: usize) -> Children
+fn children_of(tree: &[u8], m: TreeMap, k: usize) -> Children
     requires { ⌜ Ruled (now tree) m × (k < m .nodes .count) ⌝ }
     ensures { λ r. ⌜ ChildrenAre (now (tree .entry)) m k r ⌝ }
 {
@@ -50,7 +50,7 @@ fn children_of(tree: &[u8], m: Map, k: usize) -> Children
 }
 
 // The last child of a switch with n cases from i on and this default.
-fn last_of_switch(tree: &[u8], m: Map, i: usize, n: usize, default: usize) -> usize
+fn last_of_switch(tree: &[u8], m: TreeMap, i: usize, n: usize, default: usize) -> usize
     requires { ⌜ Mapped (now tree) m × (1 ≤ n) × (i + n ≤ m .cases .count) ⌝ }
     ensures { λ r. ⌜ ((k : ℕ) → r ≡ lastFrom k (caseChildren (now (tree .entry)) i n ++ defaultChild default)) ⌝ }
 {
@@ -61,7 +61,7 @@ fn last_of_switch(tree: &[u8], m: Map, i: usize, n: usize, default: usize) -> us
 }
 
 // The last child of node k; k itself where it has none.
-fn last_child(tree: &[u8], m: Map, k: usize) -> usize
+fn last_child(tree: &[u8], m: TreeMap, k: usize) -> usize
     requires { ⌜ Ruled (now tree) m × (k < m .nodes .count) ⌝ }
     ensures { λ r. ⌜ r ≡ lastChild (now (tree .entry)) k ⌝ }
 {
@@ -78,7 +78,7 @@ fn last_child(tree: &[u8], m: Map, k: usize) -> usize
 }
 
 // The number after the last node of the subtree of k.
-fn end_of(tree: &[u8], m: Map, k: usize) -> usize
+fn end_of(tree: &[u8], m: TreeMap, k: usize) -> usize
     requires { ⌜ Ruled (now tree) m × (k < m .nodes .count) ⌝ }
     ensures { λ r. ⌜ r ≡ endOf (now (tree .entry)) k ⌝ }
 {
@@ -92,7 +92,7 @@ fn end_of(tree: &[u8], m: Map, k: usize) -> usize
 }
 
 // The children of the n cases from i on: the first is node k + 1, each later one is where the one before it ends.
-fn cases_follow(tree: &[u8], m: Map, k: usize, i: usize, n: usize) -> bool
+fn cases_follow(tree: &[u8], m: TreeMap, k: usize, i: usize, n: usize) -> bool
     requires { ⌜ Ruled (now tree) m × (k < m .nodes .count) × (1 ≤ n) × (i + n ≤ m .cases .count) ⌝ }
     ensures { λ r. ⌜ r ≡ chained (now (tree .entry)) (k + 1) (caseChildren (now (tree .entry)) i n) ⌝ }
 {
@@ -113,7 +113,7 @@ fn cases_follow(tree: &[u8], m: Map, k: usize, i: usize, n: usize) -> bool
 }
 
 // The same with the default after the cases.
-fn switch_follows(tree: &[u8], m: Map, k: usize, i: usize, n: usize, default: usize) -> bool
+fn switch_follows(tree: &[u8], m: TreeMap, k: usize, i: usize, n: usize, default: usize) -> bool
     requires { ⌜ Ruled (now tree) m × (k < m .nodes .count) × (1 ≤ n) × (i + n ≤ m .cases .count) ⌝ }
     ensures { λ r. ⌜ r ≡ chained (now (tree .entry)) (k + 1) (caseChildren (now (tree .entry)) i n ++ defaultChild default) ⌝ }
 {
@@ -127,7 +127,7 @@ fn switch_follows(tree: &[u8], m: Map, k: usize, i: usize, n: usize, default: us
     default - 1 == end_of(tree, m, before)
 }
 
-fn children_follow(tree: &[u8], m: Map, k: usize) -> bool
+fn children_follow(tree: &[u8], m: TreeMap, k: usize) -> bool
     requires { ⌜ Ruled (now tree) m × (k < m .nodes .count) ⌝ }
     ensures { λ r. ⌜ r ≡ childrenFollow (now (tree .entry)) k ⌝ }
 {
@@ -143,7 +143,7 @@ fn children_follow(tree: &[u8], m: Map, k: usize) -> bool
     }
 }
 
-fn all_follow(tree: &[u8], m: Map) -> bool
+fn all_follow(tree: &[u8], m: TreeMap) -> bool
     requires { ⌜ Ruled (now tree) m ⌝ }
     ensures { λ r. ⌜ r ≡ every (childrenFollow (now (tree .entry))) 0 (m .nodes .count) ⌝ }
 {
@@ -157,7 +157,7 @@ fn all_follow(tree: &[u8], m: Map) -> bool
     true
 }
 
-pub fn nodes_in_pre_order(tree: &[u8], m: Map) -> bool
+pub fn nodes_in_pre_order(tree: &[u8], m: TreeMap) -> bool
     requires { ⌜ Ruled (now tree) m ⌝ }
     ensures { λ r. ⌜ r ≡ nodesInPreOrder (now (tree .entry)) ⌝ }
 {

@@ -1,7 +1,7 @@
 // Reading one record of a tree file whose sections are mapped: a node, a case with its test, a binding, a path, a step.
 // Rests on the records at a place, and on what a map says of the sections. A node is read of a file whose records keep the rules, since
 // what a switch asks is read with it.
-use crate::layout::Map;
+use crate::layout::TreeMap;
 use base_numbers::node_kinds;
 use base_numbers::node_words;
 use base_numbers::tree::BINDING_SIZE;
@@ -61,14 +61,14 @@ pub enum Node {
     },
 }
 
-pub fn node_kind(tree: &[u8], m: Map, k: usize) -> u8
+pub fn node_kind(tree: &[u8], m: TreeMap, k: usize) -> u8
     requires { ⌜ Mapped (now tree) m × (k < m .nodes .count) ⌝ }
     ensures { λ r. ⌜ r ≡ nodeKind (now (tree .entry)) k ⌝ }
 {
     kind_in(tree, NODE_SIZE * k)
 }
 
-pub fn node_zero(tree: &[u8], m: Map, k: usize) -> u8
+pub fn node_zero(tree: &[u8], m: TreeMap, k: usize) -> u8
     requires { ⌜ Mapped (now tree) m × (k < m .nodes .count) ⌝ }
     ensures { λ r. ⌜ r ≡ nodeZero (now (tree .entry)) k ⌝ }
 {
@@ -76,42 +76,42 @@ pub fn node_zero(tree: &[u8], m: Map, k: usize) -> u8
 }
 
 // The node's word i of five.
-pub fn node_word(tree: &[u8], m: Map, k: usize, i: usize) -> u16
+pub fn node_word(tree: &[u8], m: TreeMap, k: usize, i: usize) -> u16
     requires { ⌜ Mapped (now tree) m × (k < m .nodes .count) × (i < 5) ⌝ }
     ensures { λ r. ⌜ r ≡ nodeWord (now (tree .entry)) k i ⌝ }
 {
     node_word_in(tree, NODE_SIZE * k, i)
 }
 
-pub fn case_kind(tree: &[u8], m: Map, i: usize) -> u8
+pub fn case_kind(tree: &[u8], m: TreeMap, i: usize) -> u8
     requires { ⌜ Mapped (now tree) m × (i < m .cases .count) ⌝ }
     ensures { λ r. ⌜ r ≡ caseKind (now (tree .entry)) i ⌝ }
 {
     kind_in(tree, m.cases.start + CASE_SIZE * i)
 }
 
-pub fn case_zero(tree: &[u8], m: Map, i: usize) -> u8
+pub fn case_zero(tree: &[u8], m: TreeMap, i: usize) -> u8
     requires { ⌜ Mapped (now tree) m × (i < m .cases .count) ⌝ }
     ensures { λ r. ⌜ r ≡ caseZero (now (tree .entry)) i ⌝ }
 {
     zero_in(tree, m.cases.start + CASE_SIZE * i)
 }
 
-pub fn case_number(tree: &[u8], m: Map, i: usize) -> u16
+pub fn case_number(tree: &[u8], m: TreeMap, i: usize) -> u16
     requires { ⌜ Mapped (now tree) m × (i < m .cases .count) ⌝ }
     ensures { λ r. ⌜ r ≡ caseNumber (now (tree .entry)) i ⌝ }
 {
     case_number_in(tree, m.cases.start + CASE_SIZE * i)
 }
 
-pub fn case_length(tree: &[u8], m: Map, i: usize) -> u16
+pub fn case_length(tree: &[u8], m: TreeMap, i: usize) -> u16
     requires { ⌜ Mapped (now tree) m × (i < m .cases .count) ⌝ }
     ensures { λ r. ⌜ r ≡ caseLength (now (tree .entry)) i ⌝ }
 {
     case_length_in(tree, m.cases.start + CASE_SIZE * i)
 }
 
-pub fn case_child(tree: &[u8], m: Map, i: usize) -> u16
+pub fn case_child(tree: &[u8], m: TreeMap, i: usize) -> u16
     requires { ⌜ Mapped (now tree) m × (i < m .cases .count) ⌝ }
     ensures { λ r. ⌜ r ≡ caseChild (now (tree .entry)) i ⌝ }
 {
@@ -119,21 +119,21 @@ pub fn case_child(tree: &[u8], m: Map, i: usize) -> u16
 }
 
 // What case i asks.
-pub fn test_at(tree: &[u8], m: Map, i: usize) -> Test
+pub fn test_at(tree: &[u8], m: TreeMap, i: usize) -> Test
     requires { ⌜ Mapped (now tree) m × (i < m .cases .count) ⌝ }
     ensures { λ r. ⌜ r ≡ testOf (now (tree .entry)) i ⌝ }
 {
     test_in(tree, m.cases.start + CASE_SIZE * i)
 }
 
-pub fn case_at(tree: &[u8], m: Map, i: usize) -> Case
+pub fn case_at(tree: &[u8], m: TreeMap, i: usize) -> Case
     requires { ⌜ Mapped (now tree) m × (i < m .cases .count) ⌝ }
     ensures { λ r. ⌜ r ≡ caseOf (now (tree .entry)) i ⌝ }
 {
     case_in(tree, m.cases.start + CASE_SIZE * i)
 }
 
-fn switch_at(tree: &[u8], m: Map, k: usize) -> Node
+fn switch_at(tree: &[u8], m: TreeMap, k: usize) -> Node
     requires { ⌜ Ruled (now tree) m × (k < m .nodes .count) × (nodeKind (now tree) k ≡ 0) ⌝ }
     ensures { λ r. ⌜ r ≡ nodeOf (now (tree .entry)) k ⌝ }
 {
@@ -148,7 +148,7 @@ fn switch_at(tree: &[u8], m: Map, k: usize) -> Node
 }
 
 // Each kind reads its own words: a walk passes most nodes for one of them.
-pub fn node_at(tree: &[u8], m: Map, k: usize) -> Node
+pub fn node_at(tree: &[u8], m: TreeMap, k: usize) -> Node
     requires { ⌜ Ruled (now tree) m × (k < m .nodes .count) ⌝ }
     ensures { λ r. ⌜ r ≡ nodeOf (now (tree .entry)) k ⌝ }
 {
@@ -176,7 +176,7 @@ pub fn node_at(tree: &[u8], m: Map, k: usize) -> Node
     }
 }
 
-pub fn binding_at(tree: &[u8], m: Map, b: usize) -> Binding
+pub fn binding_at(tree: &[u8], m: TreeMap, b: usize) -> Binding
     requires { ⌜ Mapped (now tree) m × (b < m .bindings .count) ⌝ }
     ensures { λ r. ⌜ r ≡ bindingOf (now (tree .entry)) b ⌝ }
 {
@@ -191,7 +191,7 @@ pub fn path_from(tree: &[u8], start: usize, p: usize) -> Path
     path_in(tree, start + PATH_SIZE * p)
 }
 
-pub fn path_at(tree: &[u8], m: Map, p: usize) -> Path
+pub fn path_at(tree: &[u8], m: TreeMap, p: usize) -> Path
     requires { ⌜ Mapped (now tree) m × (p < m .paths .count) ⌝ }
     ensures { λ r. ⌜ r ≡ pathOf (now (tree .entry)) p ⌝ }
 {
@@ -206,7 +206,7 @@ pub fn step_from(tree: &[u8], start: usize, i: usize) -> Step
     step_in(tree, start + STEP_SIZE * i)
 }
 
-pub fn step_at(tree: &[u8], m: Map, i: usize) -> Step
+pub fn step_at(tree: &[u8], m: TreeMap, i: usize) -> Step
     requires { ⌜ Mapped (now tree) m × (i < m .steps .count) ⌝ }
     ensures { λ r. ⌜ r ≡ stepOf (now (tree .entry)) i ⌝ }
 {

@@ -1,6 +1,6 @@
 // The rules of single records: "known kinds, zero bytes and unused fields 0, .. parts inside their sections; at most 192 bindings a
 // node". Each function is the rules' condition of its name; a record that nothing uses is asked all the same.
-use crate::layout::Map;
+use crate::layout::TreeMap;
 use crate::reading::binding_at;
 use crate::reading::case_child;
 use crate::reading::case_kind;
@@ -27,7 +27,7 @@ ghost use Rattle.format_tree.specs.Reading.{Mapped};
 
 // ---- nodes
 
-fn switch_parts(tree: &[u8], m: Map, k: usize) -> bool
+fn switch_parts(tree: &[u8], m: TreeMap, k: usize) -> bool
     requires { ⌜ Mapped (now tree) m × (k < m .nodes .count) ⌝ }
     ensures { λ r. ⌜ r ≡ switchParts (now (tree .entry)) k ⌝ }
 {
@@ -46,7 +46,7 @@ fn switch_parts(tree: &[u8], m: Map, k: usize) -> bool
 }
 
 // Each of the n cases from i on is of this kind.
-fn cases_of_kind(tree: &[u8], m: Map, kind: u8, i: usize, n: usize) -> bool
+fn cases_of_kind(tree: &[u8], m: TreeMap, kind: u8, i: usize, n: usize) -> bool
     requires { ⌜ Mapped (now tree) m × (i + n ≤ m .cases .count) ⌝ }
     ensures { λ r. ⌜ r ≡ every (isKind (now (tree .entry)) kind) i n ⌝ }
 {
@@ -60,7 +60,7 @@ fn cases_of_kind(tree: &[u8], m: Map, kind: u8, i: usize, n: usize) -> bool
     true
 }
 
-fn switch_cases(tree: &[u8], m: Map, k: usize) -> bool
+fn switch_cases(tree: &[u8], m: TreeMap, k: usize) -> bool
     requires { ⌜ Mapped (now tree) m × (k < m .nodes .count) × (switchParts (now tree) k ≡ true) ⌝ }
     ensures { λ r. ⌜ r ≡ switchCases (now (tree .entry)) k ⌝ }
 {
@@ -80,7 +80,7 @@ fn switch_cases(tree: &[u8], m: Map, k: usize) -> bool
     cases_of_kind(tree, m, kind, first, cases)
 }
 
-fn list_switch_cases(tree: &[u8], m: Map, k: usize) -> bool
+fn list_switch_cases(tree: &[u8], m: TreeMap, k: usize) -> bool
     requires { ⌜ Mapped (now tree) m × (k < m .nodes .count) × (switchParts (now tree) k ≡ true) ⌝ }
     ensures { λ r. ⌜ r ≡ listSwitchCases (now (tree .entry)) k ⌝ }
 {
@@ -96,7 +96,7 @@ fn list_switch_cases(tree: &[u8], m: Map, k: usize) -> bool
     cases_of_kind(tree, m, case_kinds::LIST_WITH_TAIL, first + cases, tails)
 }
 
-fn binding_parts(tree: &[u8], m: Map, k: usize) -> bool
+fn binding_parts(tree: &[u8], m: TreeMap, k: usize) -> bool
     requires { ⌜ Mapped (now tree) m × (k < m .nodes .count) ⌝ }
     ensures { λ r. ⌜ r ≡ bindingParts (now (tree .entry)) k ⌝ }
 {
@@ -108,7 +108,7 @@ fn binding_parts(tree: &[u8], m: Map, k: usize) -> bool
     run_in(first, count, m.bindings.count)
 }
 
-fn switch_keeps_rules(tree: &[u8], m: Map, k: usize) -> bool
+fn switch_keeps_rules(tree: &[u8], m: TreeMap, k: usize) -> bool
     requires { ⌜ Mapped (now tree) m × (k < m .nodes .count) ⌝ }
     ensures { λ r. ⌜ r ≡ nodeOfKind (now (tree .entry)) k Switch ⌝ }
 {
@@ -118,7 +118,7 @@ fn switch_keeps_rules(tree: &[u8], m: Map, k: usize) -> bool
     switch_cases(tree, m, k)
 }
 
-fn list_switch_keeps_rules(tree: &[u8], m: Map, k: usize) -> bool
+fn list_switch_keeps_rules(tree: &[u8], m: TreeMap, k: usize) -> bool
     requires { ⌜ Mapped (now tree) m × (k < m .nodes .count) ⌝ }
     ensures { λ r. ⌜ r ≡ nodeOfKind (now (tree .entry)) k List-switch ⌝ }
 {
@@ -128,7 +128,7 @@ fn list_switch_keeps_rules(tree: &[u8], m: Map, k: usize) -> bool
     list_switch_cases(tree, m, k)
 }
 
-fn leaf_keeps_rules(tree: &[u8], m: Map, k: usize) -> bool
+fn leaf_keeps_rules(tree: &[u8], m: TreeMap, k: usize) -> bool
     requires { ⌜ Mapped (now tree) m × (k < m .nodes .count) ⌝ }
     ensures { λ r. ⌜ r ≡ nodeOfKind (now (tree .entry)) k Leaf ⌝ }
 {
@@ -141,7 +141,7 @@ fn leaf_keeps_rules(tree: &[u8], m: Map, k: usize) -> bool
     node_word(tree, m, k, node_words::UNUSED) == 0
 }
 
-fn hoist_keeps_rules(tree: &[u8], m: Map, k: usize) -> bool
+fn hoist_keeps_rules(tree: &[u8], m: TreeMap, k: usize) -> bool
     requires { ⌜ Mapped (now tree) m × (k < m .nodes .count) ⌝ }
     ensures { λ r. ⌜ r ≡ nodeOfKind (now (tree .entry)) k Hoist-node ⌝ }
 {
@@ -155,7 +155,7 @@ fn hoist_keeps_rules(tree: &[u8], m: Map, k: usize) -> bool
     node_word(tree, m, k, node_words::UNUSED) == 0
 }
 
-fn node_keeps_rules(tree: &[u8], m: Map, k: usize) -> bool
+fn node_keeps_rules(tree: &[u8], m: TreeMap, k: usize) -> bool
     requires { ⌜ Mapped (now tree) m × (k < m .nodes .count) ⌝ }
     ensures { λ r. ⌜ r ≡ nodeKeepsRules (now (tree .entry)) k ⌝ }
 {
@@ -171,7 +171,7 @@ fn node_keeps_rules(tree: &[u8], m: Map, k: usize) -> bool
     }
 }
 
-pub fn nodes_keep_rules(tree: &[u8], m: Map) -> bool
+pub fn nodes_keep_rules(tree: &[u8], m: TreeMap) -> bool
     requires { ⌜ Mapped (now tree) m ⌝ }
     ensures { λ r. ⌜ r ≡ every (nodeKeepsRules (now (tree .entry))) 0 (m .nodes .count) ⌝ }
 {
@@ -187,7 +187,7 @@ pub fn nodes_keep_rules(tree: &[u8], m: Map) -> bool
 
 // ---- cases
 
-fn case_of_kind(tree: &[u8], m: Map, i: usize) -> bool
+fn case_of_kind(tree: &[u8], m: TreeMap, i: usize) -> bool
     requires { ⌜ Mapped (now tree) m × (i < m .cases .count) ⌝ }
     ensures { λ r. ⌜ r ≡ caseOfKind (now (tree .entry)) i (caseKindOf (caseKind (now (tree .entry)) i)) ⌝ }
 {
@@ -203,7 +203,7 @@ fn case_of_kind(tree: &[u8], m: Map, i: usize) -> bool
     }
 }
 
-fn case_keeps_rules(tree: &[u8], m: Map, i: usize) -> bool
+fn case_keeps_rules(tree: &[u8], m: TreeMap, i: usize) -> bool
     requires { ⌜ Mapped (now tree) m × (i < m .cases .count) ⌝ }
     ensures { λ r. ⌜ r ≡ caseKeepsRules (now (tree .entry)) i ⌝ }
 {
@@ -217,7 +217,7 @@ fn case_keeps_rules(tree: &[u8], m: Map, i: usize) -> bool
     child < m.nodes.count
 }
 
-pub fn cases_keep_rules(tree: &[u8], m: Map) -> bool
+pub fn cases_keep_rules(tree: &[u8], m: TreeMap) -> bool
     requires { ⌜ Mapped (now tree) m ⌝ }
     ensures { λ r. ⌜ r ≡ every (caseKeepsRules (now (tree .entry))) 0 (m .cases .count) ⌝ }
 {
@@ -233,7 +233,7 @@ pub fn cases_keep_rules(tree: &[u8], m: Map) -> bool
 
 // ---- bindings, paths and steps
 
-fn binding_keeps_rules(tree: &[u8], m: Map, b: usize) -> bool
+fn binding_keeps_rules(tree: &[u8], m: TreeMap, b: usize) -> bool
     requires { ⌜ Mapped (now tree) m × (b < m .bindings .count) ⌝ }
     ensures { λ r. ⌜ r ≡ bindingKeepsRules (now (tree .entry)) b ⌝ }
 {
@@ -242,7 +242,7 @@ fn binding_keeps_rules(tree: &[u8], m: Map, b: usize) -> bool
     path < m.paths.count
 }
 
-pub fn bindings_keep_rules(tree: &[u8], m: Map) -> bool
+pub fn bindings_keep_rules(tree: &[u8], m: TreeMap) -> bool
     requires { ⌜ Mapped (now tree) m ⌝ }
     ensures { λ r. ⌜ r ≡ every (bindingKeepsRules (now (tree .entry))) 0 (m .bindings .count) ⌝ }
 {
@@ -256,7 +256,7 @@ pub fn bindings_keep_rules(tree: &[u8], m: Map) -> bool
     true
 }
 
-fn path_keeps_rules(tree: &[u8], m: Map, p: usize) -> bool
+fn path_keeps_rules(tree: &[u8], m: TreeMap, p: usize) -> bool
     requires { ⌜ Mapped (now tree) m × (p < m .paths .count) ⌝ }
     ensures { λ r. ⌜ r ≡ pathKeepsRules (now (tree .entry)) p ⌝ }
 {
@@ -266,7 +266,7 @@ fn path_keeps_rules(tree: &[u8], m: Map, p: usize) -> bool
     run_in(first, count, m.steps.count)
 }
 
-pub fn paths_keep_rules(tree: &[u8], m: Map) -> bool
+pub fn paths_keep_rules(tree: &[u8], m: TreeMap) -> bool
     requires { ⌜ Mapped (now tree) m ⌝ }
     ensures { λ r. ⌜ r ≡ every (pathKeepsRules (now (tree .entry))) 0 (m .paths .count) ⌝ }
 {
@@ -280,7 +280,7 @@ pub fn paths_keep_rules(tree: &[u8], m: Map) -> bool
     true
 }
 
-fn step_keeps_rules(tree: &[u8], m: Map, i: usize) -> bool
+fn step_keeps_rules(tree: &[u8], m: TreeMap, i: usize) -> bool
     requires { ⌜ Mapped (now tree) m × (i < m .steps .count) ⌝ }
     ensures { λ r. ⌜ r ≡ stepKeepsRules (now (tree .entry)) i ⌝ }
 {
@@ -299,7 +299,7 @@ fn step_keeps_rules(tree: &[u8], m: Map, i: usize) -> bool
     kind == step_kinds::CONSTR
 }
 
-pub fn steps_keep_rules(tree: &[u8], m: Map) -> bool
+pub fn steps_keep_rules(tree: &[u8], m: TreeMap) -> bool
     requires { ⌜ Mapped (now tree) m ⌝ }
     ensures { λ r. ⌜ r ≡ every (stepKeepsRules (now (tree .entry))) 0 (m .steps .count) ⌝ }
 {

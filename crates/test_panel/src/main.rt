@@ -3,7 +3,7 @@
 mod make;
 
 use fit::Fitted;
-use format_panel::Checked;
+use format_panel::CheckedPanel;
 use format_panel::Located;
 use make::chain;
 use make::end;
@@ -33,11 +33,11 @@ fn say_two(words: &[u8], a: usize, b: usize) {
 fn check(name: &[u8], v: &[u8]) {
     io::write_all(1, name);
     match format_panel::check(v) {
-        Checked::Accepted(m) => {
+        CheckedPanel::Accepted(m) => {
             say_two(b": accepted ", m.records, m.parts);
             io::write_all(1, b"\n");
         }
-        Checked::Refused { number, place } => say_refused(number, place),
+        CheckedPanel::Refused { number, place } => say_refused(number, place),
     }
 }
 

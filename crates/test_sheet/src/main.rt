@@ -2,7 +2,7 @@
 // The file stdout has the answers as 01 gives them, by hand.
 mod make;
 
-use format_sheet::Checked;
+use format_sheet::CheckedSheet;
 use make::clauses;
 use make::list_of;
 use make::nested;
@@ -18,13 +18,13 @@ use test_make::word;
 fn check(name: &[u8], s: &[u8]) {
     io::write_all(1, name);
     match format_sheet::check(s) {
-        Checked::Accepted(m) => {
+        CheckedSheet::Accepted(m) => {
             io::write_all(1, b": accepted ");
             io::print_decimal(1, m.counts.patterns as u64);
             io::write_all(1, b" ");
             io::print_decimal(1, m.counts.clauses as u64);
         }
-        Checked::Refused { number, place } => {
+        CheckedSheet::Refused { number, place } => {
             io::write_all(1, b": refused ");
             io::print_decimal(1, number as u64);
             io::write_all(1, b" ");

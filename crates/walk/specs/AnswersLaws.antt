@@ -20,14 +20,14 @@ use Rattle.spec_rules.specs.Walking.{Bound, bound, Walked as WalkedTo, reached,
 use Rattle.spec_rules.specs.Calls.{Answer, answers, refuses, WalkEnd, leafOf, walkRoom, treeFileVerdict, walkEnd, walkAnswer, boundWords, walkedWords, written, walkCall}
 use Rattle.spec_accepted.specs.TreeFacts.{length-bindingsFrom}
 use Rattle.spec_accepted.specs.PanelFacts.{accepted-panel}
-use Rattle.format_panel.specs.declared.Map.{Map as PanelMap}
+use Rattle.format_panel.specs.declared.PanelMap.{PanelMap}
 use Rattle.format_panel.specs.Answers.{Accepts}
 use Rattle.format_panel.specs.AnswersLaws.{accepts-opened}
-use Rattle.format_tree.specs.declared.layout.Map.{Map}
+use Rattle.format_tree.specs.declared.layout.TreeMap.{TreeMap}
 use Rattle.format_tree.specs.CheckLaws.{Accept}
 use Rattle.walk.specs.declared.Walked.{Walked}
 use Rattle.walk.specs.declared.nodes.Reached.{Reached}
-use Rattle.walk.specs.Positions.{Ready}
+use Rattle.walk.specs.Positions.{ReadyToWalk}
 use Rattle.walk.specs.Turns.{Arrives}
 use Rattle.walk.specs.Bindings.{isThere, wordsAfter, Binds}
 use Rattle.walk.specs.BindingsLaws.{length-bound}
@@ -85,7 +85,7 @@ gives-panel-refused t v l clear number place e = record { answer = rw e; words =
 pub gives-panel : (t v l l' : List ℕ) (r : Walked) → panelVerdict v ≡ accepted → Gives t v (panelEnd t v) l l' r → Gives t v (treeEnd t v) l l' r
 gives-panel t v l l' r e g = record { answer = g .answer ∙ rw e; words = g .words ∙ rw e }
 
-pub ready : {t : List ℕ} {m : Map} {v : List ℕ} {n : PanelMap} → Accept t m → Accepts v n → Ready t m v n
+pub ready : {t : List ℕ} {m : TreeMap} {v : List ℕ} {n : PanelMap} → Accept t m → Accepts v n → ReadyToWalk t m v n
 ready {t} {m} {v} {n} a b = record {
   mapped = a .map-is;
   sound = a .sound;

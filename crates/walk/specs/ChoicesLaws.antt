@@ -22,7 +22,7 @@ use Rattle.spec_rules.specs.Walking.{Position as Place, shown, shownAt, testKin
 use Rattle.spec_accepted.specs.KindsLaws.{record-byte, caseKindNumber, case-byte, byte-case, unknown-case}
 use Rattle.spec_accepted.specs.TreeFacts.{casesFor-some}
 use Rattle.spec_accepted.specs.PanelFacts.{PanelShaped}
-use Rattle.format_panel.specs.declared.Map.{Map as PanelMap}
+use Rattle.format_panel.specs.declared.PanelMap.{PanelMap}
 use Rattle.format_panel.specs.declared.records.Record.{Record}
 use Rattle.format_panel.specs.Opened.{recordOf, Opened}
 use Rattle.format_records.specs.Records.{testFrom}

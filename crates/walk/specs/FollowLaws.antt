@@ -18,18 +18,18 @@ use Rattle.spec_rules.specs.Rows.{Step, pair, tuple, constr, list, listtail, Pa
 use Rattle.spec_rules.specs.TreeReader.{pathsAt, stepsAt, paths, steps, stepAt, stepsFrom, stepOfFields, pathFirst, pathCount, pathAt}
 use Rattle.spec_rules.specs.Walking.{Position as Place, panelRoot, partOf, tailOf, takeStep, follow}
 use Rattle.spec_accepted.specs.PanelFacts.{PanelLaid, PanelShaped}
-use Rattle.format_panel.specs.declared.Map.{Map as PanelMap}
+use Rattle.format_panel.specs.declared.PanelMap.{PanelMap}
 use Rattle.format_panel.specs.declared.records.Record.{Record}
 use Rattle.format_panel.specs.Opened.{recordOf}
 use Rattle.format_records.specs.declared.reading.Step.{Step as StepRead}
 use Rattle.format_records.specs.declared.reading.Path.{Path as PathRead}
 use Rattle.format_records.specs.declared.reading.Binding.{Binding as BindingRead}
-use Rattle.format_tree.specs.declared.layout.Map.{Map}
+use Rattle.format_tree.specs.declared.layout.TreeMap.{TreeMap}
 use Rattle.format_tree.specs.Reading.{Ruled, stepOf, pathOf, bindingOf}
 use Rattle.format_tree.specs.ReadingLaws.{mapped-own, paths-start, steps-start, paths-count, bindings-count}
 use Rattle.walk.specs.declared.follow.Position.{Position}
 use Rattle.walk.specs.declared.follow.Found.the-variants.{At, Stuck}
-use Rattle.walk.specs.Positions.{placed, foundOf, leftBy, partIn, tailIn, Within, Followable, Bindable, Ready}
+use Rattle.walk.specs.Positions.{placed, foundOf, leftBy, partIn, tailIn, Within, Followable, Bindable, ReadyToWalk}
 
 -- ---- what was found
 pub found-some : (o : Option Place) (p : Position) → foundOf o ≡ At p → o ≡ some (placed p)
@@ -285,7 +285,7 @@ found-within {t} w p x e =
     follow-within laid shaped (pathAt t p) panelRoot (placed x) (root-within laid shaped) e
 
 -- ---- what a path is followed with
-module _ {t : List ℕ} {m : Map} {v : List ℕ} {n : PanelMap} where
+module _ {t : List ℕ} {m : TreeMap} {v : List ℕ} {n : PanelMap} where
   -- the path of a binding that was read
   pub binding-followed : Bindable t m v n → (b : ℕ) (x : BindingRead) → b < m .bindings .count → x ≡ bindingOf t b
       → Followable t v n × (m .paths .start ≡ pathsAt t) × (m .steps .start ≡ stepsAt t) × (x .path < paths t)
@@ -294,7 +294,7 @@ module _ {t : List ℕ} {m : Map} {v : List ℕ} {n : PanelMap} where
       let p = ap (λ (y : BindingRead). y .path) e in
       (w .followable, sym (paths-start (w .mapped)), sym (steps-start (w .mapped)), omega (arith, w .binding-path b (omega arith)))
 
-  module _ (ready : Ready t m v n) where
+  module _ (ready : ReadyToWalk t m v n) where
     pub ready-ruled : Ruled t m
     ready-ruled = record { mapped = ready .mapped; rules = ready .sound .is-ruled }
 

@@ -12,9 +12,9 @@ use Rattle.spec_rules.specs.Walking.{Position as Place}
 use Rattle.spec_accepted.specs.TreeFacts.{TreeSound}
 use Rattle.spec_accepted.specs.PanelFacts.{PanelShaped, PanelAccepted}
 use Rattle.format_panel.specs.Opened.{Opened}
-use Rattle.format_panel.specs.declared.Map.{Map as PanelMap}
+use Rattle.format_panel.specs.declared.PanelMap.{PanelMap}
 use Rattle.format_panel.specs.declared.records.Record.{Record}
-use Rattle.format_tree.specs.declared.layout.Map.{Map}
+use Rattle.format_tree.specs.declared.layout.TreeMap.{TreeMap}
 use Rattle.format_tree.specs.Reading.{mapOf, Mapped}
 use Rattle.walk.specs.declared.follow.Position.{Position}
 use Rattle.walk.specs.declared.follow.Found.{Found}
@@ -51,13 +51,13 @@ pub record Followable (t v : List ℕ) (n : PanelMap) : Type 0 where
   pub shaped : PanelShaped v
 
 -- and what writing bindings asks besides: what the reader of one binding asks, and that the path of each binding is of its section
-pub record Bindable (t : List ℕ) (m : Map) (v : List ℕ) (n : PanelMap) : Type 0 where
+pub record Bindable (t : List ℕ) (m : TreeMap) (v : List ℕ) (n : PanelMap) : Type 0 where
   pub followable : Followable t v n
   pub mapped : Mapped t m
   pub binding-path : (b : ℕ) → b < bindings t → bindingPath t b < paths t
 
 -- an accepted tree and an accepted panel, each with its map
-pub record Ready (t : List ℕ) (m : Map) (v : List ℕ) (n : PanelMap) : Type 0 where
+pub record ReadyToWalk (t : List ℕ) (m : TreeMap) (v : List ℕ) (n : PanelMap) : Type 0 where
   pub mapped : Mapped t m
   pub sound : TreeSound t
   pub opened : Opened v n

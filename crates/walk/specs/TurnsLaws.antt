@@ -19,7 +19,7 @@ use Rattle.spec_rules.specs.TreeReader.{nodes, cases, nodeKind, Switch, List-sw
 use Rattle.spec_rules.specs.Walking.{Position as Place, panelRoot, follow, Walked, stuck, shownAt, lengthAt, testKind, firstKind, ofThisKind, atPart, ofLength, atList, largestTail, atTail, ifSame, walk, walkCases}
 use Rattle.spec_accepted.specs.KindsLaws.{byte-node}
 use Rattle.spec_accepted.specs.TreeFacts.{TreeSound, case-listed, default-listed, only-listed, isIn-left, isIn-right, casesFor-some, treeBelow-of-kind}
-use Rattle.format_panel.specs.declared.Map.{Map as PanelMap}
+use Rattle.format_panel.specs.declared.PanelMap.{PanelMap}
 use Rattle.format_panel.specs.declared.records.Record.{Record}
 use Rattle.format_panel.specs.Opened.{recordOf, Opened}
 use Rattle.format_records.specs.declared.reading.Test.{Test as TestRead}

@@ -4,8 +4,8 @@ use crate::follow::Found;
 use crate::follow::follow;
 use base_numbers::tree::BOUND_WORDS;
 use base_words::zero_words;
-use format_panel::Map as PanelMap;
-use format_tree::layout::Map;
+use format_panel::PanelMap;
+use format_tree::layout::TreeMap;
 use format_tree::reading::binding_at;
 ghost use mathlib.Core.Path.{_≡_};
 ghost use mathlib.Core.List.{[], _∷_};
@@ -28,7 +28,7 @@ fn put_bound(bound: &mut [u16], at: usize, name: u16, record: u16, dropped: u16)
 // The `count` bindings from `first` on, written to the front of the buffer; all zero where one is stuck.
 pub fn bind(
     tree: &[u8],
-    m: Map,
+    m: TreeMap,
     v: &[u8],
     n: PanelMap,
     first: usize,

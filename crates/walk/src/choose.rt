@@ -4,7 +4,7 @@ use base_numbers::case_kinds;
 use base_numbers::record_kinds;
 use base_words::same_text;
 use format_records::reading::Test;
-use format_tree::layout::Map;
+use format_tree::layout::TreeMap;
 use format_tree::reading::case_child;
 use format_tree::reading::case_length;
 use format_tree::reading::case_number;
@@ -30,7 +30,7 @@ pub enum Chosen {
 }
 
 // The child of the case at a place: the one step from a case to its child.
-pub fn child_of(tree: &[u8], map: Map, place: usize) -> usize
+pub fn child_of(tree: &[u8], map: TreeMap, place: usize) -> usize
     requires { ⌜ Mapped (now tree) map × (place < map .cases .count) ⌝ }
     ensures { λ r. ⌜ r ≡ caseChild (now (tree .entry)) place ⌝ }
 {
@@ -58,7 +58,7 @@ pub fn asked_by(test: Test) -> u8
 }
 
 // The first of the n cases from i on that has this number.
-pub fn numbered_case(tree: &[u8], m: Map, i: usize, n: usize, number: usize) -> Chosen
+pub fn numbered_case(tree: &[u8], m: TreeMap, i: usize, n: usize, number: usize) -> Chosen
     requires { ⌜ Mapped (now tree) m × (i + n ≤ m .cases .count) ⌝ }
     ensures { λ r. ⌜ r ≡ chosenOf (firstNumbered (now (tree .entry)) number i n) ⌝ }
 {
@@ -85,7 +85,7 @@ fn texts_same(tree: &[u8], v: &[u8], i: usize, count: usize, j: usize, len: usiz
 }
 
 // The count bytes of v from i on are the text of case j.
-fn is_text(tree: &[u8], m: Map, v: &[u8], j: usize, i: usize, count: usize) -> bool
+fn is_text(tree: &[u8], m: TreeMap, v: &[u8], j: usize, i: usize, count: usize) -> bool
     requires { ⌜ Ruled (now tree) m × (j < m .cases .count) × (intCase ≤ caseKind (now tree) j) × (caseKind (now tree) j ≤ bytesCase) × (i + count ≤ length (now v)) ⌝ }
     ensures { λ r. ⌜ r ≡ sameText (textAt (now (v .entry)) i count) (caseText (now (tree .entry)) j) ⌝ }
 {
@@ -97,7 +97,7 @@ fn is_text(tree: &[u8], m: Map, v: &[u8], j: usize, i: usize, count: usize) -> b
 // The first of the n cases from i on whose text is the count bytes of v from `start` on.
 pub fn text_case(
     tree: &[u8],
-    m: Map,
+    m: TreeMap,
     v: &[u8],
     i: usize,
     n: usize,
@@ -133,7 +133,7 @@ fn larger(a: usize, b: usize) -> usize
 }
 
 // One more than the largest tail number not above n of the `tails` cases from i on; 0 where there is none.
-pub fn largest_tail(tree: &[u8], m: Map, i: usize, tails: usize, n: usize) -> usize
+pub fn largest_tail(tree: &[u8], m: TreeMap, i: usize, tails: usize, n: usize) -> usize
     requires { ⌜ Mapped (now tree) m × (i + tails ≤ m .cases .count) × AllKind (now tree) listWithTailCase i tails ⌝ }
     ensures { λ r. ⌜ ((f : ℕ → Tree) → r ≡ largestTail n (casesFor f (now (tree .entry)) i tails)) ⌝ }
 {

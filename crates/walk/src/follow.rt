@@ -2,7 +2,7 @@
 // A position is a record and how many elements of its list are dropped.
 use base_numbers::record_kinds;
 use base_numbers::step_kinds;
-use format_panel::Map as PanelMap;
+use format_panel::PanelMap;
 use format_panel::records::Record;
 use format_panel::records::part_at;
 use format_panel::records::record_at;

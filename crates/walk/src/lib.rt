@@ -6,8 +6,8 @@ use base_numbers::refusals;
 use base_numbers::tree::BOUND_ROOM;
 use base_words::zero_words;
 use bind::bind;
-use format_panel::Map as PanelMap;
-use format_tree::layout::Map;
+use format_panel::PanelMap;
+use format_tree::layout::TreeMap;
 use nodes::Reached;
 use nodes::reach;
 ghost use mathlib.Core.Path.{_≡_};
@@ -17,7 +17,7 @@ ghost use Rattle.base_words.specs.Words.{zeros};
 ghost use Rattle.spec_rules.specs.Limits.{boundRoom};
 ghost use Rattle.spec_rules.specs.Calls.{walkCall};
 ghost use Rattle.format_tree.specs.CheckLaws.{Accept};
-ghost use Rattle.walk.specs.Positions.{Ready};
+ghost use Rattle.walk.specs.Positions.{ReadyToWalk};
 ghost use Rattle.walk.specs.Answers.{callOf, Gives, panelEnd, treeEnd};
 
 pub mod bind;
@@ -32,8 +32,8 @@ pub enum Walked {
 }
 
 // On a buffer that is all zero.
-fn walk_panel(tree: &[u8], m: Map, v: &[u8], n: PanelMap, bound: &mut [u16]) -> Walked
-    requires { ⌜ Ready (now tree) m (now v) n × (boundRoom ≤ length (now bound)) × (now bound ≡ zeros (length (now bound))) ⌝ }
+fn walk_panel(tree: &[u8], m: TreeMap, v: &[u8], n: PanelMap, bound: &mut [u16]) -> Walked
+    requires { ⌜ ReadyToWalk (now tree) m (now v) n × (boundRoom ≤ length (now bound)) × (now bound ≡ zeros (length (now bound))) ⌝ }
     ensures { λ r. ⌜ Gives (now (tree .entry)) (now (v .entry)) (panelEnd (now (tree .entry)) (now (v .entry))) (now (bound .entry)) (now (bound .exit)) r ⌝ }
 {
     match reach(tree, m, v, n) {
@@ -61,13 +61,13 @@ fn walk_panel(tree: &[u8], m: Map, v: &[u8], n: PanelMap, bound: &mut [u16]) -> 
     }
 }
 
-fn walk_tree(tree: &[u8], m: Map, v: &[u8], bound: &mut [u16]) -> Walked
+fn walk_tree(tree: &[u8], m: TreeMap, v: &[u8], bound: &mut [u16]) -> Walked
     requires { ⌜ Accept (now tree) m × (boundRoom ≤ length (now bound)) × (now bound ≡ zeros (length (now bound))) ⌝ }
     ensures { λ r. ⌜ Gives (now (tree .entry)) (now (v .entry)) (treeEnd (now (tree .entry)) (now (v .entry))) (now (bound .entry)) (now (bound .exit)) r ⌝ }
 {
     match format_panel::check(v) {
-        format_panel::Checked::Accepted(n) => walk_panel(tree, m, v, n, bound),
-        format_panel::Checked::Refused { number, place } => Walked::Refused { number, place },
+        format_panel::CheckedPanel::Accepted(n) => walk_panel(tree, m, v, n, bound),
+        format_panel::CheckedPanel::Refused { number, place } => Walked::Refused { number, place },
     }
 }
 
@@ -82,7 +82,7 @@ pub fn walk(tree: &[u8], v: &[u8], bound: &mut [u16]) -> Walked
             place: 0,
         };
     }
-    let format_tree::Checked::Accepted(m) = format_tree::check(tree) else {
+    let format_tree::CheckedTree::Accepted(m) = format_tree::check(tree) else {
         return Walked::Refused {
             number: refusals::TREE,
             place: 0,

@@ -9,10 +9,10 @@ use crate::choose::text_case;
 use crate::follow::Found;
 use crate::follow::follow;
 use base_numbers::record_kinds;
-use format_panel::Map as PanelMap;
+use format_panel::PanelMap;
 use format_panel::records::record_at;
 use format_records::reading::Test;
-use format_tree::layout::Map;
+use format_tree::layout::TreeMap;
 use format_tree::reading::Node;
 use format_tree::reading::node_at;
 ghost use mathlib.Core.Path.{_≡_};
@@ -21,7 +21,7 @@ ghost use Prim.Native.Nat.{ℕ, _+_, _<_, _≤_};
 ghost use Rattle.spec_rules.specs.Kinds.{bytesCase, listCase, listWithTailCase};
 ghost use Rattle.spec_rules.specs.TreeReader.{caseKind, caseChildren, defaultChild};
 ghost use Rattle.format_tree.specs.Reading.{Mapped, testOf};
-ghost use Rattle.walk.specs.Positions.{Ready};
+ghost use Rattle.walk.specs.Positions.{ReadyToWalk};
 ghost use Rattle.walk.specs.Choices.{AllKind, ChosenIn};
 ghost use Rattle.walk.specs.Turns.{Turns, TurnsBy, defaultWalk, switchWalk, listWalk, tailsWalk, lengthWalk, Steps, Arrives};
 
@@ -51,7 +51,7 @@ fn default_of(default: u16) -> Next
 }
 
 // The child of the case that was chosen, else the default.
-fn chosen_or(tree: &[u8], map: Map, chosen: Chosen, default: u16) -> Next
+fn chosen_or(tree: &[u8], map: TreeMap, chosen: Chosen, default: u16) -> Next
     requires { ⌜ Mapped (now tree) map × ChosenIn (map .cases .count) chosen ⌝ }
     ensures { λ r. ⌜ TurnsBy (now (tree .entry)) chosen default r ⌝ }
 {
@@ -64,7 +64,7 @@ fn chosen_or(tree: &[u8], map: Map, chosen: Chosen, default: u16) -> Next
 // The cases are all of the first one's kind, so that they are searched by a constructor's number, or by a text.
 fn from_switch(
     tree: &[u8],
-    m: Map,
+    m: TreeMap,
     v: &[u8],
     n: PanelMap,
     path: u16,
@@ -73,7 +73,7 @@ fn from_switch(
     default: u16,
     test: Test,
 ) -> Next
-    requires { ⌜ Ready (now tree) m (now v) n × (path < m .paths .count) × (1 ≤ cases) × (first + cases ≤ m .cases .count) × (caseKind (now tree) first ≤ bytesCase) × AllKind (now tree) (caseKind (now tree) first) first cases × (test ≡ testOf (now tree) first) ⌝ }
+    requires { ⌜ ReadyToWalk (now tree) m (now v) n × (path < m .paths .count) × (1 ≤ cases) × (first + cases ≤ m .cases .count) × (caseKind (now tree) first ≤ bytesCase) × AllKind (now tree) (caseKind (now tree) first) first cases × (test ≡ testOf (now tree) first) ⌝ }
     ensures { λ r. ⌜ Turns (now (tree .entry)) (now (v .entry)) (caseChildren (now (tree .entry)) first cases ++ defaultChild default) (switchWalk (now (tree .entry)) (now (v .entry)) path first cases default) r ⌝ }
 {
     let asked = asked_by(test);
@@ -95,7 +95,14 @@ fn from_switch(
 }
 
 // Past the cases of the exact length.
-fn from_tails(tree: &[u8], m: Map, length: usize, first: usize, tails: usize, default: u16) -> Next
+fn from_tails(
+    tree: &[u8],
+    m: TreeMap,
+    length: usize,
+    first: usize,
+    tails: usize,
+    default: u16,
+) -> Next
     requires { ⌜ Mapped (now tree) m × (first + tails ≤ m .cases .count) × AllKind (now tree) listWithTailCase first tails ⌝ }
     ensures { λ r. ⌜ ((v : List ℕ) → Turns (now (tree .entry)) v (caseChildren (now (tree .entry)) first tails ++ defaultChild default) (tailsWalk (now (tree .entry)) v length first tails default) r) ⌝ }
 {
@@ -109,7 +116,7 @@ fn from_tails(tree: &[u8], m: Map, length: usize, first: usize, tails: usize, de
 
 fn from_length(
     tree: &[u8],
-    m: Map,
+    m: TreeMap,
     length: usize,
     first: usize,
     cases: usize,
@@ -127,7 +134,7 @@ fn from_length(
 
 fn from_list_switch(
     tree: &[u8],
-    m: Map,
+    m: TreeMap,
     v: &[u8],
     n: PanelMap,
     path: u16,
@@ -136,7 +143,7 @@ fn from_list_switch(
     tails: u16,
     default: u16,
 ) -> Next
-    requires { ⌜ Ready (now tree) m (now v) n × (path < m .paths .count) × (first + (cases + tails) ≤ m .cases .count) × AllKind (now tree) listCase first cases × AllKind (now tree) listWithTailCase (first + cases) tails ⌝ }
+    requires { ⌜ ReadyToWalk (now tree) m (now v) n × (path < m .paths .count) × (first + (cases + tails) ≤ m .cases .count) × AllKind (now tree) listCase first cases × AllKind (now tree) listWithTailCase (first + cases) tails ⌝ }
     ensures { λ r. ⌜ Turns (now (tree .entry)) (now (v .entry)) (caseChildren (now (tree .entry)) first (cases + tails) ++ defaultChild default) (listWalk (now (tree .entry)) (now (v .entry)) path first cases tails default) r ⌝ }
 {
     let Found::At(p) = follow(tree, m.paths.start, m.steps.start, v, n, path as usize) else {
@@ -158,8 +165,8 @@ fn from_list_switch(
     )
 }
 
-fn from_node(tree: &[u8], m: Map, v: &[u8], n: PanelMap, k: usize) -> Next
-    requires { ⌜ Ready (now tree) m (now v) n × (k < m .nodes .count) ⌝ }
+fn from_node(tree: &[u8], m: TreeMap, v: &[u8], n: PanelMap, k: usize) -> Next
+    requires { ⌜ ReadyToWalk (now tree) m (now v) n × (k < m .nodes .count) ⌝ }
     ensures { λ r. ⌜ Steps (now (tree .entry)) (now (v .entry)) k r ⌝ }
 {
     let node = node_at(tree, m, k);
@@ -197,8 +204,8 @@ fn from_node(tree: &[u8], m: Map, v: &[u8], n: PanelMap, k: usize) -> Next
 }
 
 // The leaf that node 0 leads to. A child's number is larger than its node's, so that the numbers end.
-pub fn reach(tree: &[u8], m: Map, v: &[u8], n: PanelMap) -> Reached
-    requires { ⌜ Ready (now tree) m (now v) n ⌝ }
+pub fn reach(tree: &[u8], m: TreeMap, v: &[u8], n: PanelMap) -> Reached
+    requires { ⌜ ReadyToWalk (now tree) m (now v) n ⌝ }
     ensures { λ r. ⌜ Arrives (now (tree .entry)) (now (v .entry)) r ⌝ }
 {
     let mut k: usize = 0;

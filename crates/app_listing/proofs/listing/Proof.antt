@@ -1,7 +1,7 @@
 use mathlib.Core.Path.{_≡_, sym, ap, _∙_}
 use Rattle.base_words.specs.WordsLaws.{bytes-of-fits}
 use Rattle.spec_rules.specs.Calls.{answers}
-use Rattle.format_tree.specs.declared.Checked.{Checked}
+use Rattle.format_tree.specs.declared.CheckedTree.{CheckedTree}
 use Rattle.format_tree.specs.CheckLaws.{Accept, accepted-is, refused-is}
 use Rattle.app_listing.specs.AnswersLaws.{text-in, end-in, none-in, full-in, call-refused, call-listed}
 use Rattle.app_listing.specs.declared.Listed.{Listed}
@@ -18,7 +18,7 @@ accepted : (c : tie.After-known-told) → Accept (c .before .before .before .bef
 accepted c =
     let a = c .before .before .before .before .before .before .before .before .before .before .args in
     let m = c .before .m .given .0 .0 in
-    let e : c .before .before .before .check .result ≡ Checked.Accepted m = search needs in
+    let e : c .before .before .before .check .result ≡ CheckedTree.Accepted m = search needs in
     accepted-is (a .tree .now) m (bytes-of-fits (a .tree .now) (c .before .before .before .before .before .before .before .before .before .shared-slice-known .given)) (sym (c .before .before .before .check .ensures) ∙ e)
 
 zero-all-requires : tie.Need-zero-all-requires

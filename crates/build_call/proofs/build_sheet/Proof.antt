@@ -1,6 +1,6 @@
 -- `build_call::build_sheet` meets its contract: an accepted sheet by its tree, else by the refusal of the sheet's check.
 use mathlib.Core.Path.{_≡_, sym, _∙_}
-use Rattle.format_sheet.specs.declared.Checked.the-variants.{Accepted, Refused}
+use Rattle.format_sheet.specs.declared.CheckedSheet.the-variants.{Accepted, Refused}
 use Rattle.format_sheet.specs.CheckLaws.{sheet-accepts, sheet-refuses}
 use Rattle.build_call.specs.AnswersLaws.{gives-same, gives-refusal, sheet-accepted, sheet-refused}
 use borrow.Author.Needs.{needs}

@@ -1,7 +1,7 @@
 -- `fit::fit` meets its contract: on an accepted sheet by its panel, else by the refusal of the sheet's check.
 use mathlib.Core.Path.{_≡_, sym, _∙_}
 use borrow.Author.Needs.{needs}
-use Rattle.format_sheet.specs.declared.Checked.the-variants.{Accepted, Refused}
+use Rattle.format_sheet.specs.declared.CheckedSheet.the-variants.{Accepted, Refused}
 use Rattle.format_sheet.specs.CheckLaws.{sheet-accepts, sheet-refuses}
 use Rattle.fit.specs.AnswersLaws.{fit-sheet-refused}
 use Rattle.fit.proofs.fit.Statement.{statement}

@@ -3,7 +3,7 @@ use mathlib.Core.Path.{_≡_, sym, _∙_}
 use borrow.Author.Needs.{needs}
 use Rattle.format_panel.specs.AnswersLaws.{accepts, refuses-by}
 use Rattle.fit.specs.AnswersLaws.{fit-panel-refused}
-use Rattle.format_panel.specs.declared.Checked.the-variants.{Accepted, Refused}
+use Rattle.format_panel.specs.declared.CheckedPanel.the-variants.{Accepted, Refused}
 use Rattle.fit.proofs.fit_panel.Statement.{statement}
 use Rattle.fit.proofs.fit_panel.Tie as tie
 

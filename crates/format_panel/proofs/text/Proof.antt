@@ -2,7 +2,7 @@
 use mathlib.Core.Path.{_≡_, sym, _∙_}
 use borrow.Author.Needs.{needs}
 use Rattle.format_panel.specs.AnswersLaws.{accepts, refuses-by, text-refused}
-use Rattle.format_panel.specs.declared.Checked.the-variants.{Accepted, Refused}
+use Rattle.format_panel.specs.declared.CheckedPanel.the-variants.{Accepted, Refused}
 use Rattle.format_panel.proofs.text.Statement.{statement}
 use Rattle.format_panel.proofs.text.Tie as tie
 

@@ -1,7 +1,7 @@
 use borrow.Author.Needs.{needs}
 use mathlib.Core.Path.{ap}
 use Rattle.spec_rules.specs.SheetRefusals.{accepted, requireNone, lowestMisfit, lowestNameTwice}
-use Rattle.format_sheet.specs.declared.Checked.the-variants.{Accepted}
+use Rattle.format_sheet.specs.declared.CheckedSheet.the-variants.{Accepted}
 use Rattle.format_sheet.specs.Check.{fromClauses}
 use Rattle.format_sheet.specs.CheckLaws.{search-stops, search-passes}
 use Rattle.format_sheet.proofs.check_clauses.Statement.{statement}

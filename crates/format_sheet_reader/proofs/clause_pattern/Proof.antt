@@ -1,18 +1,18 @@
 use borrow.Author.Needs.{needs}
 use mathlib.Core.Path.{_≡_, sym, _∙_}
-use Rattle.format_sheet.specs.declared.Checked.{Checked}
+use Rattle.format_sheet.specs.declared.CheckedSheet.{CheckedSheet}
 use Rattle.format_sheet.specs.Check.{checked}
 use Rattle.format_sheet_reader.specs.ReadingLaws.{clause-refused, root-pattern-asked, clause-missing, clause-there}
 use Rattle.format_sheet_reader.proofs.clause_pattern.Statement.{statement}
 use Rattle.format_sheet_reader.proofs.clause_pattern.Tie as tie
 
-is-refused : (c : tie.After-known-told) → c .before .before .before .check .result ≡ Checked.Refused (c .before .number .given .0 .0) (c .before .number .given .0 .1 .0)
+is-refused : (c : tie.After-known-told) → c .before .before .before .check .result ≡ CheckedSheet.Refused (c .before .number .given .0 .0) (c .before .number .given .0 .1 .0)
 is-refused c = search needs
 
-is-accepted : (c : tie.After-known-told2) → c .before .before .before .check .result ≡ Checked.Accepted (c .before .m .given .0 .0)
+is-accepted : (c : tie.After-known-told2) → c .before .before .before .check .result ≡ CheckedSheet.Accepted (c .before .m .given .0 .0)
 is-accepted c = search needs
 
-accepts : (c : tie.After-known-told2) → Checked.Accepted (c .before .m .given .0 .0) ≡ checked (c .before .before .before .before .before .args .s .now)
+accepts : (c : tie.After-known-told2) → CheckedSheet.Accepted (c .before .m .given .0 .0) ≡ checked (c .before .before .before .before .before .args .s .now)
 accepts c = sym (is-accepted c) ∙ c .before .before .before .check .ensures
 
 check-requires : tie.Need-check-requires

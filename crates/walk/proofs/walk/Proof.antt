@@ -4,7 +4,7 @@ use Rattle.walk.specs.AnswersLaws.{call-no-room, call-no-tree, call-walk
 use Rattle.format_tree.specs.CheckLaws.{accepted-is, refused-is}
 use Rattle.base_words.specs.WordsLaws.{bytes-of-fits}
 use Rattle.base_words.specs.Words.{zeros}
-use Rattle.format_tree.specs.declared.Checked.{Checked}
+use Rattle.format_tree.specs.declared.CheckedTree.{CheckedTree}
 use native.Mathlib.Omega.{arith}
 use mathlib.Core.Path.{_≡_, sym, ap, _∙_}
 use Rattle.walk.proofs.walk.Statement.{statement}
@@ -59,7 +59,7 @@ walk-tree-requires c κs =
     let back13 = back12 .before in
     let a = back13 .args in
     let m = c .before .before .m .given .0 .0 in
-    let e : back4 .check .result ≡ Checked.Accepted m = c .before .before .m .given .1 in
+    let e : back4 .check .result ≡ CheckedTree.Accepted m = c .before .before .m .given .1 in
     let w = accepted-is (a .tree .now) m (bytes-of-fits (a .tree .now) (back12 .shared-slice-known .given)) (sym (back4 .check .ensures) ∙ e) in
     (w, back5 .if1 .left, back8 .zero-words .ensures ∙ ap zeros (sym (back8 .zero-words .kept .0)))
 
@@ -78,7 +78,7 @@ returns-3 c =
     let back16 = back15 .before in
     let a = back16 .args in
     let m = back5 .m .given .0 .0 in
-    let e : back7 .check .result ≡ Checked.Accepted m = back5 .m .given .1 in
+    let e : back7 .check .result ≡ CheckedTree.Accepted m = back5 .m .given .1 in
     let w = accepted-is (a .tree .now) m (bytes-of-fits (a .tree .now) (back15 .shared-slice-known .given)) (sym (back7 .check .ensures) ∙ e) in
     call-walks (a .tree .now) (a .v .now) (a .bound .now) (c .before .before .walk-tree .last .1 .1 .1 .0)
     (omega (arith, back8 .if1 .left, back11 .zero-words .kept .0)) (w .fits) (back11 .zero-words .last .0)

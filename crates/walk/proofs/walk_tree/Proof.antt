@@ -2,7 +2,7 @@
 use borrow.Author.Needs.{needs}
 use Rattle.walk.specs.AnswersLaws.{ready, gives-panel, gives-panel-refused}
 use Rattle.format_panel.specs.AnswersLaws.{accepts, refuses-by}
-use Rattle.format_panel.specs.declared.Checked.{Checked}
+use Rattle.format_panel.specs.declared.CheckedPanel.{CheckedPanel}
 use mathlib.Core.Path.{_≡_, sym, _∙_}
 use Rattle.walk.proofs.walk_tree.Statement.{statement}
 use Rattle.walk.proofs.walk_tree.Tie as tie
@@ -19,7 +19,7 @@ walk-panel-requires c κs =
     let back8 = back4 .before .before .before .before in
     let a = back8 .args in
     let n = c .before .before .n .given .0 .0 in
-    let e : back4 .check .result ≡ Checked.Accepted n = c .before .before .n .given .1 in
+    let e : back4 .check .result ≡ CheckedPanel.Accepted n = c .before .before .n .given .1 in
     let w = accepts (a .v .now) n (sym (back4 .check .ensures) ∙ e) in
     (ready (back8 .pre .0) w, back8 .pre .1, back8 .pre .2)
 
@@ -36,7 +36,7 @@ returns c =
     let back11 = back7 .before .before .before .before in
     let a = back11 .args in
     let n = back5 .n .given .0 .0 in
-    let e : back7 .check .result ≡ Checked.Accepted n = back5 .n .given .1 in
+    let e : back7 .check .result ≡ CheckedPanel.Accepted n = back5 .n .given .1 in
     let w = accepts (a .v .now) n (sym (back7 .check .ensures) ∙ e) in
     gives-panel (a .tree .now) (a .v .now) (a .bound .now) (c .before .before .walk-panel .last .1 .1 .1 .1 .0)
     (c .before .before .walk-panel .result) (w .verdict) (c .before .before .walk-panel .ensures)
@@ -47,7 +47,7 @@ returns-2 c =
     let back7 = back3 .before .before .before .before in
     let a = back7 .args in
     let g = c .before .number .given .0 in
-    let e : back3 .check .result ≡ Checked.Refused (g .0) (g .1 .0) = c .before .number .given .1 in
+    let e : back3 .check .result ≡ CheckedPanel.Refused (g .0) (g .1 .0) = c .before .number .given .1 in
     gives-panel-refused (a .tree .now) (a .v .now) (a .bound .now) (back7 .pre .2) (g .0) (g .1 .0)
     (refuses-by (a .v .now) (g .0) (g .1 .0) (sym (back3 .check .ensures) ∙ e))
 

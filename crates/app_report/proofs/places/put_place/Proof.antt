@@ -1,7 +1,7 @@
 -- `app_report::places::put_place` meets its contract: an accepted panel has its map, and with it the number of its records.
 use mathlib.Core.Path.{_≡_, sym, _∙_}
 use native.Mathlib.Omega.{arith}
-use Rattle.format_panel.specs.declared.Checked.{Checked}
+use Rattle.format_panel.specs.declared.CheckedPanel.{CheckedPanel}
 use Rattle.format_panel.specs.Answers.{Accepts}
 use Rattle.format_panel.specs.Opened.{Opened}
 use Rattle.format_panel.specs.AnswersLaws.{accepts, refuses-by, accepts-opened}
@@ -15,7 +15,7 @@ accepted-as : (c : tie.After-known-told) → Accepts (c .before .before .before 
 accepted-as c =
     let v = c .before .before .before .before .before .before .args .v .now in
     let m = c .before .m .given .0 .0 in
-    let e : c .before .before .before .check .result ≡ Checked.Accepted m = search needs in
+    let e : c .before .before .before .check .result ≡ CheckedPanel.Accepted m = search needs in
     accepts v m (sym (c .before .before .before .check .ensures) ∙ e)
 
 is-open : (c : tie.After-known-told) → Opened (c .before .before .before .before .before .before .args .v .now) (c .before .m .given .0 .0)

@@ -3,7 +3,7 @@ use borrow.Author.Needs.{needs}
 use native.Mathlib.Omega.{arith}
 use mathlib.Core.Path.{ap}
 use Prim.Native.Nat.{_-_}
-use Rattle.format_sheet.specs.declared.Map.{Map}
+use Rattle.format_sheet.specs.declared.SheetMap.{SheetMap}
 use Rattle.build_cases.specs.FieldsLaws.{fields-fit, fields-searched}
 use Rattle.build_cases.specs.SoFarLaws.{begun-rises, begun-most, begun-room, begun-readable, meets-full, meets-found, meets-new}
 use Rattle.build_cases.proofs.meet.meet.Statement.{statement}
@@ -18,7 +18,7 @@ fields-of-requires c κs = search needs
 same-case-requires : tie.Need-same-case-requires
 same-case-requires c κs =
     let a = c .before .before .before .before .before in (
-      (a .pre .0 .0, ap (λ (m : Map). m .at .pool) (a .pre .0 .1), fields-fit (a .args .test) (c .fields-of .result) (c .fields-of .ensures) (a .pre .0 .2)),
+      (a .pre .0 .0, ap (λ (m : SheetMap). m .at .pool) (a .pre .0 .1), fields-fit (a .args .test) (c .fields-of .result) (c .fields-of .ensures) (a .pre .0 .2)),
       (begun-room (a .pre .1), begun-rises (a .pre .1), begun-most (a .pre .1), begun-readable (a .pre .1)),
     )
 

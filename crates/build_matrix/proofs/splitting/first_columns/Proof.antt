@@ -5,7 +5,7 @@ use Prim.Native.Nat.{_≤_}
 use native.Mathlib.Omega.{arith}
 use Rattle.base_words.specs.Words.{zeros}
 use Rattle.spec_rules.specs.SheetFile.{clauses}
-use Rattle.format_sheet.specs.declared.Map.{Map}
+use Rattle.format_sheet.specs.declared.SheetMap.{SheetMap}
 use Rattle.build_matrix.specs.Lists.{asClasses, Holds}
 use Rattle.build_matrix.specs.ListsLaws.{whole, holds-same}
 use Rattle.build_matrix.specs.Ready.{Listed}
@@ -23,7 +23,7 @@ loop-holds : tie.Need-loop-holds Inv-loop μ-loop
 loop-holds c =
     let s = c .before .before in
     let h : Holds (asClasses (zeros 192) 0) [] = record { long = refl; most = omega arith; are = refl } in
-    let e : s .args .m .counts .clauses ≡ clauses (s .args .s .now) = ap (λ (m : Map). m .counts .clauses) (s .pre .checked .is-map) in (
+    let e : s .args .m .counts .clauses ≡ clauses (s .args .s .now) = ap (λ (m : SheetMap). m .counts .clauses) (s .pre .checked .is-map) in (
       omega arith,
       record { whole = whole h; each = tt },
       holds-same h (sym (ap (columnsFrom (s .args .s .now)) e ∙ columns-none (s .args .s .now))),

@@ -2,9 +2,9 @@ use mathlib.Core.Path.{refl, ap, _∙_}
 use mathlib.Core.List.{List}
 use Prim.Native.Nat.{ℕ}
 use native.Mathlib.Omega.{arith}
-use Rattle.format_sheet.specs.declared.Map.{Map}
+use Rattle.format_sheet.specs.declared.SheetMap.{SheetMap}
 use Rattle.format_sheet.specs.Sections.{mapOf}
-use Rattle.format_sheet.specs.Fitting.{Ready}
+use Rattle.format_sheet.specs.Fitting.{ReadySheet}
 use Rattle.format_sheet.specs.Names.{inBuffer}
 use Rattle.format_sheet.specs.CollectLaws.{clause-room, clause-held}
 use borrow.Author.Needs.{needs}
@@ -12,7 +12,7 @@ use Rattle.format_sheet.proofs.names.name_twice.Statement.{statement}
 use Rattle.format_sheet.proofs.names.name_twice.Tie as tie
 
 -- a sheet is ready with its own map
-of-map : {s : List ℕ} {m : Map} → Ready s m → Ready s (mapOf s)
+of-map : {s : List ℕ} {m : SheetMap} → ReadySheet s m → ReadySheet s (mapOf s)
 of-map h = record { is-map = refl; is-laid = h .is-laid; is-counted = h .is-counted; is-typed = h .is-typed; is-shaped = h .is-shaped }
 
 root-at-requires : tie.Need-root-at-requires
@@ -22,7 +22,7 @@ collect-requires : tie.Need-collect-requires
 collect-requires c κs =
     let a = c .before .before .before .before in
     let r = c .before .root-at in
-    ((of-map (a .pre .0), ap (λ (m : Map). m .at .patterns) (a .pre .0 .is-map), ap (λ (m : Map). m .at .children) (a .pre .0 .is-map), omega (arith, r .ensures, a .pre .0 .is-shaped .root-pattern (a .args .c) (a .pre .1))), (a .pre .2, clause-room (a .args .s .now) (a .args .m) (a .pre .0) (a .args .c) (r .result) (a .pre .1) (r .ensures)))
+    ((of-map (a .pre .0), ap (λ (m : SheetMap). m .at .patterns) (a .pre .0 .is-map), ap (λ (m : SheetMap). m .at .children) (a .pre .0 .is-map), omega (arith, r .ensures, a .pre .0 .is-shaped .root-pattern (a .args .c) (a .pre .1))), (a .pre .2, clause-room (a .args .s .now) (a .args .m) (a .pre .0) (a .args .c) (r .result) (a .pre .1) (r .ensures)))
 
 repeats-requires : tie.Need-repeats-requires
 repeats-requires c κs =
