@@ -33,7 +33,8 @@ use Rattle.spec_theorems.specs.SheetFileLaws.{sheet-file-small}
 use Rattle.build_arena.specs.Arena.{arenaEnd, Held}
 use Rattle.build_arena.specs.NumberedLaws.{nodes-held, leaf-node}
 use Rattle.build_table.specs.Standing.{pathOf, sheetPaths, pathsFrom}
-use Rattle.build_table.specs.Tabled.{Checked, Tabled}
+use Rattle.format_sheet.specs.Check.{SheetAccepts}
+use Rattle.build_table.specs.Tabled.{Tabled}
 use Rattle.format_sheet.specs.declared.SheetMap.{SheetMap}
 use Rattle.build_scopes.specs.declared.Scopes.{Scopes}
 use Rattle.build_scopes.specs.Marks.{ReadyTree, ReadyWith}
@@ -357,7 +358,7 @@ module _ {s : List ℕ} (ok : Accepted s) where
       small : length (sheetTreeFile s) < treeRoom
       small = sheet-file-small s (builds v)
 
-      pub tail-is-ready : (m : SheetMap) (t : List ℕ) → Checked s m → Tabled s t → treeRoom ≤ length middle
+      pub tail-is-ready : (m : SheetMap) (t : List ℕ) → SheetAccepts s m → Tabled s t → treeRoom ≤ length middle
           → TailReady s m t classes (r .paths) middle (casesFromTops r) (bindingsFromTops r) (pathsFromTops r)
       unfolding sheetTreeFile
       tail-is-ready m t ch tabled room =

@@ -26,7 +26,7 @@ use Rattle.build_arena.specs.Arena.{casesMost}
 use Rattle.format_records.specs.declared.reading.Test as tests
 use Rattle.format_records.specs.Records.{kindOf, numberOf, lengthOf}
 use Rattle.build_table.specs.Standing.{typeOf, patternOf}
-use Rattle.build_table.specs.Tabled.{Checked}
+use Rattle.format_sheet.specs.Check.{SheetAccepts}
 use Rattle.build_table.specs.SeenLaws.{test-of-constructor, test-kind, test-kind-most}
 use Rattle.build_matrix.specs.Ready.{TestKnown}
 use Rattle.build_cases.specs.declared.tests.Longest.{Longest}
@@ -229,7 +229,7 @@ pub record-small : {s : List ℕ} → IsBytes s → (p : ℕ) (r : PatternRecord
 unfolding patternA patternFirst patternCount
 record-small bytes p r e = rw e (record { a-small = wordAt-small bytes _; first-small = wordAt-small bytes _; count-small = wordAt-small bytes _ })
 
-module _ {s : List ℕ} {m : SheetMap} (c : Checked s m) (p : ℕ) (k : TestKnown s p) (r : PatternRecord) (is : r ≡ records.patternOf s p) where
+module _ {s : List ℕ} {m : SheetMap} (c : SheetAccepts s m) (p : ℕ) (k : TestKnown s p) (r : PatternRecord) (is : r ≡ records.patternOf s p) where
   kind-is : r .kind ≡ patternKind s p
   kind-is = ap (λ (x : PatternRecord). x .kind) is
 

@@ -16,7 +16,7 @@ ghost use Prim.Native.Nat.{_<_};
 ghost use lib.ListN.{length, take};
 ghost use Rattle.spec_rules.specs.Limits.{clausesMost};
 ghost use Rattle.spec_rules.specs.SplittingLaws.{All};
-ghost use Rattle.build_table.specs.Tabled.{Checked};
+ghost use Rattle.format_sheet.specs.Check.{SheetAccepts};
 ghost use Rattle.build_matrix.specs.HeldRows.{heldTests};
 ghost use Rattle.build_matrix.specs.Lists.{asRows, WholeRows, HoldsRows};
 ghost use Rattle.build_matrix.specs.Reading.{heldIn, InTable};
@@ -57,7 +57,7 @@ pub fn column_tests<'a>(
 
 // The longest lengths of the lists among the first n of these tests.
 pub fn longest_of(s: &[u8], m: SheetMap, tests: &[u8; CLAUSES_MOST], n: usize) -> Longest
-    requires { ⌜ Checked (now s) m × WholeRows (asRows (now tests) n) × All (TestKnown (now s)) (take n (now tests)) ⌝ }
+    requires { ⌜ SheetAccepts (now s) m × WholeRows (asRows (now tests) n) × All (TestKnown (now s)) (take n (now tests)) ⌝ }
     ensures { λ r. ⌜ r ≡ longestOf (now (s .entry)) (take n (now (tests .entry))) ⌝ }
 {
     let mut l = Longest {

@@ -23,7 +23,7 @@ ghost use lib.ListN.{length, take};
 ghost use Rattle.spec_rules.specs.Limits.{patternsMost};
 ghost use Rattle.spec_rules.specs.SheetFile.{clauses};
 ghost use Rattle.spec_rules.specs.SplittingLaws.{All};
-ghost use Rattle.build_table.specs.Tabled.{Checked};
+ghost use Rattle.format_sheet.specs.Check.{SheetAccepts};
 ghost use Rattle.build_matrix.specs.Live.{liveIn};
 ghost use Rattle.build_matrix.specs.HeldRows.{heldTests};
 ghost use Rattle.build_matrix.specs.Lists.{asRows, WholeRows};
@@ -52,7 +52,7 @@ fn meet_both(
     work: &mut [u8],
     first: usize,
 ) -> Meeting
-    requires { ⌜ Checked (now s) m × WholeRows (asRows (now tests) n) × All (TestKnown (now s)) (take n (now tests)) ⌝ }
+    requires { ⌜ SheetAccepts (now s) m × WholeRows (asRows (now tests) n) × All (TestKnown (now s)) (take n (now tests)) ⌝ }
     requires { ⌜ (arenaEnd ≤ length (now work)) × (first ≤ casesMost) ⌝ }
     ensures { λ r. ⌜ MeetsTo (now (s .entry)) (columnOf (now (s .entry)) (take n (now (tests .entry)))) first (now (work .entry)) (now (work .exit)) r ⌝ }
 {

@@ -16,7 +16,7 @@ ghost use lib.ListN.{take};
 ghost use Rattle.spec_accepted.specs.SheetFacts.{Laid};
 ghost use Rattle.format_sheet.specs.Sections.{mapOf};
 ghost use Rattle.spec_rules.specs.SplittingLaws.{All};
-ghost use Rattle.build_table.specs.Tabled.{Checked};
+ghost use Rattle.format_sheet.specs.Check.{SheetAccepts};
 ghost use Rattle.build_matrix.specs.Lists.{asRows, WholeRows};
 ghost use Rattle.build_matrix.specs.Ready.{TestKnown};
 ghost use Rattle.build_cases.specs.SoFar.{Begun, Meets};
@@ -57,7 +57,7 @@ fn meet_test(
     from: usize,
     to: usize,
 ) -> usize
-    requires { ⌜ Checked (now s) m × TestKnown (now s) p × (l .tailless ≤ 65536) × (l .tails ≤ 65536) ⌝ }
+    requires { ⌜ SheetAccepts (now s) m × TestKnown (now s) p × (l .tailless ≤ 65536) × (l .tails ≤ 65536) ⌝ }
     requires { ⌜ Begun (now s) (now work) from to ⌝ }
     ensures { λ r. ⌜ Meets (now (s .entry)) (now (work .entry)) from to (meetTest (now (s .entry)) from tail l p) r (now (work .exit)) ⌝ }
 {
@@ -84,7 +84,7 @@ pub fn meet_rows(
     work: &mut [u8],
     from: usize,
 ) -> usize
-    requires { ⌜ Checked (now s) m × WholeRows (asRows (now tests) n) × All (TestKnown (now s)) (take n (now tests)) × (l .tailless ≤ 65536) × (l .tails ≤ 65536) ⌝ }
+    requires { ⌜ SheetAccepts (now s) m × WholeRows (asRows (now tests) n) × All (TestKnown (now s)) (take n (now tests)) × (l .tailless ≤ 65536) × (l .tails ≤ 65536) ⌝ }
     requires { ⌜ Begun (now s) (now work) from from ⌝ }
     ensures { λ r. ⌜ Meets (now (s .entry)) (now (work .entry)) from from (meetTests (now (s .entry)) from tail l (take n (now (tests .entry)))) r (now (work .exit)) ⌝ }
 {

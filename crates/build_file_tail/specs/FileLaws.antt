@@ -17,7 +17,8 @@ use Rattle.spec_rules.specs.TreeFile.{casesIn, nodesFrom, casesFrom, bindingsBy
 use Rattle.spec_file.specs.Writable.{stepsIn}
 use Rattle.spec_file.specs.LengthLaws.{length-nodesFrom, length-casesFrom, length-bindingsBytes, length-pathsBytes, length-stepsBytes}
 use Rattle.format_sheet.specs.declared.SheetMap.{SheetMap}
-use Rattle.build_table.specs.Tabled.{Checked, Tabled}
+use Rattle.format_sheet.specs.Check.{SheetAccepts}
+use Rattle.build_table.specs.Tabled.{Tabled}
 use Rattle.build_file_tail.specs.Tail.{Puts, Used, usedPaths, trailerBytes, frontBytes, tailBytes, TailReady}
 
 -- ---- how long the tail is
@@ -101,7 +102,7 @@ module _ (pool : List ℕ) (a : Tree) (table : List Path) (is-table : table ≡ 
   }
 
 -- a tree whose file has room: the tail can be written, once the table is that of the classes' paths
-pub tail-ready : {s : List ℕ} {m : SheetMap} {t classes tree : List ℕ} {n : ℕ} (a : Tree) → Checked s m → Tabled s t → Used (patterns s) classes n
+pub tail-ready : {s : List ℕ} {m : SheetMap} {t classes tree : List ℕ} {n : ℕ} (a : Tree) → SheetAccepts s m → Tabled s t → Used (patterns s) classes n
     → usedPaths s classes 0 n ≡ pathTable a → (cases bindings paths : ℕ) → cases ≡ nodeSize * nodesIn a → bindings ≡ cases + caseSize * casesIn a
     → paths ≡ bindings + bindingSize * length (bindingsIn a) → length (treeFile (pool s) a) < treeRoom → treeRoom ≤ length tree
     → TailReady s m t classes n tree cases bindings paths

@@ -17,12 +17,13 @@ use Rattle.format_records.specs.Records.{stepRecord}
 use Rattle.build_table.specs.Standing.{pathOf, typeOf, aboveOf, indexOf, stepOf, sameNumber, stepNumber}
 use Rattle.build_table.specs.TypesLaws.{type-known}
 use Rattle.build_table.specs.Table.{aboveAt, typeAt, stepAt, indexAt, depthAt}
-use Rattle.build_table.specs.Tabled.{Checked, Tabled}
+use Rattle.format_sheet.specs.Check.{SheetAccepts}
+use Rattle.build_table.specs.Tabled.{Tabled}
 use Rattle.build_file_tail.specs.Tail.{Puts, ownSteps, flagOf}
 use Rattle.build_file_tail.specs.StoringLaws.{puts-nothing, puts-as}
 use Rattle.build_file_tail.specs.StepsLaws.{step-bytes, no-step, above-known}
 
-module _ {s : List ℕ} {m : SheetMap} {t : List ℕ} (ch : Checked s m) (tabled : Tabled s t) (p : ℕ) (h : p < patterns s) where
+module _ {s : List ℕ} {m : SheetMap} {t : List ℕ} (ch : SheetAccepts s m) (tabled : Tabled s t) (p : ℕ) (h : p < patterns s) where
   -- ---- where the table has it
   pub known-small : p < patternsMost
   known-small = omega (arith, h, ch .ok .is-counted .patterns-most)

@@ -19,7 +19,8 @@ use Rattle.format_sheet.specs.declared.records.TypeRecord.{TypeRecord}
 use Rattle.format_sheet.specs.declared.SheetMap.{SheetMap}
 use Rattle.format_sheet.specs.SectionsLaws.{mapped}
 use Rattle.build_table.specs.Standing.{pathOf}
-use Rattle.build_table.specs.Tabled.{Checked, Tabled}
+use Rattle.format_sheet.specs.Check.{SheetAccepts}
+use Rattle.build_table.specs.Tabled.{Tabled}
 use Rattle.build_file_tail.specs.Tail.{Puts, Begun, Used, usedPaths, countIn, together, pathRecord, pathRecords, flagOf}
 use Rattle.build_file_tail.specs.StoringLaws.{begun, begun-more, begun-all, text-next, rest-next, rest-none}
 
@@ -78,7 +79,7 @@ module _ {s t : List ℕ} (tabled : Tabled s t) {classes : List ℕ} {n : ℕ} (
   path-counts = ap together (counts-lengths n 0 (omega arith)) ∙ together-steps (usedPaths s classes 0 n)
 
 -- ---- the pool, by the sheet's map
-module _ {s : List ℕ} {m : SheetMap} (ch : Checked s m) where
+module _ {s : List ℕ} {m : SheetMap} (ch : SheetAccepts s m) where
   pub pool-size : m .counts .pool ≡ poolSize s
   pool-size = mapped s m (ch .is-map) .of-pool
 

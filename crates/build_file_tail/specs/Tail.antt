@@ -20,7 +20,8 @@ use Rattle.format_sheet.specs.declared.SheetMap.{SheetMap}
 use Rattle.format_sheet.specs.declared.records.TypeRecord.{TypeRecord}
 use Rattle.build_table.specs.Standing.{pathOf}
 use Rattle.build_table.specs.Table.{depthAt}
-use Rattle.build_table.specs.Tabled.{Checked, Tabled}
+use Rattle.format_sheet.specs.Check.{SheetAccepts}
+use Rattle.build_table.specs.Tabled.{Tabled}
 
 -- ---- what a writer leaves
 -- bytes stored from `at` on, which end at `end`
@@ -93,7 +94,7 @@ tailBytes pool table cases bindings at =
 
 -- what writing the tail asks: the sheet's table, the classes, where the sections before start, and room
 pub record TailReady (s : List ℕ) (m : SheetMap) (t classes : List ℕ) (n : ℕ) (tree : List ℕ) (cases bindings at : ℕ) : Type 0 where
-  pub checked : Checked s m
+  pub checked : SheetAccepts s m
   pub tabled : Tabled s t
   pub used : Used (patterns s) classes n
   pub cases-first : cases ≤ bindings

@@ -16,11 +16,11 @@ ghost use Rattle.base_words.specs.Words.{wordBytes};
 ghost use Rattle.base_words.specs.Stored.{stored};
 ghost use Rattle.spec_rules.specs.Limits.{treeTrailer, treeRoom};
 ghost use Rattle.spec_rules.specs.SheetFile.{poolSize, pool};
-ghost use Rattle.build_table.specs.Tabled.{Checked};
+ghost use Rattle.format_sheet.specs.Check.{SheetAccepts};
 ghost use Rattle.build_file_tail.specs.Tail.{Puts, TailReady, usedPaths, trailerBytes, tailBytes};
 
 fn copy_pool(s: &[u8], m: SheetMap, tree: &mut [u8], at: usize) -> usize
-    requires { ⌜ Checked (now s) m × (at + poolSize (now s) ≤ length (now tree)) ⌝ }
+    requires { ⌜ SheetAccepts (now s) m × (at + poolSize (now s) ≤ length (now tree)) ⌝ }
     ensures { λ r. ⌜ Puts (now (tree .entry)) (now (tree .exit)) at r (pool (now (s .entry))) ⌝ }
 {
     let from = m.at.pool;

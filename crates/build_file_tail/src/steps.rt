@@ -21,7 +21,8 @@ ghost use lib.ListN.{length};
 ghost use Rattle.spec_rules.specs.SheetFile.{patterns};
 ghost use Rattle.spec_rules.specs.TreeFile.{pathSteps, stepsBytes};
 ghost use Rattle.build_table.specs.Standing.{pathOf, stepOf};
-ghost use Rattle.build_table.specs.Tabled.{Checked, Tabled};
+ghost use Rattle.format_sheet.specs.Check.{SheetAccepts};
+ghost use Rattle.build_table.specs.Tabled.{Tabled};
 ghost use Rattle.build_file_tail.specs.Tail.{Puts, Used, usedPaths, ownSteps, flagOf};
 
 // A step's flag: 1 for a field of a list-decorated one-constructor type.
@@ -45,7 +46,7 @@ fn flag_of(step: u8, ty: TypeRecord) -> u8
 
 // The step to p itself, if there is one, so that it ends at `end`; where it starts.
 fn put_step(s: &[u8], m: SheetMap, table: &[u8], p: usize, tree: &mut [u8], end: usize) -> usize
-    requires { ⌜ Checked (now s) m × Tabled (now s) (now table) × (p < patterns (now s)) ⌝ }
+    requires { ⌜ SheetAccepts (now s) m × Tabled (now s) (now table) × (p < patterns (now s)) ⌝ }
     requires { ⌜ (length (pathSteps (ownSteps (stepOf (now s) p))) ≤ end) × (end ≤ length (now tree)) ⌝ }
     ensures { λ r. ⌜ Puts (now (tree .entry)) (now (tree .exit)) r end (pathSteps (ownSteps (stepOf (now (s .entry)) p))) ⌝ }
 {
@@ -63,7 +64,7 @@ fn put_step(s: &[u8], m: SheetMap, table: &[u8], p: usize, tree: &mut [u8], end:
 
 // The steps of the class's path.
 fn put_steps(s: &[u8], m: SheetMap, table: &[u8], class: usize, tree: &mut [u8], at: usize) -> usize
-    requires { ⌜ Checked (now s) m × Tabled (now s) (now table) × (class < patterns (now s)) ⌝ }
+    requires { ⌜ SheetAccepts (now s) m × Tabled (now s) (now table) × (class < patterns (now s)) ⌝ }
     requires { ⌜ at + length (pathSteps (pathOf (now s) class)) ≤ length (now tree) ⌝ }
     ensures { λ r. ⌜ Puts (now (tree .entry)) (now (tree .exit)) at r (pathSteps (pathOf (now (s .entry)) class)) ⌝ }
 {
@@ -87,7 +88,7 @@ pub fn put_all_steps(
     tree: &mut [u8],
     at: usize,
 ) -> usize
-    requires { ⌜ Checked (now s) m × Tabled (now s) (now table) × Used (patterns (now s)) (now classes) count ⌝ }
+    requires { ⌜ SheetAccepts (now s) m × Tabled (now s) (now table) × Used (patterns (now s)) (now classes) count ⌝ }
     requires { ⌜ at + length (stepsBytes (usedPaths (now s) (now classes) 0 count)) ≤ length (now tree) ⌝ }
     ensures { λ r. ⌜ Puts (now (tree .entry)) (now (tree .exit)) at r (stepsBytes (usedPaths (now (s .entry)) (now (classes .entry)) 0 count)) ⌝ }
 {

@@ -21,7 +21,7 @@ use Rattle.format_sheet.specs.declared.SheetMap.{SheetMap}
 use Rattle.format_sheet.specs.declared.records.PatternRecord.{PatternRecord}
 use Rattle.format_sheet.specs.Records.{patternOf as recordOf}
 use Rattle.build_table.specs.Standing.{kindOf, typeOf, testOfKind, isTest, patternOf}
-use Rattle.build_table.specs.Tabled.{Checked}
+use Rattle.format_sheet.specs.Check.{SheetAccepts}
 use Rattle.format_records.specs.declared.reading.Test.{Test}
 use Rattle.build_matrix.specs.HeldRows.{joinsCase}
 use Rattle.build_matrix.specs.Ready.{TestKnown}
@@ -193,7 +193,7 @@ text-pattern-most kind = go (eqb kind intCase)
     go true = (omega arith, omega arith)
     go false = (omega arith, omega arith)
 
-module _ (s : List ℕ) (m : SheetMap) (c : Checked s m) (a n b k : ℕ) where
+module _ (s : List ℕ) (m : SheetMap) (c : SheetAccepts s m) (a n b k : ℕ) where
   pool-is : m .at .pool ≡ poolAt s
   pool-is = ap (λ (x : SheetMap). x .at .pool) (c .is-map)
 

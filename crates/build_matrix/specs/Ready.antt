@@ -13,7 +13,8 @@ use Rattle.spec_accepted.specs.SheetFacts.{Parent}
 use Rattle.format_sheet.specs.declared.SheetMap.{SheetMap}
 use Rattle.build_table.specs.Standing.{classOf, isTest}
 use Rattle.build_table.specs.Table.{tableSize}
-use Rattle.build_table.specs.Tabled.{Checked, Tabled}
+use Rattle.format_sheet.specs.Check.{SheetAccepts}
+use Rattle.build_table.specs.Tabled.{Tabled}
 use Rattle.build_table.specs.Seen.{testsOf, testsOfEach}
 use Rattle.build_matrix.specs.declared.Classes.{Classes}
 use Rattle.build_matrix.specs.declared.columns.Given.{Given}
@@ -24,7 +25,7 @@ use Rattle.build_matrix.specs.Ordered.{putClass, putEach, pathBefore}
 use Rattle.build_matrix.specs.Reading.{firstIn, Ranked}
 
 pub record ReadyTable (s : List ℕ) (m : SheetMap) (t : List ℕ) : Type 0 where
-  pub checked : Checked s m
+  pub checked : SheetAccepts s m
   pub tabled : Tabled s t
 
 pub record Listed (s : List ℕ) (o : Classes) : Type 0 where

@@ -12,13 +12,13 @@ ghost use Prim.Native.Nat.{_+_, _≤_};
 ghost use Rattle.base_words.specs.Words.{sameText};
 ghost use Rattle.spec_rules.specs.Kinds.{byteStringPattern, integerPattern};
 ghost use Rattle.spec_rules.specs.SheetFile.{poolSize, poolText};
-ghost use Rattle.build_table.specs.Tabled.{Checked};
+ghost use Rattle.format_sheet.specs.Check.{SheetAccepts};
 ghost use Rattle.build_matrix.specs.Ready.{TestKnown};
 ghost use Rattle.build_matrix.specs.Meant.{joinsTest, InPool, coversConstructor, textPattern, coversText, coversTailed, coversList};
 
 // Two texts of the pool are the same.
 fn same_texts(s: &[u8], m: SheetMap, a: usize, n: usize, b: usize, k: usize) -> bool
-    requires { ⌜ Checked (now s) m × (a + n ≤ poolSize (now s)) × (b + k ≤ poolSize (now s)) ⌝ }
+    requires { ⌜ SheetAccepts (now s) m × (a + n ≤ poolSize (now s)) × (b + k ≤ poolSize (now s)) ⌝ }
     ensures { λ r. ⌜ r ≡ sameText (poolText (now (s .entry)) a n) (poolText (now (s .entry)) b k) ⌝ }
 {
     if n != k {
@@ -48,7 +48,7 @@ fn text_pattern(kind: u8) -> u8
 }
 
 fn covers_text(s: &[u8], m: SheetMap, r: PatternRecord, kind: u8, start: u16, count: u16) -> bool
-    requires { ⌜ Checked (now s) m × (start + count ≤ poolSize (now s)) × ((integerPattern ≤ r .kind) → (r .kind ≤ byteStringPattern) → r .first + r .count ≤ poolSize (now s)) ⌝ }
+    requires { ⌜ SheetAccepts (now s) m × (start + count ≤ poolSize (now s)) × ((integerPattern ≤ r .kind) → (r .kind ≤ byteStringPattern) → r .first + r .count ≤ poolSize (now s)) ⌝ }
     ensures { λ x. ⌜ x ≡ coversText (now (s .entry)) r kind start count ⌝ }
 {
     if r.kind != text_pattern(kind) {
@@ -77,7 +77,7 @@ fn covers_list(r: PatternRecord, n: u16) -> bool
 
 // The test of pattern p belongs to the case.
 pub fn covers(s: &[u8], m: SheetMap, p: usize, test: Test) -> bool
-    requires { ⌜ Checked (now s) m × TestKnown (now s) p × InPool (now s) test ⌝ }
+    requires { ⌜ SheetAccepts (now s) m × TestKnown (now s) p × InPool (now s) test ⌝ }
     ensures { λ r. ⌜ r ≡ joinsTest (now (s .entry)) test p ⌝ }
 {
     let r = pattern_at(s, m, p);

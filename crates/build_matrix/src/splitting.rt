@@ -30,7 +30,7 @@ ghost use Rattle.spec_rules.specs.Limits.{clausesMost, patternsMost};
 ghost use Rattle.spec_rules.specs.SheetRefusals.{isIn};
 ghost use Rattle.spec_rules.specs.SplittingLaws.{All};
 ghost use Rattle.spec_rules.specs.SheetFile.{clauses};
-ghost use Rattle.build_table.specs.Tabled.{Checked};
+ghost use Rattle.format_sheet.specs.Check.{SheetAccepts};
 ghost use Rattle.build_table.specs.Seen.{openedTests};
 ghost use Rattle.build_matrix.specs.Live.{liveIn};
 ghost use Rattle.build_matrix.specs.RowStates.{upFrom};
@@ -129,7 +129,7 @@ fn join_row(
     held: Held,
     test: Test,
 ) -> Counts
-    requires { ⌜ Checked (now s) m × HeldKnown (now s) held × InPool (now s) test ⌝ }
+    requires { ⌜ SheetAccepts (now s) m × HeldKnown (now s) held × InPool (now s) test ⌝ }
     requires { ⌜ WholeRows (asRows (now rows) (o .rows)) × WholeRows (asRows (now opens) (o .opens)) × (o .rows < clausesMost) × (o .opens < clausesMost) ⌝ }
     ensures { λ r. ⌜ JoinsTo (asRows (now (rows .exit)) (r .rows)) (asRows (now (opens .exit)) (r .opens)) (take (o .rows) (now (rows .entry)) ++ joinRow (joinsTest (now (s .entry)) test) held c) (take (o .opens) (now (opens .entry)) ++ openRow (joinsTest (now (s .entry)) test) held) ⌝ }
 {

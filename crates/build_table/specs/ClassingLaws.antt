@@ -32,7 +32,8 @@ use Rattle.build_table.specs.ClassLaws.{class-below}
 use Rattle.build_table.specs.SeenLaws.{test-of-text-or-list, no-test-of-plain, no-test-of-pair, test-of-constructor}
 use Rattle.build_table.specs.PlacingLaws.{kind-is}
 use Rattle.build_table.specs.Table.{classAt, typeAt, stepAt, indexAt, depthAt, clauseAt, indicesAt, cellsAt, tableSize, sameNumber, rooted, rootedEach, aboveIn, sameStepIn, classIn, classed, indexed, tested, firstBefore}
-use Rattle.build_table.specs.Tabled.{Checked, Placed, Classed, RowBelow}
+use Rattle.format_sheet.specs.Check.{SheetAccepts}
+use Rattle.build_table.specs.Tabled.{Placed, Classed, RowBelow}
 
 -- ---- the same step: each test in turn
 module _ (t : List ℕ) (a b : ℕ) where
@@ -278,7 +279,7 @@ module _ (t : List ℕ) (p : ℕ) (test : Bool) where
   tested-no r e n = sym (pick-false test (set t (cellsAt + patternsMost * getD t (clauseAt + p) 0 + getD t (classAt + p) 0) (p + 1)) t (sym e ∙ n))
 
 -- the cell is in the table
-pub cell-inside : {s t : List ℕ} {m : SheetMap} {p : ℕ} → Checked s m → p < patterns s → Placed s t p → Classed s t p → (clause class : ℕ) → clause ≡ getD t (clauseAt + p) 0 → class ≡ getD t (classAt + p) 0
+pub cell-inside : {s t : List ℕ} {m : SheetMap} {p : ℕ} → SheetAccepts s m → p < patterns s → Placed s t p → Classed s t p → (clause class : ℕ) → clause ≡ getD t (clauseAt + p) 0 → class ≡ getD t (classAt + p) 0
     → cellsAt + patternsMost * clause + class < tableSize
 cell-inside {s} {t} {m} {p} ch h pl cl clause class ec ek =
     let ok = ch .ok in

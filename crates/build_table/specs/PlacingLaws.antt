@@ -25,7 +25,8 @@ use Rattle.format_sheet.specs.Records.{patternOf, constructorOf as runOf}
 use Rattle.build_table.specs.Standing.{kindOf, typeOf, ownerOf}
 use Rattle.build_table.specs.TypesLaws.{pattern-fits, type-known, list-entry, tailed-entry, pair-entry, tuple-entry, constructor-inside, constructor-entry}
 use Rattle.build_table.specs.Table.{sameNumber, placed, placedEach, placedBelow}
-use Rattle.build_table.specs.Tabled.{Checked, Parts, Reading}
+use Rattle.format_sheet.specs.Check.{SheetAccepts}
+use Rattle.build_table.specs.Tabled.{Parts, Reading}
 
 -- ---- a record's fields, as numbers of the sheet
 module _ (s : List ℕ) (p : ℕ) (r : PatternRecord) (e : r ≡ patternOf s p) where
@@ -74,7 +75,7 @@ module _ (s : List ℕ) (p step e stride owner n : ℕ) where
       rw (eu, number, ev) (sym (placedEach-next t i l))
 
 -- ---- what a loop over children asks
-module _ {s : List ℕ} {m : SheetMap} (ch : Checked s m) {p n e stride : ℕ} (parts : Parts s p n e stride) where
+module _ {s : List ℕ} {m : SheetMap} (ch : SheetAccepts s m) {p n e stride : ℕ} (parts : Parts s p n e stride) where
   pub parts-owns : (i : ℕ) → i < n → Owns s p (patternFirst s p + i)
   parts-owns i l = record { parent = parts .has; from = omega arith; to = omega (arith, parts .most) }
 

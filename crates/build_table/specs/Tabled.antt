@@ -11,19 +11,14 @@ use Rattle.spec_rules.specs.Limits.{patternsMost, depthMost}
 use Rattle.spec_rules.specs.Searching.{lowest}
 use Rattle.spec_rules.specs.SheetFile.{entries, patterns, clauses, patternCount}
 use Rattle.spec_rules.specs.Columns.{stepIndex}
-use Rattle.spec_accepted.specs.SheetFacts.{Parent, Accepted}
+use Rattle.spec_accepted.specs.SheetFacts.{Parent}
 use Rattle.format_sheet.specs.declared.SheetMap.{SheetMap}
 use Rattle.format_sheet.specs.declared.records.PatternRecord.{PatternRecord}
 use Rattle.format_sheet.specs.declared.records.TypeRecord.{TypeRecord}
-use Rattle.format_sheet.specs.Sections.{mapOf}
+use Rattle.format_sheet.specs.Check.{SheetAccepts}
 use Rattle.format_sheet.specs.Records.{patternOf, typeOf as typeOfRecord}
 use Rattle.build_table.specs.Standing.{clauseOf, pathOf, typeOf, ownerOf, parentOf, aboveOf, indexOf, stepOf, stepNumber, classOf, isCell, oneMore, cellOf}
 use Rattle.build_table.specs.Table.{classAt, ownerAt, aboveAt, typeAt, stepAt, indexAt, depthAt, clauseAt, indicesAt, cellsAt, tableSize, aboveIn, sameStepIn}
-
--- an accepted sheet, and its map
-pub record Checked (s : List ℕ) (m : SheetMap) : Type 0 where
-  pub is-map : m ≡ mapOf s
-  pub ok : Accepted s
 
 -- what its parent, or its clause, sets of pattern q
 pub record Placed (s t : List ℕ) (q : ℕ) : Type 0 where
@@ -70,7 +65,7 @@ pub record Parts (s : List ℕ) (p n e stride : ℕ) : Type 0 where
 
 -- what was read of pattern p: its record, its type's record, its owner
 pub record Reading (s : List ℕ) (m : SheetMap) (t : List ℕ) (p : ℕ) (r : PatternRecord) (ty : TypeRecord) (owner : ℕ) : Type 0 where
-  pub checked : Checked s m
+  pub checked : SheetAccepts s m
   pub long : length t ≡ tableSize
   pub known : p < patterns s
   pub is-pattern : r ≡ patternOf s p

@@ -27,7 +27,8 @@ ghost use Rattle.spec_rules.specs.SheetFile.{patterns, clauses};
 ghost use Rattle.spec_rules.specs.Patterns.{ListWithRest, Constructor};
 ghost use Rattle.build_table.specs.Standing.{kindOf, typeOf, ownerOf, isTest};
 ghost use Rattle.build_table.specs.Table.{typeAt, depthAt, tableSize, placed, placedEach, placedBelow, rooted, rootedEach, aboveIn, sameStepIn, classIn, classed, indexed, tested, firstBefore, indicesIn};
-ghost use Rattle.build_table.specs.Tabled.{Checked, Placed, Classed, Tabled, Filled, Parts, Reading, Ranged, RowBelow};
+ghost use Rattle.format_sheet.specs.Check.{SheetAccepts};
+ghost use Rattle.build_table.specs.Tabled.{Placed, Classed, Tabled, Filled, Parts, Reading, Ranged, RowBelow};
 
 // By pattern number: the lowest pattern with the same path, one more than the test that it is inside of (or 0), the pattern that
 // its path goes on from, its type, the step (SAME: none), the step's index, how many steps its path has, its clause, their indices.
@@ -91,7 +92,7 @@ fn put_children(
     stride: usize,
     owner: u8,
 )
-    requires { ⌜ Checked (now s) m × (length (now table) ≡ tableSize) × Parts (now s) p n e stride ⌝ }
+    requires { ⌜ SheetAccepts (now s) m × (length (now table) ≡ tableSize) × Parts (now s) p n e stride ⌝ }
     ensures { λ _. ⌜ now (table .exit) ≡ placedEach (now (s .entry)) (now (table .entry)) p step e stride owner 0 n ⌝ }
 {
     let r = pattern_at(s, m, p);
@@ -192,7 +193,7 @@ fn place_tailed(
 
 // What pattern p gives to its children: one decision over kinds 0 to 9.
 fn place_children(s: &[u8], m: SheetMap, table: &mut [u8], p: usize)
-    requires { ⌜ Checked (now s) m × (length (now table) ≡ tableSize) × (p < patterns (now s)) × Placed (now s) (now table) p ⌝ }
+    requires { ⌜ SheetAccepts (now s) m × (length (now table) ≡ tableSize) × (p < patterns (now s)) × Placed (now s) (now table) p ⌝ }
     ensures { λ _. ⌜ now (table .exit) ≡ placedBelow (now (s .entry)) (now (table .entry)) p (kindOf (now (s .entry)) p) ⌝ }
 {
     let r = pattern_at(s, m, p);
@@ -312,7 +313,7 @@ fn put_indices(table: &mut [u8], p: usize)
 
 // Whether pattern p stands in a column: an integer, byte string, list, or constructor of a several-constructor type.
 pub fn is_test(s: &[u8], m: SheetMap, table: &[u8], p: usize) -> bool
-    requires { ⌜ Checked (now s) m × (length (now table) ≡ tableSize) × (p < patterns (now s)) × (getD (now table) (typeAt + p) 0 ≡ typeOf (now s) p) ⌝ }
+    requires { ⌜ SheetAccepts (now s) m × (length (now table) ≡ tableSize) × (p < patterns (now s)) × (getD (now table) (typeAt + p) 0 ≡ typeOf (now s) p) ⌝ }
     ensures { λ r. ⌜ r ≡ isTest (now (s .entry)) p ⌝ }
 {
     let r = pattern_at(s, m, p);
@@ -330,7 +331,7 @@ pub fn is_test(s: &[u8], m: SheetMap, table: &[u8], p: usize) -> bool
 
 // Pattern p in its clause's column, if it is a test.
 fn put_test(s: &[u8], m: SheetMap, table: &mut [u8], p: usize)
-    requires { ⌜ Checked (now s) m × (length (now table) ≡ tableSize) × (p < patterns (now s)) × Placed (now s) (now table) p × Classed (now s) (now table) p ⌝ }
+    requires { ⌜ SheetAccepts (now s) m × (length (now table) ≡ tableSize) × (p < patterns (now s)) × Placed (now s) (now table) p × Classed (now s) (now table) p ⌝ }
     ensures { λ _. ⌜ now (table .exit) ≡ tested (now (table .entry)) (isTest (now (s .entry)) p) p ⌝ }
 {
     if is_test(s, m, table, p) {
@@ -352,7 +353,7 @@ fn put_root(table: &mut [u8], r: usize, c: usize, tipo: usize)
 
 // The root of each clause.
 fn put_roots(s: &[u8], m: SheetMap, table: &mut [u8])
-    requires { ⌜ Checked (now s) m × (length (now table) ≡ tableSize) ⌝ }
+    requires { ⌜ SheetAccepts (now s) m × (length (now table) ≡ tableSize) ⌝ }
     ensures { λ _. ⌜ now (table .exit) ≡ rootedEach (now (s .entry)) (now (table .entry)) 0 (clauses (now (s .entry))) ⌝ }
 {
     let mut c: usize = 0;
@@ -364,7 +365,7 @@ fn put_roots(s: &[u8], m: SheetMap, table: &mut [u8])
 
 // Pattern p, whose own fields are set: its class, its indices, its cell, and what it gives to its children.
 fn fill_at(s: &[u8], m: SheetMap, table: &mut [u8], p: usize)
-    requires { ⌜ Checked (now s) m × (p < patterns (now s)) × Filled (now s) (now table) p p p p ⌝ }
+    requires { ⌜ SheetAccepts (now s) m × (p < patterns (now s)) × Filled (now s) (now table) p p p p ⌝ }
     ensures { λ _. ⌜ Filled (now (s .entry)) (now (table .exit)) (p + 1) (p + 1) (p + 1) (p + 1) ⌝ }
 {
     put_class(table, p);
@@ -375,7 +376,7 @@ fn fill_at(s: &[u8], m: SheetMap, table: &mut [u8], p: usize)
 
 // The table of a checked sheet, in bytes that are all zero.
 pub fn fill(s: &[u8], m: SheetMap, table: &mut [u8])
-    requires { ⌜ Checked (now s) m × (now table ≡ zeros tableSize) ⌝ }
+    requires { ⌜ SheetAccepts (now s) m × (now table ≡ zeros tableSize) ⌝ }
     ensures { λ _. ⌜ Tabled (now (s .entry)) (now (table .exit)) ⌝ }
 {
     put_roots(s, m, table);

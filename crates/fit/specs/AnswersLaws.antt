@@ -9,7 +9,6 @@ use Rattle.spec_rules.specs.SheetRefusals.{refused, verdict}
 use Rattle.spec_rules.specs.PanelFile.{panelVerdict}
 use Rattle.spec_rules.specs.Fitting.{panelFits}
 use Rattle.spec_rules.specs.Calls.{fitCall}
-use Rattle.spec_accepted.specs.SheetFacts.{accepted-sheet}
 use Rattle.spec_accepted.specs.PanelFacts.{accepted-panel}
 use Rattle.format_sheet.specs.declared.SheetMap.{SheetMap}
 use Rattle.format_sheet.specs.Check.{SheetAccepts}
@@ -42,10 +41,10 @@ module _ (s v : List ℕ) where
 
       pub fit-ready : ReadyToFit s sm v vm
       fit-ready =
-          let a = accepted-sheet s (sheet .verdict) in
+          let a = sheet .ok in
           record {
             sheet-laid = a .is-laid;
-            sheet-map = sheet .map;
+            sheet-map = sheet .is-map;
             is-typed = a .is-typed;
             is-open = accepts-opened v vm panel;
             is-shaped = accepted-panel v (panel .verdict) .is-shaped;

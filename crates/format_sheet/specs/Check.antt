@@ -4,6 +4,7 @@ use mathlib.Core.Path.{_≡_}
 use mathlib.Core.List.{List}
 use Rattle.spec_rules.specs.RefusalNumbers.{typesRefusal, transparentRefusal, shapeRefusal, textRefusal, misfitRefusal, nameTwiceRefusal}
 use Rattle.spec_rules.specs.SheetRefusals.{Verdict, accepted, refused, require, requireNone, typesFit, lowestTransparent, shapeFits, lowestBadText, lowestMisfit, lowestNameTwice, verdict}
+use Rattle.spec_accepted.specs.SheetFacts.{Accepted as Accepted-sheet}
 use Rattle.format_sheet.specs.declared.SheetMap.{SheetMap}
 use Rattle.format_sheet.specs.declared.CheckedSheet.{CheckedSheet}
 use Rattle.format_sheet.specs.declared.CheckedSheet.the-variants.{Accepted, Refused}
@@ -18,10 +19,11 @@ unfoldable pub checked : List ℕ → CheckedSheet
 unfolding verdict
 checked s = answer s (verdict s)
 
--- an accepted sheet, with its map
+-- an accepted sheet with what it has, and its map
 pub record SheetAccepts (s : List ℕ) (m : SheetMap) : Type 0 where
   pub verdict : Rattle.spec_rules.specs.SheetRefusals.verdict s ≡ accepted
-  pub map : m ≡ mapOf s
+  pub ok : Accepted-sheet s
+  pub is-map : m ≡ mapOf s
 
 -- ---- the verdict from its later stages on
 unfoldable pub fromClauses : List ℕ → Verdict

@@ -14,6 +14,7 @@ use Rattle.spec_rules.specs.RefusalNumbers.{lengthRefusal, layoutRefusal, noCla
 use Rattle.spec_rules.specs.SheetFile.{clauses}
 use Rattle.spec_rules.specs.SheetRefusals.{Verdict, accepted, refused, require, requireNone, lengthFits, layoutFits, hasClause, countsFit, verdict}
 use Rattle.spec_rules.specs.SheetRefusalsLaws.{verdict-in-order}
+use Rattle.spec_accepted.specs.SheetFacts.{accepted-sheet}
 use Rattle.format_sheet.specs.declared.Starts.{Starts}
 use Rattle.format_sheet.specs.declared.Counts.{Counts}
 use Rattle.format_sheet.specs.declared.SheetMap.{SheetMap}
@@ -94,7 +95,7 @@ unfolding checked
 sheet-accepts s m h = go (verdict s) refl h
   where
     go : (w : Verdict) → verdict s ≡ w → answer s w ≡ Accepted m → SheetAccepts s m
-    go accepted e x = record { verdict = e; map = cc }
+    go accepted e x = record { verdict = e; ok = accepted-sheet s e; is-map = cc }
     go (refused number place) e x = let z : _≡_ {A = ℕ} 0 1 = cc in absurd (omega arith)
 
 pub sheet-refuses : (s : List ℕ) (number place : ℕ) → checked s ≡ Refused number place → verdict s ≡ refused number place

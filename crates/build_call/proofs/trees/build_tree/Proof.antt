@@ -2,8 +2,7 @@
 use mathlib.Core.Path.{_≡_, refl, sym}
 use mathlib.Core.Bool.{Bool, true, false, not}
 use native.Mathlib.Omega.{arith}
-use Rattle.spec_accepted.specs.SheetFacts.{accepted-sheet}
-use Rattle.build_table.specs.Tabled.{Checked}
+use Rattle.format_sheet.specs.Check.{SheetAccepts}
 use Rattle.build_call.specs.AnswersLaws.{gives-refusal}
 use Rattle.build_call.specs.RawLaws.{end-12-raw, raw-built}
 use borrow.Author.Needs.{needs}
@@ -18,8 +17,8 @@ on : (b : Bool) → not b ≡ false → b ≡ true
 on true e = refl
 on false e = sym e
 
-checked : (c : tie.Start) → Checked (c .args .s .now) (c .args .m)
-checked c = record { is-map = c .pre .0 .map; ok = accepted-sheet (c .args .s .now) (c .pre .0 .verdict) }
+checked : (c : tie.Start) → SheetAccepts (c .args .s .now) (c .args .m)
+checked c = c .pre .0
 
 slice-aggregate-fill : tie.Need-slice-aggregate-fill
 slice-aggregate-fill c = search needs

@@ -22,7 +22,7 @@ ok c = accepted-sheet (c .args .s .now) (c .pre .0 .0 .verdict)
 
 -- the map's own numbers
 its : (c : tie.Start) → Mapped (c .args .s .now) (c .args .m)
-its c = mapped (c .args .s .now) (c .args .m) (c .pre .0 .0 .map)
+its c = mapped (c .args .s .now) (c .args .m) (c .pre .0 .0 .is-map)
 
 -- the hoists counted
 counted : (c : tie.Start) (more : ℕ) → more ≡ times (λ k. isMarked (getD (c .args .leaves) k 0)) 0 (c .args .m .counts .clauses) → more ≡ hoistsOf (c .args .s .now)

@@ -12,7 +12,7 @@ ok c = accepted-sheet (c .args .s .now) (c .pre .0 .0 .verdict)
 
 -- the map's own numbers
 its : (c : tie.Start) → Mapped (c .args .s .now) (c .args .m)
-its c = mapped (c .args .s .now) (c .args .m) (c .pre .0 .0 .map)
+its c = mapped (c .args .s .now) (c .args .m) (c .pre .0 .0 .is-map)
 
 get-hoist-paths-requires : tie.Need-get-hoist-paths-requires
 get-hoist-paths-requires c κs =

@@ -23,7 +23,7 @@ ok c = accepted-sheet (c .args .s .now) (c .pre .0 .0 .verdict)
 
 -- the map's own numbers
 its : (c : tie.Start) → Mapped (c .args .s .now) (c .args .m)
-its c = mapped (c .args .s .now) (c .args .m) (c .pre .0 .0 .map)
+its c = mapped (c .args .s .now) (c .args .m) (c .pre .0 .0 .is-map)
 
 -- all bindings
 all : (c : tie.Start) (more : ℕ) → more ≡ sum (λ k. leafBindings (c .args .w .now) (getD (c .args .x .leaf) k 0)) 0 (c .args .m .counts .clauses)

@@ -22,7 +22,7 @@ ok c = accepted-sheet (c .args .s .now) (c .pre .0 .0 .verdict)
 
 -- the map's own numbers
 its : (c : tie.Start) → Mapped (c .args .s .now) (c .args .m)
-its c = mapped (c .args .s .now) (c .args .m) (c .pre .0 .0 .map)
+its c = mapped (c .args .s .now) (c .args .m) (c .pre .0 .0 .is-map)
 
 -- what is written so far: the three sections of the sheet's tree
 told : (c : tie.Start) (middle classes : List ℕ) (r : Tops)
@@ -94,7 +94,7 @@ put-tail-requires c κs =
     let s = c .before .before .before .before .before .before .before .before .before .before .before .before .before .before in
     let write-nodes = c .before .before .before .before .before .before .before .write-nodes in
     let f = told s _ _ (write-nodes .result) (write-nodes .ensures) in
-    tail-is-ready (ok s) _ _ _ _ (s .pre .0 .2) (s .pre .0 .0 .verdict) _ _ _ _ f (s .args .m) (s .args .table .now) (record { is-map = s .pre .0 .0 .map; ok = ok s }) (s .pre .0 .1) (omega (arith, s .pre .1 .0, write-nodes .kept .1 .1 .1 .1 .1 .0))
+    tail-is-ready (ok s) _ _ _ _ (s .pre .0 .2) (s .pre .0 .0 .verdict) _ _ _ _ f (s .args .m) (s .args .table .now) (s .pre .0 .0) (s .pre .0 .1) (omega (arith, s .pre .1 .0, write-nodes .kept .1 .1 .1 .1 .1 .0))
 
 cast-t23 : tie.Need-cast-t23
 cast-t23 c =
