@@ -129,6 +129,8 @@ class Rules(unittest.TestCase):
         self.says('refused 8 0', roots=[[0], [6], [10]])
         self.says('refused 8 0', children=SHEET['children'] + [[10]])
         self.says('refused 8 0', children_4=[4])
+        itself = SHEET['patterns'] + [[2, 0, 5, 9, 1]]
+        self.says('refused 8 0', patterns=itself, children=SHEET['children'] + [[11]])
         self.says('refused 8 0', patterns=SHEET['patterns'] + [[0, 0, 0, 0, 0]])
 
     def test_8_tails(self):
