@@ -110,7 +110,7 @@ class PatternReader:
             return Pattern('list', place, parts)
         while True:
             if self.line.peek().text == '..':
-                parts.append(self.tail(depth + 1))
+                parts.append(self.tail())
                 self.line.expect(']')
                 return Pattern('tail', place, parts)
             parts.append(self.pattern(depth + 1))
@@ -119,12 +119,11 @@ class PatternReader:
             if not self.line.skip(','):
                 raise self.line.unexpected("',' or ']'")
 
-    def tail(self, depth: int) -> Pattern:
+    def tail(self) -> Pattern:
         """`..` and a name or `_`; with neither it is as with `_`. Its place is that of `..`."""
         place = self.line.take().place
         if self.is_value:
             raise Wrong(Fault(place, 'a tail stands in a panel, which has none'))
-        self.ask_depth(place, depth)
         word = self.line.peek()
         if word.text == ']' or self.line.skip('_'):
             return Pattern('discard', place)

@@ -110,6 +110,14 @@ panel one = (1, "x", [Three(1, "y")], <Single, Flagged(-1)>, Node(Leaf, [Leaf]),
         self.assertEqual(panel_file(text, 'a').hex(),
                          records + '0100' '31' '0000' '1000' '1200' '1b00')
 
+    def test_every_kind_of_value(self):
+        text = parse('type A = One | Two(int)\nsubject tuple int bytes (list A) (pair A A)\n'
+                     'panel a = (-5, "x", [One], <One, Two(7)>)\n')
+        made = panel_file(text, 'a')
+        kinds = [(made[at], made[at + 2]) for at in range(0, 9 * 8, 8)]
+        self.assertEqual(kinds, [(4, 0), (0, 0), (1, 0), (2, 0), (5, 0), (3, 0), (5, 0), (5, 1),
+                                 (0, 0)])
+
     def test_random_texts(self):
         for seed in range(300):
             self.assertEqual(faults(random_text(seed)), [], f'seed {seed}')

@@ -99,6 +99,8 @@ class Limits(unittest.TestCase):
         # 112 patterns with their types and the trailer take 1,152 bytes; 110 literals take 7,040.
         self.told(text(110, 0))
         self.told(text(110, 1), 'the sheet file would have 8193 bytes; 8192 are the most')
+        with self.assertRaises(Wrong):
+            parse(text(110, 1))
 
     def test_values(self):
         head = 'subject list int\nclause _\n'

@@ -85,6 +85,8 @@ clause All(<1, 2>, <1, 2>, <1, 2>, All(1, "", [], <1, 1>, (1, 1, 1)), 7)
                   'line 2, column 8: this is a tuple of 3; a tuple of 2 is expected here',
                   'line 3, column 8: a tuple has 2 parts or more, this one 0',
                   'line 4, column 8: a tuple has 2 parts or more, this one 1')
+        self.told('subject tuple int int int\nclause (1, 2)\n',
+                  'line 2, column 8: this is a tuple of 2; a tuple of 3 is expected here')
 
     def test_how_many_parts_a_pair_has(self):
         self.told('subject pair int int\nclause <1>\nclause <1, 2, 3>\nclause <>\nclause <1, 2>\n',
@@ -212,6 +214,10 @@ class Types(Refused):
         self.told('type A = One | Two | One\ntype B = Three | Two(int)\nsubject A\nclause Two\n',
                   'line 1, column 22: constructor One is given twice, first on line 1',
                   'line 2, column 18: constructor Two is given twice, first on line 1')
+
+    def test_nothing_is_said_of_a_pattern_with_a_constructor_given_twice(self):
+        self.told('type A = One | Two\ntype B = Two(int) | Three\nsubject B\nclause Two(5)\n',
+                  'line 2, column 10: constructor Two is given twice, first on line 1')
 
     def test_given_twice(self):
         self.told('type A = int\ntype A = bytes\nsubject int\nsubject int\nclause _\n'

@@ -64,7 +64,8 @@ class Rules(unittest.TestCase):
         self.assertEqual(refused(good + b'\0'), 'refused 2 0')
         self.assertEqual(refused(good[:-1]), 'refused 2 0')
         self.assertEqual(refused(b''), 'refused 2 0')
-        self.assertEqual(refused(bytes(16) + b'\x11'), 'refused 2 0')
+        self.assertEqual(refused(bytes(15) + struct.pack('<H', 17)), 'refused 2 0')
+        self.assertEqual(refused(bytes(16) + struct.pack('<H', 18)), 'refused 4 0')
         self.assertEqual(refused(bytes(8190) + struct.pack('<H', 8192)), 'refused 4 0')
         self.assertEqual(refused(bytes(8191) + struct.pack('<H', 8193)), 'refused 2 0')
         self.assertEqual(refused(bytes(1 << 17)), 'refused 2 0')
@@ -128,6 +129,8 @@ class Rules(unittest.TestCase):
         self.says('refused 8 0', roots=[[0], [6], [10]])
         self.says('refused 8 0', children=SHEET['children'] + [[10]])
         self.says('refused 8 0', children_4=[4])
+        itself = SHEET['patterns'] + [[2, 0, 5, 9, 1]]
+        self.says('refused 8 0', patterns=itself, children=SHEET['children'] + [[11]])
         self.says('refused 8 0', patterns=SHEET['patterns'] + [[0, 0, 0, 0, 0]])
 
     def test_8_tails(self):

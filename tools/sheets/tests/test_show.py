@@ -45,6 +45,13 @@ clause (C1_2([C1_0, C1_1("a\\"\\\\ b", n7), ..n1]) as n2, <C6_0(_), -5>, ["", 0x
 clause _
 ''')
 
+    def test_bytes(self):
+        for byte, written in ((0x1f, '0x1f'), (0x20, '" "'), (0x22, '"\\""'), (0x5c, '"\\\\"'),
+                              (0x7e, '"~"'), (0x7f, '0x7f'), (0x80, '0x80'), (0xff, '0xff')):
+            data = file_of(f'subject bytes\nclause 0x{byte:02x}\n')
+            self.assertTrue(shown(data).endswith(f'clause {written}\n'), byte)
+            self.check_again(data)
+
     def test_a_file_of_a_text_is_made_again_byte_for_byte(self):
         sources = [path.read_text(encoding='utf-8') for path in sorted(SAMPLES.glob('*.txt'))]
         sources += [random_text(seed) for seed in range(250)]
