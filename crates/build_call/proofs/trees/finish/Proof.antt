@@ -9,7 +9,7 @@ use Rattle.spec_rules.specs.Searching.{times}
 use Rattle.build_call.specs.VerdictLaws.{rawTree, hoistsOf}
 use Rattle.build_call.specs.Counts.{isMarked}
 use Rattle.build_call.specs.CountsLaws.{times-most}
-use Rattle.spec_accepted.specs.SheetFacts.{Accepted, accepted-sheet}
+use Rattle.spec_accepted.specs.SheetFacts.{Accepted}
 use Rattle.format_sheet.specs.SectionsLaws.{Mapped, mapped}
 use Rattle.build_call.specs.AnswersLaws.{gives-refusal}
 use Rattle.build_call.specs.RawLaws.{end-12, end-13, hoists-counted, raw-over, fitting}
@@ -18,7 +18,7 @@ use Rattle.build_call.proofs.trees.finish.Statement.{statement}
 use Rattle.build_call.proofs.trees.finish.Tie as tie
 
 ok : (c : tie.Start) → Accepted (c .args .s .now)
-ok c = accepted-sheet (c .args .s .now) (c .pre .0 .0 .verdict)
+ok c = c .pre .0 .0 .ok
 
 -- the map's own numbers
 its : (c : tie.Start) → Mapped (c .args .s .now) (c .args .m)

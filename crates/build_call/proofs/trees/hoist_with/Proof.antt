@@ -1,6 +1,6 @@
 -- `build_call::trees::hoist_with` meets its contract: the scopes that are found are those of the tree in the arena.
 use native.Mathlib.Omega.{arith}
-use Rattle.spec_accepted.specs.SheetFacts.{Accepted, accepted-sheet}
+use Rattle.spec_accepted.specs.SheetFacts.{Accepted}
 use Rattle.format_sheet.specs.SectionsLaws.{Mapped, mapped}
 use Rattle.build_call.specs.RawLaws.{scopes-asked, hoistable}
 use borrow.Author.Needs.{needs}
@@ -8,7 +8,7 @@ use Rattle.build_call.proofs.trees.hoist_with.Statement.{statement}
 use Rattle.build_call.proofs.trees.hoist_with.Tie as tie
 
 ok : (c : tie.Start) → Accepted (c .args .s .now)
-ok c = accepted-sheet (c .args .s .now) (c .pre .0 .0 .verdict)
+ok c = c .pre .0 .0 .ok
 
 -- the map's own numbers
 its : (c : tie.Start) → Mapped (c .args .s .now) (c .args .m)

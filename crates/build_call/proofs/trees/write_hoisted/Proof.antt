@@ -10,7 +10,7 @@ use Rattle.spec_hoist.specs.Trees.{sum}
 use Rattle.build_call.specs.VerdictLaws.{rawTree, hoistBindings}
 use Rattle.build_call.specs.Counts.{leafBindings}
 use Rattle.build_call.specs.CountsLaws.{leaf-most, sum-most}
-use Rattle.spec_accepted.specs.SheetFacts.{Accepted, accepted-sheet}
+use Rattle.spec_accepted.specs.SheetFacts.{Accepted}
 use Rattle.format_sheet.specs.SectionsLaws.{Mapped, mapped}
 use Rattle.build_call.specs.AnswersLaws.{gives-refusal}
 use Rattle.build_call.specs.RawLaws.{end-13, end-14, all-bindings, idle-found, whole}
@@ -19,7 +19,7 @@ use Rattle.build_call.proofs.trees.write_hoisted.Statement.{statement}
 use Rattle.build_call.proofs.trees.write_hoisted.Tie as tie
 
 ok : (c : tie.Start) → Accepted (c .args .s .now)
-ok c = accepted-sheet (c .args .s .now) (c .pre .0 .0 .verdict)
+ok c = c .pre .0 .0 .ok
 
 -- the map's own numbers
 its : (c : tie.Start) → Mapped (c .args .s .now) (c .args .m)

@@ -11,14 +11,14 @@ use Rattle.spec_rules.specs.Calls.{sheetTree}
 use Rattle.build_table.specs.Standing.{sheetPaths}
 use Rattle.build_file_nodes.specs.declared.nodes.Tops.{Tops}
 use Rattle.build_file_nodes.specs.Written.{WritingAsked, Written}
-use Rattle.spec_accepted.specs.SheetFacts.{Accepted, accepted-sheet}
+use Rattle.spec_accepted.specs.SheetFacts.{Accepted}
 use Rattle.format_sheet.specs.SectionsLaws.{Mapped, mapped}
 use Rattle.build_call.specs.RawLaws.{asked-at, written-at, nodes-written, cases-written, bindings-written, tail-is-ready, end-small, file-written}
 use Rattle.build_call.proofs.trees.write_tree.Statement.{statement}
 use Rattle.build_call.proofs.trees.write_tree.Tie as tie
 
 ok : (c : tie.Start) → Accepted (c .args .s .now)
-ok c = accepted-sheet (c .args .s .now) (c .pre .0 .0 .verdict)
+ok c = c .pre .0 .0 .ok
 
 -- the map's own numbers
 its : (c : tie.Start) → Mapped (c .args .s .now) (c .args .m)
