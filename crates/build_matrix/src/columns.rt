@@ -25,7 +25,8 @@ ghost use Rattle.build_table.specs.Seen.{testsOf, testsOfEach, openedTests};
 ghost use Rattle.build_matrix.specs.Lists.{asClasses, Holds, Whole, firstPlace};
 ghost use Rattle.build_matrix.specs.Ordered.{putClass, withoutClass};
 ghost use Rattle.build_matrix.specs.Reading.{firstIn};
-ghost use Rattle.build_matrix.specs.Ready.{ReadyTable, Listed, Puts, putTests, Roomy, Children, itselfOrInside, Gives, TestKnown};
+ghost use Rattle.build_matrix.specs.Ready.{ReadyTable, Puts, putTests, itselfOrInside, Gives};
+ghost use Rattle.build_matrix.specs.Contracts.{PatternAsked, ChildrenAsked, TestAsked};
 
 // No class.
 pub fn empty() -> Classes
@@ -185,7 +186,7 @@ pub fn map_pattern_to_row(
     count: usize,
     p: usize,
 ) -> usize
-    requires { ⌜ ReadyTable (now s) m (now table) × Listed (now s) (asClasses (now list) count) × (p < patterns (now s)) × Roomy (now s) (testsOf (now s) p) (asClasses (now list) count) ⌝ }
+    requires { ⌜ PatternAsked (now s) m (now table) (asClasses (now list) count) p ⌝ }
     ensures { λ r. ⌜ Holds (asClasses (now (list .exit)) r) (putTests (now (s .entry)) (testsOf (now (s .entry)) p) (take count (now (list .entry)))) ⌝ }
 {
     let given = gives(s, m, table, p);
@@ -209,7 +210,7 @@ fn map_patterns_to_row(
     j: usize,
     n: usize,
 ) -> usize
-    requires { ⌜ ReadyTable (now s) m (now table) × Listed (now s) (asClasses (now list) count) × Children (now s) parent j n × Roomy (now s) (testsOfEach (now s) j n) (asClasses (now list) count) ⌝ }
+    requires { ⌜ ChildrenAsked (now s) m (now table) (asClasses (now list) count) parent j n ⌝ }
     ensures { λ r. ⌜ Holds (asClasses (now (list .exit)) r) (putTests (now (s .entry)) (testsOfEach (now (s .entry)) j n) (take count (now (list .entry)))) ⌝ }
 {
     if n == 0 {
@@ -228,7 +229,7 @@ pub fn open(
     count: usize,
     p: usize,
 ) -> usize
-    requires { ⌜ ReadyTable (now s) m (now table) × Listed (now s) (asClasses (now list) count) × TestKnown (now s) p × Roomy (now s) (openedTests (now s) p) (asClasses (now list) count) ⌝ }
+    requires { ⌜ TestAsked (now s) m (now table) (asClasses (now list) count) p ⌝ }
     ensures { λ r. ⌜ Holds (asClasses (now (list .exit)) r) (putTests (now (s .entry)) (openedTests (now (s .entry)) p) (take count (now (list .entry)))) ⌝ }
 {
     let r = pattern_at(s, m, p);

@@ -10,11 +10,11 @@ use format_sheet::records::pattern_at;
 ghost use mathlib.Core.Path.{_≡_};
 ghost use Prim.Native.Nat.{_+_, _≤_};
 ghost use Rattle.base_words.specs.Words.{sameText};
-ghost use Rattle.spec_rules.specs.Kinds.{byteStringPattern, integerPattern};
 ghost use Rattle.spec_rules.specs.SheetFile.{poolSize, poolText};
 ghost use Rattle.format_sheet.specs.Check.{SheetAccepts};
 ghost use Rattle.build_matrix.specs.Ready.{TestKnown};
 ghost use Rattle.build_matrix.specs.Meant.{joinsTest, InPool, coversConstructor, textPattern, coversText, coversTailed, coversList};
+ghost use Rattle.build_matrix.specs.Contracts.{TextInPool};
 
 // Two texts of the pool are the same.
 fn same_texts(s: &[u8], m: SheetMap, a: usize, n: usize, b: usize, k: usize) -> bool
@@ -48,7 +48,7 @@ fn text_pattern(kind: u8) -> u8
 }
 
 fn covers_text(s: &[u8], m: SheetMap, r: PatternRecord, kind: u8, start: u16, count: u16) -> bool
-    requires { ⌜ SheetAccepts (now s) m × (start + count ≤ poolSize (now s)) × ((integerPattern ≤ r .kind) → (r .kind ≤ byteStringPattern) → r .first + r .count ≤ poolSize (now s)) ⌝ }
+    requires { ⌜ SheetAccepts (now s) m × (start + count ≤ poolSize (now s)) × TextInPool (now s) r ⌝ }
     ensures { λ x. ⌜ x ≡ coversText (now (s .entry)) r kind start count ⌝ }
 {
     if r.kind != text_pattern(kind) {

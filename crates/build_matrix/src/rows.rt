@@ -10,7 +10,7 @@ use build_table::OWNER;
 use build_table::at;
 ghost use mathlib.Core.Path.{_≡_};
 ghost use mathlib.Core.List.{[], _∷_, _++_};
-ghost use Prim.Native.Nat.{_+_, _<_};
+ghost use Prim.Native.Nat.{_<_};
 ghost use lib.ListN.{length, take};
 ghost use Rattle.spec_rules.specs.Limits.{clausesMost};
 ghost use Rattle.spec_rules.specs.SplittingLaws.{All};

@@ -22,25 +22,21 @@ use format_records::reading::Test;
 use format_sheet::SheetMap;
 use format_sheet::records::root_at;
 ghost use mathlib.Core.Path.{_≡_};
-ghost use mathlib.Core.Bool.{true};
-ghost use mathlib.Core.List.{[], _++_};
-ghost use Prim.Native.Nat.{_+_, _<_, _≤_};
+ghost use mathlib.Core.List.{[]};
+ghost use Prim.Native.Nat.{_<_, _≤_};
 ghost use lib.ListN.{length, take};
 ghost use Rattle.spec_rules.specs.Limits.{clausesMost, patternsMost};
-ghost use Rattle.spec_rules.specs.SheetRefusals.{isIn};
 ghost use Rattle.spec_rules.specs.SplittingLaws.{All};
 ghost use Rattle.spec_rules.specs.SheetFile.{clauses};
 ghost use Rattle.format_sheet.specs.Check.{SheetAccepts};
-ghost use Rattle.build_table.specs.Seen.{openedTests};
-ghost use Rattle.build_matrix.specs.Live.{liveIn};
 ghost use Rattle.build_matrix.specs.RowStates.{upFrom};
-ghost use Rattle.build_matrix.specs.HeldRows.{joinOf, opensOf};
 ghost use Rattle.build_matrix.specs.Matrices.{gather, rootTests, marked};
-ghost use Rattle.build_matrix.specs.Numbered.{SoundOf, firstNumbered, caseNumbered};
+ghost use Rattle.build_matrix.specs.Numbered.{firstNumbered};
 ghost use Rattle.build_matrix.specs.Lists.{asClasses, asRows, Holds, HoldsRows, WholeRows};
-ghost use Rattle.build_matrix.specs.Ready.{ReadyTable, putTests, TestKnown};
-ghost use Rattle.build_matrix.specs.Meant.{meant, joinsTest, InPool, HeldKnown, joinRow, openRow, JoinsTo};
-ghost use Rattle.build_matrix.specs.InNumbers.{inNumbers, matrixOf, WholeMatrix, StandsFor, Splits, defaultRead};
+ghost use Rattle.build_matrix.specs.Ready.{ReadyTable, putTests};
+ghost use Rattle.build_matrix.specs.Meant.{InPool, HeldKnown};
+ghost use Rattle.build_matrix.specs.InNumbers.{StandsFor, Splits, defaultRead};
+ghost use Rattle.build_matrix.specs.Contracts.{rowsBefore, rowsAfter, matrixNow, numbersBefore, caseOfTest, CaseAsked, JoinsRow, JoinsRows, columnsOpened, OpensAsked};
 
 // A row for each of n clauses.
 fn all_rows(n: usize) -> PerRow
@@ -98,9 +94,9 @@ pub fn default_matrix<'a, 'b>(
     new_rows: &'b mut [u8; CLAUSES_MOST],
     new_columns: &'b mut [u8; PATTERNS_MOST],
 ) -> Sizes
-    requires { ⌜ Splits (now table) (matrixOf (now rows) (now columns) (now tested) (now opened) n) class ⌝ }
+    requires { ⌜ Splits (now table) (matrixNow rows columns tested opened n) class ⌝ }
     requires { ⌜ (length (now «new_rows») ≡ clausesMost) × (length (now «new_columns») ≡ patternsMost) ⌝ }
-    ensures { λ r. ⌜ StandsFor (matrixOf (now («new_rows» .exit)) (now («new_columns» .exit)) (now (tested .exit)) (now (opened .entry)) r) (defaultRead (now (table .entry)) class (inNumbers (matrixOf (now (rows .entry)) (now (columns .entry)) (now (tested .entry)) (now (opened .entry)) n))) ⌝ }
+    ensures { λ r. ⌜ StandsFor (matrixNow («new_rows» .exit) («new_columns» .exit) (tested .exit) (opened .entry) r) (defaultRead (now (table .entry)) class (numbersBefore rows columns tested opened n)) ⌝ }
 {
     let count = wild_rows(table, rows, n.rows, opened, class, new_rows);
     let rest = put_rest(new_columns, 0, columns, n.columns, class);
@@ -131,7 +127,7 @@ fn join_row(
 ) -> Counts
     requires { ⌜ SheetAccepts (now s) m × HeldKnown (now s) held × InPool (now s) test ⌝ }
     requires { ⌜ WholeRows (asRows (now rows) (o .rows)) × WholeRows (asRows (now opens) (o .opens)) × (o .rows < clausesMost) × (o .opens < clausesMost) ⌝ }
-    ensures { λ r. ⌜ JoinsTo (asRows (now (rows .exit)) (r .rows)) (asRows (now (opens .exit)) (r .opens)) (take (o .rows) (now (rows .entry)) ++ joinRow (joinsTest (now (s .entry)) test) held c) (take (o .opens) (now (opens .entry)) ++ openRow (joinsTest (now (s .entry)) test) held) ⌝ }
+    ensures { λ r. ⌜ JoinsRow (now (s .entry)) test held c (rowsBefore rows (o .rows)) (rowsBefore opens (o .opens)) (rowsAfter rows (r .rows)) (rowsAfter opens (r .opens)) ⌝ }
 {
     match held {
         Held::Test(p) => {
@@ -168,7 +164,7 @@ fn join_rows<'a, 'b>(
 ) -> Counts
     requires { ⌜ ReadyTable (now s) m (now table) × WholeRows (asRows (now from) n) × All (λ c. c < clauses (now s)) (take n (now from)) × (class < patternsMost) × InPool (now s) test ⌝ }
     requires { ⌜ (length (now rows) ≡ clausesMost) × (length (now opens) ≡ clausesMost) ⌝ }
-    ensures { λ r. ⌜ JoinsTo (asRows (now (rows .exit)) (r .rows)) (asRows (now (opens .exit)) (r .opens)) (joinOf (joinsTest (now (s .entry)) test) (liveIn (now (s .entry)) (now (opened .entry)) class) (take n (now (from .entry)))) (opensOf (joinsTest (now (s .entry)) test) (liveIn (now (s .entry)) (now (opened .entry)) class) (take n (now (from .entry)))) ⌝ }
+    ensures { λ r. ⌜ JoinsRows (now (s .entry)) test (now (opened .entry)) class (take n (now (from .entry))) (rowsAfter rows (r .rows)) (rowsAfter opens (r .opens)) ⌝ }
 {
     let mut o = Counts { rows: 0, opens: 0 };
     let mut i: usize = 0;
@@ -203,9 +199,9 @@ fn open_all(
     n: usize,
     list: &mut [u8; PATTERNS_MOST],
 ) -> usize
-    requires { ⌜ ReadyTable (now s) m (now table) × WholeRows (asRows (now opens) n) × All (TestKnown (now s)) (take n (now opens)) × (length (putTests (now s) (gather (openedTests (now s)) (take n (now opens))) []) ≤ patternsMost) ⌝ }
+    requires { ⌜ OpensAsked (now s) m (now table) (now opens) n ⌝ }
     requires { ⌜ length (now list) ≡ patternsMost ⌝ }
-    ensures { λ r. ⌜ Holds (asClasses (now (list .exit)) r) (putTests (now (s .entry)) (gather (openedTests (now (s .entry))) (take n (now (opens .entry)))) []) ⌝ }
+    ensures { λ r. ⌜ Holds (asClasses (now (list .exit)) r) (columnsOpened (now (s .entry)) (take n (now (opens .entry)))) ⌝ }
 {
     let mut count: usize = 0;
     let mut i = n;
@@ -232,9 +228,9 @@ pub fn case_matrix<'a, 'b>(
     new_rows: &'b mut [u8; CLAUSES_MOST],
     new_columns: &'b mut [u8; PATTERNS_MOST],
 ) -> Sizes
-    requires { ⌜ ReadyTable (now s) m (now table) × WholeMatrix (matrixOf (now rows) (now columns) (now tested) (now opened) n) × SoundOf (now s) (inNumbers (matrixOf (now rows) (now columns) (now tested) (now opened) n)) × (isIn class (take (n .columns) (now columns)) ≡ true) × InPool (now s) test ⌝ }
+    requires { ⌜ CaseAsked (now s) m (now table) (matrixNow rows columns tested opened n) class test ⌝ }
     requires { ⌜ (length (now «new_rows») ≡ clausesMost) × (length (now «new_columns») ≡ patternsMost) ⌝ }
-    ensures { λ r. ⌜ StandsFor (matrixOf (now («new_rows» .exit)) (now («new_columns» .exit)) (now (tested .exit)) (now (opened .exit)) r) (caseNumbered (now (s .entry)) class (meant (now (s .entry)) test) (inNumbers (matrixOf (now (rows .entry)) (now (columns .entry)) (now (tested .entry)) (now (opened .entry)) n))) ⌝ }
+    ensures { λ r. ⌜ StandsFor (matrixNow («new_rows» .exit) («new_columns» .exit) (tested .exit) (opened .exit) r) (caseOfTest (now (s .entry)) class test (numbersBefore rows columns tested opened n)) ⌝ }
 {
     let mut opens = [0u8; CLAUSES_MOST];
     let k = n.rows;
