@@ -24,12 +24,10 @@ ghost use Rattle.spec_rules.specs.Limits.{patternsMost};
 ghost use Rattle.spec_rules.specs.SheetFile.{clauses};
 ghost use Rattle.spec_rules.specs.SplittingLaws.{All};
 ghost use Rattle.format_sheet.specs.Check.{SheetAccepts};
-ghost use Rattle.build_matrix.specs.Live.{liveIn};
-ghost use Rattle.build_matrix.specs.HeldRows.{heldTests};
 ghost use Rattle.build_matrix.specs.Lists.{asRows, WholeRows};
 ghost use Rattle.build_matrix.specs.Ready.{ReadyTable, TestKnown};
 ghost use Rattle.build_arena.specs.Arena.{casesMost, arenaEnd};
-ghost use Rattle.build_cases.specs.Made.{columnOf, MeetsTo};
+ghost use Rattle.build_cases.specs.Made.{columnOf, liveColumn, MeetsTo};
 
 // The cases without a tail end at `mid`, those with one at `end`; `list` says whether the column is one of lists.
 pub struct CasesMet {
@@ -83,7 +81,7 @@ pub fn meet_cases<'a>(
 ) -> Meeting
     requires { ⌜ ReadyTable (now s) m (now table) × WholeRows (asRows (now rows) n) × All (λ c. c < clauses (now s)) (take n (now rows)) × (class < patternsMost) ⌝ }
     requires { ⌜ (arenaEnd ≤ length (now work)) × (first ≤ casesMost) ⌝ }
-    ensures { λ r. ⌜ MeetsTo (now (s .entry)) (columnOf (now (s .entry)) (heldTests (liveIn (now (s .entry)) (now (opened .entry)) class) (take n (now (rows .entry))))) first (now (work .entry)) (now (work .exit)) r ⌝ }
+    ensures { λ r. ⌜ MeetsTo (now (s .entry)) (liveColumn (now (s .entry)) (now (opened .entry)) class (take n (now (rows .entry)))) first (now (work .entry)) (now (work .exit)) r ⌝ }
 {
     let mut tests = [0u8; CLAUSES_MOST];
     let k = column_tests(table, rows, n, opened, class, &mut tests);
