@@ -18,14 +18,15 @@ ghost use mathlib.Core.Path.{_≡_};
 ghost use Prim.Native.Nat.{_<_};
 ghost use lib.ListN.{getD, take};
 ghost use Rattle.spec_rules.specs.Limits.{patternsMost};
-ghost use Rattle.spec_rules.specs.SheetFile.{patternsAt, childrenAt, patterns, children, clauses, root};
+ghost use Rattle.spec_rules.specs.SheetFile.{patternsAt, childrenAt, patterns, clauses, root};
 ghost use Rattle.spec_accepted.specs.SheetFacts.{Accepted};
 ghost use Rattle.build_table.specs.Seen.{bindsOf, bindsOfEach};
 ghost use Rattle.build_table.specs.Tabled.{Tabled};
 ghost use Rattle.build_matrix.specs.Live.{openedTest};
 ghost use Rattle.build_matrix.specs.Bound.{numbersHeld, leafNumbers};
 ghost use Rattle.build_matrix.specs.Ready.{ReadyTable};
-ghost use Rattle.build_leaves.specs.Bindings.{bound, boundOne, boundAll, ownOf, Room, Started, Entries, Parts, Gives, LeafAsked};
+ghost use Rattle.build_leaves.specs.Bindings.{bound, boundOne, ownOf, Room, Started, Entries, Parts, Gives, LeafAsked};
+ghost use Rattle.build_leaves.specs.Contracts.{Binds};
 
 // The binding of pattern p, behind the `top` bindings there are.
 fn put_binding(
@@ -124,7 +125,7 @@ fn put_own(
     top: usize,
 ) -> usize
     requires { ⌜ Accepted (now s) × Tabled (now s) (now table) × (records ≡ patternsAt (now s)) × (p < patterns (now s)) × Room (now work) top ⌝ }
-    ensures { λ r. ⌜ bound (now (work .exit)) r ≡ boundAll (now (s .entry)) (bound (now (work .entry)) top) (ownOf named p) ⌝ }
+    ensures { λ r. ⌜ Binds s work top (ownOf named p) r ⌝ }
 {
     if named {
         return put_binding(s, records, table, p, work, top);
@@ -143,7 +144,7 @@ fn put_bindings(
     top: usize,
 ) -> usize
     requires { ⌜ Started (now s) (now table) records list × (p < patterns (now s)) × Room (now work) top ⌝ }
-    ensures { λ r. ⌜ bound (now (work .exit)) r ≡ boundAll (now (s .entry)) (bound (now (work .entry)) top) (bindsOf (now (s .entry)) p) ⌝ }
+    ensures { λ r. ⌜ Binds s work top (bindsOf (now (s .entry)) p) r ⌝ }
 {
     let g = gives(s, records, list, table, p);
     let next = put_own(s, records, table, p, g.named, work, top);
@@ -166,7 +167,7 @@ fn put_all_bindings(
     top: usize,
 ) -> usize
     requires { ⌜ Started (now s) (now table) records list × Entries (now s) parent j n × Room (now work) top ⌝ }
-    ensures { λ r. ⌜ bound (now (work .exit)) r ≡ boundAll (now (s .entry)) (bound (now (work .entry)) top) (bindsOfEach (now (s .entry)) j n) ⌝ }
+    ensures { λ r. ⌜ Binds s work top (bindsOfEach (now (s .entry)) j n) r ⌝ }
 {
     let mut next = top;
     let mut k: usize = 0;
@@ -182,7 +183,7 @@ fn put_all_bindings(
 // it, so that it is compiled into that loop, and a call is made only for a pattern with something inside.
 fn put_root(s: &[u8], m: SheetMap, table: &[u8], c: usize, work: &mut [u8], top: usize) -> usize
     requires { ⌜ ReadyTable (now s) m (now table) × (c < clauses (now s)) × Room (now work) top ⌝ }
-    ensures { λ r. ⌜ bound (now (work .exit)) r ≡ boundAll (now (s .entry)) (bound (now (work .entry)) top) (bindsOf (now (s .entry)) (root (now (s .entry)) c)) ⌝ }
+    ensures { λ r. ⌜ Binds s work top (bindsOf (now (s .entry)) (root (now (s .entry)) c)) r ⌝ }
 {
     let records = m.at.patterns;
     let list = m.at.children;
@@ -208,7 +209,7 @@ fn put_opened(
     top: usize,
 ) -> usize
     requires { ⌜ ReadyTable (now s) m (now table) × (c < clauses (now s)) × (class < patternsMost) × (time < patternsMost) × Room (now work) top ⌝ }
-    ensures { λ r. ⌜ bound (now (work .exit)) r ≡ boundAll (now (s .entry)) (bound (now (work .entry)) top) (numbersHeld (now (s .entry)) (openedTest (now (s .entry)) (now (opened .entry)) c time class)) ⌝ }
+    ensures { λ r. ⌜ Binds s work top (numbersHeld (now (s .entry)) (openedTest (now (s .entry)) (now (opened .entry)) c time class)) r ⌝ }
 {
     let cell = at(table, CELL + PATTERNS_MOST * c + class);
     if cell == 0 {
@@ -256,7 +257,7 @@ pub fn leaf_bindings<'a>(
     top: usize,
 ) -> usize
     requires { ⌜ ReadyTable (now s) m (now table) × LeafAsked (now s) c (now tested) n × Room (now work) top ⌝ }
-    ensures { λ r. ⌜ bound (now (work .exit)) r ≡ boundAll (now (s .entry)) (bound (now (work .entry)) top) (leafNumbers (now (s .entry)) (now (opened .entry)) (take n (now (tested .entry))) c) ⌝ }
+    ensures { λ r. ⌜ Binds s work top (leafNumbers (now (s .entry)) (now (opened .entry)) (take n (now (tested .entry))) c) r ⌝ }
 {
     let mut next = put_root(s, m, table, c, work, top);
     let mut time: usize = 0;
