@@ -25,23 +25,23 @@ use format_parts::sections::first_of;
 use format_records::reading::Test;
 use format_sheet::SheetMap;
 ghost use mathlib.Core.Path.{_≡_};
-ghost use Prim.Native.Nat.{_<_, _≤_, _+_, _*_, _-_};
+ghost use Prim.Native.Nat.{_<_, _≤_, _+_, _*_};
 ghost use lib.ListN.{length, take};
 ghost use Rattle.base_words.specs.Words.{pick};
 ghost use Rattle.base_words.specs.Stored.{stored};
 ghost use Rattle.spec_rules.specs.Kinds.{listSwitchNode, switchNode};
 ghost use Rattle.spec_rules.specs.Limits.{patternsMost, nodesMost, nodeSize};
-ghost use Rattle.spec_rules.specs.TreeFile.{nodeBytes};
-ghost use Rattle.build_table.specs.Standing.{sheetPaths};
 ghost use Rattle.build_matrix.specs.Ready.{ReadyTable};
 ghost use Rattle.build_matrix.specs.Meant.{meant};
 ghost use Rattle.build_matrix.specs.Bound.{clauseLeaf};
 ghost use Rattle.build_matrix.specs.Numbered.{treeAt};
-ghost use Rattle.build_matrix.specs.InNumbers.{inNumbers, matrixOf};
+ghost use Rattle.build_matrix.specs.InNumbers.{inNumbers};
+ghost use Rattle.build_matrix.specs.Contracts.{matrixNow, numbersBefore};
 ghost use Rattle.build_arena.specs.Arena.{arenaEnd, casesMost};
 ghost use Rattle.build_leaves.specs.Bindings.{LeafAsked};
-ghost use Rattle.build_nodes.specs.Built.{Put, Roomy, Builds, BuildsCases};
-ghost use Rattle.build_nodes.specs.Steps.{caseList, caseTree, StillTested, Asked, AskedColumn, AskedCase, AskedCases};
+ghost use Rattle.build_nodes.specs.Built.{Roomy};
+ghost use Rattle.build_nodes.specs.Steps.{caseTree, Asked, AskedColumn, AskedCase, AskedCases};
+ghost use Rattle.build_nodes.specs.Contracts.{PutsTree, BuildsTree, BuildsColumn, KeepsTested, switchRecord};
 
 // The leaf of a clause, where the first `time` of these classes were tested.
 fn put_leaf<'a>(
@@ -56,7 +56,7 @@ fn put_leaf<'a>(
     tops: Tops,
 ) -> Tops
     requires { ⌜ ReadyTable (now s) m (now table) × LeafAsked (now s) clause (now tested) time × Roomy (now work) tops × (tops .nodes < nodesMost) ⌝ }
-    ensures { λ r. ⌜ Put (sheetPaths (now (s .entry))) (now (work .entry)) (now (work .exit)) (clauseLeaf (now (s .entry)) (now (opened .entry)) (take time (now (tested .entry))) clause) tops r ⌝ }
+    ensures { λ r. ⌜ PutsTree s work (clauseLeaf (now (s .entry)) (now (opened .entry)) (take time (now (tested .entry))) clause) tops r ⌝ }
 {
     let top = leaf_bindings(
         s,
@@ -105,7 +105,7 @@ fn switch_kind(list: bool) -> u8
 fn put_switch(work: &mut [u8], k: usize, class: usize, first: usize, met: CasesMet, default: usize)
     requires { ⌜ (arenaEnd ≤ length (now work)) × (k < nodesMost) × (class < patternsMost) × (default ≤ nodesMost + 1) ⌝ }
     requires { ⌜ (first ≤ met .mid) × (met .mid ≤ met .end) × (met .end < casesMost) ⌝ }
-    ensures { λ _. ⌜ now (work .exit) ≡ stored (now (work .entry)) (nodeSize * k) (nodeBytes (pick (met .list) listSwitchNode switchNode) class first (met .mid - first) (met .end - met .mid) default) ⌝ }
+    ensures { λ _. ⌜ now (work .exit) ≡ stored (now (work .entry)) (nodeSize * k) (switchRecord class first met default) ⌝ }
 {
     let kind = switch_kind(met.list);
     let cases = met.mid - first;
@@ -137,8 +137,8 @@ fn build_case<'a>(
     w: &mut [u8],
     tops: Tops,
 ) -> Built
-    requires { ⌜ AskedCase (now s) m (now table) (matrixOf (now rows) (now columns) (now tested) (now opened) n) k test (now w) tops ⌝ }
-    ensures { λ r. ⌜ Builds (sheetPaths (now (s .entry))) (now (w .entry)) (now (w .exit)) (caseTree (now (s .entry)) k (inNumbers (matrixOf (now (rows .entry)) (now (columns .entry)) (now (tested .entry)) (now (opened .entry)) n)) (meant (now (s .entry)) test)) tops r × StillTested (n .tested) (now (tested .entry)) (now (tested .exit)) ⌝ }
+    requires { ⌜ AskedCase (now s) m (now table) (matrixNow rows columns tested opened n) k test (now w) tops ⌝ }
+    ensures { λ r. ⌜ BuildsTree s w (caseTree (now (s .entry)) k (numbersBefore rows columns tested opened n) (meant (now (s .entry)) test)) tops r × KeepsTested (n .tested) tested ⌝ }
 {
     let mut some = [0u8; CLAUSES_MOST];
     let mut rest = [0u8; PATTERNS_MOST];
@@ -175,9 +175,9 @@ fn build_cases<'a>(
     first: usize,
     from: Tops,
 ) -> Built
-    requires { ⌜ AskedColumn (now s) m (now table) (matrixOf (now rows) (now columns) (now tested) (now opened) n) k ⌝ }
-    requires { ⌜ AskedCases (now s) k (inNumbers (matrixOf (now rows) (now columns) (now tested) (now opened) n)) first (now w) from ⌝ }
-    ensures { λ r. ⌜ BuildsCases (sheetPaths (now (s .entry))) (caseTree (now (s .entry)) k (inNumbers (matrixOf (now (rows .entry)) (now (columns .entry)) (now (tested .entry)) (now (opened .entry)) n))) (caseList (now (s .entry)) k (inNumbers (matrixOf (now (rows .entry)) (now (columns .entry)) (now (tested .entry)) (now (opened .entry)) n))) first (now (w .entry)) (now (w .exit)) from r × StillTested (n .tested) (now (tested .entry)) (now (tested .exit)) ⌝ }
+    requires { ⌜ AskedColumn (now s) m (now table) (matrixNow rows columns tested opened n) k ⌝ }
+    requires { ⌜ AskedCases (now s) k (inNumbers (matrixNow rows columns tested opened n)) first (now w) from ⌝ }
+    ensures { λ r. ⌜ BuildsColumn s w k (numbersBefore rows columns tested opened n) first from r × KeepsTested (n .tested) tested ⌝ }
 {
     let count = from.cases - first;
     let mut tops = from;
@@ -223,8 +223,8 @@ fn build_switch<'a>(
     w: &mut [u8],
     tops: Tops,
 ) -> Built
-    requires { ⌜ AskedColumn (now s) m (now table) (matrixOf (now rows) (now columns) (now tested) (now opened) n) k × Roomy (now w) tops × (tops .nodes < nodesMost) ⌝ }
-    ensures { λ r. ⌜ Builds (sheetPaths (now (s .entry))) (now (w .entry)) (now (w .exit)) (treeAt (now (s .entry)) (inNumbers (matrixOf (now (rows .entry)) (now (columns .entry)) (now (tested .entry)) (now (opened .entry)) n))) tops r × StillTested (n .tested) (now (tested .entry)) (now (tested .exit)) ⌝ }
+    requires { ⌜ AskedColumn (now s) m (now table) (matrixNow rows columns tested opened n) k × Roomy (now w) tops × (tops .nodes < nodesMost) ⌝ }
+    ensures { λ r. ⌜ BuildsTree s w (treeAt (now (s .entry)) (numbersBefore rows columns tested opened n)) tops r × KeepsTested (n .tested) tested ⌝ }
 {
     let first = tops.cases;
     let meeting = meet_cases(s, m, table, rows, n.rows, opened, k, w, first);
@@ -286,8 +286,8 @@ pub fn do_build_tree<'a>(
     w: &mut [u8],
     tops: Tops,
 ) -> Built
-    requires { ⌜ Asked (now s) m (now table) (matrixOf (now rows) (now columns) (now tested) (now opened) n) (now w) tops ⌝ }
-    ensures { λ r. ⌜ Builds (sheetPaths (now (s .entry))) (now (w .entry)) (now (w .exit)) (treeAt (now (s .entry)) (inNumbers (matrixOf (now (rows .entry)) (now (columns .entry)) (now (tested .entry)) (now (opened .entry)) n))) tops r × StillTested (n .tested) (now (tested .entry)) (now (tested .exit)) ⌝ }
+    requires { ⌜ Asked (now s) m (now table) (matrixNow rows columns tested opened n) (now w) tops ⌝ }
+    ensures { λ r. ⌜ BuildsTree s w (treeAt (now (s .entry)) (numbersBefore rows columns tested opened n)) tops r × KeepsTested (n .tested) tested ⌝ }
 {
     if tops.nodes == NODES_MOST {
         return Built { fits: false, tops };
