@@ -11,6 +11,7 @@ ghost use lib.ListN.{length};
 ghost use Rattle.spec_rules.specs.Limits.{bindingSize};
 ghost use Rattle.build_file_nodes.specs.Uses.{usesOf, Counted};
 ghost use Rattle.build_file_nodes.specs.Model.{BindingAsked, BindingsAsked, PutBinding, PutBindings};
+ghost use Rattle.build_file_nodes.specs.Contracts.{usesBefore, usesAfter};
 
 fn put_binding(
     w: &[u8],
@@ -22,7 +23,7 @@ fn put_binding(
     paths: usize,
 ) -> usize
     requires { ⌜ BindingAsked (now w) b × (at + 3 < length (now tree)) × Counted (usesOf (now number) (now list) paths) ⌝ }
-    ensures { λ r. ⌜ PutBinding (now (w .entry)) b at (usesOf (now (number .entry)) (now (list .entry)) paths) (now (tree .entry)) (now (tree .exit)) (usesOf (now (number .exit)) (now (list .exit)) r) ⌝ }
+    ensures { λ r. ⌜ PutBinding (now (w .entry)) b at (usesBefore number list paths) (now (tree .entry)) (now (tree .exit)) (usesAfter number list r) ⌝ }
 {
     let binding = binding_at(w, b);
     let class = binding.path as usize;
@@ -44,7 +45,7 @@ pub fn put_bindings(
     paths: usize,
 ) -> usize
     requires { ⌜ BindingsAsked (now w) first count × (at + bindingSize * count ≤ length (now tree)) × Counted (usesOf (now number) (now list) paths) ⌝ }
-    ensures { λ r. ⌜ PutBindings (now (w .entry)) first count at (usesOf (now (number .entry)) (now (list .entry)) paths) (now (tree .entry)) (now (tree .exit)) (usesOf (now (number .exit)) (now (list .exit)) r) ⌝ }
+    ensures { λ r. ⌜ PutBindings (now (w .entry)) first count at (usesBefore number list paths) (now (tree .entry)) (now (tree .exit)) (usesAfter number list r) ⌝ }
 {
     let mut v = paths;
     let mut i = 0;

@@ -11,7 +11,8 @@ ghost use mathlib.Core.Path.{_≡_};
 ghost use Prim.Native.Nat.{_+_, _≤_};
 ghost use Rattle.spec_rules.specs.Kinds.{hoistNode};
 ghost use Rattle.spec_rules.specs.Limits.{clausesMost};
-ghost use Rattle.build_file_nodes.specs.Model.{nodeIn, placesOf, reachOf, outOf, BoundAsked, boundOut, HoistsAsked, hoistsOut, NextHoist};
+ghost use Rattle.build_file_nodes.specs.Model.{nodeIn, placesOf, reachOf, BoundAsked, boundOut, HoistsAsked, hoistsOut, NextHoist};
+ghost use Rattle.build_file_nodes.specs.Contracts.{outBefore, outAfter, placesBefore};
 
 // The first clause from c on that is hoisted above node k, or how many clauses there are.
 fn next_hoist(node: &[u16; CLAUSES_MOST], c: usize, clauses: usize, k: usize) -> usize
@@ -39,7 +40,7 @@ fn put_hoist(
     f: Tops,
 ) -> Tops
     requires { ⌜ BoundAsked (now w) leaf start (now tree) (reachOf (now number) (now list) f) ⌝ }
-    ensures { λ r. ⌜ outOf (now (tree .exit)) (reachOf (now (number .exit)) (now (list .exit)) r) ≡ boundOut (now (w .entry)) start leaf hoistNode (f .nodes + 1) (outOf (now (tree .entry)) (reachOf (now (number .entry)) (now (list .entry)) f)) ⌝ }
+    ensures { λ r. ⌜ outAfter tree number list r ≡ boundOut (now (w .entry)) start leaf hoistNode (f .nodes + 1) (outBefore tree number list f) ⌝ }
 {
     let child = (f.nodes + 1) as u16;
     put_bound(
@@ -70,7 +71,7 @@ pub fn put_hoists(
     f: Tops,
 ) -> Tops
     requires { ⌜ HoistsAsked (now w) k (placesOf (now node) (now leaf)) clauses (now shift) start (now tree) (reachOf (now number) (now list) f) ⌝ }
-    ensures { λ r. ⌜ outOf (now (tree .exit)) (reachOf (now (number .exit)) (now (list .exit)) r) ≡ hoistsOut (now (w .entry)) start (placesOf (now (node .entry)) (now (leaf .entry))) k 0 clauses (outOf (now (tree .entry)) (reachOf (now (number .entry)) (now (list .entry)) f)) ⌝ }
+    ensures { λ r. ⌜ outAfter tree number list r ≡ hoistsOut (now (w .entry)) start (placesBefore node leaf) k 0 clauses (outBefore tree number list f) ⌝ }
 {
     if shift[k] == shift[k + 1] {
         return f;

@@ -14,8 +14,7 @@ ghost use mathlib.Core.Path.{_≡_};
 ghost use Prim.Native.Nat.{_≤_};
 ghost use lib.ListN.{length};
 ghost use Rattle.spec_rules.specs.Limits.{patternsMost, treeRoom};
-ghost use Rattle.spec_rules.specs.Hoisting.{hoistAll};
-ghost use Rattle.build_file_nodes.specs.Written.{WritingAsked, Written};
+ghost use Rattle.build_file_nodes.specs.Written.{WritingAsked, WritesHoisted};
 
 pub mod bindings;
 pub mod cases;
@@ -36,7 +35,7 @@ pub fn write_nodes(
     classes: &mut [u8; PATTERNS_MOST],
 ) -> Tops
     requires { ⌜ WritingAsked (now w) nodes cases x clauses × (treeRoom ≤ length (now tree)) × (length (now classes) ≡ patternsMost) ⌝ }
-    ensures { λ r. ⌜ ((h : WritingAsked (now (w .entry)) nodes cases x clauses) → Written (h .ready .table) (hoistAll clauses (h .tree)) (now (tree .entry)) (now (tree .exit)) (now (classes .exit)) r) ⌝ }
+    ensures { λ r. ⌜ ((h : WritingAsked (now (w .entry)) nodes cases x clauses) → WritesHoisted h (now (tree .entry)) (now (tree .exit)) (now (classes .exit)) r) ⌝ }
 {
     let second = NODE_SIZE * (nodes + x.hoists);
     let node = x.node;

@@ -21,9 +21,8 @@ use build_scopes::marks::children_of;
 use format_parts::sections::first_of;
 use format_records::writing::put_node;
 ghost use mathlib.Core.Path.{_≡_};
-ghost use Prim.Native.Nat.{_+_, _<_};
-ghost use Rattle.build_file_nodes.specs.Uses.{usesOf};
-ghost use Rattle.build_file_nodes.specs.Model.{movedBy, placesOf, reachOf, BoundAsked, SwitchNodeAsked, PutSwitchNode, SwitchAsked, OwnAsked, NodeAsked, NodesAsked, outOf, boundOut, switchOut, ownOut, nodeOut, nodesOut};
+ghost use Rattle.build_file_nodes.specs.Model.{movedBy, placesOf, reachOf, BoundAsked, SwitchNodeAsked, PutSwitchNode, SwitchAsked, OwnAsked, NodeAsked, NodesAsked, boundOut, switchOut, ownOut, nodeOut, nodesOut};
+ghost use Rattle.build_file_nodes.specs.Contracts.{usesAfter, reachBefore, outBefore, outAfter, placesBefore};
 
 // How many nodes, cases and bindings are written, and how many paths have a number.
 pub struct Tops {
@@ -46,7 +45,7 @@ pub fn put_bound(
     f: Tops,
 ) -> Tops
     requires { ⌜ BoundAsked (now w) leaf start (now tree) (reachOf (now number) (now list) f) ⌝ }
-    ensures { λ r. ⌜ outOf (now (tree .exit)) (reachOf (now (number .exit)) (now (list .exit)) r) ≡ boundOut (now (w .entry)) start leaf kind child (outOf (now (tree .entry)) (reachOf (now (number .entry)) (now (list .entry)) f)) ⌝ }
+    ensures { λ r. ⌜ outAfter tree number list r ≡ boundOut (now (w .entry)) start leaf kind child (outBefore tree number list f) ⌝ }
 {
     let clause = node_word(w, leaf, node_words::CLAUSE);
     let from = node_word(w, leaf, node_words::FIRST_BINDING) as usize;
@@ -85,7 +84,7 @@ fn put_switch_node(
     f: Tops,
 ) -> usize
     requires { ⌜ SwitchNodeAsked (now w) k (now tree) (reachOf (now number) (now list) f) ⌝ }
-    ensures { λ r. ⌜ PutSwitchNode (now (w .entry)) (movedBy (now (shift .entry))) k (reachOf (now (number .entry)) (now (list .entry)) f) (now (tree .entry)) (now (tree .exit)) (usesOf (now (number .exit)) (now (list .exit)) r) ⌝ }
+    ensures { λ r. ⌜ PutSwitchNode (now (w .entry)) (movedBy (now (shift .entry))) k (reachBefore number list f) (now (tree .entry)) (now (tree .exit)) (usesAfter number list r) ⌝ }
 {
     let path = node_word(w, k, node_words::PATH) as usize;
     let cases = node_word(w, k, node_words::CASES);
@@ -119,7 +118,7 @@ fn put_switch(
     f: Tops,
 ) -> Tops
     requires { ⌜ SwitchAsked (now w) k start (now tree) (reachOf (now number) (now list) f) ⌝ }
-    ensures { λ r. ⌜ outOf (now (tree .exit)) (reachOf (now (number .exit)) (now (list .exit)) r) ≡ switchOut (now (w .entry)) start (movedBy (now (shift .entry))) k (outOf (now (tree .entry)) (reachOf (now (number .entry)) (now (list .entry)) f)) ⌝ }
+    ensures { λ r. ⌜ outAfter tree number list r ≡ switchOut (now (w .entry)) start (movedBy (now (shift .entry))) k (outBefore tree number list f) ⌝ }
 {
     let at = children_of(w, k);
     let first = at.first;
@@ -147,7 +146,7 @@ fn put_own(
     f: Tops,
 ) -> Tops
     requires { ⌜ OwnAsked (now w) k cases bindings (now tree) (reachOf (now number) (now list) f) ⌝ }
-    ensures { λ r. ⌜ outOf (now (tree .exit)) (reachOf (now (number .exit)) (now (list .exit)) r) ≡ ownOut (now (w .entry)) cases bindings (movedBy (now (shift .entry))) k (outOf (now (tree .entry)) (reachOf (now (number .entry)) (now (list .entry)) f)) ⌝ }
+    ensures { λ r. ⌜ outAfter tree number list r ≡ ownOut (now (w .entry)) cases bindings (movedBy (now (shift .entry))) k (outBefore tree number list f) ⌝ }
 {
     if node_kind(w, k) == node_kinds::LEAF {
         return put_bound(w, k, node_kinds::LEAF, 0, tree, bindings, number, list, f);
@@ -171,7 +170,7 @@ pub fn put_one(
     f: Tops,
 ) -> Tops
     requires { ⌜ NodeAsked (now w) k (placesOf (now node) (now leaf)) clauses (now shift) cases bindings (now tree) (reachOf (now number) (now list) f) ⌝ }
-    ensures { λ r. ⌜ outOf (now (tree .exit)) (reachOf (now (number .exit)) (now (list .exit)) r) ≡ nodeOut (now (w .entry)) cases bindings (placesOf (now (node .entry)) (now (leaf .entry))) clauses k (outOf (now (tree .entry)) (reachOf (now (number .entry)) (now (list .entry)) f)) ⌝ }
+    ensures { λ r. ⌜ outAfter tree number list r ≡ nodeOut (now (w .entry)) cases bindings (placesBefore node leaf) clauses k (outBefore tree number list f) ⌝ }
 {
     let g = put_hoists(
         w,
@@ -205,7 +204,7 @@ pub fn put_nodes(
     f: Tops,
 ) -> Tops
     requires { ⌜ NodesAsked (now w) nodes (placesOf (now node) (now leaf)) clauses (now shift) cases bindings (now tree) (reachOf (now number) (now list) f) ⌝ }
-    ensures { λ r. ⌜ outOf (now (tree .exit)) (reachOf (now (number .exit)) (now (list .exit)) r) ≡ nodesOut (now (w .entry)) cases bindings (placesOf (now (node .entry)) (now (leaf .entry))) clauses 0 nodes (outOf (now (tree .entry)) (reachOf (now (number .entry)) (now (list .entry)) f)) ⌝ }
+    ensures { λ r. ⌜ outAfter tree number list r ≡ nodesOut (now (w .entry)) cases bindings (placesBefore node leaf) clauses 0 nodes (outBefore tree number list f) ⌝ }
 {
     let mut g = f;
     let mut k = 0;
