@@ -17,7 +17,7 @@ ghost use Rattle.base_words.specs.Stored.{stored};
 ghost use Rattle.spec_rules.specs.Limits.{treeTrailer, treeRoom};
 ghost use Rattle.spec_rules.specs.SheetFile.{poolSize, pool};
 ghost use Rattle.format_sheet.specs.Check.{SheetAccepts};
-ghost use Rattle.build_file_tail.specs.Tail.{Puts, TailReady, usedPaths, trailerBytes, tailBytes};
+ghost use Rattle.build_file_tail.specs.Tail.{Puts, TailReady, trailerBytes, sheetTail};
 
 fn copy_pool(s: &[u8], m: SheetMap, tree: &mut [u8], at: usize) -> usize
     requires { ⌜ SheetAccepts (now s) m × (at + poolSize (now s) ≤ length (now tree)) ⌝ }
@@ -76,7 +76,7 @@ pub fn put_tail(
     paths: usize,
 ) -> usize
     requires { ⌜ TailReady (now s) m (now table) (now classes) count (now tree) cases bindings paths ⌝ }
-    ensures { λ r. ⌜ Puts (now (tree .entry)) (now (tree .exit)) paths r (tailBytes (pool (now (s .entry))) (usedPaths (now (s .entry)) (now (classes .entry)) 0 count) cases bindings paths) ⌝ }
+    ensures { λ r. ⌜ Puts (now (tree .entry)) (now (tree .exit)) paths r (sheetTail (now (s .entry)) (now (classes .entry)) count cases bindings paths) ⌝ }
 {
     let steps = put_paths(table, classes, count, tree, paths);
     let pool = put_all_steps(s, m, table, classes, count, tree, steps);
