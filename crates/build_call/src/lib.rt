@@ -11,8 +11,9 @@ ghost use Prim.Native.Nat.{_≤_};
 ghost use lib.ListN.{length};
 ghost use Rattle.base_words.specs.Words.{zeros};
 ghost use Rattle.spec_rules.specs.Limits.{treeRoom, workRoom};
-ghost use Rattle.spec_rules.specs.Calls.{buildCall, buildAnswer};
-ghost use Rattle.build_call.specs.Answers.{callOf, Gives};
+ghost use Rattle.spec_rules.specs.Calls.{buildCall};
+ghost use Rattle.build_call.specs.Answers.{callOf};
+ghost use Rattle.build_call.specs.Contracts.{GivesAnswer};
 
 mod counts;
 mod trees;
@@ -32,7 +33,7 @@ pub enum Built {
 // On buffers that are large enough, the tree's all zero.
 fn build_sheet(s: &[u8], tree: &mut [u8], work: &mut [u8]) -> Built
     requires { ⌜ (treeRoom ≤ length (now tree)) × (workRoom ≤ length (now work)) × (now tree ≡ zeros (length (now tree))) ⌝ }
-    ensures { λ r. ⌜ Gives (now (s .entry)) (buildAnswer (now (s .entry)) (length (now (tree .entry))) (length (now (work .entry)))) (now (tree .entry)) (now (tree .exit)) r ⌝ }
+    ensures { λ r. ⌜ GivesAnswer s tree work r ⌝ }
 {
     match format_sheet::check(s) {
         CheckedSheet::Accepted(m) => build_tree(s, m, tree, work),
@@ -43,7 +44,7 @@ fn build_sheet(s: &[u8], tree: &mut [u8], work: &mut [u8]) -> Built
 // On a tree buffer that is all zero: it is written only where the sheet is accepted.
 fn build_clear(s: &[u8], tree: &mut [u8], work: &mut [u8]) -> Built
     requires { ⌜ now tree ≡ zeros (length (now tree)) ⌝ }
-    ensures { λ r. ⌜ Gives (now (s .entry)) (buildAnswer (now (s .entry)) (length (now (tree .entry))) (length (now (work .entry)))) (now (tree .entry)) (now (tree .exit)) r ⌝ }
+    ensures { λ r. ⌜ GivesAnswer s tree work r ⌝ }
 {
     if tree.len() < TREE_ROOM {
         return Built::Refused {

@@ -27,7 +27,7 @@ ghost use Rattle.base_words.specs.Words.{zeros};
 ghost use Rattle.spec_rules.specs.Limits.{treeRoom, workRoom};
 ghost use Rattle.format_sheet.specs.Check.{SheetAccepts};
 ghost use Rattle.build_table.specs.Tabled.{Tabled};
-ghost use Rattle.build_call.specs.Answers.{Gives, treeEnd};
+ghost use Rattle.build_call.specs.Contracts.{ClearTree, GivesTree};
 ghost use Rattle.build_call.specs.Raw.{Raw, Fitting, Hoistable, Whole};
 
 // A refusal whose place is 0.
@@ -49,8 +49,8 @@ fn write_tree(
     tree: &mut [u8],
 ) -> Built
     requires { ⌜ SheetAccepts (now s) m × Tabled (now s) (now table) × Whole (now s) (now w) nodes cases x ⌝ }
-    requires { ⌜ (treeRoom ≤ length (now tree)) × (now tree ≡ zeros (length (now tree))) ⌝ }
-    ensures { λ r. ⌜ Gives (now (s .entry)) (treeEnd (now (s .entry))) (now (tree .entry)) (now (tree .exit)) r ⌝ }
+    requires { ⌜ ClearTree (now tree) ⌝ }
+    ensures { λ r. ⌜ GivesTree s tree r ⌝ }
 {
     let mut classes = [0u8; PATTERNS_MOST];
     let f = write_nodes(w, nodes, cases, x, m.counts.clauses, tree, &mut classes);
@@ -78,8 +78,8 @@ fn write_hoisted(
     tree: &mut [u8],
 ) -> Built
     requires { ⌜ SheetAccepts (now s) m × Tabled (now s) (now table) × Hoistable (now s) (now w) nodes cases bindings x ⌝ }
-    requires { ⌜ (treeRoom ≤ length (now tree)) × (now tree ≡ zeros (length (now tree))) ⌝ }
-    ensures { λ r. ⌜ Gives (now (s .entry)) (treeEnd (now (s .entry))) (now (tree .entry)) (now (tree .exit)) r ⌝ }
+    requires { ⌜ ClearTree (now tree) ⌝ }
+    ensures { λ r. ⌜ GivesTree s tree r ⌝ }
 {
     let more = hoist_bindings(w, x, m.counts.clauses);
     if BINDINGS_MOST < bindings + more {
@@ -108,8 +108,8 @@ fn hoist_with(
     tree: &mut [u8],
 ) -> Built
     requires { ⌜ SheetAccepts (now s) m × Tabled (now s) (now table) × Fitting (now s) (now w) nodes cases bindings × (nodes ≤ length (now sets)) ⌝ }
-    requires { ⌜ (treeRoom ≤ length (now tree)) × (now tree ≡ zeros (length (now tree))) ⌝ }
-    ensures { λ r. ⌜ Gives (now (s .entry)) (treeEnd (now (s .entry))) (now (tree .entry)) (now (tree .exit)) r ⌝ }
+    requires { ⌜ ClearTree (now tree) ⌝ }
+    ensures { λ r. ⌜ GivesTree s tree r ⌝ }
 {
     let x = get_hoist_paths(w, nodes, m.counts.clauses, sets);
     write_hoisted(s, m, table, w, nodes, cases, bindings, x, tree)
@@ -127,8 +127,8 @@ fn hoist_tree(
     tree: &mut [u8],
 ) -> Built
     requires { ⌜ SheetAccepts (now s) m × Tabled (now s) (now table) × Fitting (now s) (now w) nodes cases bindings ⌝ }
-    requires { ⌜ (treeRoom ≤ length (now tree)) × (now tree ≡ zeros (length (now tree))) ⌝ }
-    ensures { λ r. ⌜ Gives (now (s .entry)) (treeEnd (now (s .entry))) (now (tree .entry)) (now (tree .exit)) r ⌝ }
+    requires { ⌜ ClearTree (now tree) ⌝ }
+    ensures { λ r. ⌜ GivesTree s tree r ⌝ }
 {
     if nodes <= NODES_FEW {
         let mut sets = [0u32; NODES_FEW];
@@ -151,8 +151,8 @@ pub fn finish(
     tree: &mut [u8],
 ) -> Built
     requires { ⌜ SheetAccepts (now s) m × Tabled (now s) (now table) × Raw (now s) (now w) nodes cases bindings leaves ⌝ }
-    requires { ⌜ (treeRoom ≤ length (now tree)) × (now tree ≡ zeros (length (now tree))) ⌝ }
-    ensures { λ r. ⌜ Gives (now (s .entry)) (treeEnd (now (s .entry))) (now (tree .entry)) (now (tree .exit)) r ⌝ }
+    requires { ⌜ ClearTree (now tree) ⌝ }
+    ensures { λ r. ⌜ GivesTree s tree r ⌝ }
 {
     let clauses = m.counts.clauses;
     let more = hoists(leaves, clauses);
@@ -168,7 +168,7 @@ pub fn finish(
 // The tree of an accepted sheet, on buffers that are large enough, the tree's all zero.
 pub fn build_tree(s: &[u8], m: SheetMap, tree: &mut [u8], work: &mut [u8]) -> Built
     requires { ⌜ SheetAccepts (now s) m × (treeRoom ≤ length (now tree)) × (workRoom ≤ length (now work)) × (now tree ≡ zeros (length (now tree))) ⌝ }
-    ensures { λ r. ⌜ Gives (now (s .entry)) (treeEnd (now (s .entry))) (now (tree .entry)) (now (tree .exit)) r ⌝ }
+    ensures { λ r. ⌜ GivesTree s tree r ⌝ }
 {
     let mut table = [0u8; TABLE];
     fill(s, m, &mut table);
