@@ -46,9 +46,9 @@ pub const INDEX: usize = 5 * PATTERNS_MOST;
 
 pub const DEPTH: usize = 6 * PATTERNS_MOST;
 
-pub const CLAUSE: usize = 7 * PATTERNS_MOST;
+const CLAUSE: usize = 7 * PATTERNS_MOST;
 
-pub const INDICES: usize = 8 * PATTERNS_MOST;
+const INDICES: usize = 8 * PATTERNS_MOST;
 
 // By clause and class: one more than the test there, or 0.
 pub const CELL: usize = INDICES + DEPTH_MOST * PATTERNS_MOST;
