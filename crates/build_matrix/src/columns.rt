@@ -29,7 +29,7 @@ ghost use Rattle.build_matrix.specs.Ready.{ReadyTable, Puts, putTests, i
 ghost use Rattle.build_matrix.specs.Contracts.{PatternAsked, ChildrenAsked, TestAsked};
 
 // No class.
-pub fn empty() -> Classes
+pub(crate) fn empty() -> Classes
     ensures { λ r. ⌜ Holds r [] ⌝ }
 {
     Classes {
@@ -39,7 +39,7 @@ pub fn empty() -> Classes
 }
 
 // The class behind the others, so that there is one more.
-pub fn push(list: &mut [u8; PATTERNS_MOST], count: usize, class: usize)
+pub(crate) fn push(list: &mut [u8; PATTERNS_MOST], count: usize, class: usize)
     requires { ⌜ Whole (asClasses (now list) count) × (count < patternsMost) × (class < patternsMost) ⌝ }
     ensures { λ _. ⌜ Holds (asClasses (now (list .exit)) (count + 1)) (take count (now (list .entry)) ++ class ∷ []) ⌝ }
 {
@@ -98,7 +98,7 @@ fn place_of(cs: &[u8; PATTERNS_MOST], n: usize, class: usize) -> usize
 }
 
 // The first n of cs without the one tested, behind those in the list.
-pub fn put_rest(
+pub(crate) fn put_rest(
     list: &mut [u8; PATTERNS_MOST],
     count: usize,
     cs: &[u8; PATTERNS_MOST],
@@ -178,7 +178,7 @@ fn gives(s: &[u8], m: SheetMap, table: &[u8], p: usize) -> Given
 }
 
 // The columns of pattern p put among those in the list.
-pub fn map_pattern_to_row(
+pub(crate) fn map_pattern_to_row(
     s: &[u8],
     m: SheetMap,
     table: &[u8],
@@ -221,7 +221,7 @@ fn map_patterns_to_row(
 }
 
 // The columns that test p opens to put among those in the list: those of its children, which a text has not.
-pub fn open(
+pub(crate) fn open(
     s: &[u8],
     m: SheetMap,
     table: &[u8],

@@ -76,7 +76,7 @@ fn covers_list(r: PatternRecord, n: u16) -> bool
 }
 
 // The test of pattern p belongs to the case.
-pub fn covers(s: &[u8], m: SheetMap, p: usize, test: Test) -> bool
+pub(crate) fn covers(s: &[u8], m: SheetMap, p: usize, test: Test) -> bool
     requires { ⌜ SheetAccepts (now s) m × TestKnown (now s) p × InPool (now s) test ⌝ }
     ensures { λ r. ⌜ r ≡ joinsTest (now (s .entry)) test p ⌝ }
 {

@@ -11,8 +11,8 @@
 use base_numbers::sheet::CLAUSES_MOST;
 use base_numbers::sheet::PATTERNS_MOST;
 
-pub mod columns;
-pub mod covering;
+mod columns;
+mod covering;
 pub mod rows;
 pub mod splitting;
 

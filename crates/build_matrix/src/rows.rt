@@ -136,7 +136,7 @@ fn keep_wild(list: &mut [u8; CLAUSES_MOST], count: usize, c: u8, held: Held) -> 
 }
 
 // The first n of these rows, those with a wildcard in the column, in the list; how many there are.
-pub fn wild_rows<'a>(
+pub(crate) fn wild_rows<'a>(
     table: &[u8],
     rows: &'a [u8; CLAUSES_MOST],
     n: usize,
