@@ -35,7 +35,7 @@ fn keep_test(list: &mut [u8; CLAUSES_MOST], count: usize, held: Held) -> usize
 }
 
 // The tests of the first n of these rows in the column of a class, top down, in the list; how many there are.
-pub fn column_tests<'a>(
+pub(crate) fn column_tests<'a>(
     table: &[u8],
     rows: &'a [u8; CLAUSES_MOST],
     n: usize,
@@ -56,7 +56,7 @@ pub fn column_tests<'a>(
 }
 
 // The longest lengths of the lists among the first n of these tests.
-pub fn longest_of(s: &[u8], m: SheetMap, tests: &[u8; CLAUSES_MOST], n: usize) -> Longest
+pub(crate) fn longest_of(s: &[u8], m: SheetMap, tests: &[u8; CLAUSES_MOST], n: usize) -> Longest
     requires { ⌜ SheetAccepts (now s) m × WholeRows (asRows (now tests) n) × All (TestKnown (now s)) (take n (now tests)) ⌝ }
     ensures { λ r. ⌜ r ≡ longestOf (now (s .entry)) (take n (now (tests .entry))) ⌝ }
 {

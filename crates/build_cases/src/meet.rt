@@ -15,7 +15,14 @@ ghost use Rattle.build_cases.specs.Fields.{Fit};
 ghost use Rattle.build_cases.specs.SoFar.{Begun, meetOne, Meets};
 
 // The number of cases after this one is met, if it is new and there is room for it.
-pub fn meet(s: &[u8], m: SheetMap, work: &mut [u8], from: usize, to: usize, test: Test) -> usize
+pub(crate) fn meet(
+    s: &[u8],
+    m: SheetMap,
+    work: &mut [u8],
+    from: usize,
+    to: usize,
+    test: Test,
+) -> usize
     requires { ⌜ Laid (now s) × (m ≡ mapOf (now s)) × Fit (now s) (kindOf test) (numberOf test) (lengthOf test) ⌝ }
     requires { ⌜ Begun (now s) (now work) from to ⌝ }
     ensures { λ r. ⌜ Meets (now (s .entry)) (now (work .entry)) from to (meetOne (now (s .entry)) from test) r (now (work .exit)) ⌝ }

@@ -74,7 +74,7 @@ fn meet_test(
 }
 
 // The pass: the cases met that the first n of these tests join, of those with a tail or of those without.
-pub fn meet_rows(
+pub(crate) fn meet_rows(
     s: &[u8],
     m: SheetMap,
     tests: &[u8; CLAUSES_MOST],

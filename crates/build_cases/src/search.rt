@@ -27,7 +27,7 @@ fn wide(x: u16) -> usize
     x as usize
 }
 
-pub fn fields_of(test: Test) -> Fields
+pub(crate) fn fields_of(test: Test) -> Fields
     ensures { λ r. ⌜ r ≡ fieldsOf test ⌝ }
 {
     match test {
@@ -75,7 +75,14 @@ fn is_alike(work: &[u8], i: usize, f: Fields) -> bool
 }
 
 // The first of the cases from `from` up to `to` with this test, or `to`.
-pub fn same_case(s: &[u8], pool: usize, work: &[u8], from: usize, to: usize, f: Fields) -> usize
+pub(crate) fn same_case(
+    s: &[u8],
+    pool: usize,
+    work: &[u8],
+    from: usize,
+    to: usize,
+    f: Fields,
+) -> usize
     requires { ⌜ Laid (now s) × (pool ≡ poolAt (now s)) × Fit (now s) (f .kind) (f .number) (f .len) ⌝ }
     requires { ⌜ (arenaEnd ≤ length (now work)) × (from ≤ to) × (to ≤ casesMost) × Readable (now s) (now work) from to ⌝ }
     ensures { λ r. ⌜ r ≡ firstWhere (hasTest (now (s .entry)) (now (work .entry)) (f .kind) (f .number) (f .len)) from (to - from) ⌝ }

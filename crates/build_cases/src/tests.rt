@@ -17,7 +17,7 @@ pub struct Longest {
 }
 
 // The longest lengths with those of one pattern more.
-pub fn longer_of(r: PatternRecord, l: Longest) -> Longest
+pub(crate) fn longer_of(r: PatternRecord, l: Longest) -> Longest
     requires { ⌜ Small r ⌝ }
     ensures { λ out. ⌜ out ≡ longer r l ⌝ }
 {
@@ -42,7 +42,7 @@ pub fn longer_of(r: PatternRecord, l: Longest) -> Longest
 }
 
 // The test of a pattern without a tail.
-pub fn test_of(r: PatternRecord) -> Test
+pub(crate) fn test_of(r: PatternRecord) -> Test
     requires { ⌜ Small r ⌝ }
     ensures { λ out. ⌜ out ≡ exactTest r ⌝ }
 {
@@ -66,7 +66,7 @@ pub fn test_of(r: PatternRecord) -> Test
 }
 
 // The case of lists with n elements, and a tail or none.
-pub fn list_test(tail: bool, n: usize) -> Test
+pub(crate) fn list_test(tail: bool, n: usize) -> Test
     requires { ⌜ n < 65536 ⌝ }
     ensures { λ out. ⌜ out ≡ arenaListTest tail n ⌝ }
 {
@@ -78,7 +78,7 @@ pub fn list_test(tail: bool, n: usize) -> Test
 }
 
 // The longest length of those with a tail, or of those without.
-pub fn longest_with(l: Longest, tail: bool) -> usize
+pub(crate) fn longest_with(l: Longest, tail: bool) -> usize
     ensures { λ r. ⌜ r ≡ pick tail (l .tails) (l .tailless) ⌝ }
 {
     if tail {
