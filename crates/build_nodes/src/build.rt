@@ -274,7 +274,7 @@ fn build_switch<'a>(
 }
 
 // The tree of the matrix of these parts, which has a row, from the tops on.
-pub fn do_build_tree<'a>(
+pub(crate) fn do_build_tree<'a>(
     s: &[u8],
     m: SheetMap,
     table: &[u8],
