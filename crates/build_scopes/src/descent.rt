@@ -20,7 +20,7 @@ fn is_scope(w: &[u8], k: usize, c: usize, last: &[u8], sets: &[u32]) -> bool
 }
 
 // The node above which clause c is hoisted.
-pub fn get_hoist_path(w: &[u8], c: usize, last: &[u8], sets: &[u32]) -> usize
+pub(crate) fn get_hoist_path(w: &[u8], c: usize, last: &[u8], sets: &[u32]) -> usize
     requires { ⌜ ScopeMarks (now w) c (now last) (now sets) ⌝ }
     ensures { λ r. ⌜ ((h : ScopeMarks (now (w .entry)) c (now (last .entry)) (now (sets .entry))) → r ≡ scopeNumber c 0 (h .marks .tree)) ⌝ }
 {
@@ -34,7 +34,7 @@ pub fn get_hoist_path(w: &[u8], c: usize, last: &[u8], sets: &[u32]) -> usize
 }
 
 // The leaf of clause c that was built first: default, cases, tail cases.
-pub fn first_leaf(w: &[u8], c: usize, sets: &[u32]) -> usize
+pub(crate) fn first_leaf(w: &[u8], c: usize, sets: &[u32]) -> usize
     requires { ⌜ ClauseMarks (now w) c (now sets) ⌝ }
     ensures { λ r. ⌜ ((h : ClauseMarks (now (w .entry)) c (now (sets .entry))) → r ≡ firstNumber c 0 (h .tree)) ⌝ }
 {

@@ -35,7 +35,7 @@ fn last_of(w: &[u8], k: usize, last: &[u8]) -> u8
     last[child]
 }
 
-pub fn mark_last(w: &[u8], nodes: usize, last: &mut [u8])
+pub(crate) fn mark_last(w: &[u8], nodes: usize, last: &mut [u8])
     requires { ⌜ ReadyWith (now w) nodes × (nodes ≤ length (now last)) ⌝ }
     ensures { λ _. ⌜ ((h : ReadyWith (now (w .entry)) nodes) → LastMarked (h .tree) 0 (now (last .exit))) ⌝ }
 {

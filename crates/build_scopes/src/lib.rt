@@ -16,8 +16,8 @@ ghost use Rattle.spec_rules.specs.Limits.{clausesMost};
 ghost use Rattle.build_scopes.specs.Marks.{ReadyWith};
 ghost use Rattle.build_scopes.specs.Scoped.{Surveyed, withClause, ScopedWith};
 
-pub mod descent;
-pub mod last;
+mod descent;
+mod last;
 pub mod marks;
 
 // The nodes of a small tree. A table is cleared whole as it is made; most trees are small, so theirs are.

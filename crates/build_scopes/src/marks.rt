@@ -73,7 +73,7 @@ fn node_set(w: &[u8], k: usize, sets: &[u32]) -> u32
     union_cases(w, at.first, at.count, default_set(sets, at.default), sets)
 }
 
-pub fn mark(w: &[u8], nodes: usize, sets: &mut [u32])
+pub(crate) fn mark(w: &[u8], nodes: usize, sets: &mut [u32])
     requires { ⌜ ReadyWith (now w) nodes × (nodes ≤ length (now sets)) ⌝ }
     ensures { λ _. ⌜ ((h : ReadyWith (now (w .entry)) nodes) → SetsMarked (h .tree) 0 (now (sets .exit))) ⌝ }
 {
@@ -86,7 +86,7 @@ pub fn mark(w: &[u8], nodes: usize, sets: &mut [u32])
 }
 
 // The mark of clause c in a set: 1 where it is in it, or 0.
-pub fn mark_of(set: u32, c: usize) -> usize
+pub(crate) fn mark_of(set: u32, c: usize) -> usize
     requires { ⌜ c < clausesMost ⌝ }
     ensures { λ r. ⌜ r ≡ bitAt c set ⌝ }
 {
@@ -132,7 +132,7 @@ fn marked_default(sets: &[u32], c: usize, default: usize) -> usize
 }
 
 // How many children of switch k are marked for clause c.
-pub fn marked_children(w: &[u8], k: usize, c: usize, sets: &[u32]) -> usize
+pub(crate) fn marked_children(w: &[u8], k: usize, c: usize, sets: &[u32]) -> usize
     requires { ⌜ SwitchInside (now w) k (length (now sets)) × (c < clausesMost) ⌝ }
     ensures { λ r. ⌜ r ≡ markedChildren (now (w .entry)) (column c (now (sets .entry))) k ⌝ }
 {
@@ -142,7 +142,7 @@ pub fn marked_children(w: &[u8], k: usize, c: usize, sets: &[u32]) -> usize
 }
 
 // The child of switch k marked for clause c that was built first: the default, then the cases in order.
-pub fn first_child(w: &[u8], k: usize, c: usize, sets: &[u32]) -> usize
+pub(crate) fn first_child(w: &[u8], k: usize, c: usize, sets: &[u32]) -> usize
     requires { ⌜ SwitchInside (now w) k (length (now sets)) × (c < clausesMost) ⌝ }
     ensures { λ r. ⌜ r ≡ firstChild (now (w .entry)) (column c (now (sets .entry))) k ⌝ }
 {
