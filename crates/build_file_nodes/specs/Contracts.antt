@@ -4,7 +4,7 @@ use mathlib.Core.List.{List}
 use Prim.Native.Nat.{ℕ}
 use denote.Ref.{RefT, now}
 use denote.Triple.Both.{Both}
-use Rattle.build_file_nodes.specs.declared.nodes.Tops.{Tops}
+use Rattle.build_file_nodes.specs.declared.Tops.{Tops}
 use Rattle.build_file_nodes.specs.Uses.{Uses, usesOf}
 use Rattle.build_file_nodes.specs.Model.{Places, placesOf, Reach, reachOf, Out, outOf}
 

@@ -15,7 +15,7 @@ use Rattle.build_scopes.specs.declared.Scopes.{Scopes}
 use Rattle.build_scopes.specs.Numbers.{BindCounts}
 use Rattle.build_scopes.specs.Marks.{ReadyTree}
 use Rattle.build_scopes.specs.Scoped.{Scoped}
-use Rattle.build_file_nodes.specs.declared.nodes.Tops.{Tops}
+use Rattle.build_file_nodes.specs.declared.Tops.{Tops}
 
 -- the tree of so many nodes and cases, held in the arena over a table of all its paths, with the scopes of its clauses;
 -- the leaves of a clause have as many bindings each, and the hoisted tree is within refusals 12 and 13

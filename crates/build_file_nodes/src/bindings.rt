@@ -34,7 +34,7 @@ fn put_binding(
 }
 
 // The count bindings from first on, the first of them at `at`; how many paths have a number then.
-pub fn put_bindings(
+pub(crate) fn put_bindings(
     w: &[u8],
     first: usize,
     count: usize,

@@ -24,7 +24,7 @@ fn move_by(k: usize, by: u8) -> u16
 }
 
 // A default, which is one more than its node's number, or 0.
-pub fn moved_default(shift: &[u8; SHIFTS], default: usize) -> u16
+pub(crate) fn moved_default(shift: &[u8; SHIFTS], default: usize) -> u16
     requires { ⌜ default ≤ nodesMost ⌝ }
     ensures { λ r. ⌜ r ≡ movedDefault (movedBy (now (shift .entry))) default ⌝ }
 {
@@ -46,7 +46,7 @@ fn put_case(w: &[u8], i: usize, tree: &mut [u8], at: usize, child: u16)
 }
 
 // The count cases from first on, the first of them at `at`.
-pub fn put_cases(
+pub(crate) fn put_cases(
     w: &[u8],
     first: usize,
     count: usize,

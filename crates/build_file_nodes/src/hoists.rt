@@ -1,6 +1,6 @@
 // The hoists that stand above a node, in the order of their clauses.
 // A node with none is known by how far it and the next node are moved. For another one pass over the clauses finds those hoisted there.
-use crate::nodes::Tops;
+use crate::Tops;
 use crate::nodes::put_bound;
 use crate::shift::SHIFTS;
 use crate::shift::as_count;
@@ -57,7 +57,7 @@ fn put_hoist(
 }
 
 // The hoists above node k, the lowest clause outermost.
-pub fn put_hoists(
+pub(crate) fn put_hoists(
     w: &[u8],
     k: usize,
     node: &[u16; CLAUSES_MOST],

@@ -6,7 +6,6 @@ use base_numbers::sheet::PATTERNS_MOST;
 use base_numbers::tree::CASE_SIZE;
 use base_numbers::tree::NODE_SIZE;
 use build_scopes::Scopes;
-use nodes::Tops;
 use nodes::put_nodes;
 use shift::SHIFTS;
 use shift::find_shift;
@@ -16,12 +15,20 @@ ghost use lib.ListN.{length};
 ghost use Rattle.spec_rules.specs.Limits.{patternsMost, treeRoom};
 ghost use Rattle.build_file_nodes.specs.Written.{WritingAsked, WritesHoisted};
 
-pub mod bindings;
-pub mod cases;
-pub mod hoists;
-pub mod nodes;
-pub mod shift;
-pub mod uses;
+mod bindings;
+mod cases;
+mod hoists;
+mod nodes;
+mod shift;
+mod uses;
+
+// How many nodes, cases and bindings are written, and how many paths have a number.
+pub struct Tops {
+    pub nodes: usize,
+    pub cases: usize,
+    pub bindings: usize,
+    pub paths: usize,
+}
 
 // The three sections from 0 on, of the tree with so many nodes and cases before it is hoisted. The answer is how many nodes, cases
 // and bindings are written and how many paths they use; `classes` has the classes of those paths, in the order of their numbers.

@@ -1,6 +1,7 @@
 // One node of the arena in the tree file: the hoists above it, then its own record with its cases or its bindings.
 // What is written so far is known by the tops of the sections; each function answers them anew. A section's start is given with them.
 // The path numbers are in two tables that are lent with the tops.
+use crate::Tops;
 use crate::bindings::put_bindings;
 use crate::cases::moved_default;
 use crate::cases::put_cases;
@@ -24,16 +25,8 @@ ghost use mathlib.Core.Path.{_≡_};
 ghost use Rattle.build_file_nodes.specs.Model.{movedBy, placesOf, reachOf, BoundAsked, SwitchNodeAsked, PutSwitchNode, SwitchAsked, OwnAsked, NodeAsked, NodesAsked, boundOut, switchOut, ownOut, nodeOut, nodesOut};
 ghost use Rattle.build_file_nodes.specs.Contracts.{usesAfter, reachBefore, outBefore, outAfter, placesBefore};
 
-// How many nodes, cases and bindings are written, and how many paths have a number.
-pub struct Tops {
-    pub nodes: usize,
-    pub cases: usize,
-    pub bindings: usize,
-    pub paths: usize,
-}
-
 // A leaf, or a hoist over the child, with the clause and the bindings of the arena's leaf.
-pub fn put_bound(
+pub(crate) fn put_bound(
     w: &[u8],
     leaf: usize,
     kind: u8,
@@ -155,7 +148,7 @@ fn put_own(
 }
 
 // Node k with the hoists above it.
-pub fn put_one(
+fn put_one(
     w: &[u8],
     k: usize,
     node: &[u16; CLAUSES_MOST],
@@ -189,7 +182,7 @@ pub fn put_one(
 }
 
 // All nodes, in order.
-pub fn put_nodes(
+pub(crate) fn put_nodes(
     w: &[u8],
     nodes: usize,
     node: &[u16; CLAUSES_MOST],

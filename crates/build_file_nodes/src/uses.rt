@@ -9,7 +9,7 @@ ghost use Rattle.build_file_nodes.specs.Contracts.{usesBefore, usesAfter
 
 // The path of the class used once more, where `count` paths have a number; how many have one then. `number` has by class one more
 // than the number of its path, or 0 where it has none; `list` has the classes in the order of their numbers.
-pub fn used(
+pub(crate) fn used(
     number: &mut [u8; PATTERNS_MOST],
     list: &mut [u8; PATTERNS_MOST],
     count: usize,

@@ -9,7 +9,7 @@ use Rattle.spec_rules.specs.Limits.{patternsMost}
 use Rattle.spec_rules.specs.Hoisting.{hoistAll}
 use Rattle.spec_rules.specs.Calls.{sheetTree}
 use Rattle.build_table.specs.Standing.{sheetPaths}
-use Rattle.build_file_nodes.specs.declared.nodes.Tops.{Tops}
+use Rattle.build_file_nodes.specs.declared.Tops.{Tops}
 use Rattle.build_file_nodes.specs.Written.{WritingAsked, Written}
 use Rattle.spec_accepted.specs.SheetFacts.{Accepted}
 use Rattle.format_sheet.specs.SectionsLaws.{Mapped, mapped}
