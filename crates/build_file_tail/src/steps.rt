@@ -79,7 +79,7 @@ fn put_steps(s: &[u8], m: SheetMap, table: &[u8], class: usize, tree: &mut [u8],
 }
 
 // The steps of the paths of the first `count` classes.
-pub fn put_all_steps(
+pub(crate) fn put_all_steps(
     s: &[u8],
     m: SheetMap,
     table: &[u8],
