@@ -25,7 +25,7 @@ fn one_if(mark: u8) -> usize
 }
 
 // How many clauses have a leaf.
-pub fn hoists(leaves: [u8; CLAUSES_MOST], clauses: usize) -> usize
+pub(crate) fn hoists(leaves: [u8; CLAUSES_MOST], clauses: usize) -> usize
     requires { ⌜ clauses ≤ clausesMost ⌝ }
     ensures { λ r. ⌜ r ≡ times (λ c. isMarked (getD leaves c 0)) 0 clauses ⌝ }
 {
@@ -51,7 +51,7 @@ fn bindings_of(w: &[u8], leaf: u16) -> usize
 }
 
 // The bindings of all hoists.
-pub fn hoist_bindings(w: &[u8], x: Scopes, clauses: usize) -> usize
+pub(crate) fn hoist_bindings(w: &[u8], x: Scopes, clauses: usize) -> usize
     requires { ⌜ (arenaEnd ≤ length (now w)) × (clauses ≤ clausesMost) ⌝ }
     ensures { λ r. ⌜ r ≡ sum (λ c. leafBindings (now (w .entry)) (getD (x .leaf) c 0)) 0 clauses ⌝ }
 {

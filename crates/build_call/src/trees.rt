@@ -31,7 +31,7 @@ ghost use Rattle.build_call.specs.Contracts.{ClearTree, GivesTree};
 ghost use Rattle.build_call.specs.Raw.{Raw, Fitting, Hoistable, Whole};
 
 // A refusal whose place is 0.
-pub fn refused(number: u16) -> Built
+fn refused(number: u16) -> Built
     ensures { λ r. ⌜ r ≡ Built.Refused number 0 ⌝ }
 {
     Built::Refused { number, place: 0 }
@@ -139,7 +139,7 @@ fn hoist_tree(
 }
 
 // The tree in the arena, with the counts of its building: 12, 13, or on to its scopes.
-pub fn finish(
+fn finish(
     s: &[u8],
     m: SheetMap,
     table: &[u8],
@@ -166,7 +166,7 @@ pub fn finish(
 }
 
 // The tree of an accepted sheet, on buffers that are large enough, the tree's all zero.
-pub fn build_tree(s: &[u8], m: SheetMap, tree: &mut [u8], work: &mut [u8]) -> Built
+pub(crate) fn build_tree(s: &[u8], m: SheetMap, tree: &mut [u8], work: &mut [u8]) -> Built
     requires { ⌜ SheetAccepts (now s) m × (treeRoom ≤ length (now tree)) × (workRoom ≤ length (now work)) × (now tree ≡ zeros (length (now tree))) ⌝ }
     ensures { λ r. ⌜ GivesTree s tree r ⌝ }
 {
