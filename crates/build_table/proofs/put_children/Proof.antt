@@ -22,17 +22,17 @@ pattern-at-requires c κs = let start = c .before .before in (start .pre .0 .ok 
 loop-holds : tie.Need-loop-holds Inv-loop μ-loop
 loop-holds c =
     let a = c .before .before .before .args in
-    (omega arith, c .before .before .before .pre .1, ap (placedEach (a .s .now) (a .table .now) (a .p) (a .step) (a .e) (a .stride) (a .owner) 0) (sub-zero (a .n)))
+    (omega arith, c .before .before .before .pre .1, ap (placedEach (a .sheet .now) (a .table .now) (a .p) (a .step) (a .from) (a .stride) (a .owner) 0) (sub-zero (a .count)))
 
 add-child-at : tie.Need-add-child-at Inv-loop μ-loop
 add-child-at c =
     let start = c .before .before .before .before .before .before .before in
-    omega (arith, first-is (start .args .s .now) (start .args .p) (c .before .before .before .before .pattern-at .result) (c .before .before .before .before .pattern-at .ensures), parts-entry (start .pre .0) (start .pre .2) (c .before .before .before .loop .i) (c .before .before .loop-test .taken), start .pre .0 .ok .is-counted .children-most)
+    omega (arith, first-is (start .args .sheet .now) (start .args .p) (c .before .before .before .before .pattern-at .result) (c .before .before .before .before .pattern-at .ensures), parts-entry (start .pre .0) (start .pre .2) (c .before .before .before .loop .i) (c .before .before .loop-test .taken), start .pre .0 .ok .is-counted .children-most)
 
 child-at-requires : tie.Need-child-at-requires Inv-loop μ-loop
 child-at-requires c κs =
     let start = c .before .before .before .before .before .before .before in
-    (start .pre .0 .ok .is-laid, start .pre .0 .is-map, omega (arith, first-is (start .args .s .now) (start .args .p) (c .before .before .before .before .pattern-at .result) (c .before .before .before .before .pattern-at .ensures), parts-entry (start .pre .0) (start .pre .2) (c .before .before .before .loop .i) (c .before .before .loop-test .taken)))
+    (start .pre .0 .ok .is-laid, start .pre .0 .is-map, omega (arith, first-is (start .args .sheet .now) (start .args .p) (c .before .before .before .before .pattern-at .result) (c .before .before .before .before .pattern-at .ensures), parts-entry (start .pre .0) (start .pre .2) (c .before .before .before .loop .i) (c .before .before .loop-test .taken)))
 
 mul-entry-at : tie.Need-mul-entry-at Inv-loop μ-loop
 mul-entry-at c =
@@ -75,7 +75,7 @@ loop-again c =
     let taken = c .before .before .before .before .before .before .before .loop-test .taken in (
       omega arith,
       ap length (u .ensures) ∙ length-placed (l .table) (a .p) (q .result) (a .step) (l .i) (v .result) (a .owner) ∙ l .inv .1,
-      placedEach-on (a .s .now) (a .p) (a .step) (a .e) (a .stride) (a .owner) (a .n) (l .table) (u .last .0) (l .i) (q .result) (v .result) (r .result) taken (r .ensures) (q .ensures) (v .ensures) (u .ensures)
+      placedEach-on (a .sheet .now) (a .p) (a .step) (a .from) (a .stride) (a .owner) (a .count) (l .table) (u .last .0) (l .i) (q .result) (v .result) (r .result) taken (r .ensures) (q .ensures) (v .ensures) (u .ensures)
           ∙ l .inv .2,
     )
 
@@ -86,7 +86,7 @@ returns : tie.Need-returns Inv-loop μ-loop
 returns c =
     let a = c .before .before .before .before .before .args in
     let l = c .before .loop in
-    sym (placedEach-end (a .s .now) (a .p) (a .step) (a .e) (a .stride) (a .owner) (a .n) (l .table) (l .i) (omega arith)) ∙ l .inv .2
+    sym (placedEach-end (a .sheet .now) (a .p) (a .step) (a .from) (a .stride) (a .owner) (a .count) (l .table) (l .i) (omega arith)) ∙ l .inv .2
 
 pub put-children-spec : {M : Type 1} → statement M
 put-children-spec =
