@@ -150,11 +150,11 @@ fn itself_or_inside(test: bool, class: usize, first: usize, count: usize) -> Giv
 }
 
 // One decision over kinds 0 to 9.
-fn gives(s: &[u8], m: SheetMap, table: &[u8], p: usize) -> Given
-    requires { ⌜ ReadyTable (now s) m (now table) × (p < patterns (now s)) ⌝ }
-    ensures { λ r. ⌜ Gives (now (s .entry)) p r ⌝ }
+fn gives(sheet: &[u8], map: SheetMap, table: &[u8], p: usize) -> Given
+    requires { ⌜ ReadyTable (now sheet) map (now table) × (p < patterns (now sheet)) ⌝ }
+    ensures { λ r. ⌜ Gives (now (sheet .entry)) p r ⌝ }
 {
-    let r = pattern_at(s, m, p);
+    let r = pattern_at(sheet, map, p);
     let class = at(table, CLASS + p);
     let kind = r.kind;
     match kind {
@@ -168,7 +168,7 @@ fn gives(s: &[u8], m: SheetMap, table: &[u8], p: usize) -> Given
         | pattern_kinds::LIST
         | pattern_kinds::LIST_WITH_TAIL => Given::Itself(class),
         pattern_kinds::CONSTRUCTOR => itself_or_inside(
-            is_test(s, m, table, p),
+            is_test(sheet, map, table, p),
             class,
             r.first,
             r.count,
@@ -179,30 +179,30 @@ fn gives(s: &[u8], m: SheetMap, table: &[u8], p: usize) -> Given
 
 // The columns of pattern p put among those in the list.
 pub(crate) fn map_pattern_to_row(
-    s: &[u8],
-    m: SheetMap,
+    sheet: &[u8],
+    map: SheetMap,
     table: &[u8],
     list: &mut [u8; PATTERNS_MOST],
     count: usize,
     p: usize,
 ) -> usize
-    requires { ⌜ PatternAsked (now s) m (now table) (asClasses (now list) count) p ⌝ }
-    ensures { λ r. ⌜ Holds (asClasses (now (list .exit)) r) (putTests (now (s .entry)) (testsOf (now (s .entry)) p) (take count (now (list .entry)))) ⌝ }
+    requires { ⌜ PatternAsked (now sheet) map (now table) (asClasses (now list) count) p ⌝ }
+    ensures { λ r. ⌜ Holds (asClasses (now (list .exit)) r) (putTests (now (sheet .entry)) (testsOf (now (sheet .entry)) p) (take count (now (list .entry)))) ⌝ }
 {
-    let given = gives(s, m, table, p);
+    let given = gives(sheet, map, table, p);
     match given {
         Given::Nothing => count,
         Given::Itself(class) => put(table, list, count, class),
         Given::Inside { first, count: n } => {
-            map_patterns_to_row(s, m, table, list, count, p, first, n)
+            map_patterns_to_row(sheet, map, table, list, count, p, first, n)
         }
     }
 }
 
 // The same of n children of `parent` from entry j on, the last first.
 fn map_patterns_to_row(
-    s: &[u8],
-    m: SheetMap,
+    sheet: &[u8],
+    map: SheetMap,
     table: &[u8],
     list: &mut [u8; PATTERNS_MOST],
     count: usize,
@@ -210,31 +210,31 @@ fn map_patterns_to_row(
     j: usize,
     n: usize,
 ) -> usize
-    requires { ⌜ ChildrenAsked (now s) m (now table) (asClasses (now list) count) parent j n ⌝ }
-    ensures { λ r. ⌜ Holds (asClasses (now (list .exit)) r) (putTests (now (s .entry)) (testsOfEach (now (s .entry)) j n) (take count (now (list .entry)))) ⌝ }
+    requires { ⌜ ChildrenAsked (now sheet) map (now table) (asClasses (now list) count) parent j n ⌝ }
+    ensures { λ r. ⌜ Holds (asClasses (now (list .exit)) r) (putTests (now (sheet .entry)) (testsOfEach (now (sheet .entry)) j n) (take count (now (list .entry)))) ⌝ }
 {
     if n == 0 {
         return count;
     }
-    let rest = map_patterns_to_row(s, m, table, list, count, parent, j + 1, n - 1);
-    map_pattern_to_row(s, m, table, list, rest, child_at(s, m, j))
+    let rest = map_patterns_to_row(sheet, map, table, list, count, parent, j + 1, n - 1);
+    map_pattern_to_row(sheet, map, table, list, rest, child_at(sheet, map, j))
 }
 
 // The columns that test p opens to put among those in the list: those of its children, which a text has not.
 pub(crate) fn open(
-    s: &[u8],
-    m: SheetMap,
+    sheet: &[u8],
+    map: SheetMap,
     table: &[u8],
     list: &mut [u8; PATTERNS_MOST],
     count: usize,
     p: usize,
 ) -> usize
-    requires { ⌜ TestAsked (now s) m (now table) (asClasses (now list) count) p ⌝ }
-    ensures { λ r. ⌜ Holds (asClasses (now (list .exit)) r) (putTests (now (s .entry)) (openedTests (now (s .entry)) p) (take count (now (list .entry)))) ⌝ }
+    requires { ⌜ TestAsked (now sheet) map (now table) (asClasses (now list) count) p ⌝ }
+    ensures { λ r. ⌜ Holds (asClasses (now (list .exit)) r) (putTests (now (sheet .entry)) (openedTests (now (sheet .entry)) p) (take count (now (list .entry)))) ⌝ }
 {
-    let r = pattern_at(s, m, p);
+    let r = pattern_at(sheet, map, p);
     if r.kind < pattern_kinds::LIST {
         return count;
     }
-    map_patterns_to_row(s, m, table, list, count, p, r.first, r.count)
+    map_patterns_to_row(sheet, map, table, list, count, p, r.first, r.count)
 }

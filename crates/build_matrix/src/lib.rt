@@ -58,8 +58,8 @@ pub struct Sizes {
 }
 
 // A byte as an index.
-pub fn wide(x: u8) -> usize
-    ensures { λ r. ⌜ r ≡ x ⌝ }
+pub fn wide(byte: u8) -> usize
+    ensures { λ r. ⌜ r ≡ byte ⌝ }
 {
-    x as usize
+    byte as usize
 }
