@@ -56,18 +56,23 @@ pub(crate) fn column_tests<'a>(
 }
 
 // The longest lengths of the lists among the first n of these tests.
-pub(crate) fn longest_of(s: &[u8], m: SheetMap, tests: &[u8; CLAUSES_MOST], n: usize) -> Longest
-    requires { ⌜ SheetAccepts (now s) m × WholeRows (asRows (now tests) n) × All (TestKnown (now s)) (take n (now tests)) ⌝ }
-    ensures { λ r. ⌜ r ≡ longestOf (now (s .entry)) (take n (now (tests .entry))) ⌝ }
+pub(crate) fn longest_of(
+    sheet: &[u8],
+    map: SheetMap,
+    tests: &[u8; CLAUSES_MOST],
+    n: usize,
+) -> Longest
+    requires { ⌜ SheetAccepts (now sheet) map × WholeRows (asRows (now tests) n) × All (TestKnown (now sheet)) (take n (now tests)) ⌝ }
+    ensures { λ r. ⌜ r ≡ longestOf (now (sheet .entry)) (take n (now (tests .entry))) ⌝ }
 {
-    let mut l = Longest {
+    let mut longest = Longest {
         tailless: 0,
         tails: 0,
     };
     let mut i = n;
     while 0 < i {
         i -= 1;
-        l = longer_of(pattern_at(s, m, wide(tests[i])), l);
+        longest = longer_of(pattern_at(sheet, map, wide(tests[i])), longest);
     }
-    l
+    longest
 }

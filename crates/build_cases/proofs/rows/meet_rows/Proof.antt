@@ -21,7 +21,7 @@ abbrev μ-loop : tie.MeasureT-loop
 loop-holds : tie.Need-loop-holds Inv-loop μ-loop
 loop-holds c =
     let a = c .before .before .args in
-    (search needs, pass-none (a .tail) (a .l) (a .tests .now))
+    (search needs, pass-none (a .tail) (a .longest) (a .tests .now))
 
 element-copy-out-wide : tie.Need-element-copy-out-wide Inv-loop μ-loop
 element-copy-out-wide c = let s = c .before .before .before .before in omega (arith, s .pre .0 .1 .long, s .pre .0 .1 .most)
@@ -34,7 +34,7 @@ meet-test-requires c κs =
     let s = c .before .before .before .before .before .before .before in
     let a = s .args in
     let l = c .before .before .before .before .loop in
-    let known = all-at (TestKnown (a .s .now)) (a .tests .now) (a .n) (l .i) (omega arith) (omega (arith, s .pre .0 .1 .long, s .pre .0 .1 .most)) (s .pre .0 .2) in
+    let known = all-at (TestKnown (a .sheet .now)) (a .tests .now) (a .n) (l .i) (omega arith) (omega (arith, s .pre .0 .1 .long, s .pre .0 .1 .most)) (s .pre .0 .2) in
     ((s .pre .0 .0, rw (c .before .wide .ensures) known, s .pre .0 .3, s .pre .0 .4), meets-begun (s .pre .1) (l .inv .1))
 
 add-i : tie.Need-add-i Inv-loop μ-loop
@@ -49,7 +49,7 @@ loop-again c =
     let a = s .args in
     let l = c .before .before .before .before .before .before .before .loop in (
       search needs,
-      pass-one (a .tail) (a .l) (a .tests .now) (l .i) (omega (arith, s .pre .0 .1 .long, s .pre .0 .1 .most)) (c .before .before .before .before .wide .result) (c .before .before .before .before .wide .ensures) (l .inv .1) (c .before .before .meet-test .ensures),
+      pass-one (a .tail) (a .longest) (a .tests .now) (l .i) (omega (arith, s .pre .0 .1 .long, s .pre .0 .1 .most)) (c .before .before .before .before .wide .result) (c .before .before .before .before .wide .ensures) (l .inv .1) (c .before .before .meet-test .ensures),
     )
 
 same-length : tie.Need-same-length Inv-loop μ-loop
@@ -59,7 +59,7 @@ returns : tie.Need-returns Inv-loop μ-loop
 returns c =
     let a = c .before .before .before .before .args in
     let l = c .before .loop in
-    pass-ends (a .tail) (a .l) (a .tests .now) (l .i) (a .n) (omega arith) (l .inv .1)
+    pass-ends (a .tail) (a .longest) (a .tests .now) (l .i) (a .n) (omega arith) (l .inv .1)
 
 pub meet-rows-spec : {M : Type 1} → statement M
 meet-rows-spec =
