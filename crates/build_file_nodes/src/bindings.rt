@@ -14,18 +14,18 @@ ghost use Rattle.build_file_nodes.specs.Model.{BindingAsked, BindingsAsk
 ghost use Rattle.build_file_nodes.specs.Contracts.{usesBefore, usesAfter};
 
 fn put_binding(
-    w: &[u8],
-    b: usize,
+    work: &[u8],
+    i: usize,
     tree: &mut [u8],
     at: usize,
     number: &mut [u8; PATTERNS_MOST],
     list: &mut [u8; PATTERNS_MOST],
     paths: usize,
 ) -> usize
-    requires { ⌜ BindingAsked (now w) b × (at + 3 < length (now tree)) × Counted (usesOf (now number) (now list) paths) ⌝ }
-    ensures { λ r. ⌜ PutBinding (now (w .entry)) b at (usesBefore number list paths) (now (tree .entry)) (now (tree .exit)) (usesAfter number list r) ⌝ }
+    requires { ⌜ BindingAsked (now work) i × (at + 3 < length (now tree)) × Counted (usesOf (now number) (now list) paths) ⌝ }
+    ensures { λ r. ⌜ PutBinding (now (work .entry)) i at (usesBefore number list paths) (now (tree .entry)) (now (tree .exit)) (usesAfter number list r) ⌝ }
 {
-    let binding = binding_at(w, b);
+    let binding = binding_at(work, i);
     let class = binding.path as usize;
     let count = used(number, list, paths, class);
     let own = wide(number[class]);
@@ -35,7 +35,7 @@ fn put_binding(
 
 // The count bindings from first on, the first of them at `at`; how many paths have a number then.
 pub(crate) fn put_bindings(
-    w: &[u8],
+    work: &[u8],
     first: usize,
     count: usize,
     tree: &mut [u8],
@@ -44,14 +44,22 @@ pub(crate) fn put_bindings(
     list: &mut [u8; PATTERNS_MOST],
     paths: usize,
 ) -> usize
-    requires { ⌜ BindingsAsked (now w) first count × (at + bindingSize * count ≤ length (now tree)) × Counted (usesOf (now number) (now list) paths) ⌝ }
-    ensures { λ r. ⌜ PutBindings (now (w .entry)) first count at (usesBefore number list paths) (now (tree .entry)) (now (tree .exit)) (usesAfter number list r) ⌝ }
+    requires { ⌜ BindingsAsked (now work) first count × (at + bindingSize * count ≤ length (now tree)) × Counted (usesOf (now number) (now list) paths) ⌝ }
+    ensures { λ r. ⌜ PutBindings (now (work .entry)) first count at (usesBefore number list paths) (now (tree .entry)) (now (tree .exit)) (usesAfter number list r) ⌝ }
 {
-    let mut v = paths;
+    let mut known = paths;
     let mut i = 0;
     while i < count {
-        v = put_binding(w, first + i, tree, at + BINDING_SIZE * i, number, list, v);
+        known = put_binding(
+            work,
+            first + i,
+            tree,
+            at + BINDING_SIZE * i,
+            number,
+            list,
+            known,
+        );
         i += 1;
     }
-    v
+    known
 }

@@ -31,20 +31,20 @@ fn next_hoist(node: &[u16; CLAUSES_MOST], c: usize, clauses: usize, k: usize) ->
 
 // A hoist with the clause and the bindings of this leaf, over the node that is written after it.
 fn put_hoist(
-    w: &[u8],
+    work: &[u8],
     leaf: usize,
     tree: &mut [u8],
     start: usize,
     number: &mut [u8; PATTERNS_MOST],
     list: &mut [u8; PATTERNS_MOST],
-    f: Tops,
+    tops: Tops,
 ) -> Tops
-    requires { ⌜ BoundAsked (now w) leaf start (now tree) (reachOf (now number) (now list) f) ⌝ }
-    ensures { λ r. ⌜ outAfter tree number list r ≡ boundOut (now (w .entry)) start leaf hoistNode (f .nodes + 1) (outBefore tree number list f) ⌝ }
+    requires { ⌜ BoundAsked (now work) leaf start (now tree) (reachOf (now number) (now list) tops) ⌝ }
+    ensures { λ r. ⌜ outAfter tree number list r ≡ boundOut (now (work .entry)) start leaf hoistNode (tops .nodes + 1) (outBefore tree number list tops) ⌝ }
 {
-    let child = (f.nodes + 1) as u16;
+    let child = (tops.nodes + 1) as u16;
     put_bound(
-        w,
+        work,
         leaf,
         node_kinds::HOIST,
         child,
@@ -52,13 +52,13 @@ fn put_hoist(
         start,
         number,
         list,
-        f,
+        tops,
     )
 }
 
 // The hoists above node k, the lowest clause outermost.
 pub(crate) fn put_hoists(
-    w: &[u8],
+    work: &[u8],
     k: usize,
     node: &[u16; CLAUSES_MOST],
     leaf: &[u16; CLAUSES_MOST],
@@ -68,19 +68,19 @@ pub(crate) fn put_hoists(
     start: usize,
     number: &mut [u8; PATTERNS_MOST],
     list: &mut [u8; PATTERNS_MOST],
-    f: Tops,
+    tops: Tops,
 ) -> Tops
-    requires { ⌜ HoistsAsked (now w) k (placesOf (now node) (now leaf)) clauses (now shift) start (now tree) (reachOf (now number) (now list) f) ⌝ }
-    ensures { λ r. ⌜ outAfter tree number list r ≡ hoistsOut (now (w .entry)) start (placesBefore node leaf) k 0 clauses (outBefore tree number list f) ⌝ }
+    requires { ⌜ HoistsAsked (now work) k (placesOf (now node) (now leaf)) clauses (now shift) start (now tree) (reachOf (now number) (now list) tops) ⌝ }
+    ensures { λ r. ⌜ outAfter tree number list r ≡ hoistsOut (now (work .entry)) start (placesBefore node leaf) k 0 clauses (outBefore tree number list tops) ⌝ }
 {
     if shift[k] == shift[k + 1] {
-        return f;
+        return tops;
     }
-    let mut g = f;
+    let mut next = tops;
     let mut c = next_hoist(node, 0, clauses, k);
     while c < clauses {
-        g = put_hoist(w, as_count(leaf[c]), tree, start, number, list, g);
+        next = put_hoist(work, as_count(leaf[c]), tree, start, number, list, next);
         c = next_hoist(node, c + 1, clauses, k);
     }
-    g
+    next
 }

@@ -33,31 +33,31 @@ pub struct Tops {
 // The three sections from 0 on, of the tree with so many nodes and cases before it is hoisted. The answer is how many nodes, cases
 // and bindings are written and how many paths they use; `classes` has the classes of those paths, in the order of their numbers.
 pub fn write_nodes(
-    w: &[u8],
+    work: &[u8],
     nodes: usize,
     cases: usize,
-    x: Scopes,
+    scopes: Scopes,
     clauses: usize,
     tree: &mut [u8],
     classes: &mut [u8; PATTERNS_MOST],
 ) -> Tops
-    requires { ⌜ WritingAsked (now w) nodes cases x clauses × (treeRoom ≤ length (now tree)) × (length (now classes) ≡ patternsMost) ⌝ }
-    ensures { λ r. ⌜ ((h : WritingAsked (now (w .entry)) nodes cases x clauses) → WritesHoisted h (now (tree .entry)) (now (tree .exit)) (now (classes .exit)) r) ⌝ }
+    requires { ⌜ WritingAsked (now work) nodes cases scopes clauses × (treeRoom ≤ length (now tree)) × (length (now classes) ≡ patternsMost) ⌝ }
+    ensures { λ r. ⌜ ((h : WritingAsked (now (work .entry)) nodes cases scopes clauses) → WritesHoisted h (now (tree .entry)) (now (tree .exit)) (now (classes .exit)) r) ⌝ }
 {
-    let second = NODE_SIZE * (nodes + x.hoists);
-    let node = x.node;
-    let leaf = x.leaf;
+    let second = NODE_SIZE * (nodes + scopes.hoists);
+    let node = scopes.node;
+    let leaf = scopes.leaf;
     let mut shift = [0u8; SHIFTS];
     find_shift(&node, clauses, nodes, &mut shift);
     let mut number = [0u8; PATTERNS_MOST];
-    let f = Tops {
+    let none = Tops {
         nodes: 0,
         cases: 0,
         bindings: 0,
         paths: 0,
     };
     put_nodes(
-        w,
+        work,
         nodes,
         &node,
         &leaf,
@@ -68,6 +68,6 @@ pub fn write_nodes(
         second + CASE_SIZE * cases,
         &mut number,
         classes,
-        f,
+        none,
     )
 }

@@ -27,7 +27,7 @@ ghost use Rattle.build_file_nodes.specs.Contracts.{usesAfter, reachBefor
 
 // A leaf, or a hoist over the child, with the clause and the bindings of the arena's leaf.
 pub(crate) fn put_bound(
-    w: &[u8],
+    work: &[u8],
     leaf: usize,
     kind: u8,
     child: u16,
@@ -35,20 +35,20 @@ pub(crate) fn put_bound(
     start: usize,
     number: &mut [u8; PATTERNS_MOST],
     list: &mut [u8; PATTERNS_MOST],
-    f: Tops,
+    tops: Tops,
 ) -> Tops
-    requires { ⌜ BoundAsked (now w) leaf start (now tree) (reachOf (now number) (now list) f) ⌝ }
-    ensures { λ r. ⌜ outAfter tree number list r ≡ boundOut (now (w .entry)) start leaf kind child (outBefore tree number list f) ⌝ }
+    requires { ⌜ BoundAsked (now work) leaf start (now tree) (reachOf (now number) (now list) tops) ⌝ }
+    ensures { λ r. ⌜ outAfter tree number list r ≡ boundOut (now (work .entry)) start leaf kind child (outBefore tree number list tops) ⌝ }
 {
-    let clause = node_word(w, leaf, node_words::CLAUSE);
-    let from = node_word(w, leaf, node_words::FIRST_BINDING) as usize;
-    let count = node_word(w, leaf, node_words::BINDINGS);
+    let clause = node_word(work, leaf, node_words::CLAUSE);
+    let from = node_word(work, leaf, node_words::FIRST_BINDING) as usize;
+    let count = node_word(work, leaf, node_words::BINDINGS);
     let n = count as usize;
-    let top = f.bindings;
+    let top = tops.bindings;
     let first = first_of(count, top as u16);
     put_node(
         tree,
-        NODE_SIZE * f.nodes,
+        NODE_SIZE * tops.nodes,
         kind,
         clause,
         first,
@@ -57,10 +57,10 @@ pub(crate) fn put_bound(
         0,
     );
     let at = start + BINDING_SIZE * top;
-    let paths = put_bindings(w, from, n, tree, at, number, list, f.paths);
+    let paths = put_bindings(work, from, n, tree, at, number, list, tops.paths);
     Tops {
-        nodes: f.nodes + 1,
-        cases: f.cases,
+        nodes: tops.nodes + 1,
+        cases: tops.cases,
         bindings: top + n,
         paths,
     }
@@ -68,28 +68,28 @@ pub(crate) fn put_bound(
 
 // The record of a switch or a list switch; the answer is how many paths have a number, with its own.
 fn put_switch_node(
-    w: &[u8],
+    work: &[u8],
     k: usize,
     shift: &[u8; SHIFTS],
     tree: &mut [u8],
     number: &mut [u8; PATTERNS_MOST],
     list: &mut [u8; PATTERNS_MOST],
-    f: Tops,
+    tops: Tops,
 ) -> usize
-    requires { ⌜ SwitchNodeAsked (now w) k (now tree) (reachOf (now number) (now list) f) ⌝ }
-    ensures { λ r. ⌜ PutSwitchNode (now (w .entry)) (movedBy (now (shift .entry))) k (reachBefore number list f) (now (tree .entry)) (now (tree .exit)) (usesAfter number list r) ⌝ }
+    requires { ⌜ SwitchNodeAsked (now work) k (now tree) (reachOf (now number) (now list) tops) ⌝ }
+    ensures { λ r. ⌜ PutSwitchNode (now (work .entry)) (movedBy (now (shift .entry))) k (reachBefore number list tops) (now (tree .entry)) (now (tree .exit)) (usesAfter number list r) ⌝ }
 {
-    let path = node_word(w, k, node_words::PATH) as usize;
-    let cases = node_word(w, k, node_words::CASES);
-    let tails = node_word(w, k, node_words::TAIL_CASES);
-    let default = moved_default(shift, node_word(w, k, node_words::DEFAULT) as usize);
-    let paths = used(number, list, f.paths, path);
+    let path = node_word(work, k, node_words::PATH) as usize;
+    let cases = node_word(work, k, node_words::CASES);
+    let tails = node_word(work, k, node_words::TAIL_CASES);
+    let default = moved_default(shift, node_word(work, k, node_words::DEFAULT) as usize);
+    let paths = used(number, list, tops.paths, path);
     let own = wide(number[path]) - 1;
-    let kind = node_kind(w, k);
-    let top = f.cases as u16;
+    let kind = node_kind(work, k);
+    let top = tops.cases as u16;
     put_node(
         tree,
-        NODE_SIZE * f.nodes,
+        NODE_SIZE * tops.nodes,
         kind,
         own,
         top,
@@ -101,34 +101,34 @@ fn put_switch_node(
 }
 
 fn put_switch(
-    w: &[u8],
+    work: &[u8],
     k: usize,
     shift: &[u8; SHIFTS],
     tree: &mut [u8],
     start: usize,
     number: &mut [u8; PATTERNS_MOST],
     list: &mut [u8; PATTERNS_MOST],
-    f: Tops,
+    tops: Tops,
 ) -> Tops
-    requires { ⌜ SwitchAsked (now w) k start (now tree) (reachOf (now number) (now list) f) ⌝ }
-    ensures { λ r. ⌜ outAfter tree number list r ≡ switchOut (now (w .entry)) start (movedBy (now (shift .entry))) k (outBefore tree number list f) ⌝ }
+    requires { ⌜ SwitchAsked (now work) k start (now tree) (reachOf (now number) (now list) tops) ⌝ }
+    ensures { λ r. ⌜ outAfter tree number list r ≡ switchOut (now (work .entry)) start (movedBy (now (shift .entry))) k (outBefore tree number list tops) ⌝ }
 {
-    let at = children_of(w, k);
+    let at = children_of(work, k);
     let first = at.first;
     let count = at.count;
-    let paths = put_switch_node(w, k, shift, tree, number, list, f);
-    let top = f.cases;
-    put_cases(w, first, count, shift, tree, start + CASE_SIZE * top);
+    let paths = put_switch_node(work, k, shift, tree, number, list, tops);
+    let top = tops.cases;
+    put_cases(work, first, count, shift, tree, start + CASE_SIZE * top);
     Tops {
-        nodes: f.nodes + 1,
+        nodes: tops.nodes + 1,
         cases: top + count,
-        bindings: f.bindings,
+        bindings: tops.bindings,
         paths,
     }
 }
 
 fn put_own(
-    w: &[u8],
+    work: &[u8],
     k: usize,
     shift: &[u8; SHIFTS],
     tree: &mut [u8],
@@ -136,20 +136,30 @@ fn put_own(
     bindings: usize,
     number: &mut [u8; PATTERNS_MOST],
     list: &mut [u8; PATTERNS_MOST],
-    f: Tops,
+    tops: Tops,
 ) -> Tops
-    requires { ⌜ OwnAsked (now w) k cases bindings (now tree) (reachOf (now number) (now list) f) ⌝ }
-    ensures { λ r. ⌜ outAfter tree number list r ≡ ownOut (now (w .entry)) cases bindings (movedBy (now (shift .entry))) k (outBefore tree number list f) ⌝ }
+    requires { ⌜ OwnAsked (now work) k cases bindings (now tree) (reachOf (now number) (now list) tops) ⌝ }
+    ensures { λ r. ⌜ outAfter tree number list r ≡ ownOut (now (work .entry)) cases bindings (movedBy (now (shift .entry))) k (outBefore tree number list tops) ⌝ }
 {
-    if node_kind(w, k) == node_kinds::LEAF {
-        return put_bound(w, k, node_kinds::LEAF, 0, tree, bindings, number, list, f);
+    if node_kind(work, k) == node_kinds::LEAF {
+        return put_bound(
+            work,
+            k,
+            node_kinds::LEAF,
+            0,
+            tree,
+            bindings,
+            number,
+            list,
+            tops,
+        );
     }
-    put_switch(w, k, shift, tree, cases, number, list, f)
+    put_switch(work, k, shift, tree, cases, number, list, tops)
 }
 
 // Node k with the hoists above it.
 fn put_one(
-    w: &[u8],
+    work: &[u8],
     k: usize,
     node: &[u16; CLAUSES_MOST],
     leaf: &[u16; CLAUSES_MOST],
@@ -160,13 +170,13 @@ fn put_one(
     bindings: usize,
     number: &mut [u8; PATTERNS_MOST],
     list: &mut [u8; PATTERNS_MOST],
-    f: Tops,
+    tops: Tops,
 ) -> Tops
-    requires { ⌜ NodeAsked (now w) k (placesOf (now node) (now leaf)) clauses (now shift) cases bindings (now tree) (reachOf (now number) (now list) f) ⌝ }
-    ensures { λ r. ⌜ outAfter tree number list r ≡ nodeOut (now (w .entry)) cases bindings (placesBefore node leaf) clauses k (outBefore tree number list f) ⌝ }
+    requires { ⌜ NodeAsked (now work) k (placesOf (now node) (now leaf)) clauses (now shift) cases bindings (now tree) (reachOf (now number) (now list) tops) ⌝ }
+    ensures { λ r. ⌜ outAfter tree number list r ≡ nodeOut (now (work .entry)) cases bindings (placesBefore node leaf) clauses k (outBefore tree number list tops) ⌝ }
 {
-    let g = put_hoists(
-        w,
+    let next = put_hoists(
+        work,
         k,
         node,
         leaf,
@@ -176,14 +186,14 @@ fn put_one(
         bindings,
         number,
         list,
-        f,
+        tops,
     );
-    put_own(w, k, shift, tree, cases, bindings, number, list, g)
+    put_own(work, k, shift, tree, cases, bindings, number, list, next)
 }
 
 // All nodes, in order.
 pub(crate) fn put_nodes(
-    w: &[u8],
+    work: &[u8],
     nodes: usize,
     node: &[u16; CLAUSES_MOST],
     leaf: &[u16; CLAUSES_MOST],
@@ -194,16 +204,16 @@ pub(crate) fn put_nodes(
     bindings: usize,
     number: &mut [u8; PATTERNS_MOST],
     list: &mut [u8; PATTERNS_MOST],
-    f: Tops,
+    tops: Tops,
 ) -> Tops
-    requires { ⌜ NodesAsked (now w) nodes (placesOf (now node) (now leaf)) clauses (now shift) cases bindings (now tree) (reachOf (now number) (now list) f) ⌝ }
-    ensures { λ r. ⌜ outAfter tree number list r ≡ nodesOut (now (w .entry)) cases bindings (placesBefore node leaf) clauses 0 nodes (outBefore tree number list f) ⌝ }
+    requires { ⌜ NodesAsked (now work) nodes (placesOf (now node) (now leaf)) clauses (now shift) cases bindings (now tree) (reachOf (now number) (now list) tops) ⌝ }
+    ensures { λ r. ⌜ outAfter tree number list r ≡ nodesOut (now (work .entry)) cases bindings (placesBefore node leaf) clauses 0 nodes (outBefore tree number list tops) ⌝ }
 {
-    let mut g = f;
+    let mut next = tops;
     let mut k = 0;
     while k < nodes {
-        g = put_one(
-            w,
+        next = put_one(
+            work,
             k,
             node,
             leaf,
@@ -214,9 +224,9 @@ pub(crate) fn put_nodes(
             bindings,
             number,
             list,
-            g,
+            next,
         );
         k += 1;
     }
-    g
+    next
 }

@@ -11,10 +11,10 @@ ghost use Rattle.build_file_nodes.specs.Model.{nodeIn, ShiftAsked, Hoist
 pub(crate) const SHIFTS: usize = NODES_MOST + 1;
 
 // A number of a table by clause, as wide as a count.
-pub(crate) fn as_count(x: u16) -> usize
-    ensures { λ r. ⌜ r ≡ x ⌝ }
+pub(crate) fn as_count(word: u16) -> usize
+    ensures { λ r. ⌜ r ≡ word ⌝ }
 {
-    x as usize
+    word as usize
 }
 
 // How many of the clauses are hoisted above each node, in a table of zeros.
