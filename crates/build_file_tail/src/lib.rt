@@ -19,25 +19,25 @@ ghost use Rattle.spec_rules.specs.SheetFile.{poolSize, pool};
 ghost use Rattle.format_sheet.specs.Check.{SheetAccepts};
 ghost use Rattle.build_file_tail.specs.Tail.{Puts, TailReady, trailerBytes, sheetTail};
 
-fn copy_pool(s: &[u8], m: SheetMap, tree: &mut [u8], at: usize) -> usize
-    requires { ⌜ SheetAccepts (now s) m × (at + poolSize (now s) ≤ length (now tree)) ⌝ }
-    ensures { λ r. ⌜ Puts (now (tree .entry)) (now (tree .exit)) at r (pool (now (s .entry))) ⌝ }
+fn copy_pool(sheet: &[u8], map: SheetMap, tree: &mut [u8], at: usize) -> usize
+    requires { ⌜ SheetAccepts (now sheet) map × (at + poolSize (now sheet) ≤ length (now tree)) ⌝ }
+    ensures { λ r. ⌜ Puts (now (tree .entry)) (now (tree .exit)) at r (pool (now (sheet .entry))) ⌝ }
 {
-    let from = m.at.pool;
-    let size = m.counts.pool;
+    let from = map.at.pool;
+    let size = map.counts.pool;
     let mut i: usize = 0;
     while i < size {
-        tree[at + i] = s[from + i];
+        tree[at + i] = sheet[from + i];
         i += 1;
     }
     at + size
 }
 
-fn put_number(tree: &mut [u8], at: usize, v: usize)
-    requires { ⌜ (at + 1 < length (now tree)) × (v < 65536) ⌝ }
-    ensures { λ _. ⌜ now (tree .exit) ≡ stored (now (tree .entry)) at (wordBytes v) ⌝ }
+fn put_number(tree: &mut [u8], at: usize, number: usize)
+    requires { ⌜ (at + 1 < length (now tree)) × (number < 65536) ⌝ }
+    ensures { λ _. ⌜ now (tree .exit) ≡ stored (now (tree .entry)) at (wordBytes number) ⌝ }
 {
-    put_word(tree, at, v as u16);
+    put_word(tree, at, number as u16);
 }
 
 // Where the six sections start, and the length of the file, of which this is the end.
@@ -65,8 +65,8 @@ fn put_trailer(
 
 // All that follows the bindings: the paths of the first `count` classes, their steps, the pool and the trailer; where the file ends.
 pub fn put_tail(
-    s: &[u8],
-    m: SheetMap,
+    sheet: &[u8],
+    map: SheetMap,
     table: &[u8],
     classes: &[u8],
     count: usize,
@@ -75,12 +75,12 @@ pub fn put_tail(
     bindings: usize,
     paths: usize,
 ) -> usize
-    requires { ⌜ TailReady (now s) m (now table) (now classes) count (now tree) cases bindings paths ⌝ }
-    ensures { λ r. ⌜ Puts (now (tree .entry)) (now (tree .exit)) paths r (sheetTail (now (s .entry)) (now (classes .entry)) count cases bindings paths) ⌝ }
+    requires { ⌜ TailReady (now sheet) map (now table) (now classes) count (now tree) cases bindings paths ⌝ }
+    ensures { λ r. ⌜ Puts (now (tree .entry)) (now (tree .exit)) paths r (sheetTail (now (sheet .entry)) (now (classes .entry)) count cases bindings paths) ⌝ }
 {
     let steps = put_paths(table, classes, count, tree, paths);
-    let pool = put_all_steps(s, m, table, classes, count, tree, steps);
-    let end = copy_pool(s, m, tree, pool);
+    let pool = put_all_steps(sheet, map, table, classes, count, tree, steps);
+    let end = copy_pool(sheet, map, tree, pool);
     put_trailer(tree, end, cases, bindings, paths, steps, pool);
     end + TREE_TRAILER
 }
