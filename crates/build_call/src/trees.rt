@@ -39,122 +39,170 @@ fn refused(number: u16) -> Built
 
 // The file: nodes, cases and bindings, then what follows them.
 fn write_tree(
-    s: &[u8],
-    m: SheetMap,
+    sheet: &[u8],
+    map: SheetMap,
     table: &[u8],
-    w: &[u8],
+    work: &[u8],
     nodes: usize,
     cases: usize,
-    x: Scopes,
+    scopes: Scopes,
     tree: &mut [u8],
 ) -> Built
-    requires { ⌜ SheetAccepts (now s) m × Tabled (now s) (now table) × Whole (now s) (now w) nodes cases x ⌝ }
+    requires { ⌜ SheetAccepts (now sheet) map × Tabled (now sheet) (now table) × Whole (now sheet) (now work) nodes cases scopes ⌝ }
     requires { ⌜ ClearTree (now tree) ⌝ }
-    ensures { λ r. ⌜ GivesTree s tree r ⌝ }
+    ensures { λ r. ⌜ GivesTree sheet tree r ⌝ }
 {
     let mut classes = [0u8; PATTERNS_MOST];
-    let f = write_nodes(w, nodes, cases, x, m.counts.clauses, tree, &mut classes);
-    let second = NODE_SIZE * f.nodes;
-    let third = second + CASE_SIZE * f.cases;
-    let fourth = third + BINDING_SIZE * f.bindings;
-    let end = put_tail(s, m, table, &classes, f.paths, tree, second, third, fourth);
+    let tops = write_nodes(
+        work,
+        nodes,
+        cases,
+        scopes,
+        map.counts.clauses,
+        tree,
+        &mut classes,
+    );
+    let second = NODE_SIZE * tops.nodes;
+    let third = second + CASE_SIZE * tops.cases;
+    let fourth = third + BINDING_SIZE * tops.bindings;
+    let end = put_tail(
+        sheet,
+        map,
+        table,
+        &classes,
+        tops.paths,
+        tree,
+        second,
+        third,
+        fourth,
+    );
     Built::Tree {
         length: end as u16,
-        nodes: f.nodes as u16,
-        bindings: f.bindings as u16,
+        nodes: tops.nodes as u16,
+        bindings: tops.bindings as u16,
     }
 }
 
 // With its scopes: 13 for all bindings, 14, or the file.
 fn write_hoisted(
-    s: &[u8],
-    m: SheetMap,
+    sheet: &[u8],
+    map: SheetMap,
     table: &[u8],
-    w: &[u8],
+    work: &[u8],
     nodes: usize,
     cases: usize,
     bindings: usize,
-    x: Scopes,
+    scopes: Scopes,
     tree: &mut [u8],
 ) -> Built
-    requires { ⌜ SheetAccepts (now s) m × Tabled (now s) (now table) × Hoistable (now s) (now w) nodes cases bindings x ⌝ }
+    requires { ⌜ SheetAccepts (now sheet) map × Tabled (now sheet) (now table) × Hoistable (now sheet) (now work) nodes cases bindings scopes ⌝ }
     requires { ⌜ ClearTree (now tree) ⌝ }
-    ensures { λ r. ⌜ GivesTree s tree r ⌝ }
+    ensures { λ r. ⌜ GivesTree sheet tree r ⌝ }
 {
-    let more = hoist_bindings(w, x, m.counts.clauses);
+    let more = hoist_bindings(work, scopes, map.counts.clauses);
     if BINDINGS_MOST < bindings + more {
         return refused(refusals::BINDINGS);
     }
-    let idle = x.idle;
+    let idle = scopes.idle;
     if idle < CLAUSES_MOST {
         return Built::Refused {
             number: refusals::IDLE,
             place: idle as u16,
         };
     }
-    write_tree(s, m, table, w, nodes, cases, x, tree)
+    write_tree(sheet, map, table, work, nodes, cases, scopes, tree)
 }
 
 // Its scopes, over a table with room for the nodes: `sets` then has the clauses with a leaf at or below each of them.
 fn hoist_with(
-    s: &[u8],
-    m: SheetMap,
+    sheet: &[u8],
+    map: SheetMap,
     table: &[u8],
-    w: &[u8],
+    work: &[u8],
     nodes: usize,
     cases: usize,
     bindings: usize,
     sets: &mut [u32],
     tree: &mut [u8],
 ) -> Built
-    requires { ⌜ SheetAccepts (now s) m × Tabled (now s) (now table) × Fitting (now s) (now w) nodes cases bindings × (nodes ≤ length (now sets)) ⌝ }
+    requires { ⌜ SheetAccepts (now sheet) map × Tabled (now sheet) (now table) × Fitting (now sheet) (now work) nodes cases bindings × (nodes ≤ length (now sets)) ⌝ }
     requires { ⌜ ClearTree (now tree) ⌝ }
-    ensures { λ r. ⌜ GivesTree s tree r ⌝ }
+    ensures { λ r. ⌜ GivesTree sheet tree r ⌝ }
 {
-    let x = get_hoist_paths(w, nodes, m.counts.clauses, sets);
-    write_hoisted(s, m, table, w, nodes, cases, bindings, x, tree)
+    let scopes = get_hoist_paths(work, nodes, map.counts.clauses, sets);
+    write_hoisted(
+        sheet,
+        map,
+        table,
+        work,
+        nodes,
+        cases,
+        bindings,
+        scopes,
+        tree,
+    )
 }
 
 // The table is a small one where that is enough.
 fn hoist_tree(
-    s: &[u8],
-    m: SheetMap,
+    sheet: &[u8],
+    map: SheetMap,
     table: &[u8],
-    w: &[u8],
+    work: &[u8],
     nodes: usize,
     cases: usize,
     bindings: usize,
     tree: &mut [u8],
 ) -> Built
-    requires { ⌜ SheetAccepts (now s) m × Tabled (now s) (now table) × Fitting (now s) (now w) nodes cases bindings ⌝ }
+    requires { ⌜ SheetAccepts (now sheet) map × Tabled (now sheet) (now table) × Fitting (now sheet) (now work) nodes cases bindings ⌝ }
     requires { ⌜ ClearTree (now tree) ⌝ }
-    ensures { λ r. ⌜ GivesTree s tree r ⌝ }
+    ensures { λ r. ⌜ GivesTree sheet tree r ⌝ }
 {
     if nodes <= NODES_FEW {
         let mut sets = [0u32; NODES_FEW];
-        return hoist_with(s, m, table, w, nodes, cases, bindings, &mut sets, tree);
+        return hoist_with(
+            sheet,
+            map,
+            table,
+            work,
+            nodes,
+            cases,
+            bindings,
+            &mut sets,
+            tree,
+        );
     }
     let mut sets = [0u32; NODES_MOST];
-    hoist_with(s, m, table, w, nodes, cases, bindings, &mut sets, tree)
+    hoist_with(
+        sheet,
+        map,
+        table,
+        work,
+        nodes,
+        cases,
+        bindings,
+        &mut sets,
+        tree,
+    )
 }
 
 // The tree in the arena, with the counts of its building: 12, 13, or on to its scopes.
 fn finish(
-    s: &[u8],
-    m: SheetMap,
+    sheet: &[u8],
+    map: SheetMap,
     table: &[u8],
-    w: &[u8],
+    work: &[u8],
     nodes: usize,
     cases: usize,
     bindings: usize,
     leaves: [u8; CLAUSES_MOST],
     tree: &mut [u8],
 ) -> Built
-    requires { ⌜ SheetAccepts (now s) m × Tabled (now s) (now table) × Raw (now s) (now w) nodes cases bindings leaves ⌝ }
+    requires { ⌜ SheetAccepts (now sheet) map × Tabled (now sheet) (now table) × Raw (now sheet) (now work) nodes cases bindings leaves ⌝ }
     requires { ⌜ ClearTree (now tree) ⌝ }
-    ensures { λ r. ⌜ GivesTree s tree r ⌝ }
+    ensures { λ r. ⌜ GivesTree sheet tree r ⌝ }
 {
-    let clauses = m.counts.clauses;
+    let clauses = map.counts.clauses;
     let more = hoists(leaves, clauses);
     if NODES_MOST < nodes + more {
         return refused(refusals::NODES);
@@ -162,25 +210,25 @@ fn finish(
     if BINDINGS_MOST < bindings {
         return refused(refusals::BINDINGS);
     }
-    hoist_tree(s, m, table, w, nodes, cases, bindings, tree)
+    hoist_tree(sheet, map, table, work, nodes, cases, bindings, tree)
 }
 
 // The tree of an accepted sheet, on buffers that are large enough, the tree's all zero.
-pub(crate) fn build_tree(s: &[u8], m: SheetMap, tree: &mut [u8], work: &mut [u8]) -> Built
-    requires { ⌜ SheetAccepts (now s) m × (treeRoom ≤ length (now tree)) × (workRoom ≤ length (now work)) × (now tree ≡ zeros (length (now tree))) ⌝ }
-    ensures { λ r. ⌜ GivesTree s tree r ⌝ }
+pub(crate) fn build_tree(sheet: &[u8], map: SheetMap, tree: &mut [u8], work: &mut [u8]) -> Built
+    requires { ⌜ SheetAccepts (now sheet) map × (treeRoom ≤ length (now tree)) × (workRoom ≤ length (now work)) × (now tree ≡ zeros (length (now tree))) ⌝ }
+    ensures { λ r. ⌜ GivesTree sheet tree r ⌝ }
 {
     let mut table = [0u8; TABLE];
-    fill(s, m, &mut table);
-    let built = raw::build_tree(s, m, &table, work);
+    fill(sheet, map, &mut table);
+    let built = raw::build_tree(sheet, map, &table, work);
     if !built.fits {
         return refused(refusals::NODES);
     }
     let tops = built.tops;
     let leaves = tops.leaves;
     finish(
-        s,
-        m,
+        sheet,
+        map,
         &table,
         work,
         tops.nodes,
