@@ -80,31 +80,36 @@ fn put_child(table: &mut [u8], p: usize, q: usize, step: u8, index: usize, tipo:
     table[CLAUSE + q] = clause;
 }
 
-// The first `count` children of p, with their types at entry `from` and each `stride` further on.
+// The types of a pattern's first children: how many, the entry of the first, and how much further on each next one is.
+struct TypeRun {
+    count: usize,
+    first: usize,
+    stride: usize,
+}
+
+// The first children of p, as many as there are types.
 fn put_children(
     sheet: &[u8],
     map: SheetMap,
     table: &mut [u8],
     p: usize,
-    count: usize,
+    types: TypeRun,
     step: u8,
-    from: usize,
-    stride: usize,
     owner: u8,
 )
-    requires { ⌜ SheetAccepts (now sheet) map × (length (now table) ≡ tableSize) × Parts (now sheet) p count from stride ⌝ }
-    ensures { λ _. ⌜ now (table .exit) ≡ placedEach (now (sheet .entry)) (now (table .entry)) p step from stride owner 0 count ⌝ }
+    requires { ⌜ SheetAccepts (now sheet) map × (length (now table) ≡ tableSize) × Parts (now sheet) p (types .count) (types .first) (types .stride) ⌝ }
+    ensures { λ _. ⌜ now (table .exit) ≡ placedEach (now (sheet .entry)) (now (table .entry)) p step (types .first) (types .stride) owner 0 (types .count) ⌝ }
 {
     let r = pattern_at(sheet, map, p);
     let mut i: usize = 0;
-    while i < count {
+    while i < types.count {
         put_child(
             table,
             p,
             child_at(sheet, map, r.first + i),
             step,
             i,
-            entry_at(sheet, map, from + stride * i),
+            entry_at(sheet, map, types.first + types.stride * i),
             owner,
         );
         i += 1;
@@ -134,19 +139,14 @@ fn place_fields(
     requires { ⌜ Reading (now sheet) map (now table) p r ty owner × (r .kind ≡ constructorPattern) ⌝ }
     ensures { λ _. ⌜ now (table .exit) ≡ placedBelow (now (sheet .entry)) (now (table .entry)) p Constructor ⌝ }
 {
-    let c = constructor_at(sheet, map, ty.first + r.a);
+    let fields = constructor_at(sheet, map, ty.first + r.a);
+    let types = TypeRun {
+        count: r.count,
+        first: fields.first,
+        stride: 1,
+    };
     if one_constructor(ty) {
-        put_children(
-            sheet,
-            map,
-            table,
-            p,
-            r.count,
-            step_kinds::CONSTR,
-            c.first,
-            1,
-            owner,
-        );
+        put_children(sheet, map, table, p, types, step_kinds::CONSTR, owner);
         return;
     }
     put_children(
@@ -154,10 +154,8 @@ fn place_fields(
         map,
         table,
         p,
-        r.count,
+        types,
         step_kinds::CONSTR,
-        c.first,
-        1,
         (p + 1) as u8,
     );
 }
@@ -182,10 +180,12 @@ fn place_tailed(
         map,
         table,
         p,
-        n,
+        TypeRun {
+            count: n,
+            first: ty.first,
+            stride: 0,
+        },
         step_kinds::LIST,
-        ty.first,
-        0,
         (p + 1) as u8,
     );
     put_child(table, p, tail, step_kinds::LISTTAIL, n, tipo, (p + 1) as u8);
@@ -216,10 +216,12 @@ fn place_children(sheet: &[u8], map: SheetMap, table: &mut [u8], p: usize)
             map,
             table,
             p,
-            r.count,
+            TypeRun {
+                count: r.count,
+                first: ty.first,
+                stride: 0,
+            },
             step_kinds::LIST,
-            ty.first,
-            0,
             (p + 1) as u8,
         ),
         pattern_kinds::LIST_WITH_TAIL => place_tailed(sheet, map, table, p, r, ty, tipo),
@@ -229,10 +231,12 @@ fn place_children(sheet: &[u8], map: SheetMap, table: &mut [u8], p: usize)
             map,
             table,
             p,
-            r.count,
+            TypeRun {
+                count: r.count,
+                first: ty.first,
+                stride: 1,
+            },
             step_kinds::PAIR,
-            ty.first,
-            1,
             owner,
         ),
         pattern_kinds::TUPLE => put_children(
@@ -240,10 +244,12 @@ fn place_children(sheet: &[u8], map: SheetMap, table: &mut [u8], p: usize)
             map,
             table,
             p,
-            r.count,
+            TypeRun {
+                count: r.count,
+                first: ty.first,
+                stride: 1,
+            },
             step_kinds::TUPLE,
-            ty.first,
-            1,
             owner,
         ),
         _ => {}
