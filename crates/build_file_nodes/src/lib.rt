@@ -6,6 +6,7 @@ use base_numbers::sheet::PATTERNS_MOST;
 use base_numbers::tree::CASE_SIZE;
 use base_numbers::tree::NODE_SIZE;
 use build_scopes::Scopes;
+use nodes::Starts;
 use nodes::put_nodes;
 use shift::SHIFTS;
 use shift::find_shift;
@@ -45,11 +46,16 @@ pub fn write_nodes(
     ensures { λ r. ⌜ ((h : WritingAsked (now (work .entry)) nodes cases scopes clauses) → WritesHoisted h (now (tree .entry)) (now (tree .exit)) (now (classes .exit)) r) ⌝ }
 {
     let second = NODE_SIZE * (nodes + scopes.hoists);
+    let third = second + CASE_SIZE * cases;
     let node = scopes.node;
     let leaf = scopes.leaf;
     let mut shift = [0u8; SHIFTS];
     find_shift(&node, clauses, nodes, &mut shift);
     let mut number = [0u8; PATTERNS_MOST];
+    let starts = Starts {
+        cases: second,
+        bindings: third,
+    };
     let none = Tops {
         nodes: 0,
         cases: 0,
@@ -64,8 +70,7 @@ pub fn write_nodes(
         clauses,
         &shift,
         tree,
-        second,
-        second + CASE_SIZE * cases,
+        starts,
         &mut number,
         classes,
         none,

@@ -25,6 +25,12 @@ ghost use mathlib.Core.Path.{_≡_};
 ghost use Rattle.build_file_nodes.specs.Model.{movedBy, placesOf, reachOf, BoundAsked, SwitchNodeAsked, PutSwitchNode, SwitchAsked, OwnAsked, NodeAsked, NodesAsked, boundOut, switchOut, ownOut, nodeOut, nodesOut};
 ghost use Rattle.build_file_nodes.specs.Contracts.{usesAfter, reachBefore, outBefore, outAfter, placesBefore};
 
+// Where the sections of cases and bindings start in the file.
+pub struct Starts {
+    pub cases: usize,
+    pub bindings: usize,
+}
+
 // A leaf, or a hoist over the child, with the clause and the bindings of the arena's leaf.
 pub(crate) fn put_bound(
     work: &[u8],
@@ -132,14 +138,13 @@ fn put_own(
     k: usize,
     shift: &[u8; SHIFTS],
     tree: &mut [u8],
-    cases: usize,
-    bindings: usize,
+    starts: Starts,
     number: &mut [u8; PATTERNS_MOST],
     list: &mut [u8; PATTERNS_MOST],
     tops: Tops,
 ) -> Tops
-    requires { ⌜ OwnAsked (now work) k cases bindings (now tree) (reachOf (now number) (now list) tops) ⌝ }
-    ensures { λ r. ⌜ outAfter tree number list r ≡ ownOut (now (work .entry)) cases bindings (movedBy (now (shift .entry))) k (outBefore tree number list tops) ⌝ }
+    requires { ⌜ OwnAsked (now work) k (starts .cases) (starts .bindings) (now tree) (reachOf (now number) (now list) tops) ⌝ }
+    ensures { λ r. ⌜ outAfter tree number list r ≡ ownOut (now (work .entry)) (starts .cases) (starts .bindings) (movedBy (now (shift .entry))) k (outBefore tree number list tops) ⌝ }
 {
     if node_kind(work, k) == node_kinds::LEAF {
         return put_bound(
@@ -148,13 +153,13 @@ fn put_own(
             node_kinds::LEAF,
             0,
             tree,
-            bindings,
+            starts.bindings,
             number,
             list,
             tops,
         );
     }
-    put_switch(work, k, shift, tree, cases, number, list, tops)
+    put_switch(work, k, shift, tree, starts.cases, number, list, tops)
 }
 
 // Node k with the hoists above it.
@@ -166,14 +171,13 @@ fn put_one(
     clauses: usize,
     shift: &[u8; SHIFTS],
     tree: &mut [u8],
-    cases: usize,
-    bindings: usize,
+    starts: Starts,
     number: &mut [u8; PATTERNS_MOST],
     list: &mut [u8; PATTERNS_MOST],
     tops: Tops,
 ) -> Tops
-    requires { ⌜ NodeAsked (now work) k (placesOf (now node) (now leaf)) clauses (now shift) cases bindings (now tree) (reachOf (now number) (now list) tops) ⌝ }
-    ensures { λ r. ⌜ outAfter tree number list r ≡ nodeOut (now (work .entry)) cases bindings (placesBefore node leaf) clauses k (outBefore tree number list tops) ⌝ }
+    requires { ⌜ NodeAsked (now work) k (placesOf (now node) (now leaf)) clauses (now shift) (starts .cases) (starts .bindings) (now tree) (reachOf (now number) (now list) tops) ⌝ }
+    ensures { λ r. ⌜ outAfter tree number list r ≡ nodeOut (now (work .entry)) (starts .cases) (starts .bindings) (placesBefore node leaf) clauses k (outBefore tree number list tops) ⌝ }
 {
     let next = put_hoists(
         work,
@@ -183,12 +187,12 @@ fn put_one(
         clauses,
         shift,
         tree,
-        bindings,
+        starts.bindings,
         number,
         list,
         tops,
     );
-    put_own(work, k, shift, tree, cases, bindings, number, list, next)
+    put_own(work, k, shift, tree, starts, number, list, next)
 }
 
 // All nodes, in order.
@@ -200,14 +204,13 @@ pub(crate) fn put_nodes(
     clauses: usize,
     shift: &[u8; SHIFTS],
     tree: &mut [u8],
-    cases: usize,
-    bindings: usize,
+    starts: Starts,
     number: &mut [u8; PATTERNS_MOST],
     list: &mut [u8; PATTERNS_MOST],
     tops: Tops,
 ) -> Tops
-    requires { ⌜ NodesAsked (now work) nodes (placesOf (now node) (now leaf)) clauses (now shift) cases bindings (now tree) (reachOf (now number) (now list) tops) ⌝ }
-    ensures { λ r. ⌜ outAfter tree number list r ≡ nodesOut (now (work .entry)) cases bindings (placesBefore node leaf) clauses 0 nodes (outBefore tree number list tops) ⌝ }
+    requires { ⌜ NodesAsked (now work) nodes (placesOf (now node) (now leaf)) clauses (now shift) (starts .cases) (starts .bindings) (now tree) (reachOf (now number) (now list) tops) ⌝ }
+    ensures { λ r. ⌜ outAfter tree number list r ≡ nodesOut (now (work .entry)) (starts .cases) (starts .bindings) (placesBefore node leaf) clauses 0 nodes (outBefore tree number list tops) ⌝ }
 {
     let mut next = tops;
     let mut k = 0;
@@ -220,8 +223,7 @@ pub(crate) fn put_nodes(
             clauses,
             shift,
             tree,
-            cases,
-            bindings,
+            starts,
             number,
             list,
             next,
