@@ -63,6 +63,10 @@ matrixNow rows columns tested opened n = matrixOf (now rows) (now columns) (now 
 abbrev pub numbersBefore : Lent → Lent → Lent → Lent → Sizes → Numbered
 numbersBefore rows columns tested opened n = inNumbers (matrixNow (rows .entry) (columns .entry) (tested .entry) (opened .entry) n)
 
+-- and what it is at exit
+abbrev pub matrixAfter : Lent → Lent → Lent → Lent → Sizes → Matrix
+matrixAfter rows columns tested opened n = matrixNow (rows .exit) (columns .exit) (tested .exit) (opened .exit) n
+
 -- ---- a case of the column of a class
 -- the matrix of the case of a test as the arena has it
 abbrev pub caseOfTest : List ℕ → ℕ → Test → Numbered → Numbered

@@ -36,7 +36,7 @@ ghost use Rattle.build_matrix.specs.Lists.{asClasses, asRows, Holds, Hol
 ghost use Rattle.build_matrix.specs.Ready.{ReadyTable, putTests};
 ghost use Rattle.build_matrix.specs.Meant.{InPool, HeldKnown};
 ghost use Rattle.build_matrix.specs.InNumbers.{StandsFor, Splits, defaultRead};
-ghost use Rattle.build_matrix.specs.Contracts.{rowsBefore, rowsAfter, matrixNow, numbersBefore, caseOfTest, CaseAsked, JoinsRow, JoinsRows, columnsOpened, OpensAsked};
+ghost use Rattle.build_matrix.specs.Contracts.{rowsBefore, rowsAfter, matrixNow, numbersBefore, matrixAfter, caseOfTest, CaseAsked, JoinsRow, JoinsRows, columnsOpened, OpensAsked};
 
 // A row for each of n clauses.
 fn all_rows(n: usize) -> PerRow
@@ -96,7 +96,7 @@ pub fn default_matrix<'a, 'b>(
 ) -> Sizes
     requires { ⌜ Splits (now table) (matrixNow rows columns tested opened sizes) class ⌝ }
     requires { ⌜ (length (now «new_rows») ≡ clausesMost) × (length (now «new_columns») ≡ patternsMost) ⌝ }
-    ensures { λ r. ⌜ StandsFor (matrixNow («new_rows» .exit) («new_columns» .exit) (tested .exit) (opened .entry) r) (defaultRead (now (table .entry)) class (numbersBefore rows columns tested opened sizes)) ⌝ }
+    ensures { λ r. ⌜ StandsFor (matrixAfter «new_rows» «new_columns» tested opened r) (defaultRead (now (table .entry)) class (numbersBefore rows columns tested opened sizes)) ⌝ }
 {
     let count = wild_rows(table, rows, sizes.rows, opened, class, new_rows);
     let rest = put_rest(new_columns, 0, columns, sizes.columns, class);
@@ -230,7 +230,7 @@ pub fn case_matrix<'a, 'b>(
 ) -> Sizes
     requires { ⌜ CaseAsked (now sheet) map (now table) (matrixNow rows columns tested opened sizes) class test ⌝ }
     requires { ⌜ (length (now «new_rows») ≡ clausesMost) × (length (now «new_columns») ≡ patternsMost) ⌝ }
-    ensures { λ r. ⌜ StandsFor (matrixNow («new_rows» .exit) («new_columns» .exit) (tested .exit) (opened .exit) r) (caseOfTest (now (sheet .entry)) class test (numbersBefore rows columns tested opened sizes)) ⌝ }
+    ensures { λ r. ⌜ StandsFor (matrixAfter «new_rows» «new_columns» tested opened r) (caseOfTest (now (sheet .entry)) class test (numbersBefore rows columns tested opened sizes)) ⌝ }
 {
     let mut opens = [0u8; CLAUSES_MOST];
     let n = sizes.rows;
