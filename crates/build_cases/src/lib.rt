@@ -17,6 +17,7 @@ use base_numbers::tree::CASES_MOST;
 use column::column_tests;
 use column::longest_of;
 use format_sheet::SheetMap;
+use rows::Pass;
 use rows::meet_rows;
 ghost use Prim.Native.Nat.{_<_, _≤_};
 ghost use lib.ListN.{length, take};
@@ -55,8 +56,16 @@ fn meet_both(
     ensures { λ r. ⌜ MeetsTo (now (sheet .entry)) (columnOf (now (sheet .entry)) (take n (now (tests .entry)))) first (now (work .entry)) (now (work .exit)) r ⌝ }
 {
     let longest = longest_of(sheet, map, tests, n);
-    let mid = meet_rows(sheet, map, tests, n, longest, false, work, first);
-    let end = meet_rows(sheet, map, tests, n, longest, true, work, mid);
+    let tailless = Pass {
+        tail: false,
+        longest,
+    };
+    let tailed = Pass {
+        tail: true,
+        longest,
+    };
+    let mid = meet_rows(sheet, map, tests, n, tailless, work, first);
+    let end = meet_rows(sheet, map, tests, n, tailed, work, mid);
     if end == CASES_MOST {
         return Meeting::TooMany;
     }
@@ -84,6 +93,6 @@ pub fn meet_cases<'a>(
     ensures { λ r. ⌜ MeetsTo (now (sheet .entry)) (liveColumn (now (sheet .entry)) (now (opened .entry)) class (take n (now (rows .entry)))) first (now (work .entry)) (now (work .exit)) r ⌝ }
 {
     let mut tests = [0u8; CLAUSES_MOST];
-    let k = column_tests(table, rows, n, opened, class, &mut tests);
-    meet_both(sheet, map, &tests, k, work, first)
+    let found = column_tests(table, rows, n, opened, class, &mut tests);
+    meet_both(sheet, map, &tests, found, work, first)
 }

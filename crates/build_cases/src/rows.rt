@@ -22,6 +22,12 @@ ghost use Rattle.build_matrix.specs.Ready.{TestKnown};
 ghost use Rattle.build_cases.specs.SoFar.{Begun, Meets};
 ghost use Rattle.build_cases.specs.Rows.{riseTo, meetTest, meetTests};
 
+// What a pass meets: the cases with a tail or those without, of a column with these longest lengths.
+pub struct Pass {
+    pub tail: bool,
+    pub longest: Longest,
+}
+
 // The cases of lists with `least` elements, one more, .. up to `end` met.
 fn meet_rising(
     sheet: &[u8],
@@ -46,52 +52,50 @@ fn meet_rising(
     top
 }
 
-// The cases met that the row of pattern p joins, of those with a tail or of those without.
+// The cases met that the row of pattern p joins, of those of the pass.
 fn meet_test(
     sheet: &[u8],
     map: SheetMap,
-    longest: Longest,
-    tail: bool,
+    pass: Pass,
     p: usize,
     work: &mut [u8],
     from: usize,
     to: usize,
 ) -> usize
-    requires { ⌜ SheetAccepts (now sheet) map × TestKnown (now sheet) p × (longest .tailless ≤ 65536) × (longest .tails ≤ 65536) ⌝ }
+    requires { ⌜ SheetAccepts (now sheet) map × TestKnown (now sheet) p × (pass .longest .tailless ≤ 65536) × (pass .longest .tails ≤ 65536) ⌝ }
     requires { ⌜ Begun (now sheet) (now work) from to ⌝ }
-    ensures { λ r. ⌜ Meets (now (sheet .entry)) (now (work .entry)) from to (meetTest (now (sheet .entry)) from tail longest p) r (now (work .exit)) ⌝ }
+    ensures { λ r. ⌜ Meets (now (sheet .entry)) (now (work .entry)) from to (meetTest (now (sheet .entry)) from (pass .tail) (pass .longest) p) r (now (work .exit)) ⌝ }
 {
     let r = pattern_at(sheet, map, p);
     if r.kind == pattern_kinds::LIST_WITH_TAIL {
         let least = r.count - 1;
-        let end = longest_with(longest, tail);
-        return meet_rising(sheet, map, work, from, to, tail, least, end);
+        let end = longest_with(pass.longest, pass.tail);
+        return meet_rising(sheet, map, work, from, to, pass.tail, least, end);
     }
-    if tail {
+    if pass.tail {
         return to;
     }
     meet(sheet, map, work, from, to, test_of(r))
 }
 
-// The pass: the cases met that the first n of these tests join, of those with a tail or of those without.
+// The pass: the cases met that the first n of these tests join.
 pub(crate) fn meet_rows(
     sheet: &[u8],
     map: SheetMap,
     tests: &[u8; CLAUSES_MOST],
     n: usize,
-    longest: Longest,
-    tail: bool,
+    pass: Pass,
     work: &mut [u8],
     from: usize,
 ) -> usize
-    requires { ⌜ SheetAccepts (now sheet) map × WholeRows (asRows (now tests) n) × All (TestKnown (now sheet)) (take n (now tests)) × (longest .tailless ≤ 65536) × (longest .tails ≤ 65536) ⌝ }
+    requires { ⌜ SheetAccepts (now sheet) map × WholeRows (asRows (now tests) n) × All (TestKnown (now sheet)) (take n (now tests)) × (pass .longest .tailless ≤ 65536) × (pass .longest .tails ≤ 65536) ⌝ }
     requires { ⌜ Begun (now sheet) (now work) from from ⌝ }
-    ensures { λ r. ⌜ Meets (now (sheet .entry)) (now (work .entry)) from from (meetTests (now (sheet .entry)) from tail longest (take n (now (tests .entry)))) r (now (work .exit)) ⌝ }
+    ensures { λ r. ⌜ Meets (now (sheet .entry)) (now (work .entry)) from from (meetTests (now (sheet .entry)) from (pass .tail) (pass .longest) (take n (now (tests .entry)))) r (now (work .exit)) ⌝ }
 {
     let mut top = from;
     let mut i: usize = 0;
     while i < n {
-        top = meet_test(sheet, map, longest, tail, wide(tests[i]), work, from, top);
+        top = meet_test(sheet, map, pass, wide(tests[i]), work, from, top);
         i += 1;
     }
     top

@@ -38,8 +38,8 @@ returns c =
     let l = c .before .before .before .before .before .before .before .before .before .longest-of in
     passes-past (take (a .n) (a .tests .now)) (l .result) (l .ensures) (s .pre .1 .0) (s .pre .1 .1) (c .before .before .before .before .before .before .before .meet-rows .ensures) (c .before .before .before .meet-rows2 .ensures) (c .if1 .taken)
 
-add-t15 : tie.Need-add-t15
-add-t15 c =
+add-t17 : tie.Need-add-t17
+add-t17 c =
     let s = c .before .before .before .before .before .before .before .before .before .before .before .before .before in
     let a = s .args in
     let l = c .before .before .before .before .before .before .before .before .before .before .longest-of in
@@ -65,6 +65,6 @@ meet-both-spec =
     meet-rows-requires-2
     same-length
     returns
-    add-t15
+    add-t17
     same-length-2
     returns-2)

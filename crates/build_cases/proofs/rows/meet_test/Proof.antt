@@ -20,7 +20,7 @@ longest-with-requires c κs = search needs
 meet-rising-requires : tie.Need-meet-rising-requires
 meet-rising-requires c κs =
     let a = c .before .before .before .before .before .before .before .before in
-    ((a .pre .0 .0 .ok .is-laid, a .pre .0 .0 .is-map, longest-small (a .args .longest) (a .args .tail) (c .before .longest-with .result) (c .before .longest-with .ensures) (a .pre .0 .2) (a .pre .0 .3)), a .pre .1)
+    ((a .pre .0 .0 .ok .is-laid, a .pre .0 .0 .is-map, longest-small (a .args .pass .longest) (a .args .pass .tail) (c .before .longest-with .result) (c .before .longest-with .ensures) (a .pre .0 .2) (a .pre .0 .3)), a .pre .1)
 
 same-length : tie.Need-same-length
 same-length c = search needs
@@ -28,13 +28,13 @@ same-length c = search needs
 returns : tie.Need-returns
 returns c =
     let a = c .before .before .before .before .before .before .before .before .before .before .before in
-    row-rises (a .pre .0 .0) (a .args .p) (a .pre .0 .1) (c .before .before .before .before .before .before .before .before .pattern-at .result) (c .before .before .before .before .before .before .before .before .pattern-at .ensures) (a .args .tail) (a .args .longest) (c .before .before .before .before .before .before .if1 .taken)
+    row-rises (a .pre .0 .0) (a .args .p) (a .pre .0 .1) (c .before .before .before .before .before .before .before .before .pattern-at .result) (c .before .before .before .before .before .before .before .before .pattern-at .ensures) (a .args .pass .tail) (a .args .pass .longest) (c .before .before .before .before .before .before .if1 .taken)
     (c .before .before .before .before .longest-with .result) (c .before .before .before .before .longest-with .ensures) (c .before .before .meet-rising .ensures)
 
 returns-2 : tie.Need-returns-2
 returns-2 c =
     let a = c .before .before .before .before .before .before in
-    row-meets-none (a .pre .0 .0) (a .args .p) (a .pre .0 .1) (c .before .before .before .pattern-at .result) (c .before .before .before .pattern-at .ensures) (a .args .tail) (a .args .longest) (c .before .if1 .left) (c .if2 .taken)
+    row-meets-none (a .pre .0 .0) (a .args .p) (a .pre .0 .1) (c .before .before .before .pattern-at .result) (c .before .before .before .pattern-at .ensures) (a .args .pass .tail) (a .args .pass .longest) (c .before .if1 .left) (c .if2 .taken)
 
 test-of-requires : tie.Need-test-of-requires
 test-of-requires c κs =
@@ -52,7 +52,7 @@ same-length-2 c = search needs
 returns-3 : tie.Need-returns-3
 returns-3 c =
     let a = c .before .before .before .before .before .before .before .before .before .before .before in
-    row-meets (a .pre .0 .0) (a .args .p) (a .pre .0 .1) (c .before .before .before .before .before .before .before .before .pattern-at .result) (c .before .before .before .before .before .before .before .before .pattern-at .ensures) (a .args .tail) (a .args .longest) (c .before .before .before .before .before .before .if1 .left) (c .before .before .before .before .before .if2 .left)
+    row-meets (a .pre .0 .0) (a .args .p) (a .pre .0 .1) (c .before .before .before .before .before .before .before .before .pattern-at .result) (c .before .before .before .before .before .before .before .before .pattern-at .ensures) (a .args .pass .tail) (a .args .pass .longest) (c .before .before .before .before .before .before .if1 .left) (c .before .before .before .before .before .if2 .left)
     (c .before .before .before .test-of .result) (c .before .before .before .test-of .ensures) (c .before .before .meet .ensures)
 
 pub meet-test-spec : {M : Type 1} → statement M
