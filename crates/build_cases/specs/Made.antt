@@ -14,8 +14,6 @@ use Rattle.spec_match.specs.Depth.{only, isTail, isExact}
 use Rattle.build_arena.specs.Arena.{casesStart, casesMost}
 use Rattle.build_arena.specs.WritingLaws.{Kept}
 use Rattle.build_table.specs.Standing.{patternOf}
-use Rattle.build_matrix.specs.HeldRows.{heldTests}
-use Rattle.build_matrix.specs.Live.{liveIn}
 use Rattle.build_cases.specs.declared.CasesMet.{CasesMet}
 use Rattle.build_cases.specs.declared.Meeting.{Meeting}
 use Rattle.build_cases.specs.declared.Meeting.the-variants.{Met as MetTo, TooMany}
@@ -25,10 +23,6 @@ use Rattle.build_cases.specs.SoFar.{InSheet}
 -- a column by the numbers of its tests
 abbrev pub columnOf : List ℕ → List ℕ → List Pat
 columnOf s ps = map (patternOf s) ps
-
--- the column of a class in the rows of the clauses cs: the tests that are live there
-abbrev pub liveColumn : List ℕ → List ℕ → ℕ → List ℕ → List Pat
-liveColumn s opened class cs = columnOf s (heldTests (liveIn s opened class) cs)
 
 -- the cases of a column of the patterns qs, in the order of their records
 abbrev pub exactCases : List Pat → List Met

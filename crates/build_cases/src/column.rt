@@ -16,12 +16,11 @@ ghost use Prim.Native.Nat.{_<_};
 ghost use lib.ListN.{length, take};
 ghost use Rattle.spec_rules.specs.Limits.{clausesMost};
 ghost use Rattle.spec_rules.specs.SplittingLaws.{All};
-ghost use Rattle.format_sheet.specs.Check.{SheetAccepts};
 ghost use Rattle.build_matrix.specs.HeldRows.{heldTests};
 ghost use Rattle.build_matrix.specs.Lists.{asRows, WholeRows, HoldsRows};
 ghost use Rattle.build_matrix.specs.Reading.{heldIn, InTable};
-ghost use Rattle.build_matrix.specs.Ready.{TestKnown};
 ghost use Rattle.build_cases.specs.Rows.{heldTest, TestSmall, longestOf};
+ghost use Rattle.build_cases.specs.Contracts.{TestsAsked};
 
 // One test more, if the row has one.
 fn keep_test(list: &mut [u8; CLAUSES_MOST], count: usize, held: Held) -> usize
@@ -62,7 +61,7 @@ pub(crate) fn longest_of(
     tests: &[u8; CLAUSES_MOST],
     n: usize,
 ) -> Longest
-    requires { ⌜ SheetAccepts (now sheet) map × WholeRows (asRows (now tests) n) × All (TestKnown (now sheet)) (take n (now tests)) ⌝ }
+    requires { ⌜ TestsAsked (now sheet) map (now tests) n ⌝ }
     ensures { λ r. ⌜ r ≡ longestOf (now (sheet .entry)) (take n (now (tests .entry))) ⌝ }
 {
     let mut longest = Longest {

@@ -24,11 +24,11 @@ ghost use lib.ListN.{length, take};
 ghost use Rattle.spec_rules.specs.Limits.{patternsMost};
 ghost use Rattle.spec_rules.specs.SheetFile.{clauses};
 ghost use Rattle.spec_rules.specs.SplittingLaws.{All};
-ghost use Rattle.format_sheet.specs.Check.{SheetAccepts};
 ghost use Rattle.build_matrix.specs.Lists.{asRows, WholeRows};
-ghost use Rattle.build_matrix.specs.Ready.{ReadyTable, TestKnown};
+ghost use Rattle.build_matrix.specs.Ready.{ReadyTable};
 ghost use Rattle.build_arena.specs.Arena.{casesMost, arenaEnd};
-ghost use Rattle.build_cases.specs.Made.{columnOf, liveColumn, MeetsTo};
+ghost use Rattle.build_cases.specs.Made.{columnOf, MeetsTo};
+ghost use Rattle.build_cases.specs.Contracts.{liveColumn, TestsAsked};
 
 // The cases without a tail end at `mid`, those with one at `end`; `list` says whether the column is one of lists.
 pub struct CasesMet {
@@ -51,7 +51,7 @@ fn meet_both(
     work: &mut [u8],
     first: usize,
 ) -> Meeting
-    requires { ⌜ SheetAccepts (now sheet) map × WholeRows (asRows (now tests) n) × All (TestKnown (now sheet)) (take n (now tests)) ⌝ }
+    requires { ⌜ TestsAsked (now sheet) map (now tests) n ⌝ }
     requires { ⌜ (arenaEnd ≤ length (now work)) × (first ≤ casesMost) ⌝ }
     ensures { λ r. ⌜ MeetsTo (now (sheet .entry)) (columnOf (now (sheet .entry)) (take n (now (tests .entry)))) first (now (work .entry)) (now (work .exit)) r ⌝ }
 {

@@ -15,12 +15,11 @@ ghost use Prim.Native.Nat.{_-_, _≤_};
 ghost use lib.ListN.{take};
 ghost use Rattle.spec_accepted.specs.SheetFacts.{Laid};
 ghost use Rattle.format_sheet.specs.Sections.{mapOf};
-ghost use Rattle.spec_rules.specs.SplittingLaws.{All};
 ghost use Rattle.format_sheet.specs.Check.{SheetAccepts};
-ghost use Rattle.build_matrix.specs.Lists.{asRows, WholeRows};
 ghost use Rattle.build_matrix.specs.Ready.{TestKnown};
 ghost use Rattle.build_cases.specs.SoFar.{Begun, Meets};
 ghost use Rattle.build_cases.specs.Rows.{riseTo, meetTest, meetTests};
+ghost use Rattle.build_cases.specs.Contracts.{PassAsked};
 
 // What a pass meets: the cases with a tail or those without, of a column with these longest lengths.
 pub struct Pass {
@@ -88,7 +87,7 @@ pub(crate) fn meet_rows(
     work: &mut [u8],
     from: usize,
 ) -> usize
-    requires { ⌜ SheetAccepts (now sheet) map × WholeRows (asRows (now tests) n) × All (TestKnown (now sheet)) (take n (now tests)) × (pass .longest .tailless ≤ 65536) × (pass .longest .tails ≤ 65536) ⌝ }
+    requires { ⌜ PassAsked (now sheet) map (now tests) n (pass .longest) ⌝ }
     requires { ⌜ Begun (now sheet) (now work) from from ⌝ }
     ensures { λ r. ⌜ Meets (now (sheet .entry)) (now (work .entry)) from from (meetTests (now (sheet .entry)) from (pass .tail) (pass .longest) (take n (now (tests .entry)))) r (now (work .exit)) ⌝ }
 {
