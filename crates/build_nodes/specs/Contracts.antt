@@ -8,6 +8,8 @@ use Rattle.spec_rules.specs.Kinds.{listSwitchNode, switchNode}
 use Rattle.spec_rules.specs.Building.{Tree}
 use Rattle.spec_rules.specs.TreeFile.{nodeBytes}
 use Rattle.build_table.specs.Standing.{sheetPaths}
+use Rattle.format_records.specs.declared.reading.Test.{Test}
+use Rattle.build_matrix.specs.Meant.{meant}
 use Rattle.build_matrix.specs.Numbered.{Numbered}
 use Rattle.build_matrix.specs.Contracts.{Lent}
 use Rattle.build_cases.specs.declared.CasesMet.{CasesMet}
@@ -15,6 +17,10 @@ use Rattle.build_nodes.specs.declared.tops.Tops.{Tops}
 use Rattle.build_nodes.specs.declared.tops.Built.{Built}
 use Rattle.build_nodes.specs.Built.{Put, Builds, BuildsCases}
 use Rattle.build_nodes.specs.Steps.{caseList, caseTree, StillTested}
+
+-- the tree of the case of a test as the arena has it, of the column of a class of the matrix M
+abbrev pub testTree : List ℕ → ℕ → Numbered → Test → Tree
+testTree s class M test = caseTree s class M (meant s test)
 
 -- the tree a is put into the work buffer
 abbrev pub PutsTree : Lent → Lent → Tree → Tops → Tops → Type 0

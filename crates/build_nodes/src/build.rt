@@ -32,7 +32,6 @@ ghost use Rattle.base_words.specs.Stored.{stored};
 ghost use Rattle.spec_rules.specs.Kinds.{listSwitchNode, switchNode};
 ghost use Rattle.spec_rules.specs.Limits.{patternsMost, nodesMost, nodeSize};
 ghost use Rattle.build_matrix.specs.Ready.{ReadyTable};
-ghost use Rattle.build_matrix.specs.Meant.{meant};
 ghost use Rattle.build_matrix.specs.Bound.{clauseLeaf};
 ghost use Rattle.build_matrix.specs.Numbered.{treeAt};
 ghost use Rattle.build_matrix.specs.InNumbers.{inNumbers};
@@ -40,8 +39,8 @@ ghost use Rattle.build_matrix.specs.Contracts.{matrixNow, numbersBefore};
 ghost use Rattle.build_arena.specs.Arena.{arenaEnd, casesMost};
 ghost use Rattle.build_leaves.specs.Bindings.{LeafAsked};
 ghost use Rattle.build_nodes.specs.Built.{Roomy};
-ghost use Rattle.build_nodes.specs.Steps.{caseTree, Asked, AskedColumn, AskedCase, AskedCases};
-ghost use Rattle.build_nodes.specs.Contracts.{PutsTree, BuildsTree, BuildsColumn, KeepsTested, switchRecord};
+ghost use Rattle.build_nodes.specs.Steps.{Asked, AskedColumn, AskedCase, AskedCases};
+ghost use Rattle.build_nodes.specs.Contracts.{testTree, PutsTree, BuildsTree, BuildsColumn, KeepsTested, switchRecord};
 
 // The leaf of a clause, where the first `time` of these classes were tested.
 fn put_leaf<'a>(
@@ -138,7 +137,7 @@ fn build_case<'a>(
     tops: Tops,
 ) -> Built
     requires { ⌜ AskedCase (now sheet) map (now table) (matrixNow rows columns tested opened sizes) class test (now work) tops ⌝ }
-    ensures { λ r. ⌜ BuildsTree sheet work (caseTree (now (sheet .entry)) class (numbersBefore rows columns tested opened sizes) (meant (now (sheet .entry)) test)) tops r × KeepsTested (sizes .tested) tested ⌝ }
+    ensures { λ r. ⌜ BuildsTree sheet work (testTree (now (sheet .entry)) class (numbersBefore rows columns tested opened sizes) test) tops r × KeepsTested (sizes .tested) tested ⌝ }
 {
     let mut some = [0u8; CLAUSES_MOST];
     let mut rest = [0u8; PATTERNS_MOST];
