@@ -12,8 +12,10 @@ use base_numbers::tree::CASE_SIZE;
 use base_numbers::tree::NODE_SIZE;
 use base_numbers::tree::NODES_MOST;
 use build_file_nodes::write_nodes;
+use build_file_tail::Starts;
 use build_file_tail::put_tail;
 use build_nodes::raw;
+use build_nodes::tops::Tops;
 use build_scopes::NODES_FEW;
 use build_scopes::Scopes;
 use build_scopes::get_hoist_paths;
@@ -43,43 +45,37 @@ fn write_tree(
     map: SheetMap,
     table: &[u8],
     work: &[u8],
-    nodes: usize,
-    cases: usize,
+    tops: Tops,
     scopes: Scopes,
     tree: &mut [u8],
 ) -> Built
-    requires { ⌜ SheetAccepts (now sheet) map × Tabled (now sheet) (now table) × Whole (now sheet) (now work) nodes cases scopes ⌝ }
+    requires { ⌜ SheetAccepts (now sheet) map × Tabled (now sheet) (now table) × Whole (now sheet) (now work) (tops .nodes) (tops .cases) scopes ⌝ }
     requires { ⌜ ClearTree (now tree) ⌝ }
     ensures { λ r. ⌜ GivesTree sheet tree r ⌝ }
 {
     let mut classes = [0u8; PATTERNS_MOST];
-    let tops = write_nodes(
+    let written = write_nodes(
         work,
-        nodes,
-        cases,
+        tops.nodes,
+        tops.cases,
         scopes,
         map.counts.clauses,
         tree,
         &mut classes,
     );
-    let second = NODE_SIZE * tops.nodes;
-    let third = second + CASE_SIZE * tops.cases;
-    let fourth = third + BINDING_SIZE * tops.bindings;
-    let end = put_tail(
-        sheet,
-        map,
-        table,
-        &classes,
-        tops.paths,
-        tree,
-        second,
-        third,
-        fourth,
-    );
+    let second = NODE_SIZE * written.nodes;
+    let third = second + CASE_SIZE * written.cases;
+    let fourth = third + BINDING_SIZE * written.bindings;
+    let starts = Starts {
+        cases: second,
+        bindings: third,
+        paths: fourth,
+    };
+    let end = put_tail(sheet, map, table, &classes, written.paths, tree, starts);
     Built::Tree {
         length: end as u16,
-        nodes: tops.nodes as u16,
-        bindings: tops.bindings as u16,
+        nodes: written.nodes as u16,
+        bindings: written.bindings as u16,
     }
 }
 
@@ -89,18 +85,16 @@ fn write_hoisted(
     map: SheetMap,
     table: &[u8],
     work: &[u8],
-    nodes: usize,
-    cases: usize,
-    bindings: usize,
+    tops: Tops,
     scopes: Scopes,
     tree: &mut [u8],
 ) -> Built
-    requires { ⌜ SheetAccepts (now sheet) map × Tabled (now sheet) (now table) × Hoistable (now sheet) (now work) nodes cases bindings scopes ⌝ }
+    requires { ⌜ SheetAccepts (now sheet) map × Tabled (now sheet) (now table) × Hoistable (now sheet) (now work) (tops .nodes) (tops .cases) (tops .bindings) scopes ⌝ }
     requires { ⌜ ClearTree (now tree) ⌝ }
     ensures { λ r. ⌜ GivesTree sheet tree r ⌝ }
 {
     let more = hoist_bindings(work, scopes, map.counts.clauses);
-    if BINDINGS_MOST < bindings + more {
+    if BINDINGS_MOST < tops.bindings + more {
         return refused(refusals::BINDINGS);
     }
     let idle = scopes.idle;
@@ -110,7 +104,7 @@ fn write_hoisted(
             place: idle as u16,
         };
     }
-    write_tree(sheet, map, table, work, nodes, cases, scopes, tree)
+    write_tree(sheet, map, table, work, tops, scopes, tree)
 }
 
 // Its scopes, over a table with room for the nodes: `sets` then has the clauses with a leaf at or below each of them.
@@ -119,28 +113,16 @@ fn hoist_with(
     map: SheetMap,
     table: &[u8],
     work: &[u8],
-    nodes: usize,
-    cases: usize,
-    bindings: usize,
+    tops: Tops,
     sets: &mut [u32],
     tree: &mut [u8],
 ) -> Built
-    requires { ⌜ SheetAccepts (now sheet) map × Tabled (now sheet) (now table) × Fitting (now sheet) (now work) nodes cases bindings × (nodes ≤ length (now sets)) ⌝ }
+    requires { ⌜ SheetAccepts (now sheet) map × Tabled (now sheet) (now table) × Fitting (now sheet) (now work) (tops .nodes) (tops .cases) (tops .bindings) × (tops .nodes ≤ length (now sets)) ⌝ }
     requires { ⌜ ClearTree (now tree) ⌝ }
     ensures { λ r. ⌜ GivesTree sheet tree r ⌝ }
 {
-    let scopes = get_hoist_paths(work, nodes, map.counts.clauses, sets);
-    write_hoisted(
-        sheet,
-        map,
-        table,
-        work,
-        nodes,
-        cases,
-        bindings,
-        scopes,
-        tree,
-    )
+    let scopes = get_hoist_paths(work, tops.nodes, map.counts.clauses, sets);
+    write_hoisted(sheet, map, table, work, tops, scopes, tree)
 }
 
 // The table is a small one where that is enough.
@@ -149,41 +131,19 @@ fn hoist_tree(
     map: SheetMap,
     table: &[u8],
     work: &[u8],
-    nodes: usize,
-    cases: usize,
-    bindings: usize,
+    tops: Tops,
     tree: &mut [u8],
 ) -> Built
-    requires { ⌜ SheetAccepts (now sheet) map × Tabled (now sheet) (now table) × Fitting (now sheet) (now work) nodes cases bindings ⌝ }
+    requires { ⌜ SheetAccepts (now sheet) map × Tabled (now sheet) (now table) × Fitting (now sheet) (now work) (tops .nodes) (tops .cases) (tops .bindings) ⌝ }
     requires { ⌜ ClearTree (now tree) ⌝ }
     ensures { λ r. ⌜ GivesTree sheet tree r ⌝ }
 {
-    if nodes <= NODES_FEW {
+    if tops.nodes <= NODES_FEW {
         let mut sets = [0u32; NODES_FEW];
-        return hoist_with(
-            sheet,
-            map,
-            table,
-            work,
-            nodes,
-            cases,
-            bindings,
-            &mut sets,
-            tree,
-        );
+        return hoist_with(sheet, map, table, work, tops, &mut sets, tree);
     }
     let mut sets = [0u32; NODES_MOST];
-    hoist_with(
-        sheet,
-        map,
-        table,
-        work,
-        nodes,
-        cases,
-        bindings,
-        &mut sets,
-        tree,
-    )
+    hoist_with(sheet, map, table, work, tops, &mut sets, tree)
 }
 
 // The tree in the arena, with the counts of its building: 12, 13, or on to its scopes.
@@ -192,25 +152,23 @@ fn finish(
     map: SheetMap,
     table: &[u8],
     work: &[u8],
-    nodes: usize,
-    cases: usize,
-    bindings: usize,
-    leaves: [u8; CLAUSES_MOST],
+    tops: Tops,
     tree: &mut [u8],
 ) -> Built
-    requires { ⌜ SheetAccepts (now sheet) map × Tabled (now sheet) (now table) × Raw (now sheet) (now work) nodes cases bindings leaves ⌝ }
+    requires { ⌜ SheetAccepts (now sheet) map × Tabled (now sheet) (now table) × Raw (now sheet) (now work) (tops .nodes) (tops .cases) (tops .bindings) (tops .leaves) ⌝ }
     requires { ⌜ ClearTree (now tree) ⌝ }
     ensures { λ r. ⌜ GivesTree sheet tree r ⌝ }
 {
     let clauses = map.counts.clauses;
+    let leaves = tops.leaves;
     let more = hoists(leaves, clauses);
-    if NODES_MOST < nodes + more {
+    if NODES_MOST < tops.nodes + more {
         return refused(refusals::NODES);
     }
-    if BINDINGS_MOST < bindings {
+    if BINDINGS_MOST < tops.bindings {
         return refused(refusals::BINDINGS);
     }
-    hoist_tree(sheet, map, table, work, nodes, cases, bindings, tree)
+    hoist_tree(sheet, map, table, work, tops, tree)
 }
 
 // The tree of an accepted sheet, on buffers that are large enough, the tree's all zero.
@@ -224,17 +182,5 @@ pub(crate) fn build_tree(sheet: &[u8], map: SheetMap, tree: &mut [u8], work: &mu
     if !built.fits {
         return refused(refusals::NODES);
     }
-    let tops = built.tops;
-    let leaves = tops.leaves;
-    finish(
-        sheet,
-        map,
-        &table,
-        work,
-        tops.nodes,
-        tops.cases,
-        tops.bindings,
-        leaves,
-        tree,
-    )
+    finish(sheet, map, &table, work, built.tops, tree)
 }

@@ -19,6 +19,13 @@ ghost use Rattle.spec_rules.specs.SheetFile.{poolSize, pool};
 ghost use Rattle.format_sheet.specs.Check.{SheetAccepts};
 ghost use Rattle.build_file_tail.specs.Tail.{Puts, TailReady, trailerBytes, sheetTail};
 
+// Where the cases, the bindings and the paths of a file start; the paths start where the bindings end.
+pub struct Starts {
+    pub cases: usize,
+    pub bindings: usize,
+    pub paths: usize,
+}
+
 fn copy_pool(sheet: &[u8], map: SheetMap, tree: &mut [u8], at: usize) -> usize
     requires { ⌜ SheetAccepts (now sheet) map × (at + poolSize (now sheet) ≤ length (now tree)) ⌝ }
     ensures { λ r. ⌜ Puts (now (tree .entry)) (now (tree .exit)) at r (pool (now (sheet .entry))) ⌝ }
@@ -41,23 +48,15 @@ fn put_number(tree: &mut [u8], at: usize, number: usize)
 }
 
 // Where the six sections start, and the length of the file, of which this is the end.
-fn put_trailer(
-    tree: &mut [u8],
-    at: usize,
-    cases: usize,
-    bindings: usize,
-    paths: usize,
-    steps: usize,
-    pool: usize,
-)
+fn put_trailer(tree: &mut [u8], at: usize, starts: Starts, steps: usize, pool: usize)
     requires { ⌜ (at + treeTrailer ≤ length (now tree)) × (at + treeTrailer < treeRoom) ⌝ }
-    requires { ⌜ (cases ≤ bindings) × (bindings ≤ paths) × (paths ≤ steps) × (steps ≤ pool) × (pool ≤ at) ⌝ }
-    ensures { λ _. ⌜ now (tree .exit) ≡ stored (now (tree .entry)) at (trailerBytes cases bindings paths steps pool at) ⌝ }
+    requires { ⌜ (starts .cases ≤ starts .bindings) × (starts .bindings ≤ starts .paths) × (starts .paths ≤ steps) × (steps ≤ pool) × (pool ≤ at) ⌝ }
+    ensures { λ _. ⌜ now (tree .exit) ≡ stored (now (tree .entry)) at (trailerBytes (starts .cases) (starts .bindings) (starts .paths) steps pool at) ⌝ }
 {
     put_number(tree, at, 0);
-    put_number(tree, at + tree_trailer::CASES, cases);
-    put_number(tree, at + tree_trailer::BINDINGS, bindings);
-    put_number(tree, at + tree_trailer::PATHS, paths);
+    put_number(tree, at + tree_trailer::CASES, starts.cases);
+    put_number(tree, at + tree_trailer::BINDINGS, starts.bindings);
+    put_number(tree, at + tree_trailer::PATHS, starts.paths);
     put_number(tree, at + tree_trailer::STEPS, steps);
     put_number(tree, at + tree_trailer::POOL, pool);
     put_number(tree, at + tree_trailer::LENGTH, at + TREE_TRAILER);
@@ -71,16 +70,14 @@ pub fn put_tail(
     classes: &[u8],
     count: usize,
     tree: &mut [u8],
-    cases: usize,
-    bindings: usize,
-    paths: usize,
+    starts: Starts,
 ) -> usize
-    requires { ⌜ TailReady (now sheet) map (now table) (now classes) count (now tree) cases bindings paths ⌝ }
-    ensures { λ r. ⌜ Puts (now (tree .entry)) (now (tree .exit)) paths r (sheetTail (now (sheet .entry)) (now (classes .entry)) count cases bindings paths) ⌝ }
+    requires { ⌜ TailReady (now sheet) map (now table) (now classes) count (now tree) (starts .cases) (starts .bindings) (starts .paths) ⌝ }
+    ensures { λ r. ⌜ Puts (now (tree .entry)) (now (tree .exit)) (starts .paths) r (sheetTail (now (sheet .entry)) (now (classes .entry)) count (starts .cases) (starts .bindings) (starts .paths)) ⌝ }
 {
-    let steps = put_paths(table, classes, count, tree, paths);
+    let steps = put_paths(table, classes, count, tree, starts.paths);
     let pool = put_all_steps(sheet, map, table, classes, count, tree, steps);
     let end = copy_pool(sheet, map, tree, pool);
-    put_trailer(tree, end, cases, bindings, paths, steps, pool);
+    put_trailer(tree, end, starts, steps, pool);
     end + TREE_TRAILER
 }

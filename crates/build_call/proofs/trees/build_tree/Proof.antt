@@ -51,10 +51,10 @@ slice-aggregate-finish c = search needs
 
 finish-requires : tie.Need-finish-requires
 finish-requires c κs =
-    let s = c .before .before .before .before .before .before .before .before .before .before .before .before .before .before .before .before .before .before in
-    let built = c .before .before .before .before .before .before .before .before .before .build-tree in
-    let fits = built .ensures .put (on _ (c .before .before .before .before .before .if1 .left)) in
-    ((s .pre .0, c .before .before .before .before .before .before .before .before .before .before .before .before .before .fill .ensures, raw-built (s .pre .0 .ok) _ (built .result .tops) (omega (arith, s .pre .2, built .kept .1 .1 .1 .0)) fits), (s .pre .1, s .pre .3))
+    let s = c .before .before .before .before .before .before .before .before .before .before .before .before .before .before .before .before in
+    let built = c .before .before .before .before .before .before .before .build-tree in
+    let fits = built .ensures .put (on _ (c .before .before .before .if1 .left)) in
+    ((s .pre .0, c .before .before .before .before .before .before .before .before .before .before .before .fill .ensures, raw-built (s .pre .0 .ok) _ (built .result .tops) (omega (arith, s .pre .2, built .kept .1 .1 .1 .0)) fits), (s .pre .1, s .pre .3))
 
 same-length-2 : tie.Need-same-length-2
 same-length-2 c = search needs
