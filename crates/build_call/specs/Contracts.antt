@@ -1,4 +1,5 @@
--- What the contracts say more than once, in a word each. Gives.. takes the lent parameters themselves, at entry and at exit.
+-- What the contracts say more than once, in a word each. GivesTree and GivesAnswer take the lent parameters themselves, at entry and at
+-- exit.
 use mathlib.Core.Path.{_≡_}
 use mathlib.Core.List.{List}
 use Prim.Native.Nat.{ℕ, _≤_}

@@ -1,4 +1,4 @@
--- What the contracts say more than once, in a word. It takes the parameters themselves, as contracts of build_matrix do.
+-- What the contracts say more than once, in a word, which takes the lent parameters themselves, at entry and at exit.
 use mathlib.Core.Path.{_≡_}
 use mathlib.Core.List.{List}
 use Prim.Native.Nat.{ℕ}

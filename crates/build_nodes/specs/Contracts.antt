@@ -1,5 +1,5 @@
--- What the contracts say at length or more than once, in a word each. Each takes the lent parameters themselves, as contracts of
--- build_matrix do, and speaks of them at entry and at exit.
+-- What the contracts say at length or more than once, in a word each. Those that begin with what is done take the lent parameters
+-- themselves, and speak of them at entry and at exit.
 use mathlib.Core.List.{List}
 use Prim.Native.Nat.{ℕ, _-_}
 use denote.Ref.{now}
