@@ -21,5 +21,3 @@ pub const CHILD: usize = 3;
 
 // Of neither.
 pub const UNUSED: usize = 4;
-
-pub const NODE_WORDS: usize = 5;

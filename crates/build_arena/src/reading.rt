@@ -20,59 +20,59 @@ ghost use lib.ListN.{length};
 ghost use Rattle.spec_rules.specs.Limits.{nodesMost, bindingsMost};
 ghost use Rattle.build_arena.specs.Arena.{casesMost, arenaEnd, nodeKind, nodeWord, caseKind, caseNumber, caseLength, caseChild, caseOf, bindingOf};
 
-pub fn node_kind(w: &[u8], k: usize) -> u8
-    requires { ⌜ (arenaEnd ≤ length (now w)) × (k < nodesMost) ⌝ }
-    ensures { λ r. ⌜ r ≡ nodeKind (now (w .entry)) k ⌝ }
+pub fn node_kind(work: &[u8], k: usize) -> u8
+    requires { ⌜ (arenaEnd ≤ length (now work)) × (k < nodesMost) ⌝ }
+    ensures { λ r. ⌜ r ≡ nodeKind (now (work .entry)) k ⌝ }
 {
-    kind_in(w, NODE_SIZE * k)
+    kind_in(work, NODE_SIZE * k)
 }
 
 // The node's word i of five.
-pub fn node_word(w: &[u8], k: usize, i: usize) -> u16
-    requires { ⌜ (arenaEnd ≤ length (now w)) × (k < nodesMost) × (i < 5) ⌝ }
-    ensures { λ r. ⌜ r ≡ nodeWord (now (w .entry)) k i ⌝ }
+pub fn node_word(work: &[u8], k: usize, i: usize) -> u16
+    requires { ⌜ (arenaEnd ≤ length (now work)) × (k < nodesMost) × (i < 5) ⌝ }
+    ensures { λ r. ⌜ r ≡ nodeWord (now (work .entry)) k i ⌝ }
 {
-    node_word_in(w, NODE_SIZE * k, i)
+    node_word_in(work, NODE_SIZE * k, i)
 }
 
-pub fn case_kind(w: &[u8], i: usize) -> u8
-    requires { ⌜ (arenaEnd ≤ length (now w)) × (i < casesMost) ⌝ }
-    ensures { λ r. ⌜ r ≡ caseKind (now (w .entry)) i ⌝ }
+pub fn case_kind(work: &[u8], i: usize) -> u8
+    requires { ⌜ (arenaEnd ≤ length (now work)) × (i < casesMost) ⌝ }
+    ensures { λ r. ⌜ r ≡ caseKind (now (work .entry)) i ⌝ }
 {
-    kind_in(w, CASES_START + CASE_SIZE * i)
+    kind_in(work, CASES_START + CASE_SIZE * i)
 }
 
-pub fn case_number(w: &[u8], i: usize) -> u16
-    requires { ⌜ (arenaEnd ≤ length (now w)) × (i < casesMost) ⌝ }
-    ensures { λ r. ⌜ r ≡ caseNumber (now (w .entry)) i ⌝ }
+pub fn case_number(work: &[u8], i: usize) -> u16
+    requires { ⌜ (arenaEnd ≤ length (now work)) × (i < casesMost) ⌝ }
+    ensures { λ r. ⌜ r ≡ caseNumber (now (work .entry)) i ⌝ }
 {
-    case_number_in(w, CASES_START + CASE_SIZE * i)
+    case_number_in(work, CASES_START + CASE_SIZE * i)
 }
 
-pub fn case_length(w: &[u8], i: usize) -> u16
-    requires { ⌜ (arenaEnd ≤ length (now w)) × (i < casesMost) ⌝ }
-    ensures { λ r. ⌜ r ≡ caseLength (now (w .entry)) i ⌝ }
+pub fn case_length(work: &[u8], i: usize) -> u16
+    requires { ⌜ (arenaEnd ≤ length (now work)) × (i < casesMost) ⌝ }
+    ensures { λ r. ⌜ r ≡ caseLength (now (work .entry)) i ⌝ }
 {
-    case_length_in(w, CASES_START + CASE_SIZE * i)
+    case_length_in(work, CASES_START + CASE_SIZE * i)
 }
 
-pub fn case_child(w: &[u8], i: usize) -> u16
-    requires { ⌜ (arenaEnd ≤ length (now w)) × (i < casesMost) ⌝ }
-    ensures { λ r. ⌜ r ≡ caseChild (now (w .entry)) i ⌝ }
+pub fn case_child(work: &[u8], i: usize) -> u16
+    requires { ⌜ (arenaEnd ≤ length (now work)) × (i < casesMost) ⌝ }
+    ensures { λ r. ⌜ r ≡ caseChild (now (work .entry)) i ⌝ }
 {
-    case_child_in(w, CASES_START + CASE_SIZE * i)
+    case_child_in(work, CASES_START + CASE_SIZE * i)
 }
 
-pub fn case_at(w: &[u8], i: usize) -> Case
-    requires { ⌜ (arenaEnd ≤ length (now w)) × (i < casesMost) ⌝ }
-    ensures { λ r. ⌜ r ≡ caseOf (now (w .entry)) i ⌝ }
+pub fn case_at(work: &[u8], i: usize) -> Case
+    requires { ⌜ (arenaEnd ≤ length (now work)) × (i < casesMost) ⌝ }
+    ensures { λ r. ⌜ r ≡ caseOf (now (work .entry)) i ⌝ }
 {
-    case_in(w, CASES_START + CASE_SIZE * i)
+    case_in(work, CASES_START + CASE_SIZE * i)
 }
 
-pub fn binding_at(w: &[u8], b: usize) -> Binding
-    requires { ⌜ (arenaEnd ≤ length (now w)) × (b < bindingsMost) ⌝ }
-    ensures { λ r. ⌜ r ≡ bindingOf (now (w .entry)) b ⌝ }
+pub fn binding_at(work: &[u8], i: usize) -> Binding
+    requires { ⌜ (arenaEnd ≤ length (now work)) × (i < bindingsMost) ⌝ }
+    ensures { λ r. ⌜ r ≡ bindingOf (now (work .entry)) i ⌝ }
 {
-    binding_in(w, BINDINGS_START + BINDING_SIZE * b)
+    binding_in(work, BINDINGS_START + BINDING_SIZE * i)
 }

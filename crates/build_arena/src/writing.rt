@@ -19,31 +19,31 @@ ghost use Rattle.format_records.specs.Records.{caseRecord};
 ghost use Rattle.build_arena.specs.Arena.{casesStart, casesMost, bindingsStart, arenaEnd};
 
 // Node k: its kind and its five words.
-pub fn put_node(w: &mut [u8], k: usize, kind: u8, a: u16, b: u16, c: u16, d: u16, e: u16)
-    requires { ⌜ (arenaEnd ≤ length (now w)) × (k < nodesMost) ⌝ }
-    ensures { λ _. ⌜ now (w .exit) ≡ stored (now (w .entry)) (nodeSize * k) (nodeBytes kind a b c d e) ⌝ }
+pub fn put_node(work: &mut [u8], k: usize, kind: u8, a: u16, b: u16, c: u16, d: u16, e: u16)
+    requires { ⌜ (arenaEnd ≤ length (now work)) × (k < nodesMost) ⌝ }
+    ensures { λ _. ⌜ now (work .exit) ≡ stored (now (work .entry)) (nodeSize * k) (nodeBytes kind a b c d e) ⌝ }
 {
-    writing::put_node(w, NODE_SIZE * k, kind, a, b, c, d, e);
+    writing::put_node(work, NODE_SIZE * k, kind, a, b, c, d, e);
 }
 
-pub fn put_case(w: &mut [u8], i: usize, case: Case)
-    requires { ⌜ (arenaEnd ≤ length (now w)) × (i < casesMost) ⌝ }
-    ensures { λ _. ⌜ now (w .exit) ≡ stored (now (w .entry)) (casesStart + caseSize * i) (caseRecord case) ⌝ }
+pub fn put_case(work: &mut [u8], i: usize, case: Case)
+    requires { ⌜ (arenaEnd ≤ length (now work)) × (i < casesMost) ⌝ }
+    ensures { λ _. ⌜ now (work .exit) ≡ stored (now (work .entry)) (casesStart + caseSize * i) (caseRecord case) ⌝ }
 {
-    writing::put_case(w, CASES_START + CASE_SIZE * i, case);
+    writing::put_case(work, CASES_START + CASE_SIZE * i, case);
 }
 
 // The child of case i.
-pub fn put_child(w: &mut [u8], i: usize, child: u16)
-    requires { ⌜ (arenaEnd ≤ length (now w)) × (i < casesMost) ⌝ }
-    ensures { λ _. ⌜ now (w .exit) ≡ stored (now (w .entry)) (casesStart + caseSize * i + 6) (wordBytes child) ⌝ }
+pub fn put_child(work: &mut [u8], i: usize, child: u16)
+    requires { ⌜ (arenaEnd ≤ length (now work)) × (i < casesMost) ⌝ }
+    ensures { λ _. ⌜ now (work .exit) ≡ stored (now (work .entry)) (casesStart + caseSize * i + 6) (wordBytes child) ⌝ }
 {
-    writing::put_child(w, CASES_START + CASE_SIZE * i, child);
+    writing::put_child(work, CASES_START + CASE_SIZE * i, child);
 }
 
-pub fn put_binding(w: &mut [u8], b: usize, name: u16, path: u16)
-    requires { ⌜ (arenaEnd ≤ length (now w)) × (b < bindingsMost) ⌝ }
-    ensures { λ _. ⌜ now (w .exit) ≡ stored (now (w .entry)) (bindingsStart + bindingSize * b) (wordBytes name ++ wordBytes path) ⌝ }
+pub fn put_binding(work: &mut [u8], i: usize, name: u16, path: u16)
+    requires { ⌜ (arenaEnd ≤ length (now work)) × (i < bindingsMost) ⌝ }
+    ensures { λ _. ⌜ now (work .exit) ≡ stored (now (work .entry)) (bindingsStart + bindingSize * i) (wordBytes name ++ wordBytes path) ⌝ }
 {
-    writing::put_two_words(w, BINDINGS_START + BINDING_SIZE * b, name, path);
+    writing::put_two_words(work, BINDINGS_START + BINDING_SIZE * i, name, path);
 }

@@ -1,4 +1,5 @@
 pub mod Answers
+pub mod Contracts
 pub mod AnswersLaws
 pub mod VerdictLaws
 pub mod Counts

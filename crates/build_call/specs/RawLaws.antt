@@ -45,7 +45,7 @@ use Rattle.build_scopes.specs.FirstLeafLaws.{counts-each}
 use Rattle.build_scopes.specs.WriterLaws.{ready-held, scoped-leaf}
 use Rattle.build_nodes.specs.declared.tops.Tops.{Tops as BuildingTops}
 use Rattle.build_nodes.specs.Raw.{Raw as BuildingRaw}
-use Rattle.build_file_nodes.specs.declared.nodes.Tops.{Tops}
+use Rattle.build_file_nodes.specs.declared.Tops.{Tops}
 use Rattle.build_file_nodes.specs.Written.{WritingAsked, Written}
 use Rattle.build_file_tail.specs.Tail.{Puts, usedPaths, frontBytes, tailBytes, TailReady}
 use Rattle.build_file_tail.specs.FileLaws.{tail-ready, file-put}

@@ -25,7 +25,7 @@ fn one_if(mark: u8) -> usize
 }
 
 // How many clauses have a leaf.
-pub fn hoists(leaves: [u8; CLAUSES_MOST], clauses: usize) -> usize
+pub(crate) fn hoists(leaves: [u8; CLAUSES_MOST], clauses: usize) -> usize
     requires { ⌜ clauses ≤ clausesMost ⌝ }
     ensures { λ r. ⌜ r ≡ times (λ c. isMarked (getD leaves c 0)) 0 clauses ⌝ }
 {
@@ -39,26 +39,26 @@ pub fn hoists(leaves: [u8; CLAUSES_MOST], clauses: usize) -> usize
 }
 
 // The bindings of a leaf; none where the number is no node's.
-fn bindings_of(w: &[u8], leaf: u16) -> usize
-    requires { ⌜ arenaEnd ≤ length (now w) ⌝ }
-    ensures { λ r. ⌜ r ≡ leafBindings (now (w .entry)) leaf ⌝ }
+fn bindings_of(work: &[u8], leaf: u16) -> usize
+    requires { ⌜ arenaEnd ≤ length (now work) ⌝ }
+    ensures { λ r. ⌜ r ≡ leafBindings (now (work .entry)) leaf ⌝ }
 {
     let k = leaf as usize;
     if NODES_MOST <= k {
         return 0;
     }
-    node_word(w, k, node_words::BINDINGS) as usize
+    node_word(work, k, node_words::BINDINGS) as usize
 }
 
 // The bindings of all hoists.
-pub fn hoist_bindings(w: &[u8], x: Scopes, clauses: usize) -> usize
-    requires { ⌜ (arenaEnd ≤ length (now w)) × (clauses ≤ clausesMost) ⌝ }
-    ensures { λ r. ⌜ r ≡ sum (λ c. leafBindings (now (w .entry)) (getD (x .leaf) c 0)) 0 clauses ⌝ }
+pub(crate) fn hoist_bindings(work: &[u8], scopes: Scopes, clauses: usize) -> usize
+    requires { ⌜ (arenaEnd ≤ length (now work)) × (clauses ≤ clausesMost) ⌝ }
+    ensures { λ r. ⌜ r ≡ sum (λ c. leafBindings (now (work .entry)) (getD (scopes .leaf) c 0)) 0 clauses ⌝ }
 {
     let mut n: usize = 0;
     let mut c: usize = 0;
     while c < clauses {
-        n += bindings_of(w, x.leaf[c]);
+        n += bindings_of(work, scopes.leaf[c]);
         c += 1;
     }
     n

@@ -11,8 +11,9 @@ ghost use Prim.Native.Nat.{_≤_};
 ghost use lib.ListN.{length};
 ghost use Rattle.base_words.specs.Words.{zeros};
 ghost use Rattle.spec_rules.specs.Limits.{treeRoom, workRoom};
-ghost use Rattle.spec_rules.specs.Calls.{buildCall, buildAnswer};
-ghost use Rattle.build_call.specs.Answers.{callOf, Gives};
+ghost use Rattle.spec_rules.specs.Calls.{buildCall};
+ghost use Rattle.build_call.specs.Answers.{callOf};
+ghost use Rattle.build_call.specs.Contracts.{GivesAnswer};
 
 mod counts;
 mod trees;
@@ -30,20 +31,20 @@ pub enum Built {
 }
 
 // On buffers that are large enough, the tree's all zero.
-fn build_sheet(s: &[u8], tree: &mut [u8], work: &mut [u8]) -> Built
+fn build_sheet(sheet: &[u8], tree: &mut [u8], work: &mut [u8]) -> Built
     requires { ⌜ (treeRoom ≤ length (now tree)) × (workRoom ≤ length (now work)) × (now tree ≡ zeros (length (now tree))) ⌝ }
-    ensures { λ r. ⌜ Gives (now (s .entry)) (buildAnswer (now (s .entry)) (length (now (tree .entry))) (length (now (work .entry)))) (now (tree .entry)) (now (tree .exit)) r ⌝ }
+    ensures { λ r. ⌜ GivesAnswer sheet tree work r ⌝ }
 {
-    match format_sheet::check(s) {
-        CheckedSheet::Accepted(m) => build_tree(s, m, tree, work),
+    match format_sheet::check(sheet) {
+        CheckedSheet::Accepted(map) => build_tree(sheet, map, tree, work),
         CheckedSheet::Refused { number, place } => Built::Refused { number, place },
     }
 }
 
 // On a tree buffer that is all zero: it is written only where the sheet is accepted.
-fn build_clear(s: &[u8], tree: &mut [u8], work: &mut [u8]) -> Built
+fn build_clear(sheet: &[u8], tree: &mut [u8], work: &mut [u8]) -> Built
     requires { ⌜ now tree ≡ zeros (length (now tree)) ⌝ }
-    ensures { λ r. ⌜ Gives (now (s .entry)) (buildAnswer (now (s .entry)) (length (now (tree .entry))) (length (now (work .entry)))) (now (tree .entry)) (now (tree .exit)) r ⌝ }
+    ensures { λ r. ⌜ GivesAnswer sheet tree work r ⌝ }
 {
     if tree.len() < TREE_ROOM {
         return Built::Refused {
@@ -57,15 +58,15 @@ fn build_clear(s: &[u8], tree: &mut [u8], work: &mut [u8]) -> Built
             place: 0,
         };
     }
-    build_sheet(s, tree, work)
+    build_sheet(sheet, tree, work)
 }
 
 // The build call, whole.
-pub fn build(s: &[u8], tree: &mut [u8], work: &mut [u8]) -> Built
-    ensures { λ r. ⌜ callOf r (now (tree .exit)) (now (work .exit)) ≡ buildCall (now (s .entry)) (length (now (tree .entry))) (length (now (work .entry))) ⌝ }
+pub fn build(sheet: &[u8], tree: &mut [u8], work: &mut [u8]) -> Built
+    ensures { λ r. ⌜ callOf r (now (tree .exit)) (now (work .exit)) ≡ buildCall (now (sheet .entry)) (length (now (tree .entry))) (length (now (work .entry))) ⌝ }
 {
     zero_all(tree);
-    let r = build_clear(s, tree, work);
+    let r = build_clear(sheet, tree, work);
     zero_all(work);
     r
 }

@@ -12,8 +12,10 @@ use base_numbers::tree::CASE_SIZE;
 use base_numbers::tree::NODE_SIZE;
 use base_numbers::tree::NODES_MOST;
 use build_file_nodes::write_nodes;
+use build_file_tail::Starts;
 use build_file_tail::put_tail;
 use build_nodes::raw;
+use build_nodes::tops::Tops;
 use build_scopes::NODES_FEW;
 use build_scopes::Scopes;
 use build_scopes::get_hoist_paths;
@@ -27,11 +29,11 @@ ghost use Rattle.base_words.specs.Words.{zeros};
 ghost use Rattle.spec_rules.specs.Limits.{treeRoom, workRoom};
 ghost use Rattle.format_sheet.specs.Check.{SheetAccepts};
 ghost use Rattle.build_table.specs.Tabled.{Tabled};
-ghost use Rattle.build_call.specs.Answers.{Gives, treeEnd};
+ghost use Rattle.build_call.specs.Contracts.{ClearTree, GivesTree};
 ghost use Rattle.build_call.specs.Raw.{Raw, Fitting, Hoistable, Whole};
 
 // A refusal whose place is 0.
-pub fn refused(number: u16) -> Built
+fn refused(number: u16) -> Built
     ensures { λ r. ⌜ r ≡ Built.Refused number 0 ⌝ }
 {
     Built::Refused { number, place: 0 }
@@ -39,154 +41,146 @@ pub fn refused(number: u16) -> Built
 
 // The file: nodes, cases and bindings, then what follows them.
 fn write_tree(
-    s: &[u8],
-    m: SheetMap,
+    sheet: &[u8],
+    map: SheetMap,
     table: &[u8],
-    w: &[u8],
-    nodes: usize,
-    cases: usize,
-    x: Scopes,
+    work: &[u8],
+    tops: Tops,
+    scopes: Scopes,
     tree: &mut [u8],
 ) -> Built
-    requires { ⌜ SheetAccepts (now s) m × Tabled (now s) (now table) × Whole (now s) (now w) nodes cases x ⌝ }
-    requires { ⌜ (treeRoom ≤ length (now tree)) × (now tree ≡ zeros (length (now tree))) ⌝ }
-    ensures { λ r. ⌜ Gives (now (s .entry)) (treeEnd (now (s .entry))) (now (tree .entry)) (now (tree .exit)) r ⌝ }
+    requires { ⌜ SheetAccepts (now sheet) map × Tabled (now sheet) (now table) × Whole (now sheet) (now work) (tops .nodes) (tops .cases) scopes ⌝ }
+    requires { ⌜ ClearTree (now tree) ⌝ }
+    ensures { λ r. ⌜ GivesTree sheet tree r ⌝ }
 {
     let mut classes = [0u8; PATTERNS_MOST];
-    let f = write_nodes(w, nodes, cases, x, m.counts.clauses, tree, &mut classes);
-    let second = NODE_SIZE * f.nodes;
-    let third = second + CASE_SIZE * f.cases;
-    let fourth = third + BINDING_SIZE * f.bindings;
-    let end = put_tail(s, m, table, &classes, f.paths, tree, second, third, fourth);
+    let written = write_nodes(
+        work,
+        tops.nodes,
+        tops.cases,
+        scopes,
+        map.counts.clauses,
+        tree,
+        &mut classes,
+    );
+    let second = NODE_SIZE * written.nodes;
+    let third = second + CASE_SIZE * written.cases;
+    let fourth = third + BINDING_SIZE * written.bindings;
+    let starts = Starts {
+        cases: second,
+        bindings: third,
+        paths: fourth,
+    };
+    let end = put_tail(sheet, map, table, &classes, written.paths, tree, starts);
     Built::Tree {
         length: end as u16,
-        nodes: f.nodes as u16,
-        bindings: f.bindings as u16,
+        nodes: written.nodes as u16,
+        bindings: written.bindings as u16,
     }
 }
 
 // With its scopes: 13 for all bindings, 14, or the file.
 fn write_hoisted(
-    s: &[u8],
-    m: SheetMap,
+    sheet: &[u8],
+    map: SheetMap,
     table: &[u8],
-    w: &[u8],
-    nodes: usize,
-    cases: usize,
-    bindings: usize,
-    x: Scopes,
+    work: &[u8],
+    tops: Tops,
+    scopes: Scopes,
     tree: &mut [u8],
 ) -> Built
-    requires { ⌜ SheetAccepts (now s) m × Tabled (now s) (now table) × Hoistable (now s) (now w) nodes cases bindings x ⌝ }
-    requires { ⌜ (treeRoom ≤ length (now tree)) × (now tree ≡ zeros (length (now tree))) ⌝ }
-    ensures { λ r. ⌜ Gives (now (s .entry)) (treeEnd (now (s .entry))) (now (tree .entry)) (now (tree .exit)) r ⌝ }
+    requires { ⌜ SheetAccepts (now sheet) map × Tabled (now sheet) (now table) × Hoistable (now sheet) (now work) (tops .nodes) (tops .cases) (tops .bindings) scopes ⌝ }
+    requires { ⌜ ClearTree (now tree) ⌝ }
+    ensures { λ r. ⌜ GivesTree sheet tree r ⌝ }
 {
-    let more = hoist_bindings(w, x, m.counts.clauses);
-    if BINDINGS_MOST < bindings + more {
+    let more = hoist_bindings(work, scopes, map.counts.clauses);
+    if BINDINGS_MOST < tops.bindings + more {
         return refused(refusals::BINDINGS);
     }
-    let idle = x.idle;
+    let idle = scopes.idle;
     if idle < CLAUSES_MOST {
         return Built::Refused {
             number: refusals::IDLE,
             place: idle as u16,
         };
     }
-    write_tree(s, m, table, w, nodes, cases, x, tree)
+    write_tree(sheet, map, table, work, tops, scopes, tree)
 }
 
 // Its scopes, over a table with room for the nodes: `sets` then has the clauses with a leaf at or below each of them.
 fn hoist_with(
-    s: &[u8],
-    m: SheetMap,
+    sheet: &[u8],
+    map: SheetMap,
     table: &[u8],
-    w: &[u8],
-    nodes: usize,
-    cases: usize,
-    bindings: usize,
+    work: &[u8],
+    tops: Tops,
     sets: &mut [u32],
     tree: &mut [u8],
 ) -> Built
-    requires { ⌜ SheetAccepts (now s) m × Tabled (now s) (now table) × Fitting (now s) (now w) nodes cases bindings × (nodes ≤ length (now sets)) ⌝ }
-    requires { ⌜ (treeRoom ≤ length (now tree)) × (now tree ≡ zeros (length (now tree))) ⌝ }
-    ensures { λ r. ⌜ Gives (now (s .entry)) (treeEnd (now (s .entry))) (now (tree .entry)) (now (tree .exit)) r ⌝ }
+    requires { ⌜ SheetAccepts (now sheet) map × Tabled (now sheet) (now table) × Fitting (now sheet) (now work) (tops .nodes) (tops .cases) (tops .bindings) × (tops .nodes ≤ length (now sets)) ⌝ }
+    requires { ⌜ ClearTree (now tree) ⌝ }
+    ensures { λ r. ⌜ GivesTree sheet tree r ⌝ }
 {
-    let x = get_hoist_paths(w, nodes, m.counts.clauses, sets);
-    write_hoisted(s, m, table, w, nodes, cases, bindings, x, tree)
+    let scopes = get_hoist_paths(work, tops.nodes, map.counts.clauses, sets);
+    write_hoisted(sheet, map, table, work, tops, scopes, tree)
 }
 
 // The table is a small one where that is enough.
 fn hoist_tree(
-    s: &[u8],
-    m: SheetMap,
+    sheet: &[u8],
+    map: SheetMap,
     table: &[u8],
-    w: &[u8],
-    nodes: usize,
-    cases: usize,
-    bindings: usize,
+    work: &[u8],
+    tops: Tops,
     tree: &mut [u8],
 ) -> Built
-    requires { ⌜ SheetAccepts (now s) m × Tabled (now s) (now table) × Fitting (now s) (now w) nodes cases bindings ⌝ }
-    requires { ⌜ (treeRoom ≤ length (now tree)) × (now tree ≡ zeros (length (now tree))) ⌝ }
-    ensures { λ r. ⌜ Gives (now (s .entry)) (treeEnd (now (s .entry))) (now (tree .entry)) (now (tree .exit)) r ⌝ }
+    requires { ⌜ SheetAccepts (now sheet) map × Tabled (now sheet) (now table) × Fitting (now sheet) (now work) (tops .nodes) (tops .cases) (tops .bindings) ⌝ }
+    requires { ⌜ ClearTree (now tree) ⌝ }
+    ensures { λ r. ⌜ GivesTree sheet tree r ⌝ }
 {
-    if nodes <= NODES_FEW {
+    if tops.nodes <= NODES_FEW {
         let mut sets = [0u32; NODES_FEW];
-        return hoist_with(s, m, table, w, nodes, cases, bindings, &mut sets, tree);
+        return hoist_with(sheet, map, table, work, tops, &mut sets, tree);
     }
     let mut sets = [0u32; NODES_MOST];
-    hoist_with(s, m, table, w, nodes, cases, bindings, &mut sets, tree)
+    hoist_with(sheet, map, table, work, tops, &mut sets, tree)
 }
 
 // The tree in the arena, with the counts of its building: 12, 13, or on to its scopes.
-pub fn finish(
-    s: &[u8],
-    m: SheetMap,
+fn finish(
+    sheet: &[u8],
+    map: SheetMap,
     table: &[u8],
-    w: &[u8],
-    nodes: usize,
-    cases: usize,
-    bindings: usize,
-    leaves: [u8; CLAUSES_MOST],
+    work: &[u8],
+    tops: Tops,
     tree: &mut [u8],
 ) -> Built
-    requires { ⌜ SheetAccepts (now s) m × Tabled (now s) (now table) × Raw (now s) (now w) nodes cases bindings leaves ⌝ }
-    requires { ⌜ (treeRoom ≤ length (now tree)) × (now tree ≡ zeros (length (now tree))) ⌝ }
-    ensures { λ r. ⌜ Gives (now (s .entry)) (treeEnd (now (s .entry))) (now (tree .entry)) (now (tree .exit)) r ⌝ }
+    requires { ⌜ SheetAccepts (now sheet) map × Tabled (now sheet) (now table) × Raw (now sheet) (now work) (tops .nodes) (tops .cases) (tops .bindings) (tops .leaves) ⌝ }
+    requires { ⌜ ClearTree (now tree) ⌝ }
+    ensures { λ r. ⌜ GivesTree sheet tree r ⌝ }
 {
-    let clauses = m.counts.clauses;
+    let clauses = map.counts.clauses;
+    let leaves = tops.leaves;
     let more = hoists(leaves, clauses);
-    if NODES_MOST < nodes + more {
+    if NODES_MOST < tops.nodes + more {
         return refused(refusals::NODES);
     }
-    if BINDINGS_MOST < bindings {
+    if BINDINGS_MOST < tops.bindings {
         return refused(refusals::BINDINGS);
     }
-    hoist_tree(s, m, table, w, nodes, cases, bindings, tree)
+    hoist_tree(sheet, map, table, work, tops, tree)
 }
 
 // The tree of an accepted sheet, on buffers that are large enough, the tree's all zero.
-pub fn build_tree(s: &[u8], m: SheetMap, tree: &mut [u8], work: &mut [u8]) -> Built
-    requires { ⌜ SheetAccepts (now s) m × (treeRoom ≤ length (now tree)) × (workRoom ≤ length (now work)) × (now tree ≡ zeros (length (now tree))) ⌝ }
-    ensures { λ r. ⌜ Gives (now (s .entry)) (treeEnd (now (s .entry))) (now (tree .entry)) (now (tree .exit)) r ⌝ }
+pub(crate) fn build_tree(sheet: &[u8], map: SheetMap, tree: &mut [u8], work: &mut [u8]) -> Built
+    requires { ⌜ SheetAccepts (now sheet) map × (treeRoom ≤ length (now tree)) × (workRoom ≤ length (now work)) × (now tree ≡ zeros (length (now tree))) ⌝ }
+    ensures { λ r. ⌜ GivesTree sheet tree r ⌝ }
 {
     let mut table = [0u8; TABLE];
-    fill(s, m, &mut table);
-    let built = raw::build_tree(s, m, &table, work);
+    fill(sheet, map, &mut table);
+    let built = raw::build_tree(sheet, map, &table, work);
     if !built.fits {
         return refused(refusals::NODES);
     }
-    let tops = built.tops;
-    let leaves = tops.leaves;
-    finish(
-        s,
-        m,
-        &table,
-        work,
-        tops.nodes,
-        tops.cases,
-        tops.bindings,
-        leaves,
-        tree,
-    )
+    finish(sheet, map, &table, work, built.tops, tree)
 }

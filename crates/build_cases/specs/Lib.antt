@@ -8,4 +8,5 @@ pub mod Rows
 pub mod RowsLaws
 pub mod ColumnLaws
 pub mod Made
+pub mod Contracts
 pub mod MadeLaws

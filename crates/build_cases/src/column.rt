@@ -16,12 +16,11 @@ ghost use Prim.Native.Nat.{_<_};
 ghost use lib.ListN.{length, take};
 ghost use Rattle.spec_rules.specs.Limits.{clausesMost};
 ghost use Rattle.spec_rules.specs.SplittingLaws.{All};
-ghost use Rattle.format_sheet.specs.Check.{SheetAccepts};
 ghost use Rattle.build_matrix.specs.HeldRows.{heldTests};
 ghost use Rattle.build_matrix.specs.Lists.{asRows, WholeRows, HoldsRows};
 ghost use Rattle.build_matrix.specs.Reading.{heldIn, InTable};
-ghost use Rattle.build_matrix.specs.Ready.{TestKnown};
 ghost use Rattle.build_cases.specs.Rows.{heldTest, TestSmall, longestOf};
+ghost use Rattle.build_cases.specs.Contracts.{TestsAsked};
 
 // One test more, if the row has one.
 fn keep_test(list: &mut [u8; CLAUSES_MOST], count: usize, held: Held) -> usize
@@ -35,7 +34,7 @@ fn keep_test(list: &mut [u8; CLAUSES_MOST], count: usize, held: Held) -> usize
 }
 
 // The tests of the first n of these rows in the column of a class, top down, in the list; how many there are.
-pub fn column_tests<'a>(
+pub(crate) fn column_tests<'a>(
     table: &[u8],
     rows: &'a [u8; CLAUSES_MOST],
     n: usize,
@@ -56,18 +55,23 @@ pub fn column_tests<'a>(
 }
 
 // The longest lengths of the lists among the first n of these tests.
-pub fn longest_of(s: &[u8], m: SheetMap, tests: &[u8; CLAUSES_MOST], n: usize) -> Longest
-    requires { ⌜ SheetAccepts (now s) m × WholeRows (asRows (now tests) n) × All (TestKnown (now s)) (take n (now tests)) ⌝ }
-    ensures { λ r. ⌜ r ≡ longestOf (now (s .entry)) (take n (now (tests .entry))) ⌝ }
+pub(crate) fn longest_of(
+    sheet: &[u8],
+    map: SheetMap,
+    tests: &[u8; CLAUSES_MOST],
+    n: usize,
+) -> Longest
+    requires { ⌜ TestsAsked (now sheet) map (now tests) n ⌝ }
+    ensures { λ r. ⌜ r ≡ longestOf (now (sheet .entry)) (take n (now (tests .entry))) ⌝ }
 {
-    let mut l = Longest {
+    let mut longest = Longest {
         tailless: 0,
         tails: 0,
     };
     let mut i = n;
     while 0 < i {
         i -= 1;
-        l = longer_of(pattern_at(s, m, wide(tests[i])), l);
+        longest = longer_of(pattern_at(sheet, map, wide(tests[i])), longest);
     }
-    l
+    longest
 }

@@ -17,19 +17,18 @@ use base_numbers::tree::CASES_MOST;
 use column::column_tests;
 use column::longest_of;
 use format_sheet::SheetMap;
+use rows::Pass;
 use rows::meet_rows;
 ghost use Prim.Native.Nat.{_<_, _≤_};
 ghost use lib.ListN.{length, take};
 ghost use Rattle.spec_rules.specs.Limits.{patternsMost};
 ghost use Rattle.spec_rules.specs.SheetFile.{clauses};
 ghost use Rattle.spec_rules.specs.SplittingLaws.{All};
-ghost use Rattle.format_sheet.specs.Check.{SheetAccepts};
-ghost use Rattle.build_matrix.specs.Live.{liveIn};
-ghost use Rattle.build_matrix.specs.HeldRows.{heldTests};
 ghost use Rattle.build_matrix.specs.Lists.{asRows, WholeRows};
-ghost use Rattle.build_matrix.specs.Ready.{ReadyTable, TestKnown};
+ghost use Rattle.build_matrix.specs.Ready.{ReadyTable};
 ghost use Rattle.build_arena.specs.Arena.{casesMost, arenaEnd};
 ghost use Rattle.build_cases.specs.Made.{columnOf, MeetsTo};
+ghost use Rattle.build_cases.specs.Contracts.{liveColumn, TestsAsked};
 
 // The cases without a tail end at `mid`, those with one at `end`; `list` says whether the column is one of lists.
 pub struct CasesMet {
@@ -45,34 +44,42 @@ pub enum Meeting {
 
 // The cases of the first n of these tests, from case `first` on: those without a tail, then those with one.
 fn meet_both(
-    s: &[u8],
-    m: SheetMap,
+    sheet: &[u8],
+    map: SheetMap,
     tests: &[u8; CLAUSES_MOST],
     n: usize,
     work: &mut [u8],
     first: usize,
 ) -> Meeting
-    requires { ⌜ SheetAccepts (now s) m × WholeRows (asRows (now tests) n) × All (TestKnown (now s)) (take n (now tests)) ⌝ }
+    requires { ⌜ TestsAsked (now sheet) map (now tests) n ⌝ }
     requires { ⌜ (arenaEnd ≤ length (now work)) × (first ≤ casesMost) ⌝ }
-    ensures { λ r. ⌜ MeetsTo (now (s .entry)) (columnOf (now (s .entry)) (take n (now (tests .entry)))) first (now (work .entry)) (now (work .exit)) r ⌝ }
+    ensures { λ r. ⌜ MeetsTo (now (sheet .entry)) (columnOf (now (sheet .entry)) (take n (now (tests .entry)))) first (now (work .entry)) (now (work .exit)) r ⌝ }
 {
-    let l = longest_of(s, m, tests, n);
-    let mid = meet_rows(s, m, tests, n, l, false, work, first);
-    let end = meet_rows(s, m, tests, n, l, true, work, mid);
+    let longest = longest_of(sheet, map, tests, n);
+    let tailless = Pass {
+        tail: false,
+        longest,
+    };
+    let tailed = Pass {
+        tail: true,
+        longest,
+    };
+    let mid = meet_rows(sheet, map, tests, n, tailless, work, first);
+    let end = meet_rows(sheet, map, tests, n, tailed, work, mid);
     if end == CASES_MOST {
         return Meeting::TooMany;
     }
     Meeting::Met(CasesMet {
         mid,
         end,
-        list: 0 < l.tailless + l.tails,
+        list: 0 < longest.tailless + longest.tails,
     })
 }
 
 // The cases of the first n of these rows in the column of a class, from case `first` on.
 pub fn meet_cases<'a>(
-    s: &[u8],
-    m: SheetMap,
+    sheet: &[u8],
+    map: SheetMap,
     table: &[u8],
     rows: &'a [u8; CLAUSES_MOST],
     n: usize,
@@ -81,11 +88,11 @@ pub fn meet_cases<'a>(
     work: &mut [u8],
     first: usize,
 ) -> Meeting
-    requires { ⌜ ReadyTable (now s) m (now table) × WholeRows (asRows (now rows) n) × All (λ c. c < clauses (now s)) (take n (now rows)) × (class < patternsMost) ⌝ }
+    requires { ⌜ ReadyTable (now sheet) map (now table) × WholeRows (asRows (now rows) n) × All (λ c. c < clauses (now sheet)) (take n (now rows)) × (class < patternsMost) ⌝ }
     requires { ⌜ (arenaEnd ≤ length (now work)) × (first ≤ casesMost) ⌝ }
-    ensures { λ r. ⌜ MeetsTo (now (s .entry)) (columnOf (now (s .entry)) (heldTests (liveIn (now (s .entry)) (now (opened .entry)) class) (take n (now (rows .entry))))) first (now (work .entry)) (now (work .exit)) r ⌝ }
+    ensures { λ r. ⌜ MeetsTo (now (sheet .entry)) (liveColumn (now (sheet .entry)) (now (opened .entry)) class (take n (now (rows .entry)))) first (now (work .entry)) (now (work .exit)) r ⌝ }
 {
     let mut tests = [0u8; CLAUSES_MOST];
-    let k = column_tests(table, rows, n, opened, class, &mut tests);
-    meet_both(s, m, &tests, k, work, first)
+    let found = column_tests(table, rows, n, opened, class, &mut tests);
+    meet_both(sheet, map, &tests, found, work, first)
 }

@@ -15,15 +15,22 @@ ghost use Rattle.build_cases.specs.Fields.{Fit};
 ghost use Rattle.build_cases.specs.SoFar.{Begun, meetOne, Meets};
 
 // The number of cases after this one is met, if it is new and there is room for it.
-pub fn meet(s: &[u8], m: SheetMap, work: &mut [u8], from: usize, to: usize, test: Test) -> usize
-    requires { ⌜ Laid (now s) × (m ≡ mapOf (now s)) × Fit (now s) (kindOf test) (numberOf test) (lengthOf test) ⌝ }
-    requires { ⌜ Begun (now s) (now work) from to ⌝ }
-    ensures { λ r. ⌜ Meets (now (s .entry)) (now (work .entry)) from to (meetOne (now (s .entry)) from test) r (now (work .exit)) ⌝ }
+pub(crate) fn meet(
+    sheet: &[u8],
+    map: SheetMap,
+    work: &mut [u8],
+    from: usize,
+    to: usize,
+    test: Test,
+) -> usize
+    requires { ⌜ Laid (now sheet) × (map ≡ mapOf (now sheet)) × Fit (now sheet) (kindOf test) (numberOf test) (lengthOf test) ⌝ }
+    requires { ⌜ Begun (now sheet) (now work) from to ⌝ }
+    ensures { λ r. ⌜ Meets (now (sheet .entry)) (now (work .entry)) from to (meetOne (now (sheet .entry)) from test) r (now (work .exit)) ⌝ }
 {
     if to == CASES_MOST {
         return to;
     }
-    if same_case(s, m.at.pool, work, from, to, fields_of(test)) < to {
+    if same_case(sheet, map.at.pool, work, from, to, fields_of(test)) < to {
         return to;
     }
     put_case(work, to, Case { test, child: 0 });

@@ -15,83 +15,86 @@ ghost use Prim.Native.Nat.{_-_, _≤_};
 ghost use lib.ListN.{take};
 ghost use Rattle.spec_accepted.specs.SheetFacts.{Laid};
 ghost use Rattle.format_sheet.specs.Sections.{mapOf};
-ghost use Rattle.spec_rules.specs.SplittingLaws.{All};
 ghost use Rattle.format_sheet.specs.Check.{SheetAccepts};
-ghost use Rattle.build_matrix.specs.Lists.{asRows, WholeRows};
 ghost use Rattle.build_matrix.specs.Ready.{TestKnown};
 ghost use Rattle.build_cases.specs.SoFar.{Begun, Meets};
 ghost use Rattle.build_cases.specs.Rows.{riseTo, meetTest, meetTests};
+ghost use Rattle.build_cases.specs.Contracts.{PassAsked};
 
-// The cases of lists with k elements, k + 1, .. up to `end` met.
+// What a pass meets: the cases with a tail or those without, of a column with these longest lengths.
+pub struct Pass {
+    pub tail: bool,
+    pub longest: Longest,
+}
+
+// The cases of lists with `least` elements, one more, .. up to `end` met.
 fn meet_rising(
-    s: &[u8],
-    m: SheetMap,
+    sheet: &[u8],
+    map: SheetMap,
     work: &mut [u8],
     from: usize,
     to: usize,
     tail: bool,
-    k: usize,
+    least: usize,
     end: usize,
 ) -> usize
-    requires { ⌜ Laid (now s) × (m ≡ mapOf (now s)) × (end ≤ 65536) ⌝ }
-    requires { ⌜ Begun (now s) (now work) from to ⌝ }
-    ensures { λ r. ⌜ Meets (now (s .entry)) (now (work .entry)) from to (riseTo from tail k (end - k)) r (now (work .exit)) ⌝ }
+    requires { ⌜ Laid (now sheet) × (map ≡ mapOf (now sheet)) × (end ≤ 65536) ⌝ }
+    requires { ⌜ Begun (now sheet) (now work) from to ⌝ }
+    ensures { λ r. ⌜ Meets (now (sheet .entry)) (now (work .entry)) from to (riseTo from tail least (end - least)) r (now (work .exit)) ⌝ }
 {
     let mut top = to;
-    let mut i = k;
+    let mut i = least;
     while i < end {
-        top = meet(s, m, work, from, top, list_test(tail, i));
+        top = meet(sheet, map, work, from, top, list_test(tail, i));
         i += 1;
     }
     top
 }
 
-// The cases met that the row of pattern p joins, of those with a tail or of those without.
+// The cases met that the row of pattern p joins, of those of the pass.
 fn meet_test(
-    s: &[u8],
-    m: SheetMap,
-    l: Longest,
-    tail: bool,
+    sheet: &[u8],
+    map: SheetMap,
+    pass: Pass,
     p: usize,
     work: &mut [u8],
     from: usize,
     to: usize,
 ) -> usize
-    requires { ⌜ SheetAccepts (now s) m × TestKnown (now s) p × (l .tailless ≤ 65536) × (l .tails ≤ 65536) ⌝ }
-    requires { ⌜ Begun (now s) (now work) from to ⌝ }
-    ensures { λ r. ⌜ Meets (now (s .entry)) (now (work .entry)) from to (meetTest (now (s .entry)) from tail l p) r (now (work .exit)) ⌝ }
+    requires { ⌜ SheetAccepts (now sheet) map × TestKnown (now sheet) p × (pass .longest .tailless ≤ 65536) × (pass .longest .tails ≤ 65536) ⌝ }
+    requires { ⌜ Begun (now sheet) (now work) from to ⌝ }
+    ensures { λ r. ⌜ Meets (now (sheet .entry)) (now (work .entry)) from to (meetTest (now (sheet .entry)) from (pass .tail) (pass .longest) p) r (now (work .exit)) ⌝ }
 {
-    let r = pattern_at(s, m, p);
+    let r = pattern_at(sheet, map, p);
     if r.kind == pattern_kinds::LIST_WITH_TAIL {
-        let k = r.count - 1;
-        let end = longest_with(l, tail);
-        return meet_rising(s, m, work, from, to, tail, k, end);
+        let least = r.count - 1;
+        let end = longest_with(pass.longest, pass.tail);
+        return meet_rising(sheet, map, work, from, to, pass.tail, least, end);
     }
-    if tail {
+    if pass.tail {
         return to;
     }
-    meet(s, m, work, from, to, test_of(r))
+    meet(sheet, map, work, from, to, test_of(r))
 }
 
-// The pass: the cases met that the first n of these tests join, of those with a tail or of those without.
-pub fn meet_rows(
-    s: &[u8],
-    m: SheetMap,
+// The pass: the cases met that the first n of these tests join.
+pub(crate) fn meet_rows(
+    sheet: &[u8],
+    map: SheetMap,
     tests: &[u8; CLAUSES_MOST],
     n: usize,
-    l: Longest,
-    tail: bool,
+    pass: Pass,
     work: &mut [u8],
     from: usize,
 ) -> usize
-    requires { ⌜ SheetAccepts (now s) m × WholeRows (asRows (now tests) n) × All (TestKnown (now s)) (take n (now tests)) × (l .tailless ≤ 65536) × (l .tails ≤ 65536) ⌝ }
-    requires { ⌜ Begun (now s) (now work) from from ⌝ }
-    ensures { λ r. ⌜ Meets (now (s .entry)) (now (work .entry)) from from (meetTests (now (s .entry)) from tail l (take n (now (tests .entry)))) r (now (work .exit)) ⌝ }
+    requires { ⌜ PassAsked (now sheet) map (now tests) n (pass .longest) ⌝ }
+    requires { ⌜ Begun (now sheet) (now work) from from ⌝ }
+    ensures { λ r. ⌜ Meets (now (sheet .entry)) (now (work .entry)) from from (meetTests (now (sheet .entry)) from (pass .tail) (pass .longest) (take n (now (tests .entry)))) r (now (work .exit)) ⌝ }
 {
     let mut top = from;
     let mut i: usize = 0;
     while i < n {
-        top = meet_test(s, m, l, tail, wide(tests[i]), work, from, top);
+        top = meet_test(sheet, map, pass, wide(tests[i]), work, from, top);
         i += 1;
     }
     top

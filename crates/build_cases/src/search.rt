@@ -21,13 +21,13 @@ pub struct Fields {
 }
 
 // A word as an index.
-fn wide(x: u16) -> usize
-    ensures { λ r. ⌜ r ≡ x ⌝ }
+fn wide(word: u16) -> usize
+    ensures { λ r. ⌜ r ≡ word ⌝ }
 {
-    x as usize
+    word as usize
 }
 
-pub fn fields_of(test: Test) -> Fields
+pub(crate) fn fields_of(test: Test) -> Fields
     ensures { λ r. ⌜ r ≡ fieldsOf test ⌝ }
 {
     match test {
@@ -55,46 +55,53 @@ pub fn fields_of(test: Test) -> Fields
 }
 
 // Case i may have this test: it has its kind and length, and what is no text its number.
-fn is_alike(work: &[u8], i: usize, f: Fields) -> bool
+fn is_alike(work: &[u8], i: usize, fields: Fields) -> bool
     requires { ⌜ (arenaEnd ≤ length (now work)) × (i < casesMost) ⌝ }
-    ensures { λ r. ⌜ r ≡ isAlike (now (work .entry)) i (f .kind) (f .number) (f .len) ⌝ }
+    ensures { λ r. ⌜ r ≡ isAlike (now (work .entry)) i (fields .kind) (fields .number) (fields .len) ⌝ }
 {
-    if case_kind(work, i) != f.kind {
+    if case_kind(work, i) != fields.kind {
         return false;
     }
-    if case_length(work, i) != f.len {
+    if case_length(work, i) != fields.len {
         return false;
     }
-    if f.kind == case_kinds::INT {
+    if fields.kind == case_kinds::INT {
         return true;
     }
-    if f.kind == case_kinds::BYTES {
+    if fields.kind == case_kinds::BYTES {
         return true;
     }
-    case_number(work, i) == f.number
+    case_number(work, i) == fields.number
 }
 
 // The first of the cases from `from` up to `to` with this test, or `to`.
-pub fn same_case(s: &[u8], pool: usize, work: &[u8], from: usize, to: usize, f: Fields) -> usize
-    requires { ⌜ Laid (now s) × (pool ≡ poolAt (now s)) × Fit (now s) (f .kind) (f .number) (f .len) ⌝ }
-    requires { ⌜ (arenaEnd ≤ length (now work)) × (from ≤ to) × (to ≤ casesMost) × Readable (now s) (now work) from to ⌝ }
-    ensures { λ r. ⌜ r ≡ firstWhere (hasTest (now (s .entry)) (now (work .entry)) (f .kind) (f .number) (f .len)) from (to - from) ⌝ }
+pub(crate) fn same_case(
+    sheet: &[u8],
+    pool: usize,
+    work: &[u8],
+    from: usize,
+    to: usize,
+    fields: Fields,
+) -> usize
+    requires { ⌜ Laid (now sheet) × (pool ≡ poolAt (now sheet)) × Fit (now sheet) (fields .kind) (fields .number) (fields .len) ⌝ }
+    requires { ⌜ (arenaEnd ≤ length (now work)) × (from ≤ to) × (to ≤ casesMost) × Readable (now sheet) (now work) from to ⌝ }
+    ensures { λ r. ⌜ r ≡ firstWhere (hasTest (now (sheet .entry)) (now (work .entry)) (fields .kind) (fields .number) (fields .len)) from (to - from) ⌝ }
 {
-    let start = pool + wide(f.number);
-    let len = wide(f.len);
+    let start = pool + wide(fields.number);
+    let len = wide(fields.len);
     let mut i = from;
     let at = 'cases: loop {
         if i == to {
             break to;
         }
-        if is_alike(work, i, f) {
+        if is_alike(work, i, fields) {
             let other = pool + wide(case_number(work, i));
             let mut k: usize = 0;
             loop {
                 if k == len {
                     break 'cases i;
                 }
-                if s[other + k] != s[start + k] {
+                if sheet[other + k] != sheet[start + k] {
                     break;
                 }
                 k += 1;

@@ -17,32 +17,32 @@ pub struct Longest {
 }
 
 // The longest lengths with those of one pattern more.
-pub fn longer_of(r: PatternRecord, l: Longest) -> Longest
+pub(crate) fn longer_of(r: PatternRecord, longest: Longest) -> Longest
     requires { ⌜ Small r ⌝ }
-    ensures { λ out. ⌜ out ≡ longer r l ⌝ }
+    ensures { λ out. ⌜ out ≡ longer r longest ⌝ }
 {
     if r.kind == pattern_kinds::LIST {
-        if l.tailless <= r.count {
+        if longest.tailless <= r.count {
             return Longest {
                 tailless: r.count + 1,
-                tails: l.tails,
+                tails: longest.tails,
             };
         }
-        return l;
+        return longest;
     }
     if r.kind == pattern_kinds::LIST_WITH_TAIL {
-        if l.tails < r.count {
+        if longest.tails < r.count {
             return Longest {
-                tailless: l.tailless,
+                tailless: longest.tailless,
                 tails: r.count,
             };
         }
     }
-    l
+    longest
 }
 
 // The test of a pattern without a tail.
-pub fn test_of(r: PatternRecord) -> Test
+pub(crate) fn test_of(r: PatternRecord) -> Test
     requires { ⌜ Small r ⌝ }
     ensures { λ out. ⌜ out ≡ exactTest r ⌝ }
 {
@@ -65,24 +65,24 @@ pub fn test_of(r: PatternRecord) -> Test
     }
 }
 
-// The case of lists with n elements, and a tail or none.
-pub fn list_test(tail: bool, n: usize) -> Test
-    requires { ⌜ n < 65536 ⌝ }
-    ensures { λ out. ⌜ out ≡ arenaListTest tail n ⌝ }
+// The case of lists with so many elements, and a tail or none.
+pub(crate) fn list_test(tail: bool, count: usize) -> Test
+    requires { ⌜ count < 65536 ⌝ }
+    ensures { λ out. ⌜ out ≡ arenaListTest tail count ⌝ }
 {
     if tail {
-        Test::Tailed(n as u16)
+        Test::Tailed(count as u16)
     } else {
-        Test::List(n as u16)
+        Test::List(count as u16)
     }
 }
 
 // The longest length of those with a tail, or of those without.
-pub fn longest_with(l: Longest, tail: bool) -> usize
-    ensures { λ r. ⌜ r ≡ pick tail (l .tails) (l .tailless) ⌝ }
+pub(crate) fn longest_with(longest: Longest, tail: bool) -> usize
+    ensures { λ r. ⌜ r ≡ pick tail (longest .tails) (longest .tailless) ⌝ }
 {
     if tail {
-        return l.tails;
+        return longest.tails;
     }
-    l.tailless
+    longest.tailless
 }

@@ -14,7 +14,7 @@ use Rattle.build_arena.specs.Arena.{casesStart, casesMost, bindingsStart, arena
 use Rattle.spec_file.specs.RecordsLaws.{caseFields}
 use Rattle.build_scopes.specs.Marks.{SwitchInside}
 use Rattle.build_scopes.specs.WriterLaws.{hoistsBefore, hoistsAt, standsAt}
-use Rattle.build_file_nodes.specs.declared.nodes.Tops.{Tops}
+use Rattle.build_file_nodes.specs.declared.Tops.{Tops}
 use Rattle.build_file_nodes.specs.Uses.{Uses, usesOf, Counted, withClass, numberIn}
 
 -- ---- bindings

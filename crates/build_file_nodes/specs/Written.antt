@@ -15,7 +15,7 @@ use Rattle.build_scopes.specs.declared.Scopes.{Scopes}
 use Rattle.build_scopes.specs.Numbers.{BindCounts}
 use Rattle.build_scopes.specs.Marks.{ReadyTree}
 use Rattle.build_scopes.specs.Scoped.{Scoped}
-use Rattle.build_file_nodes.specs.declared.nodes.Tops.{Tops}
+use Rattle.build_file_nodes.specs.declared.Tops.{Tops}
 
 -- the tree of so many nodes and cases, held in the arena over a table of all its paths, with the scopes of its clauses;
 -- the leaves of a clause have as many bindings each, and the hoisted tree is within refusals 12 and 13
@@ -46,3 +46,7 @@ pub record Written (table : List Path) (hoisted : Tree) (before after classes : 
   pub classes-inside : r .paths ≤ length classes
   pub classes-known : (i : ℕ) → i < r .paths → getD classes i 0 < length table
   pub paths-are : (path : ℕ → Path) → ((c : ℕ) → c < length table → path c ≡ getD table c []) → map path (take (r .paths) classes) ≡ pathTable hoisted
+
+-- the answer for the tree that h is of
+abbrev pub WritesHoisted : {w : List ℕ} {nodes cases : ℕ} {x : Scopes} {clauses : ℕ} → WritingAsked w nodes cases x clauses → List ℕ → List ℕ → List ℕ → Tops → Type 0
+WritesHoisted {clauses = clauses} h before after classes r = Written (h .ready .table) (hoistAll clauses (h .tree)) before after classes r

@@ -37,7 +37,7 @@ use Rattle.build_scopes.specs.NumbersLaws.{descent-in}
 use Rattle.build_scopes.specs.Marks.{LeafThere, SwitchThere}
 use Rattle.build_scopes.specs.ReadyLaws.{node-there, node-inside}
 use Rattle.build_scopes.specs.WriterLaws.{scoped-hoisted, scoped-leaf, stands-first}
-use Rattle.build_file_nodes.specs.declared.nodes.Tops.{Tops}
+use Rattle.build_file_nodes.specs.declared.Tops.{Tops}
 use Rattle.build_file_nodes.specs.Pieces.{Piece, treePiece, overPiece}
 use Rattle.build_file_nodes.specs.PiecesLaws.{howMany-hoisted, hoisted-piece}
 use Rattle.build_file_nodes.specs.Uses.{usesOf, withClasses, classNumbers, Stand}

@@ -11,20 +11,21 @@ ghost use lib.ListN.{length};
 ghost use Rattle.spec_rules.specs.Limits.{bindingSize};
 ghost use Rattle.build_file_nodes.specs.Uses.{usesOf, Counted};
 ghost use Rattle.build_file_nodes.specs.Model.{BindingAsked, BindingsAsked, PutBinding, PutBindings};
+ghost use Rattle.build_file_nodes.specs.Contracts.{usesBefore, usesAfter};
 
 fn put_binding(
-    w: &[u8],
-    b: usize,
+    work: &[u8],
+    i: usize,
     tree: &mut [u8],
     at: usize,
     number: &mut [u8; PATTERNS_MOST],
     list: &mut [u8; PATTERNS_MOST],
     paths: usize,
 ) -> usize
-    requires { ⌜ BindingAsked (now w) b × (at + 3 < length (now tree)) × Counted (usesOf (now number) (now list) paths) ⌝ }
-    ensures { λ r. ⌜ PutBinding (now (w .entry)) b at (usesOf (now (number .entry)) (now (list .entry)) paths) (now (tree .entry)) (now (tree .exit)) (usesOf (now (number .exit)) (now (list .exit)) r) ⌝ }
+    requires { ⌜ BindingAsked (now work) i × (at + 3 < length (now tree)) × Counted (usesOf (now number) (now list) paths) ⌝ }
+    ensures { λ r. ⌜ PutBinding (now (work .entry)) i at (usesBefore number list paths) (now (tree .entry)) (now (tree .exit)) (usesAfter number list r) ⌝ }
 {
-    let binding = binding_at(w, b);
+    let binding = binding_at(work, i);
     let class = binding.path as usize;
     let count = used(number, list, paths, class);
     let own = wide(number[class]);
@@ -33,8 +34,8 @@ fn put_binding(
 }
 
 // The count bindings from first on, the first of them at `at`; how many paths have a number then.
-pub fn put_bindings(
-    w: &[u8],
+pub(crate) fn put_bindings(
+    work: &[u8],
     first: usize,
     count: usize,
     tree: &mut [u8],
@@ -43,14 +44,22 @@ pub fn put_bindings(
     list: &mut [u8; PATTERNS_MOST],
     paths: usize,
 ) -> usize
-    requires { ⌜ BindingsAsked (now w) first count × (at + bindingSize * count ≤ length (now tree)) × Counted (usesOf (now number) (now list) paths) ⌝ }
-    ensures { λ r. ⌜ PutBindings (now (w .entry)) first count at (usesOf (now (number .entry)) (now (list .entry)) paths) (now (tree .entry)) (now (tree .exit)) (usesOf (now (number .exit)) (now (list .exit)) r) ⌝ }
+    requires { ⌜ BindingsAsked (now work) first count × (at + bindingSize * count ≤ length (now tree)) × Counted (usesOf (now number) (now list) paths) ⌝ }
+    ensures { λ r. ⌜ PutBindings (now (work .entry)) first count at (usesBefore number list paths) (now (tree .entry)) (now (tree .exit)) (usesAfter number list r) ⌝ }
 {
-    let mut v = paths;
+    let mut known = paths;
     let mut i = 0;
     while i < count {
-        v = put_binding(w, first + i, tree, at + BINDING_SIZE * i, number, list, v);
+        known = put_binding(
+            work,
+            first + i,
+            tree,
+            at + BINDING_SIZE * i,
+            number,
+            list,
+            known,
+        );
         i += 1;
     }
-    v
+    known
 }

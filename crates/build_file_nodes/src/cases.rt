@@ -24,7 +24,7 @@ fn move_by(k: usize, by: u8) -> u16
 }
 
 // A default, which is one more than its node's number, or 0.
-pub fn moved_default(shift: &[u8; SHIFTS], default: usize) -> u16
+pub(crate) fn moved_default(shift: &[u8; SHIFTS], default: usize) -> u16
     requires { ⌜ default ≤ nodesMost ⌝ }
     ensures { λ r. ⌜ r ≡ movedDefault (movedBy (now (shift .entry))) default ⌝ }
 {
@@ -35,33 +35,33 @@ pub fn moved_default(shift: &[u8; SHIFTS], default: usize) -> u16
 }
 
 // Case i of the arena with another child.
-fn put_case(w: &[u8], i: usize, tree: &mut [u8], at: usize, child: u16)
-    requires { ⌜ (arenaEnd ≤ length (now w)) × (i < casesMost) × (at + caseSize ≤ length (now tree)) ⌝ }
-    ensures { λ _. ⌜ now (tree .exit) ≡ stored (now (tree .entry)) at (movedCase (now (w .entry)) i child) ⌝ }
+fn put_case(work: &[u8], i: usize, tree: &mut [u8], at: usize, child: u16)
+    requires { ⌜ (arenaEnd ≤ length (now work)) × (i < casesMost) × (at + caseSize ≤ length (now tree)) ⌝ }
+    ensures { λ _. ⌜ now (tree .exit) ≡ stored (now (tree .entry)) at (movedCase (now (work .entry)) i child) ⌝ }
 {
-    let kind = case_kind(w, i);
-    let number = case_number(w, i);
-    let count = case_length(w, i);
+    let kind = case_kind(work, i);
+    let number = case_number(work, i);
+    let count = case_length(work, i);
     put_case_fields(tree, at, kind, number, count, child);
 }
 
 // The count cases from first on, the first of them at `at`.
-pub fn put_cases(
-    w: &[u8],
+pub(crate) fn put_cases(
+    work: &[u8],
     first: usize,
     count: usize,
     shift: &[u8; SHIFTS],
     tree: &mut [u8],
     at: usize,
 )
-    requires { ⌜ CasesAsked (now w) first count × (at + caseSize * count ≤ length (now tree)) ⌝ }
-    ensures { λ _. ⌜ now (tree .exit) ≡ stored (now (tree .entry)) at (movedCases (now (w .entry)) (movedBy (now (shift .entry))) first count) ⌝ }
+    requires { ⌜ CasesAsked (now work) first count × (at + caseSize * count ≤ length (now tree)) ⌝ }
+    ensures { λ _. ⌜ now (tree .exit) ≡ stored (now (tree .entry)) at (movedCases (now (work .entry)) (movedBy (now (shift .entry))) first count) ⌝ }
 {
     let mut i = 0;
     while i < count {
-        let child = case_child(w, first + i) as usize;
+        let child = case_child(work, first + i) as usize;
         let moved = move_by(child, shift[child]);
-        put_case(w, first + i, tree, at + CASE_SIZE * i, moved);
+        put_case(work, first + i, tree, at + CASE_SIZE * i, moved);
         i += 1;
     }
 }

@@ -1,6 +1,6 @@
 // The hoists that stand above a node, in the order of their clauses.
 // A node with none is known by how far it and the next node are moved. For another one pass over the clauses finds those hoisted there.
-use crate::nodes::Tops;
+use crate::Tops;
 use crate::nodes::put_bound;
 use crate::shift::SHIFTS;
 use crate::shift::as_count;
@@ -11,7 +11,8 @@ ghost use mathlib.Core.Path.{_≡_};
 ghost use Prim.Native.Nat.{_+_, _≤_};
 ghost use Rattle.spec_rules.specs.Kinds.{hoistNode};
 ghost use Rattle.spec_rules.specs.Limits.{clausesMost};
-ghost use Rattle.build_file_nodes.specs.Model.{nodeIn, placesOf, reachOf, outOf, BoundAsked, boundOut, HoistsAsked, hoistsOut, NextHoist};
+ghost use Rattle.build_file_nodes.specs.Model.{nodeIn, placesOf, reachOf, BoundAsked, boundOut, HoistsAsked, hoistsOut, NextHoist};
+ghost use Rattle.build_file_nodes.specs.Contracts.{outBefore, outAfter, placesBefore};
 
 // The first clause from c on that is hoisted above node k, or how many clauses there are.
 fn next_hoist(node: &[u16; CLAUSES_MOST], c: usize, clauses: usize, k: usize) -> usize
@@ -30,20 +31,20 @@ fn next_hoist(node: &[u16; CLAUSES_MOST], c: usize, clauses: usize, k: usize) ->
 
 // A hoist with the clause and the bindings of this leaf, over the node that is written after it.
 fn put_hoist(
-    w: &[u8],
+    work: &[u8],
     leaf: usize,
     tree: &mut [u8],
     start: usize,
     number: &mut [u8; PATTERNS_MOST],
     list: &mut [u8; PATTERNS_MOST],
-    f: Tops,
+    tops: Tops,
 ) -> Tops
-    requires { ⌜ BoundAsked (now w) leaf start (now tree) (reachOf (now number) (now list) f) ⌝ }
-    ensures { λ r. ⌜ outOf (now (tree .exit)) (reachOf (now (number .exit)) (now (list .exit)) r) ≡ boundOut (now (w .entry)) start leaf hoistNode (f .nodes + 1) (outOf (now (tree .entry)) (reachOf (now (number .entry)) (now (list .entry)) f)) ⌝ }
+    requires { ⌜ BoundAsked (now work) leaf start (now tree) (reachOf (now number) (now list) tops) ⌝ }
+    ensures { λ r. ⌜ outAfter tree number list r ≡ boundOut (now (work .entry)) start leaf hoistNode (tops .nodes + 1) (outBefore tree number list tops) ⌝ }
 {
-    let child = (f.nodes + 1) as u16;
+    let child = (tops.nodes + 1) as u16;
     put_bound(
-        w,
+        work,
         leaf,
         node_kinds::HOIST,
         child,
@@ -51,13 +52,13 @@ fn put_hoist(
         start,
         number,
         list,
-        f,
+        tops,
     )
 }
 
 // The hoists above node k, the lowest clause outermost.
-pub fn put_hoists(
-    w: &[u8],
+pub(crate) fn put_hoists(
+    work: &[u8],
     k: usize,
     node: &[u16; CLAUSES_MOST],
     leaf: &[u16; CLAUSES_MOST],
@@ -67,19 +68,19 @@ pub fn put_hoists(
     start: usize,
     number: &mut [u8; PATTERNS_MOST],
     list: &mut [u8; PATTERNS_MOST],
-    f: Tops,
+    tops: Tops,
 ) -> Tops
-    requires { ⌜ HoistsAsked (now w) k (placesOf (now node) (now leaf)) clauses (now shift) start (now tree) (reachOf (now number) (now list) f) ⌝ }
-    ensures { λ r. ⌜ outOf (now (tree .exit)) (reachOf (now (number .exit)) (now (list .exit)) r) ≡ hoistsOut (now (w .entry)) start (placesOf (now (node .entry)) (now (leaf .entry))) k 0 clauses (outOf (now (tree .entry)) (reachOf (now (number .entry)) (now (list .entry)) f)) ⌝ }
+    requires { ⌜ HoistsAsked (now work) k (placesOf (now node) (now leaf)) clauses (now shift) start (now tree) (reachOf (now number) (now list) tops) ⌝ }
+    ensures { λ r. ⌜ outAfter tree number list r ≡ hoistsOut (now (work .entry)) start (placesBefore node leaf) k 0 clauses (outBefore tree number list tops) ⌝ }
 {
     if shift[k] == shift[k + 1] {
-        return f;
+        return tops;
     }
-    let mut g = f;
+    let mut next = tops;
     let mut c = next_hoist(node, 0, clauses, k);
     while c < clauses {
-        g = put_hoist(w, as_count(leaf[c]), tree, start, number, list, g);
+        next = put_hoist(work, as_count(leaf[c]), tree, start, number, list, next);
         c = next_hoist(node, c + 1, clauses, k);
     }
-    g
+    next
 }

@@ -6,7 +6,7 @@ use base_numbers::sheet::PATTERNS_MOST;
 use base_numbers::tree::CASE_SIZE;
 use base_numbers::tree::NODE_SIZE;
 use build_scopes::Scopes;
-use nodes::Tops;
+use nodes::Starts;
 use nodes::put_nodes;
 use shift::SHIFTS;
 use shift::find_shift;
@@ -14,54 +14,65 @@ ghost use mathlib.Core.Path.{_≡_};
 ghost use Prim.Native.Nat.{_≤_};
 ghost use lib.ListN.{length};
 ghost use Rattle.spec_rules.specs.Limits.{patternsMost, treeRoom};
-ghost use Rattle.spec_rules.specs.Hoisting.{hoistAll};
-ghost use Rattle.build_file_nodes.specs.Written.{WritingAsked, Written};
+ghost use Rattle.build_file_nodes.specs.Written.{WritingAsked, WritesHoisted};
 
-pub mod bindings;
-pub mod cases;
-pub mod hoists;
-pub mod nodes;
-pub mod shift;
-pub mod uses;
+mod bindings;
+mod cases;
+mod hoists;
+mod nodes;
+mod shift;
+mod uses;
+
+// How many nodes, cases and bindings are written, and how many paths have a number.
+pub struct Tops {
+    pub nodes: usize,
+    pub cases: usize,
+    pub bindings: usize,
+    pub paths: usize,
+}
 
 // The three sections from 0 on, of the tree with so many nodes and cases before it is hoisted. The answer is how many nodes, cases
 // and bindings are written and how many paths they use; `classes` has the classes of those paths, in the order of their numbers.
 pub fn write_nodes(
-    w: &[u8],
+    work: &[u8],
     nodes: usize,
     cases: usize,
-    x: Scopes,
+    scopes: Scopes,
     clauses: usize,
     tree: &mut [u8],
     classes: &mut [u8; PATTERNS_MOST],
 ) -> Tops
-    requires { ⌜ WritingAsked (now w) nodes cases x clauses × (treeRoom ≤ length (now tree)) × (length (now classes) ≡ patternsMost) ⌝ }
-    ensures { λ r. ⌜ ((h : WritingAsked (now (w .entry)) nodes cases x clauses) → Written (h .ready .table) (hoistAll clauses (h .tree)) (now (tree .entry)) (now (tree .exit)) (now (classes .exit)) r) ⌝ }
+    requires { ⌜ WritingAsked (now work) nodes cases scopes clauses × (treeRoom ≤ length (now tree)) × (length (now classes) ≡ patternsMost) ⌝ }
+    ensures { λ r. ⌜ ((h : WritingAsked (now (work .entry)) nodes cases scopes clauses) → WritesHoisted h (now (tree .entry)) (now (tree .exit)) (now (classes .exit)) r) ⌝ }
 {
-    let second = NODE_SIZE * (nodes + x.hoists);
-    let node = x.node;
-    let leaf = x.leaf;
+    let second = NODE_SIZE * (nodes + scopes.hoists);
+    let third = second + CASE_SIZE * cases;
+    let node = scopes.node;
+    let leaf = scopes.leaf;
     let mut shift = [0u8; SHIFTS];
     find_shift(&node, clauses, nodes, &mut shift);
     let mut number = [0u8; PATTERNS_MOST];
-    let f = Tops {
+    let starts = Starts {
+        cases: second,
+        bindings: third,
+    };
+    let none = Tops {
         nodes: 0,
         cases: 0,
         bindings: 0,
         paths: 0,
     };
     put_nodes(
-        w,
+        work,
         nodes,
         &node,
         &leaf,
         clauses,
         &shift,
         tree,
-        second,
-        second + CASE_SIZE * cases,
+        starts,
         &mut number,
         classes,
-        f,
+        none,
     )
 }

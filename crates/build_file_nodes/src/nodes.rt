@@ -1,6 +1,7 @@
 // One node of the arena in the tree file: the hoists above it, then its own record with its cases or its bindings.
 // What is written so far is known by the tops of the sections; each function answers them anew. A section's start is given with them.
 // The path numbers are in two tables that are lent with the tops.
+use crate::Tops;
 use crate::bindings::put_bindings;
 use crate::cases::moved_default;
 use crate::cases::put_cases;
@@ -21,21 +22,18 @@ use build_scopes::marks::children_of;
 use format_parts::sections::first_of;
 use format_records::writing::put_node;
 ghost use mathlib.Core.Path.{_≡_};
-ghost use Prim.Native.Nat.{_+_, _<_};
-ghost use Rattle.build_file_nodes.specs.Uses.{usesOf};
-ghost use Rattle.build_file_nodes.specs.Model.{movedBy, placesOf, reachOf, BoundAsked, SwitchNodeAsked, PutSwitchNode, SwitchAsked, OwnAsked, NodeAsked, NodesAsked, outOf, boundOut, switchOut, ownOut, nodeOut, nodesOut};
+ghost use Rattle.build_file_nodes.specs.Model.{movedBy, placesOf, reachOf, BoundAsked, SwitchNodeAsked, PutSwitchNode, SwitchAsked, OwnAsked, NodeAsked, NodesAsked, boundOut, switchOut, ownOut, nodeOut, nodesOut};
+ghost use Rattle.build_file_nodes.specs.Contracts.{usesAfter, reachBefore, outBefore, outAfter, placesBefore};
 
-// How many nodes, cases and bindings are written, and how many paths have a number.
-pub struct Tops {
-    pub nodes: usize,
+// Where the sections of cases and bindings start in the file.
+pub struct Starts {
     pub cases: usize,
     pub bindings: usize,
-    pub paths: usize,
 }
 
 // A leaf, or a hoist over the child, with the clause and the bindings of the arena's leaf.
-pub fn put_bound(
-    w: &[u8],
+pub(crate) fn put_bound(
+    work: &[u8],
     leaf: usize,
     kind: u8,
     child: u16,
@@ -43,20 +41,20 @@ pub fn put_bound(
     start: usize,
     number: &mut [u8; PATTERNS_MOST],
     list: &mut [u8; PATTERNS_MOST],
-    f: Tops,
+    tops: Tops,
 ) -> Tops
-    requires { ⌜ BoundAsked (now w) leaf start (now tree) (reachOf (now number) (now list) f) ⌝ }
-    ensures { λ r. ⌜ outOf (now (tree .exit)) (reachOf (now (number .exit)) (now (list .exit)) r) ≡ boundOut (now (w .entry)) start leaf kind child (outOf (now (tree .entry)) (reachOf (now (number .entry)) (now (list .entry)) f)) ⌝ }
+    requires { ⌜ BoundAsked (now work) leaf start (now tree) (reachOf (now number) (now list) tops) ⌝ }
+    ensures { λ r. ⌜ outAfter tree number list r ≡ boundOut (now (work .entry)) start leaf kind child (outBefore tree number list tops) ⌝ }
 {
-    let clause = node_word(w, leaf, node_words::CLAUSE);
-    let from = node_word(w, leaf, node_words::FIRST_BINDING) as usize;
-    let count = node_word(w, leaf, node_words::BINDINGS);
+    let clause = node_word(work, leaf, node_words::CLAUSE);
+    let from = node_word(work, leaf, node_words::FIRST_BINDING) as usize;
+    let count = node_word(work, leaf, node_words::BINDINGS);
     let n = count as usize;
-    let top = f.bindings;
+    let top = tops.bindings;
     let first = first_of(count, top as u16);
     put_node(
         tree,
-        NODE_SIZE * f.nodes,
+        NODE_SIZE * tops.nodes,
         kind,
         clause,
         first,
@@ -65,10 +63,10 @@ pub fn put_bound(
         0,
     );
     let at = start + BINDING_SIZE * top;
-    let paths = put_bindings(w, from, n, tree, at, number, list, f.paths);
+    let paths = put_bindings(work, from, n, tree, at, number, list, tops.paths);
     Tops {
-        nodes: f.nodes + 1,
-        cases: f.cases,
+        nodes: tops.nodes + 1,
+        cases: tops.cases,
         bindings: top + n,
         paths,
     }
@@ -76,28 +74,28 @@ pub fn put_bound(
 
 // The record of a switch or a list switch; the answer is how many paths have a number, with its own.
 fn put_switch_node(
-    w: &[u8],
+    work: &[u8],
     k: usize,
     shift: &[u8; SHIFTS],
     tree: &mut [u8],
     number: &mut [u8; PATTERNS_MOST],
     list: &mut [u8; PATTERNS_MOST],
-    f: Tops,
+    tops: Tops,
 ) -> usize
-    requires { ⌜ SwitchNodeAsked (now w) k (now tree) (reachOf (now number) (now list) f) ⌝ }
-    ensures { λ r. ⌜ PutSwitchNode (now (w .entry)) (movedBy (now (shift .entry))) k (reachOf (now (number .entry)) (now (list .entry)) f) (now (tree .entry)) (now (tree .exit)) (usesOf (now (number .exit)) (now (list .exit)) r) ⌝ }
+    requires { ⌜ SwitchNodeAsked (now work) k (now tree) (reachOf (now number) (now list) tops) ⌝ }
+    ensures { λ r. ⌜ PutSwitchNode (now (work .entry)) (movedBy (now (shift .entry))) k (reachBefore number list tops) (now (tree .entry)) (now (tree .exit)) (usesAfter number list r) ⌝ }
 {
-    let path = node_word(w, k, node_words::PATH) as usize;
-    let cases = node_word(w, k, node_words::CASES);
-    let tails = node_word(w, k, node_words::TAIL_CASES);
-    let default = moved_default(shift, node_word(w, k, node_words::DEFAULT) as usize);
-    let paths = used(number, list, f.paths, path);
+    let path = node_word(work, k, node_words::PATH) as usize;
+    let cases = node_word(work, k, node_words::CASES);
+    let tails = node_word(work, k, node_words::TAIL_CASES);
+    let default = moved_default(shift, node_word(work, k, node_words::DEFAULT) as usize);
+    let paths = used(number, list, tops.paths, path);
     let own = wide(number[path]) - 1;
-    let kind = node_kind(w, k);
-    let top = f.cases as u16;
+    let kind = node_kind(work, k);
+    let top = tops.cases as u16;
     put_node(
         tree,
-        NODE_SIZE * f.nodes,
+        NODE_SIZE * tops.nodes,
         kind,
         own,
         top,
@@ -109,122 +107,128 @@ fn put_switch_node(
 }
 
 fn put_switch(
-    w: &[u8],
+    work: &[u8],
     k: usize,
     shift: &[u8; SHIFTS],
     tree: &mut [u8],
     start: usize,
     number: &mut [u8; PATTERNS_MOST],
     list: &mut [u8; PATTERNS_MOST],
-    f: Tops,
+    tops: Tops,
 ) -> Tops
-    requires { ⌜ SwitchAsked (now w) k start (now tree) (reachOf (now number) (now list) f) ⌝ }
-    ensures { λ r. ⌜ outOf (now (tree .exit)) (reachOf (now (number .exit)) (now (list .exit)) r) ≡ switchOut (now (w .entry)) start (movedBy (now (shift .entry))) k (outOf (now (tree .entry)) (reachOf (now (number .entry)) (now (list .entry)) f)) ⌝ }
+    requires { ⌜ SwitchAsked (now work) k start (now tree) (reachOf (now number) (now list) tops) ⌝ }
+    ensures { λ r. ⌜ outAfter tree number list r ≡ switchOut (now (work .entry)) start (movedBy (now (shift .entry))) k (outBefore tree number list tops) ⌝ }
 {
-    let at = children_of(w, k);
+    let at = children_of(work, k);
     let first = at.first;
     let count = at.count;
-    let paths = put_switch_node(w, k, shift, tree, number, list, f);
-    let top = f.cases;
-    put_cases(w, first, count, shift, tree, start + CASE_SIZE * top);
+    let paths = put_switch_node(work, k, shift, tree, number, list, tops);
+    let top = tops.cases;
+    put_cases(work, first, count, shift, tree, start + CASE_SIZE * top);
     Tops {
-        nodes: f.nodes + 1,
+        nodes: tops.nodes + 1,
         cases: top + count,
-        bindings: f.bindings,
+        bindings: tops.bindings,
         paths,
     }
 }
 
 fn put_own(
-    w: &[u8],
+    work: &[u8],
     k: usize,
     shift: &[u8; SHIFTS],
     tree: &mut [u8],
-    cases: usize,
-    bindings: usize,
+    starts: Starts,
     number: &mut [u8; PATTERNS_MOST],
     list: &mut [u8; PATTERNS_MOST],
-    f: Tops,
+    tops: Tops,
 ) -> Tops
-    requires { ⌜ OwnAsked (now w) k cases bindings (now tree) (reachOf (now number) (now list) f) ⌝ }
-    ensures { λ r. ⌜ outOf (now (tree .exit)) (reachOf (now (number .exit)) (now (list .exit)) r) ≡ ownOut (now (w .entry)) cases bindings (movedBy (now (shift .entry))) k (outOf (now (tree .entry)) (reachOf (now (number .entry)) (now (list .entry)) f)) ⌝ }
+    requires { ⌜ OwnAsked (now work) k (starts .cases) (starts .bindings) (now tree) (reachOf (now number) (now list) tops) ⌝ }
+    ensures { λ r. ⌜ outAfter tree number list r ≡ ownOut (now (work .entry)) (starts .cases) (starts .bindings) (movedBy (now (shift .entry))) k (outBefore tree number list tops) ⌝ }
 {
-    if node_kind(w, k) == node_kinds::LEAF {
-        return put_bound(w, k, node_kinds::LEAF, 0, tree, bindings, number, list, f);
+    if node_kind(work, k) == node_kinds::LEAF {
+        return put_bound(
+            work,
+            k,
+            node_kinds::LEAF,
+            0,
+            tree,
+            starts.bindings,
+            number,
+            list,
+            tops,
+        );
     }
-    put_switch(w, k, shift, tree, cases, number, list, f)
+    put_switch(work, k, shift, tree, starts.cases, number, list, tops)
 }
 
 // Node k with the hoists above it.
-pub fn put_one(
-    w: &[u8],
+fn put_one(
+    work: &[u8],
     k: usize,
     node: &[u16; CLAUSES_MOST],
     leaf: &[u16; CLAUSES_MOST],
     clauses: usize,
     shift: &[u8; SHIFTS],
     tree: &mut [u8],
-    cases: usize,
-    bindings: usize,
+    starts: Starts,
     number: &mut [u8; PATTERNS_MOST],
     list: &mut [u8; PATTERNS_MOST],
-    f: Tops,
+    tops: Tops,
 ) -> Tops
-    requires { ⌜ NodeAsked (now w) k (placesOf (now node) (now leaf)) clauses (now shift) cases bindings (now tree) (reachOf (now number) (now list) f) ⌝ }
-    ensures { λ r. ⌜ outOf (now (tree .exit)) (reachOf (now (number .exit)) (now (list .exit)) r) ≡ nodeOut (now (w .entry)) cases bindings (placesOf (now (node .entry)) (now (leaf .entry))) clauses k (outOf (now (tree .entry)) (reachOf (now (number .entry)) (now (list .entry)) f)) ⌝ }
+    requires { ⌜ NodeAsked (now work) k (placesOf (now node) (now leaf)) clauses (now shift) (starts .cases) (starts .bindings) (now tree) (reachOf (now number) (now list) tops) ⌝ }
+    ensures { λ r. ⌜ outAfter tree number list r ≡ nodeOut (now (work .entry)) (starts .cases) (starts .bindings) (placesBefore node leaf) clauses k (outBefore tree number list tops) ⌝ }
 {
-    let g = put_hoists(
-        w,
+    let next = put_hoists(
+        work,
         k,
         node,
         leaf,
         clauses,
         shift,
         tree,
-        bindings,
+        starts.bindings,
         number,
         list,
-        f,
+        tops,
     );
-    put_own(w, k, shift, tree, cases, bindings, number, list, g)
+    put_own(work, k, shift, tree, starts, number, list, next)
 }
 
 // All nodes, in order.
-pub fn put_nodes(
-    w: &[u8],
+pub(crate) fn put_nodes(
+    work: &[u8],
     nodes: usize,
     node: &[u16; CLAUSES_MOST],
     leaf: &[u16; CLAUSES_MOST],
     clauses: usize,
     shift: &[u8; SHIFTS],
     tree: &mut [u8],
-    cases: usize,
-    bindings: usize,
+    starts: Starts,
     number: &mut [u8; PATTERNS_MOST],
     list: &mut [u8; PATTERNS_MOST],
-    f: Tops,
+    tops: Tops,
 ) -> Tops
-    requires { ⌜ NodesAsked (now w) nodes (placesOf (now node) (now leaf)) clauses (now shift) cases bindings (now tree) (reachOf (now number) (now list) f) ⌝ }
-    ensures { λ r. ⌜ outOf (now (tree .exit)) (reachOf (now (number .exit)) (now (list .exit)) r) ≡ nodesOut (now (w .entry)) cases bindings (placesOf (now (node .entry)) (now (leaf .entry))) clauses 0 nodes (outOf (now (tree .entry)) (reachOf (now (number .entry)) (now (list .entry)) f)) ⌝ }
+    requires { ⌜ NodesAsked (now work) nodes (placesOf (now node) (now leaf)) clauses (now shift) (starts .cases) (starts .bindings) (now tree) (reachOf (now number) (now list) tops) ⌝ }
+    ensures { λ r. ⌜ outAfter tree number list r ≡ nodesOut (now (work .entry)) (starts .cases) (starts .bindings) (placesBefore node leaf) clauses 0 nodes (outBefore tree number list tops) ⌝ }
 {
-    let mut g = f;
+    let mut next = tops;
     let mut k = 0;
     while k < nodes {
-        g = put_one(
-            w,
+        next = put_one(
+            work,
             k,
             node,
             leaf,
             clauses,
             shift,
             tree,
-            cases,
-            bindings,
+            starts,
             number,
             list,
-            g,
+            next,
         );
         k += 1;
     }
-    g
+    next
 }

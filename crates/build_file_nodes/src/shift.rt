@@ -8,13 +8,13 @@ ghost use Rattle.spec_rules.specs.Limits.{nodesMost};
 ghost use Rattle.build_file_nodes.specs.Model.{nodeIn, ShiftAsked, HoistsCounted, SumsAsked, SummedUp, Shifted};
 
 // A table of how far each node is moved has one place more, behind the last node.
-pub const SHIFTS: usize = NODES_MOST + 1;
+pub(crate) const SHIFTS: usize = NODES_MOST + 1;
 
 // A number of a table by clause, as wide as a count.
-pub fn as_count(x: u16) -> usize
-    ensures { λ r. ⌜ r ≡ x ⌝ }
+pub(crate) fn as_count(word: u16) -> usize
+    ensures { λ r. ⌜ r ≡ word ⌝ }
 {
-    x as usize
+    word as usize
 }
 
 // How many of the clauses are hoisted above each node, in a table of zeros.
@@ -46,7 +46,7 @@ fn sum_up(nodes: usize, shift: &mut [u8; SHIFTS])
 }
 
 // By node how many hoists stand before it; behind the last node, how many there are.
-pub fn find_shift(
+pub(crate) fn find_shift(
     node: &[u16; CLAUSES_MOST],
     clauses: usize,
     nodes: usize,

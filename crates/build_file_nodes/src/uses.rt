@@ -5,17 +5,18 @@ ghost use mathlib.Core.Path.{_≡_};
 ghost use Prim.Native.Nat.{_<_};
 ghost use Rattle.spec_rules.specs.Limits.{patternsMost};
 ghost use Rattle.build_file_nodes.specs.Uses.{usesOf, Counted, withClass};
+ghost use Rattle.build_file_nodes.specs.Contracts.{usesBefore, usesAfter};
 
 // The path of the class used once more, where `count` paths have a number; how many have one then. `number` has by class one more
 // than the number of its path, or 0 where it has none; `list` has the classes in the order of their numbers.
-pub fn used(
+pub(crate) fn used(
     number: &mut [u8; PATTERNS_MOST],
     list: &mut [u8; PATTERNS_MOST],
     count: usize,
     class: usize,
 ) -> usize
     requires { ⌜ Counted (usesOf (now number) (now list) count) × (class < patternsMost) ⌝ }
-    ensures { λ r. ⌜ usesOf (now (number .exit)) (now (list .exit)) r ≡ withClass (usesOf (now (number .entry)) (now (list .entry)) count) class ⌝ }
+    ensures { λ r. ⌜ usesAfter number list r ≡ withClass (usesBefore number list count) class ⌝ }
 {
     if number[class] != 0 {
         return count;

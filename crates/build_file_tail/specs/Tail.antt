@@ -92,6 +92,10 @@ tailBytes pool table cases bindings at =
     ++ trailerBytes cases bindings at (at + length (pathsBytes 0 table)) (at + length (pathsBytes 0 table) + length (stepsBytes table))
     (at + length (pathsBytes 0 table) + length (stepsBytes table) + length pool)))
 
+-- of a sheet, where so many classes are used
+abbrev pub sheetTail : List ℕ → List ℕ → ℕ → ℕ → ℕ → ℕ → List ℕ
+sheetTail s classes n cases bindings at = tailBytes (pool s) (usedPaths s classes 0 n) cases bindings at
+
 -- what writing the tail asks: the sheet's table, the classes, where the sections before start, and room
 pub record TailReady (s : List ℕ) (m : SheetMap) (t classes : List ℕ) (n : ℕ) (tree : List ℕ) (cases bindings at : ℕ) : Type 0 where
   pub checked : SheetAccepts s m
@@ -99,5 +103,5 @@ pub record TailReady (s : List ℕ) (m : SheetMap) (t classes : List ℕ) (n : �
   pub used : Used (patterns s) classes n
   pub cases-first : cases ≤ bindings
   pub bindings-first : bindings ≤ at
-  pub inside : at + length (tailBytes (pool s) (usedPaths s classes 0 n) cases bindings at) ≤ length tree
-  pub small : at + length (tailBytes (pool s) (usedPaths s classes 0 n) cases bindings at) < treeRoom
+  pub inside : at + length (sheetTail s classes n cases bindings at) ≤ length tree
+  pub small : at + length (sheetTail s classes n cases bindings at) < treeRoom

@@ -23,7 +23,13 @@ fn put_path(tree: &mut [u8], at: usize, first: u16, count: u16)
     put_two_words(tree, at, first_of(count, first), count);
 }
 
-pub fn put_paths(table: &[u8], classes: &[u8], count: usize, tree: &mut [u8], at: usize) -> usize
+pub(crate) fn put_paths(
+    table: &[u8],
+    classes: &[u8],
+    count: usize,
+    tree: &mut [u8],
+    at: usize,
+) -> usize
     requires { ⌜ (length (now table) ≡ tableSize) × Used patternsMost (now classes) count × (at + pathSize * count ≤ length (now tree)) ⌝ }
     requires { ⌜ together (map (countIn (now table)) (textAt (now classes) 0 count)) < treeRoom ⌝ }
     ensures { λ r. ⌜ Puts (now (tree .entry)) (now (tree .exit)) at r (pathRecords 0 (map (countIn (now (table .entry))) (textAt (now (classes .entry)) 0 count))) ⌝ }

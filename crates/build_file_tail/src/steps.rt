@@ -45,10 +45,17 @@ fn flag_of(step: u8, ty: TypeRecord) -> u8
 }
 
 // The step to p itself, if there is one, so that it ends at `end`; where it starts.
-fn put_step(s: &[u8], m: SheetMap, table: &[u8], p: usize, tree: &mut [u8], end: usize) -> usize
-    requires { ⌜ SheetAccepts (now s) m × Tabled (now s) (now table) × (p < patterns (now s)) ⌝ }
-    requires { ⌜ (length (pathSteps (ownSteps (stepOf (now s) p))) ≤ end) × (end ≤ length (now tree)) ⌝ }
-    ensures { λ r. ⌜ Puts (now (tree .entry)) (now (tree .exit)) r end (pathSteps (ownSteps (stepOf (now (s .entry)) p))) ⌝ }
+fn put_step(
+    sheet: &[u8],
+    map: SheetMap,
+    table: &[u8],
+    p: usize,
+    tree: &mut [u8],
+    end: usize,
+) -> usize
+    requires { ⌜ SheetAccepts (now sheet) map × Tabled (now sheet) (now table) × (p < patterns (now sheet)) ⌝ }
+    requires { ⌜ (length (pathSteps (ownSteps (stepOf (now sheet) p))) ≤ end) × (end ≤ length (now tree)) ⌝ }
+    ensures { λ r. ⌜ Puts (now (tree .entry)) (now (tree .exit)) r end (pathSteps (ownSteps (stepOf (now (sheet .entry)) p))) ⌝ }
 {
     let step = table[STEP + p];
     if step == SAME {
@@ -56,46 +63,53 @@ fn put_step(s: &[u8], m: SheetMap, table: &[u8], p: usize, tree: &mut [u8], end:
     }
     let above = build_table::at(table, ABOVE + p);
     let tipo = wide(table[TYPE + above]);
-    let flag = flag_of(step, type_at(s, m, tipo as usize));
+    let flag = flag_of(step, type_at(sheet, map, tipo as usize));
     let start = end - STEP_SIZE;
     writing::put_step(tree, start, step, flag, wide(table[INDEX + p]), tipo);
     start
 }
 
 // The steps of the class's path.
-fn put_steps(s: &[u8], m: SheetMap, table: &[u8], class: usize, tree: &mut [u8], at: usize) -> usize
-    requires { ⌜ SheetAccepts (now s) m × Tabled (now s) (now table) × (class < patterns (now s)) ⌝ }
-    requires { ⌜ at + length (pathSteps (pathOf (now s) class)) ≤ length (now tree) ⌝ }
-    ensures { λ r. ⌜ Puts (now (tree .entry)) (now (tree .exit)) at r (pathSteps (pathOf (now (s .entry)) class)) ⌝ }
+fn put_steps(
+    sheet: &[u8],
+    map: SheetMap,
+    table: &[u8],
+    class: usize,
+    tree: &mut [u8],
+    at: usize,
+) -> usize
+    requires { ⌜ SheetAccepts (now sheet) map × Tabled (now sheet) (now table) × (class < patterns (now sheet)) ⌝ }
+    requires { ⌜ at + length (pathSteps (pathOf (now sheet) class)) ≤ length (now tree) ⌝ }
+    ensures { λ r. ⌜ Puts (now (tree .entry)) (now (tree .exit)) at r (pathSteps (pathOf (now (sheet .entry)) class)) ⌝ }
 {
     let end = at + STEP_SIZE * build_table::at(table, DEPTH + class);
     let mut p = class;
     let mut to = end;
     while at < to {
-        to = put_step(s, m, table, p, tree, to);
+        to = put_step(sheet, map, table, p, tree, to);
         p = build_table::at(table, ABOVE + p);
     }
     end
 }
 
 // The steps of the paths of the first `count` classes.
-pub fn put_all_steps(
-    s: &[u8],
-    m: SheetMap,
+pub(crate) fn put_all_steps(
+    sheet: &[u8],
+    map: SheetMap,
     table: &[u8],
     classes: &[u8],
     count: usize,
     tree: &mut [u8],
     at: usize,
 ) -> usize
-    requires { ⌜ SheetAccepts (now s) m × Tabled (now s) (now table) × Used (patterns (now s)) (now classes) count ⌝ }
-    requires { ⌜ at + length (stepsBytes (usedPaths (now s) (now classes) 0 count)) ≤ length (now tree) ⌝ }
-    ensures { λ r. ⌜ Puts (now (tree .entry)) (now (tree .exit)) at r (stepsBytes (usedPaths (now (s .entry)) (now (classes .entry)) 0 count)) ⌝ }
+    requires { ⌜ SheetAccepts (now sheet) map × Tabled (now sheet) (now table) × Used (patterns (now sheet)) (now classes) count ⌝ }
+    requires { ⌜ at + length (stepsBytes (usedPaths (now sheet) (now classes) 0 count)) ≤ length (now tree) ⌝ }
+    ensures { λ r. ⌜ Puts (now (tree .entry)) (now (tree .exit)) at r (stepsBytes (usedPaths (now (sheet .entry)) (now (classes .entry)) 0 count)) ⌝ }
 {
     let mut end = at;
     let mut i: usize = 0;
     while i < count {
-        end = put_steps(s, m, table, build_table::at(classes, i), tree, end);
+        end = put_steps(sheet, map, table, build_table::at(classes, i), tree, end);
         i += 1;
     }
     end

@@ -1,4 +1,5 @@
 pub mod Bindings
+pub mod Contracts
 pub mod BindingsLaws
 pub mod PuttingLaws
 pub mod StandsLaws

@@ -18,31 +18,32 @@ ghost use mathlib.Core.Path.{_≡_};
 ghost use Prim.Native.Nat.{_<_};
 ghost use lib.ListN.{getD, take};
 ghost use Rattle.spec_rules.specs.Limits.{patternsMost};
-ghost use Rattle.spec_rules.specs.SheetFile.{patternsAt, childrenAt, patterns, children, clauses, root};
+ghost use Rattle.spec_rules.specs.SheetFile.{patternsAt, childrenAt, patterns, clauses, root};
 ghost use Rattle.spec_accepted.specs.SheetFacts.{Accepted};
 ghost use Rattle.build_table.specs.Seen.{bindsOf, bindsOfEach};
 ghost use Rattle.build_table.specs.Tabled.{Tabled};
 ghost use Rattle.build_matrix.specs.Live.{openedTest};
 ghost use Rattle.build_matrix.specs.Bound.{numbersHeld, leafNumbers};
 ghost use Rattle.build_matrix.specs.Ready.{ReadyTable};
-ghost use Rattle.build_leaves.specs.Bindings.{bound, boundOne, boundAll, ownOf, Room, Started, Entries, Parts, Gives, LeafAsked};
+ghost use Rattle.build_leaves.specs.Bindings.{bound, boundOne, ownOf, Room, Started, Entries, Parts, Gives, LeafAsked};
+ghost use Rattle.build_leaves.specs.Contracts.{Binds};
 
 // The binding of pattern p, behind the `top` bindings there are.
 fn put_binding(
-    s: &[u8],
+    sheet: &[u8],
     records: usize,
     table: &[u8],
     p: usize,
     work: &mut [u8],
     top: usize,
 ) -> usize
-    requires { ⌜ Accepted (now s) × Tabled (now s) (now table) × (records ≡ patternsAt (now s)) × (p < patterns (now s)) × Room (now work) top ⌝ }
-    ensures { λ r. ⌜ bound (now (work .exit)) r ≡ boundOne (now (s .entry)) (bound (now (work .entry)) top) p ⌝ }
+    requires { ⌜ Accepted (now sheet) × Tabled (now sheet) (now table) × (records ≡ patternsAt (now sheet)) × (p < patterns (now sheet)) × Room (now work) top ⌝ }
+    ensures { λ r. ⌜ bound (now (work .exit)) r ≡ boundOne (now (sheet .entry)) (bound (now (work .entry)) top) p ⌝ }
 {
     if top >= BINDINGS_MOST {
         return BINDINGS_MOST + 1;
     }
-    let r = pattern_in(s, records, p);
+    let r = pattern_in(sheet, records, p);
     let class = at(table, CLASS + p);
     writing::put_binding(work, top, r.a as u16, class as u16);
     top + 1
@@ -57,9 +58,16 @@ struct Given {
 
 // What a constructor, pair or tuple gives: what its children give, but a test nothing until it is opened. A test is what its children
 // are inside of.
-fn parts_given(s: &[u8], list: usize, table: &[u8], p: usize, first: usize, count: usize) -> Given
-    requires { ⌜ Accepted (now s) × Tabled (now s) (now table) × (list ≡ childrenAt (now s)) × Parts (now s) p first count ⌝ }
-    ensures { λ r. ⌜ Gives (now (s .entry)) p r ⌝ }
+fn parts_given(
+    sheet: &[u8],
+    list: usize,
+    table: &[u8],
+    p: usize,
+    first: usize,
+    count: usize,
+) -> Given
+    requires { ⌜ Accepted (now sheet) × Tabled (now sheet) (now table) × (list ≡ childrenAt (now sheet)) × Parts (now sheet) p first count ⌝ }
+    ensures { λ r. ⌜ Gives (now (sheet .entry)) p r ⌝ }
 {
     let nothing = Given {
         named: false,
@@ -69,7 +77,7 @@ fn parts_given(s: &[u8], list: usize, table: &[u8], p: usize, first: usize, coun
     if count == 0 {
         return nothing;
     }
-    if at(table, OWNER + child_in(s, list, first)) == p + 1 {
+    if at(table, OWNER + child_in(sheet, list, first)) == p + 1 {
         return nothing;
     }
     Given {
@@ -80,11 +88,11 @@ fn parts_given(s: &[u8], list: usize, table: &[u8], p: usize, first: usize, coun
 }
 
 // One decision over kinds 0 to 9.
-fn gives(s: &[u8], records: usize, list: usize, table: &[u8], p: usize) -> Given
-    requires { ⌜ Started (now s) (now table) records list × (p < patterns (now s)) ⌝ }
-    ensures { λ r. ⌜ Gives (now (s .entry)) p r ⌝ }
+fn gives(sheet: &[u8], records: usize, list: usize, table: &[u8], p: usize) -> Given
+    requires { ⌜ Started (now sheet) (now table) records list × (p < patterns (now sheet)) ⌝ }
+    ensures { λ r. ⌜ Gives (now (sheet .entry)) p r ⌝ }
 {
-    let r = pattern_in(s, records, p);
+    let r = pattern_in(sheet, records, p);
     let kind = r.kind;
     match kind {
         pattern_kinds::VARIABLE => Given {
@@ -98,7 +106,7 @@ fn gives(s: &[u8], records: usize, list: usize, table: &[u8], p: usize) -> Given
             count: r.count,
         },
         pattern_kinds::CONSTRUCTOR | pattern_kinds::PAIR | pattern_kinds::TUPLE => parts_given(
-            s,
+            sheet,
             list,
             table,
             p,
@@ -115,7 +123,7 @@ fn gives(s: &[u8], records: usize, list: usize, table: &[u8], p: usize) -> Given
 
 // Pattern p's own binding, if it is named.
 fn put_own(
-    s: &[u8],
+    sheet: &[u8],
     records: usize,
     table: &[u8],
     p: usize,
@@ -123,18 +131,18 @@ fn put_own(
     work: &mut [u8],
     top: usize,
 ) -> usize
-    requires { ⌜ Accepted (now s) × Tabled (now s) (now table) × (records ≡ patternsAt (now s)) × (p < patterns (now s)) × Room (now work) top ⌝ }
-    ensures { λ r. ⌜ bound (now (work .exit)) r ≡ boundAll (now (s .entry)) (bound (now (work .entry)) top) (ownOf named p) ⌝ }
+    requires { ⌜ Accepted (now sheet) × Tabled (now sheet) (now table) × (records ≡ patternsAt (now sheet)) × (p < patterns (now sheet)) × Room (now work) top ⌝ }
+    ensures { λ r. ⌜ Binds sheet work top (ownOf named p) r ⌝ }
 {
     if named {
-        return put_binding(s, records, table, p, work, top);
+        return put_binding(sheet, records, table, p, work, top);
     }
     top
 }
 
 // The bindings of pattern p: its own, then those of its children.
 fn put_bindings(
-    s: &[u8],
+    sheet: &[u8],
     records: usize,
     list: usize,
     table: &[u8],
@@ -142,20 +150,20 @@ fn put_bindings(
     work: &mut [u8],
     top: usize,
 ) -> usize
-    requires { ⌜ Started (now s) (now table) records list × (p < patterns (now s)) × Room (now work) top ⌝ }
-    ensures { λ r. ⌜ bound (now (work .exit)) r ≡ boundAll (now (s .entry)) (bound (now (work .entry)) top) (bindsOf (now (s .entry)) p) ⌝ }
+    requires { ⌜ Started (now sheet) (now table) records list × (p < patterns (now sheet)) × Room (now work) top ⌝ }
+    ensures { λ r. ⌜ Binds sheet work top (bindsOf (now (sheet .entry)) p) r ⌝ }
 {
-    let g = gives(s, records, list, table, p);
-    let next = put_own(s, records, table, p, g.named, work, top);
+    let g = gives(sheet, records, list, table, p);
+    let next = put_own(sheet, records, table, p, g.named, work, top);
     if g.count == 0 {
         return next;
     }
-    put_all_bindings(s, records, list, table, p, g.first, g.count, work, next)
+    put_all_bindings(sheet, records, list, table, p, g.first, g.count, work, next)
 }
 
 // The bindings of n children of `parent` from entry j on. A child has a larger number than its parent, so that the two functions end.
 fn put_all_bindings(
-    s: &[u8],
+    sheet: &[u8],
     records: usize,
     list: usize,
     table: &[u8],
@@ -165,14 +173,14 @@ fn put_all_bindings(
     work: &mut [u8],
     top: usize,
 ) -> usize
-    requires { ⌜ Started (now s) (now table) records list × Entries (now s) parent j n × Room (now work) top ⌝ }
-    ensures { λ r. ⌜ bound (now (work .exit)) r ≡ boundAll (now (s .entry)) (bound (now (work .entry)) top) (bindsOfEach (now (s .entry)) j n) ⌝ }
+    requires { ⌜ Started (now sheet) (now table) records list × Entries (now sheet) parent j n × Room (now work) top ⌝ }
+    ensures { λ r. ⌜ Binds sheet work top (bindsOfEach (now (sheet .entry)) j n) r ⌝ }
 {
     let mut next = top;
     let mut k: usize = 0;
     while k < n {
-        let q = child_in(s, list, j + k);
-        next = put_bindings(s, records, list, table, q, work, next);
+        let q = child_in(sheet, list, j + k);
+        next = put_bindings(sheet, records, list, table, q, work, next);
         k += 1;
     }
     next
@@ -180,25 +188,32 @@ fn put_all_bindings(
 
 // The bindings of clause c's root. They are put as put_bindings puts them, and not by a call of it: the loop over children alone calls
 // it, so that it is compiled into that loop, and a call is made only for a pattern with something inside.
-fn put_root(s: &[u8], m: SheetMap, table: &[u8], c: usize, work: &mut [u8], top: usize) -> usize
-    requires { ⌜ ReadyTable (now s) m (now table) × (c < clauses (now s)) × Room (now work) top ⌝ }
-    ensures { λ r. ⌜ bound (now (work .exit)) r ≡ boundAll (now (s .entry)) (bound (now (work .entry)) top) (bindsOf (now (s .entry)) (root (now (s .entry)) c)) ⌝ }
+fn put_root(
+    sheet: &[u8],
+    map: SheetMap,
+    table: &[u8],
+    c: usize,
+    work: &mut [u8],
+    top: usize,
+) -> usize
+    requires { ⌜ ReadyTable (now sheet) map (now table) × (c < clauses (now sheet)) × Room (now work) top ⌝ }
+    ensures { λ r. ⌜ Binds sheet work top (bindsOf (now (sheet .entry)) (root (now (sheet .entry)) c)) r ⌝ }
 {
-    let records = m.at.patterns;
-    let list = m.at.children;
-    let p = root_at(s, m, c);
-    let g = gives(s, records, list, table, p);
-    let own = put_own(s, records, table, p, g.named, work, top);
+    let records = map.at.patterns;
+    let list = map.at.children;
+    let p = root_at(sheet, map, c);
+    let g = gives(sheet, records, list, table, p);
+    let own = put_own(sheet, records, table, p, g.named, work, top);
     if g.count == 0 {
         return own;
     }
-    put_all_bindings(s, records, list, table, p, g.first, g.count, work, own)
+    put_all_bindings(sheet, records, list, table, p, g.first, g.count, work, own)
 }
 
 // What clause c's test in the column of the class opened, if it was opened as that column was tested, after `time` others.
 fn put_opened(
-    s: &[u8],
-    m: SheetMap,
+    sheet: &[u8],
+    map: SheetMap,
     table: &[u8],
     opened: &[u8; PATTERNS_MOST],
     c: usize,
@@ -207,8 +222,8 @@ fn put_opened(
     work: &mut [u8],
     top: usize,
 ) -> usize
-    requires { ⌜ ReadyTable (now s) m (now table) × (c < clauses (now s)) × (class < patternsMost) × (time < patternsMost) × Room (now work) top ⌝ }
-    ensures { λ r. ⌜ bound (now (work .exit)) r ≡ boundAll (now (s .entry)) (bound (now (work .entry)) top) (numbersHeld (now (s .entry)) (openedTest (now (s .entry)) (now (opened .entry)) c time class)) ⌝ }
+    requires { ⌜ ReadyTable (now sheet) map (now table) × (c < clauses (now sheet)) × (class < patternsMost) × (time < patternsMost) × Room (now work) top ⌝ }
+    ensures { λ r. ⌜ Binds sheet work top (numbersHeld (now (sheet .entry)) (openedTest (now (sheet .entry)) (now (opened .entry)) c time class)) r ⌝ }
 {
     let cell = at(table, CELL + PATTERNS_MOST * c + class);
     if cell == 0 {
@@ -218,14 +233,14 @@ fn put_opened(
     if wide(opened[p]) != time + 1 {
         return top;
     }
-    let run = children_of(s, m, p);
+    let run = children_of(sheet, map, p);
     if run.count == 0 {
         return top;
     }
     put_all_bindings(
-        s,
-        m.at.patterns,
-        m.at.children,
+        sheet,
+        map.at.patterns,
+        map.at.children,
         table,
         p,
         run.first,
@@ -245,8 +260,8 @@ fn class_at(list: &[u8; PATTERNS_MOST], i: usize) -> usize
 
 // What the leaf of clause c binds, where the first n classes of `tested` were tested, behind the `top` bindings there are; the number of all.
 pub fn leaf_bindings<'a>(
-    s: &[u8],
-    m: SheetMap,
+    sheet: &[u8],
+    map: SheetMap,
     table: &[u8],
     c: usize,
     tested: &'a [u8; PATTERNS_MOST],
@@ -255,14 +270,14 @@ pub fn leaf_bindings<'a>(
     work: &mut [u8],
     top: usize,
 ) -> usize
-    requires { ⌜ ReadyTable (now s) m (now table) × LeafAsked (now s) c (now tested) n × Room (now work) top ⌝ }
-    ensures { λ r. ⌜ bound (now (work .exit)) r ≡ boundAll (now (s .entry)) (bound (now (work .entry)) top) (leafNumbers (now (s .entry)) (now (opened .entry)) (take n (now (tested .entry))) c) ⌝ }
+    requires { ⌜ ReadyTable (now sheet) map (now table) × LeafAsked (now sheet) c (now tested) n × Room (now work) top ⌝ }
+    ensures { λ r. ⌜ Binds sheet work top (leafNumbers (now (sheet .entry)) (now (opened .entry)) (take n (now (tested .entry))) c) r ⌝ }
 {
-    let mut next = put_root(s, m, table, c, work, top);
+    let mut next = put_root(sheet, map, table, c, work, top);
     let mut time: usize = 0;
     while time < n {
         let class = class_at(tested, time);
-        next = put_opened(s, m, table, opened, c, time, class, work, next);
+        next = put_opened(sheet, map, table, opened, c, time, class, work, next);
         time += 1;
     }
     next

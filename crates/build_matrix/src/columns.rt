@@ -25,10 +25,11 @@ ghost use Rattle.build_table.specs.Seen.{testsOf, testsOfEach, openedTests};
 ghost use Rattle.build_matrix.specs.Lists.{asClasses, Holds, Whole, firstPlace};
 ghost use Rattle.build_matrix.specs.Ordered.{putClass, withoutClass};
 ghost use Rattle.build_matrix.specs.Reading.{firstIn};
-ghost use Rattle.build_matrix.specs.Ready.{ReadyTable, Listed, Puts, putTests, Roomy, Children, itselfOrInside, Gives, TestKnown};
+ghost use Rattle.build_matrix.specs.Ready.{ReadyTable, Puts, putTests, itselfOrInside, Gives};
+ghost use Rattle.build_matrix.specs.Contracts.{PatternAsked, ChildrenAsked, TestAsked};
 
 // No class.
-pub fn empty() -> Classes
+pub(crate) fn empty() -> Classes
     ensures { λ r. ⌜ Holds r [] ⌝ }
 {
     Classes {
@@ -38,7 +39,7 @@ pub fn empty() -> Classes
 }
 
 // The class behind the others, so that there is one more.
-pub fn push(list: &mut [u8; PATTERNS_MOST], count: usize, class: usize)
+pub(crate) fn push(list: &mut [u8; PATTERNS_MOST], count: usize, class: usize)
     requires { ⌜ Whole (asClasses (now list) count) × (count < patternsMost) × (class < patternsMost) ⌝ }
     ensures { λ _. ⌜ Holds (asClasses (now (list .exit)) (count + 1)) (take count (now (list .entry)) ++ class ∷ []) ⌝ }
 {
@@ -97,7 +98,7 @@ fn place_of(cs: &[u8; PATTERNS_MOST], n: usize, class: usize) -> usize
 }
 
 // The first n of cs without the one tested, behind those in the list.
-pub fn put_rest(
+pub(crate) fn put_rest(
     list: &mut [u8; PATTERNS_MOST],
     count: usize,
     cs: &[u8; PATTERNS_MOST],
@@ -149,11 +150,11 @@ fn itself_or_inside(test: bool, class: usize, first: usize, count: usize) -> Giv
 }
 
 // One decision over kinds 0 to 9.
-fn gives(s: &[u8], m: SheetMap, table: &[u8], p: usize) -> Given
-    requires { ⌜ ReadyTable (now s) m (now table) × (p < patterns (now s)) ⌝ }
-    ensures { λ r. ⌜ Gives (now (s .entry)) p r ⌝ }
+fn gives(sheet: &[u8], map: SheetMap, table: &[u8], p: usize) -> Given
+    requires { ⌜ ReadyTable (now sheet) map (now table) × (p < patterns (now sheet)) ⌝ }
+    ensures { λ r. ⌜ Gives (now (sheet .entry)) p r ⌝ }
 {
-    let r = pattern_at(s, m, p);
+    let r = pattern_at(sheet, map, p);
     let class = at(table, CLASS + p);
     let kind = r.kind;
     match kind {
@@ -167,7 +168,7 @@ fn gives(s: &[u8], m: SheetMap, table: &[u8], p: usize) -> Given
         | pattern_kinds::LIST
         | pattern_kinds::LIST_WITH_TAIL => Given::Itself(class),
         pattern_kinds::CONSTRUCTOR => itself_or_inside(
-            is_test(s, m, table, p),
+            is_test(sheet, map, table, p),
             class,
             r.first,
             r.count,
@@ -177,31 +178,31 @@ fn gives(s: &[u8], m: SheetMap, table: &[u8], p: usize) -> Given
 }
 
 // The columns of pattern p put among those in the list.
-pub fn map_pattern_to_row(
-    s: &[u8],
-    m: SheetMap,
+pub(crate) fn map_pattern_to_row(
+    sheet: &[u8],
+    map: SheetMap,
     table: &[u8],
     list: &mut [u8; PATTERNS_MOST],
     count: usize,
     p: usize,
 ) -> usize
-    requires { ⌜ ReadyTable (now s) m (now table) × Listed (now s) (asClasses (now list) count) × (p < patterns (now s)) × Roomy (now s) (testsOf (now s) p) (asClasses (now list) count) ⌝ }
-    ensures { λ r. ⌜ Holds (asClasses (now (list .exit)) r) (putTests (now (s .entry)) (testsOf (now (s .entry)) p) (take count (now (list .entry)))) ⌝ }
+    requires { ⌜ PatternAsked (now sheet) map (now table) (asClasses (now list) count) p ⌝ }
+    ensures { λ r. ⌜ Holds (asClasses (now (list .exit)) r) (putTests (now (sheet .entry)) (testsOf (now (sheet .entry)) p) (take count (now (list .entry)))) ⌝ }
 {
-    let given = gives(s, m, table, p);
+    let given = gives(sheet, map, table, p);
     match given {
         Given::Nothing => count,
         Given::Itself(class) => put(table, list, count, class),
         Given::Inside { first, count: n } => {
-            map_patterns_to_row(s, m, table, list, count, p, first, n)
+            map_patterns_to_row(sheet, map, table, list, count, p, first, n)
         }
     }
 }
 
 // The same of n children of `parent` from entry j on, the last first.
 fn map_patterns_to_row(
-    s: &[u8],
-    m: SheetMap,
+    sheet: &[u8],
+    map: SheetMap,
     table: &[u8],
     list: &mut [u8; PATTERNS_MOST],
     count: usize,
@@ -209,31 +210,31 @@ fn map_patterns_to_row(
     j: usize,
     n: usize,
 ) -> usize
-    requires { ⌜ ReadyTable (now s) m (now table) × Listed (now s) (asClasses (now list) count) × Children (now s) parent j n × Roomy (now s) (testsOfEach (now s) j n) (asClasses (now list) count) ⌝ }
-    ensures { λ r. ⌜ Holds (asClasses (now (list .exit)) r) (putTests (now (s .entry)) (testsOfEach (now (s .entry)) j n) (take count (now (list .entry)))) ⌝ }
+    requires { ⌜ ChildrenAsked (now sheet) map (now table) (asClasses (now list) count) parent j n ⌝ }
+    ensures { λ r. ⌜ Holds (asClasses (now (list .exit)) r) (putTests (now (sheet .entry)) (testsOfEach (now (sheet .entry)) j n) (take count (now (list .entry)))) ⌝ }
 {
     if n == 0 {
         return count;
     }
-    let rest = map_patterns_to_row(s, m, table, list, count, parent, j + 1, n - 1);
-    map_pattern_to_row(s, m, table, list, rest, child_at(s, m, j))
+    let rest = map_patterns_to_row(sheet, map, table, list, count, parent, j + 1, n - 1);
+    map_pattern_to_row(sheet, map, table, list, rest, child_at(sheet, map, j))
 }
 
 // The columns that test p opens to put among those in the list: those of its children, which a text has not.
-pub fn open(
-    s: &[u8],
-    m: SheetMap,
+pub(crate) fn open(
+    sheet: &[u8],
+    map: SheetMap,
     table: &[u8],
     list: &mut [u8; PATTERNS_MOST],
     count: usize,
     p: usize,
 ) -> usize
-    requires { ⌜ ReadyTable (now s) m (now table) × Listed (now s) (asClasses (now list) count) × TestKnown (now s) p × Roomy (now s) (openedTests (now s) p) (asClasses (now list) count) ⌝ }
-    ensures { λ r. ⌜ Holds (asClasses (now (list .exit)) r) (putTests (now (s .entry)) (openedTests (now (s .entry)) p) (take count (now (list .entry)))) ⌝ }
+    requires { ⌜ TestAsked (now sheet) map (now table) (asClasses (now list) count) p ⌝ }
+    ensures { λ r. ⌜ Holds (asClasses (now (list .exit)) r) (putTests (now (sheet .entry)) (openedTests (now (sheet .entry)) p) (take count (now (list .entry)))) ⌝ }
 {
-    let r = pattern_at(s, m, p);
+    let r = pattern_at(sheet, map, p);
     if r.kind < pattern_kinds::LIST {
         return count;
     }
-    map_patterns_to_row(s, m, table, list, count, p, r.first, r.count)
+    map_patterns_to_row(sheet, map, table, list, count, p, r.first, r.count)
 }

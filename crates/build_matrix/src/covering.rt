@@ -10,21 +10,34 @@ use format_sheet::records::pattern_at;
 ghost use mathlib.Core.Path.{_≡_};
 ghost use Prim.Native.Nat.{_+_, _≤_};
 ghost use Rattle.base_words.specs.Words.{sameText};
-ghost use Rattle.spec_rules.specs.Kinds.{byteStringPattern, integerPattern};
 ghost use Rattle.spec_rules.specs.SheetFile.{poolSize, poolText};
 ghost use Rattle.format_sheet.specs.Check.{SheetAccepts};
 ghost use Rattle.build_matrix.specs.Ready.{TestKnown};
 ghost use Rattle.build_matrix.specs.Meant.{joinsTest, InPool, coversConstructor, textPattern, coversText, coversTailed, coversList};
+ghost use Rattle.build_matrix.specs.Contracts.{TextInPool};
 
 // Two texts of the pool are the same.
-fn same_texts(s: &[u8], m: SheetMap, a: usize, n: usize, b: usize, k: usize) -> bool
-    requires { ⌜ SheetAccepts (now s) m × (a + n ≤ poolSize (now s)) × (b + k ≤ poolSize (now s)) ⌝ }
-    ensures { λ r. ⌜ r ≡ sameText (poolText (now (s .entry)) a n) (poolText (now (s .entry)) b k) ⌝ }
+fn same_texts(
+    sheet: &[u8],
+    map: SheetMap,
+    start: usize,
+    count: usize,
+    other: usize,
+    size: usize,
+) -> bool
+    requires { ⌜ SheetAccepts (now sheet) map × (start + count ≤ poolSize (now sheet)) × (other + size ≤ poolSize (now sheet)) ⌝ }
+    ensures { λ r. ⌜ r ≡ sameText (poolText (now (sheet .entry)) start count) (poolText (now (sheet .entry)) other size) ⌝ }
 {
-    if n != k {
+    if count != size {
         return false;
     }
-    same_text(s, m.at.pool + a, s, m.at.pool + b, n)
+    same_text(
+        sheet,
+        map.at.pool + start,
+        sheet,
+        map.at.pool + other,
+        count,
+    )
 }
 
 fn covers_constructor(r: PatternRecord, number: u16) -> bool
@@ -47,43 +60,50 @@ fn text_pattern(kind: u8) -> u8
     }
 }
 
-fn covers_text(s: &[u8], m: SheetMap, r: PatternRecord, kind: u8, start: u16, count: u16) -> bool
-    requires { ⌜ SheetAccepts (now s) m × (start + count ≤ poolSize (now s)) × ((integerPattern ≤ r .kind) → (r .kind ≤ byteStringPattern) → r .first + r .count ≤ poolSize (now s)) ⌝ }
-    ensures { λ x. ⌜ x ≡ coversText (now (s .entry)) r kind start count ⌝ }
+fn covers_text(
+    sheet: &[u8],
+    map: SheetMap,
+    r: PatternRecord,
+    kind: u8,
+    start: u16,
+    count: u16,
+) -> bool
+    requires { ⌜ SheetAccepts (now sheet) map × (start + count ≤ poolSize (now sheet)) × TextInPool (now sheet) r ⌝ }
+    ensures { λ x. ⌜ x ≡ coversText (now (sheet .entry)) r kind start count ⌝ }
 {
     if r.kind != text_pattern(kind) {
         return false;
     }
-    same_texts(s, m, start as usize, count as usize, r.first, r.count)
+    same_texts(sheet, map, start as usize, count as usize, r.first, r.count)
 }
 
-fn covers_tailed(r: PatternRecord, n: u16) -> bool
-    ensures { λ x. ⌜ x ≡ coversTailed r n ⌝ }
+fn covers_tailed(r: PatternRecord, count: u16) -> bool
+    ensures { λ x. ⌜ x ≡ coversTailed r count ⌝ }
 {
     if r.kind != pattern_kinds::LIST_WITH_TAIL {
         return false;
     }
-    r.count <= n as usize + 1
+    r.count <= count as usize + 1
 }
 
-fn covers_list(r: PatternRecord, n: u16) -> bool
-    ensures { λ x. ⌜ x ≡ coversList r n ⌝ }
+fn covers_list(r: PatternRecord, count: u16) -> bool
+    ensures { λ x. ⌜ x ≡ coversList r count ⌝ }
 {
     if r.kind == pattern_kinds::LIST {
-        return n as usize == r.count;
+        return count as usize == r.count;
     }
-    covers_tailed(r, n)
+    covers_tailed(r, count)
 }
 
 // The test of pattern p belongs to the case.
-pub fn covers(s: &[u8], m: SheetMap, p: usize, test: Test) -> bool
-    requires { ⌜ SheetAccepts (now s) m × TestKnown (now s) p × InPool (now s) test ⌝ }
-    ensures { λ r. ⌜ r ≡ joinsTest (now (s .entry)) test p ⌝ }
+pub(crate) fn covers(sheet: &[u8], map: SheetMap, p: usize, test: Test) -> bool
+    requires { ⌜ SheetAccepts (now sheet) map × TestKnown (now sheet) p × InPool (now sheet) test ⌝ }
+    ensures { λ r. ⌜ r ≡ joinsTest (now (sheet .entry)) test p ⌝ }
 {
-    let r = pattern_at(s, m, p);
+    let r = pattern_at(sheet, map, p);
     match test {
         Test::Constr(number) => covers_constructor(r, number),
-        Test::Text { kind, start, count } => covers_text(s, m, r, kind, start, count),
+        Test::Text { kind, start, count } => covers_text(sheet, map, r, kind, start, count),
         Test::List(n) => covers_list(r, n),
         Test::Tailed(n) => covers_tailed(r, n),
     }

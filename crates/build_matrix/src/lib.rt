@@ -11,8 +11,8 @@
 use base_numbers::sheet::CLAUSES_MOST;
 use base_numbers::sheet::PATTERNS_MOST;
 
-pub mod columns;
-pub mod covering;
+mod columns;
+mod covering;
 pub mod rows;
 pub mod splitting;
 
@@ -58,8 +58,8 @@ pub struct Sizes {
 }
 
 // A byte as an index.
-pub fn wide(x: u8) -> usize
-    ensures { λ r. ⌜ r ≡ x ⌝ }
+pub fn wide(byte: u8) -> usize
+    ensures { λ r. ⌜ r ≡ byte ⌝ }
 {
-    x as usize
+    byte as usize
 }

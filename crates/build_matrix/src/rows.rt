@@ -10,7 +10,7 @@ use build_table::OWNER;
 use build_table::at;
 ghost use mathlib.Core.Path.{_≡_};
 ghost use mathlib.Core.List.{[], _∷_, _++_};
-ghost use Prim.Native.Nat.{_+_, _<_};
+ghost use Prim.Native.Nat.{_<_};
 ghost use lib.ListN.{length, take};
 ghost use Rattle.spec_rules.specs.Limits.{clausesMost};
 ghost use Rattle.spec_rules.specs.SplittingLaws.{All};
@@ -91,37 +91,37 @@ fn better_of(best: Best, class: usize, amount: usize) -> Best
     best
 }
 
-// The column to test: of the first k columns the one with the most of the first n rows before its first wildcard.
+// The column to test: of the first `width` columns the one with the most of the first `height` rows before its first wildcard.
 pub fn highest_occurrence<'a>(
     table: &[u8],
     rows: &'a [u8; CLAUSES_MOST],
-    n: usize,
+    height: usize,
     columns: &'a [u8; PATTERNS_MOST],
-    k: usize,
+    width: usize,
     opened: &'a [u8; PATTERNS_MOST],
 ) -> Choice
-    requires { ⌜ WholeRows (asRows (now rows) n) × Whole (asClasses (now columns) k) × All (λ c. All (InTable (now table) c) (take n (now rows))) (take k (now columns)) ⌝ }
-    ensures { λ r. ⌜ r ≡ bestOf (λ c. countOf (heldIn (now (table .entry)) (now (opened .entry)) c) (take n (now (rows .entry)))) Leaf 0 (take k (now (columns .entry))) ⌝ }
+    requires { ⌜ WholeRows (asRows (now rows) height) × Whole (asClasses (now columns) width) × All (λ c. All (InTable (now table) c) (take height (now rows))) (take width (now columns)) ⌝ }
+    ensures { λ r. ⌜ r ≡ bestOf (λ c. countOf (heldIn (now (table .entry)) (now (opened .entry)) c) (take height (now (rows .entry)))) Leaf 0 (take width (now (columns .entry))) ⌝ }
 {
     let mut best = Best {
         choice: Choice::Leaf,
         amount: 0,
     };
     let mut i: usize = 0;
-    while i < k {
+    while i < width {
         let class = wide(columns[i]);
-        best = better_of(best, class, occurrence(table, rows, n, opened, class));
+        best = better_of(best, class, occurrence(table, rows, height, opened, class));
         i += 1;
     }
     best.choice
 }
 
 // One more number.
-pub fn put_row(list: &mut [u8; CLAUSES_MOST], count: usize, x: u8) -> usize
+pub fn put_row(list: &mut [u8; CLAUSES_MOST], count: usize, number: u8) -> usize
     requires { ⌜ WholeRows (asRows (now list) count) × (count < clausesMost) ⌝ }
-    ensures { λ r. ⌜ HoldsRows (asRows (now (list .exit)) r) (take count (now (list .entry)) ++ x ∷ []) ⌝ }
+    ensures { λ r. ⌜ HoldsRows (asRows (now (list .exit)) r) (take count (now (list .entry)) ++ number ∷ []) ⌝ }
 {
-    list[count] = x;
+    list[count] = number;
     count + 1
 }
 
@@ -136,7 +136,7 @@ fn keep_wild(list: &mut [u8; CLAUSES_MOST], count: usize, c: u8, held: Held) -> 
 }
 
 // The first n of these rows, those with a wildcard in the column, in the list; how many there are.
-pub fn wild_rows<'a>(
+pub(crate) fn wild_rows<'a>(
     table: &[u8],
     rows: &'a [u8; CLAUSES_MOST],
     n: usize,

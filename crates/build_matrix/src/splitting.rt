@@ -22,25 +22,21 @@ use format_records::reading::Test;
 use format_sheet::SheetMap;
 use format_sheet::records::root_at;
 ghost use mathlib.Core.Path.{_≡_};
-ghost use mathlib.Core.Bool.{true};
-ghost use mathlib.Core.List.{[], _++_};
-ghost use Prim.Native.Nat.{_+_, _<_, _≤_};
+ghost use mathlib.Core.List.{[]};
+ghost use Prim.Native.Nat.{_<_, _≤_};
 ghost use lib.ListN.{length, take};
 ghost use Rattle.spec_rules.specs.Limits.{clausesMost, patternsMost};
-ghost use Rattle.spec_rules.specs.SheetRefusals.{isIn};
 ghost use Rattle.spec_rules.specs.SplittingLaws.{All};
 ghost use Rattle.spec_rules.specs.SheetFile.{clauses};
 ghost use Rattle.format_sheet.specs.Check.{SheetAccepts};
-ghost use Rattle.build_table.specs.Seen.{openedTests};
-ghost use Rattle.build_matrix.specs.Live.{liveIn};
 ghost use Rattle.build_matrix.specs.RowStates.{upFrom};
-ghost use Rattle.build_matrix.specs.HeldRows.{joinOf, opensOf};
 ghost use Rattle.build_matrix.specs.Matrices.{gather, rootTests, marked};
-ghost use Rattle.build_matrix.specs.Numbered.{SoundOf, firstNumbered, caseNumbered};
+ghost use Rattle.build_matrix.specs.Numbered.{firstNumbered};
 ghost use Rattle.build_matrix.specs.Lists.{asClasses, asRows, Holds, HoldsRows, WholeRows};
-ghost use Rattle.build_matrix.specs.Ready.{ReadyTable, putTests, TestKnown};
-ghost use Rattle.build_matrix.specs.Meant.{meant, joinsTest, InPool, HeldKnown, joinRow, openRow, JoinsTo};
-ghost use Rattle.build_matrix.specs.InNumbers.{inNumbers, matrixOf, WholeMatrix, StandsFor, Splits, defaultRead};
+ghost use Rattle.build_matrix.specs.Ready.{ReadyTable, putTests};
+ghost use Rattle.build_matrix.specs.Meant.{InPool, HeldKnown};
+ghost use Rattle.build_matrix.specs.InNumbers.{StandsFor, Splits, defaultRead};
+ghost use Rattle.build_matrix.specs.Contracts.{rowsBefore, rowsAfter, matrixNow, numbersBefore, matrixAfter, caseOfTest, CaseAsked, JoinsRow, JoinsRows, columnsOpened, OpensAsked};
 
 // A row for each of n clauses.
 fn all_rows(n: usize) -> PerRow
@@ -57,27 +53,27 @@ fn all_rows(n: usize) -> PerRow
 }
 
 // The columns of all clauses.
-fn first_columns(s: &[u8], m: SheetMap, table: &[u8]) -> Classes
-    requires { ⌜ ReadyTable (now s) m (now table) ⌝ }
-    ensures { λ r. ⌜ Holds r (putTests (now (s .entry)) (gather (rootTests (now (s .entry))) (upFrom 0 (clauses (now (s .entry))))) []) ⌝ }
+fn first_columns(sheet: &[u8], map: SheetMap, table: &[u8]) -> Classes
+    requires { ⌜ ReadyTable (now sheet) map (now table) ⌝ }
+    ensures { λ r. ⌜ Holds r (putTests (now (sheet .entry)) (gather (rootTests (now (sheet .entry))) (upFrom 0 (clauses (now (sheet .entry))))) []) ⌝ }
 {
     let mut list = [0u8; PATTERNS_MOST];
     let mut count: usize = 0;
-    let mut c = m.counts.clauses;
+    let mut c = map.counts.clauses;
     while 0 < c {
         c -= 1;
-        count = map_pattern_to_row(s, m, table, &mut list, count, root_at(s, m, c));
+        count = map_pattern_to_row(sheet, map, table, &mut list, count, root_at(sheet, map, c));
     }
     Classes { list, count }
 }
 
 // The matrix of the clauses.
-pub fn first_matrix(s: &[u8], m: SheetMap, table: &[u8]) -> Matrix
-    requires { ⌜ ReadyTable (now s) m (now table) ⌝ }
-    ensures { λ r. ⌜ StandsFor r (firstNumbered (now (s .entry))) ⌝ }
+pub fn first_matrix(sheet: &[u8], map: SheetMap, table: &[u8]) -> Matrix
+    requires { ⌜ ReadyTable (now sheet) map (now table) ⌝ }
+    ensures { λ r. ⌜ StandsFor r (firstNumbered (now (sheet .entry))) ⌝ }
 {
-    let rows = all_rows(m.counts.clauses);
-    let columns = first_columns(s, m, table);
+    let rows = all_rows(map.counts.clauses);
+    let columns = first_columns(sheet, map, table);
     Matrix {
         rows,
         columns,
@@ -93,22 +89,22 @@ pub fn default_matrix<'a, 'b>(
     columns: &'a [u8; PATTERNS_MOST],
     tested: &'b mut [u8; PATTERNS_MOST],
     opened: &'a [u8; PATTERNS_MOST],
-    n: Sizes,
+    sizes: Sizes,
     class: usize,
     new_rows: &'b mut [u8; CLAUSES_MOST],
     new_columns: &'b mut [u8; PATTERNS_MOST],
 ) -> Sizes
-    requires { ⌜ Splits (now table) (matrixOf (now rows) (now columns) (now tested) (now opened) n) class ⌝ }
+    requires { ⌜ Splits (now table) (matrixNow rows columns tested opened sizes) class ⌝ }
     requires { ⌜ (length (now «new_rows») ≡ clausesMost) × (length (now «new_columns») ≡ patternsMost) ⌝ }
-    ensures { λ r. ⌜ StandsFor (matrixOf (now («new_rows» .exit)) (now («new_columns» .exit)) (now (tested .exit)) (now (opened .entry)) r) (defaultRead (now (table .entry)) class (inNumbers (matrixOf (now (rows .entry)) (now (columns .entry)) (now (tested .entry)) (now (opened .entry)) n))) ⌝ }
+    ensures { λ r. ⌜ StandsFor (matrixAfter «new_rows» «new_columns» tested opened r) (defaultRead (now (table .entry)) class (numbersBefore rows columns tested opened sizes)) ⌝ }
 {
-    let count = wild_rows(table, rows, n.rows, opened, class, new_rows);
-    let rest = put_rest(new_columns, 0, columns, n.columns, class);
-    push(tested, n.tested, class);
+    let count = wild_rows(table, rows, sizes.rows, opened, class, new_rows);
+    let rest = put_rest(new_columns, 0, columns, sizes.columns, class);
+    push(tested, sizes.tested, class);
     Sizes {
         rows: count,
         columns: rest,
-        tested: n.tested + 1,
+        tested: sizes.tested + 1,
     }
 }
 
@@ -120,34 +116,34 @@ struct Counts {
 
 // The row of clause c, which has this in the column: a wildcard joins, and a test that belongs to the case.
 fn join_row(
-    s: &[u8],
-    m: SheetMap,
+    sheet: &[u8],
+    map: SheetMap,
     rows: &mut [u8; CLAUSES_MOST],
     opens: &mut [u8; CLAUSES_MOST],
-    o: Counts,
+    counts: Counts,
     c: u8,
     held: Held,
     test: Test,
 ) -> Counts
-    requires { ⌜ SheetAccepts (now s) m × HeldKnown (now s) held × InPool (now s) test ⌝ }
-    requires { ⌜ WholeRows (asRows (now rows) (o .rows)) × WholeRows (asRows (now opens) (o .opens)) × (o .rows < clausesMost) × (o .opens < clausesMost) ⌝ }
-    ensures { λ r. ⌜ JoinsTo (asRows (now (rows .exit)) (r .rows)) (asRows (now (opens .exit)) (r .opens)) (take (o .rows) (now (rows .entry)) ++ joinRow (joinsTest (now (s .entry)) test) held c) (take (o .opens) (now (opens .entry)) ++ openRow (joinsTest (now (s .entry)) test) held) ⌝ }
+    requires { ⌜ SheetAccepts (now sheet) map × HeldKnown (now sheet) held × InPool (now sheet) test ⌝ }
+    requires { ⌜ WholeRows (asRows (now rows) (counts .rows)) × WholeRows (asRows (now opens) (counts .opens)) × (counts .rows < clausesMost) × (counts .opens < clausesMost) ⌝ }
+    ensures { λ r. ⌜ JoinsRow (now (sheet .entry)) test held c (rowsBefore rows (counts .rows)) (rowsBefore opens (counts .opens)) (rowsAfter rows (r .rows)) (rowsAfter opens (r .opens)) ⌝ }
 {
     match held {
         Held::Test(p) => {
-            if !covers(s, m, p, test) {
-                return o;
+            if !covers(sheet, map, p, test) {
+                return counts;
             }
             Counts {
-                rows: put_row(rows, o.rows, c),
-                opens: put_row(opens, o.opens, p as u8),
+                rows: put_row(rows, counts.rows, c),
+                opens: put_row(opens, counts.opens, p as u8),
             }
         }
         Held::Wildcard => {
-            let count = put_row(rows, o.rows, c);
+            let count = put_row(rows, counts.rows, c);
             Counts {
                 rows: count,
-                opens: o.opens,
+                opens: counts.opens,
             }
         }
     }
@@ -155,8 +151,8 @@ fn join_row(
 
 // Of the first n of these rows those of a case of the column of a class, and the tests that they open; how many of each.
 fn join_rows<'a, 'b>(
-    s: &[u8],
-    m: SheetMap,
+    sheet: &[u8],
+    map: SheetMap,
     table: &[u8],
     from: &'a [u8; CLAUSES_MOST],
     n: usize,
@@ -166,19 +162,19 @@ fn join_rows<'a, 'b>(
     rows: &'b mut [u8; CLAUSES_MOST],
     opens: &'b mut [u8; CLAUSES_MOST],
 ) -> Counts
-    requires { ⌜ ReadyTable (now s) m (now table) × WholeRows (asRows (now from) n) × All (λ c. c < clauses (now s)) (take n (now from)) × (class < patternsMost) × InPool (now s) test ⌝ }
+    requires { ⌜ ReadyTable (now sheet) map (now table) × WholeRows (asRows (now from) n) × All (λ c. c < clauses (now sheet)) (take n (now from)) × (class < patternsMost) × InPool (now sheet) test ⌝ }
     requires { ⌜ (length (now rows) ≡ clausesMost) × (length (now opens) ≡ clausesMost) ⌝ }
-    ensures { λ r. ⌜ JoinsTo (asRows (now (rows .exit)) (r .rows)) (asRows (now (opens .exit)) (r .opens)) (joinOf (joinsTest (now (s .entry)) test) (liveIn (now (s .entry)) (now (opened .entry)) class) (take n (now (from .entry)))) (opensOf (joinsTest (now (s .entry)) test) (liveIn (now (s .entry)) (now (opened .entry)) class) (take n (now (from .entry)))) ⌝ }
+    ensures { λ r. ⌜ JoinsRows (now (sheet .entry)) test (now (opened .entry)) class (take n (now (from .entry))) (rowsAfter rows (r .rows)) (rowsAfter opens (r .opens)) ⌝ }
 {
-    let mut o = Counts { rows: 0, opens: 0 };
+    let mut counts = Counts { rows: 0, opens: 0 };
     let mut i: usize = 0;
     while i < n {
         let c = from[i];
         let held = test_at(table, opened, wide(c), class);
-        o = join_row(s, m, rows, opens, o, c, held, test);
+        counts = join_row(sheet, map, rows, opens, counts, c, held, test);
         i += 1;
     }
-    o
+    counts
 }
 
 // Each of the first n of these tests opened at this time.
@@ -196,22 +192,22 @@ fn mark(opened: &mut [u8; PATTERNS_MOST], opens: &[u8; CLAUSES_MOST], n: usize, 
 
 // The columns that the first n of these tests open to, the last test's first.
 fn open_all(
-    s: &[u8],
-    m: SheetMap,
+    sheet: &[u8],
+    map: SheetMap,
     table: &[u8],
     opens: &[u8; CLAUSES_MOST],
     n: usize,
     list: &mut [u8; PATTERNS_MOST],
 ) -> usize
-    requires { ⌜ ReadyTable (now s) m (now table) × WholeRows (asRows (now opens) n) × All (TestKnown (now s)) (take n (now opens)) × (length (putTests (now s) (gather (openedTests (now s)) (take n (now opens))) []) ≤ patternsMost) ⌝ }
+    requires { ⌜ OpensAsked (now sheet) map (now table) (now opens) n ⌝ }
     requires { ⌜ length (now list) ≡ patternsMost ⌝ }
-    ensures { λ r. ⌜ Holds (asClasses (now (list .exit)) r) (putTests (now (s .entry)) (gather (openedTests (now (s .entry))) (take n (now (opens .entry)))) []) ⌝ }
+    ensures { λ r. ⌜ Holds (asClasses (now (list .exit)) r) (columnsOpened (now (sheet .entry)) (take n (now (opens .entry)))) ⌝ }
 {
     let mut count: usize = 0;
     let mut i = n;
     while 0 < i {
         i -= 1;
-        count = open(s, m, table, list, count, wide(opens[i]));
+        count = open(sheet, map, table, list, count, wide(opens[i]));
     }
     count
 }
@@ -219,44 +215,44 @@ fn open_all(
 // A case of the column of a class: the rows with a wildcard there and those whose tests belong to it, what these open to before the
 // other columns, and this one tested. The rows are asked before their tests are marked as opened.
 pub fn case_matrix<'a, 'b>(
-    s: &[u8],
-    m: SheetMap,
+    sheet: &[u8],
+    map: SheetMap,
     table: &[u8],
     rows: &'a [u8; CLAUSES_MOST],
     columns: &'a [u8; PATTERNS_MOST],
     tested: &'b mut [u8; PATTERNS_MOST],
     opened: &'b mut [u8; PATTERNS_MOST],
-    n: Sizes,
+    sizes: Sizes,
     class: usize,
     test: Test,
     new_rows: &'b mut [u8; CLAUSES_MOST],
     new_columns: &'b mut [u8; PATTERNS_MOST],
 ) -> Sizes
-    requires { ⌜ ReadyTable (now s) m (now table) × WholeMatrix (matrixOf (now rows) (now columns) (now tested) (now opened) n) × SoundOf (now s) (inNumbers (matrixOf (now rows) (now columns) (now tested) (now opened) n)) × (isIn class (take (n .columns) (now columns)) ≡ true) × InPool (now s) test ⌝ }
+    requires { ⌜ CaseAsked (now sheet) map (now table) (matrixNow rows columns tested opened sizes) class test ⌝ }
     requires { ⌜ (length (now «new_rows») ≡ clausesMost) × (length (now «new_columns») ≡ patternsMost) ⌝ }
-    ensures { λ r. ⌜ StandsFor (matrixOf (now («new_rows» .exit)) (now («new_columns» .exit)) (now (tested .exit)) (now (opened .exit)) r) (caseNumbered (now (s .entry)) class (meant (now (s .entry)) test) (inNumbers (matrixOf (now (rows .entry)) (now (columns .entry)) (now (tested .entry)) (now (opened .entry)) n))) ⌝ }
+    ensures { λ r. ⌜ StandsFor (matrixAfter «new_rows» «new_columns» tested opened r) (caseOfTest (now (sheet .entry)) class test (numbersBefore rows columns tested opened sizes)) ⌝ }
 {
     let mut opens = [0u8; CLAUSES_MOST];
-    let k = n.rows;
-    let o = join_rows(
-        s,
-        m,
+    let n = sizes.rows;
+    let counts = join_rows(
+        sheet,
+        map,
         table,
         rows,
-        k,
+        n,
         opened,
         class,
         test,
         new_rows,
         &mut opens,
     );
-    let front = open_all(s, m, table, &opens, o.opens, new_columns);
-    let all = put_rest(new_columns, front, columns, n.columns, class);
-    push(tested, n.tested, class);
-    let time = n.tested + 1;
-    mark(opened, &opens, o.opens, time);
+    let front = open_all(sheet, map, table, &opens, counts.opens, new_columns);
+    let all = put_rest(new_columns, front, columns, sizes.columns, class);
+    push(tested, sizes.tested, class);
+    let time = sizes.tested + 1;
+    mark(opened, &opens, counts.opens, time);
     Sizes {
-        rows: o.rows,
+        rows: counts.rows,
         columns: all,
         tested: time,
     }

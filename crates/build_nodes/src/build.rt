@@ -25,28 +25,27 @@ use format_parts::sections::first_of;
 use format_records::reading::Test;
 use format_sheet::SheetMap;
 ghost use mathlib.Core.Path.{_≡_};
-ghost use Prim.Native.Nat.{_<_, _≤_, _+_, _*_, _-_};
+ghost use Prim.Native.Nat.{_<_, _≤_, _+_, _*_};
 ghost use lib.ListN.{length, take};
 ghost use Rattle.base_words.specs.Words.{pick};
 ghost use Rattle.base_words.specs.Stored.{stored};
 ghost use Rattle.spec_rules.specs.Kinds.{listSwitchNode, switchNode};
 ghost use Rattle.spec_rules.specs.Limits.{patternsMost, nodesMost, nodeSize};
-ghost use Rattle.spec_rules.specs.TreeFile.{nodeBytes};
-ghost use Rattle.build_table.specs.Standing.{sheetPaths};
 ghost use Rattle.build_matrix.specs.Ready.{ReadyTable};
-ghost use Rattle.build_matrix.specs.Meant.{meant};
 ghost use Rattle.build_matrix.specs.Bound.{clauseLeaf};
 ghost use Rattle.build_matrix.specs.Numbered.{treeAt};
-ghost use Rattle.build_matrix.specs.InNumbers.{inNumbers, matrixOf};
+ghost use Rattle.build_matrix.specs.InNumbers.{inNumbers};
+ghost use Rattle.build_matrix.specs.Contracts.{matrixNow, numbersBefore};
 ghost use Rattle.build_arena.specs.Arena.{arenaEnd, casesMost};
 ghost use Rattle.build_leaves.specs.Bindings.{LeafAsked};
-ghost use Rattle.build_nodes.specs.Built.{Put, Roomy, Builds, BuildsCases};
-ghost use Rattle.build_nodes.specs.Steps.{caseList, caseTree, StillTested, Asked, AskedColumn, AskedCase, AskedCases};
+ghost use Rattle.build_nodes.specs.Built.{Roomy};
+ghost use Rattle.build_nodes.specs.Steps.{Asked, AskedColumn, AskedCase, AskedCases};
+ghost use Rattle.build_nodes.specs.Contracts.{testTree, PutsTree, BuildsTree, BuildsColumn, KeepsTested, switchRecord};
 
 // The leaf of a clause, where the first `time` of these classes were tested.
 fn put_leaf<'a>(
-    s: &[u8],
-    m: SheetMap,
+    sheet: &[u8],
+    map: SheetMap,
     table: &[u8],
     clause: usize,
     tested: &'a [u8; PATTERNS_MOST],
@@ -55,12 +54,12 @@ fn put_leaf<'a>(
     work: &mut [u8],
     tops: Tops,
 ) -> Tops
-    requires { ⌜ ReadyTable (now s) m (now table) × LeafAsked (now s) clause (now tested) time × Roomy (now work) tops × (tops .nodes < nodesMost) ⌝ }
-    ensures { λ r. ⌜ Put (sheetPaths (now (s .entry))) (now (work .entry)) (now (work .exit)) (clauseLeaf (now (s .entry)) (now (opened .entry)) (take time (now (tested .entry))) clause) tops r ⌝ }
+    requires { ⌜ ReadyTable (now sheet) map (now table) × LeafAsked (now sheet) clause (now tested) time × Roomy (now work) tops × (tops .nodes < nodesMost) ⌝ }
+    ensures { λ r. ⌜ PutsTree sheet work (clauseLeaf (now (sheet .entry)) (now (opened .entry)) (take time (now (tested .entry))) clause) tops r ⌝ }
 {
     let top = leaf_bindings(
-        s,
-        m,
+        sheet,
+        map,
         table,
         clause,
         tested,
@@ -105,7 +104,7 @@ fn switch_kind(list: bool) -> u8
 fn put_switch(work: &mut [u8], k: usize, class: usize, first: usize, met: CasesMet, default: usize)
     requires { ⌜ (arenaEnd ≤ length (now work)) × (k < nodesMost) × (class < patternsMost) × (default ≤ nodesMost + 1) ⌝ }
     requires { ⌜ (first ≤ met .mid) × (met .mid ≤ met .end) × (met .end < casesMost) ⌝ }
-    ensures { λ _. ⌜ now (work .exit) ≡ stored (now (work .entry)) (nodeSize * k) (nodeBytes (pick (met .list) listSwitchNode switchNode) class first (met .mid - first) (met .end - met .mid) default) ⌝ }
+    ensures { λ _. ⌜ now (work .exit) ≡ stored (now (work .entry)) (nodeSize * k) (switchRecord class first met default) ⌝ }
 {
     let kind = switch_kind(met.list);
     let cases = met.mid - first;
@@ -122,82 +121,93 @@ fn put_switch(work: &mut [u8], k: usize, class: usize, first: usize, met: CasesM
     );
 }
 
-// The tree of the case of this test, of the column of class k.
+// The tree of the case of this test, of the column of this class.
 fn build_case<'a>(
-    s: &[u8],
-    m: SheetMap,
+    sheet: &[u8],
+    map: SheetMap,
     table: &[u8],
     rows: &'a [u8; CLAUSES_MOST],
     columns: &'a [u8; PATTERNS_MOST],
     tested: &mut [u8; PATTERNS_MOST],
     opened: &'a [u8; PATTERNS_MOST],
-    n: Sizes,
-    k: usize,
+    sizes: Sizes,
+    class: usize,
     test: Test,
-    w: &mut [u8],
+    work: &mut [u8],
     tops: Tops,
 ) -> Built
-    requires { ⌜ AskedCase (now s) m (now table) (matrixOf (now rows) (now columns) (now tested) (now opened) n) k test (now w) tops ⌝ }
-    ensures { λ r. ⌜ Builds (sheetPaths (now (s .entry))) (now (w .entry)) (now (w .exit)) (caseTree (now (s .entry)) k (inNumbers (matrixOf (now (rows .entry)) (now (columns .entry)) (now (tested .entry)) (now (opened .entry)) n)) (meant (now (s .entry)) test)) tops r × StillTested (n .tested) (now (tested .entry)) (now (tested .exit)) ⌝ }
+    requires { ⌜ AskedCase (now sheet) map (now table) (matrixNow rows columns tested opened sizes) class test (now work) tops ⌝ }
+    ensures { λ r. ⌜ BuildsTree sheet work (testTree (now (sheet .entry)) class (numbersBefore rows columns tested opened sizes) test) tops r × KeepsTested (sizes .tested) tested ⌝ }
 {
     let mut some = [0u8; CLAUSES_MOST];
     let mut rest = [0u8; PATTERNS_MOST];
     let mut more = *opened;
-    let y = case_matrix(
-        s,
-        m,
+    let case_sizes = case_matrix(
+        sheet,
+        map,
         table,
         rows,
         columns,
         tested,
         &mut more,
-        n,
-        k,
+        sizes,
+        class,
         test,
         &mut some,
         &mut rest,
     );
-    do_build_tree(s, m, table, &some, &rest, tested, &more, y, w, tops)
+    do_build_tree(
+        sheet,
+        map,
+        table,
+        &some,
+        &rest,
+        tested,
+        &more,
+        case_sizes,
+        work,
+        tops,
+    )
 }
 
 // The cases whose records stand from number `first` on, up to the number of cases there are: each gets its child's number and its tree.
 fn build_cases<'a>(
-    s: &[u8],
-    m: SheetMap,
+    sheet: &[u8],
+    map: SheetMap,
     table: &[u8],
     rows: &'a [u8; CLAUSES_MOST],
     columns: &'a [u8; PATTERNS_MOST],
     tested: &mut [u8; PATTERNS_MOST],
     opened: &'a [u8; PATTERNS_MOST],
-    n: Sizes,
-    k: usize,
-    w: &mut [u8],
+    sizes: Sizes,
+    class: usize,
+    work: &mut [u8],
     first: usize,
     from: Tops,
 ) -> Built
-    requires { ⌜ AskedColumn (now s) m (now table) (matrixOf (now rows) (now columns) (now tested) (now opened) n) k ⌝ }
-    requires { ⌜ AskedCases (now s) k (inNumbers (matrixOf (now rows) (now columns) (now tested) (now opened) n)) first (now w) from ⌝ }
-    ensures { λ r. ⌜ BuildsCases (sheetPaths (now (s .entry))) (caseTree (now (s .entry)) k (inNumbers (matrixOf (now (rows .entry)) (now (columns .entry)) (now (tested .entry)) (now (opened .entry)) n))) (caseList (now (s .entry)) k (inNumbers (matrixOf (now (rows .entry)) (now (columns .entry)) (now (tested .entry)) (now (opened .entry)) n))) first (now (w .entry)) (now (w .exit)) from r × StillTested (n .tested) (now (tested .entry)) (now (tested .exit)) ⌝ }
+    requires { ⌜ AskedColumn (now sheet) map (now table) (matrixNow rows columns tested opened sizes) class ⌝ }
+    requires { ⌜ AskedCases (now sheet) class (inNumbers (matrixNow rows columns tested opened sizes)) first (now work) from ⌝ }
+    ensures { λ r. ⌜ BuildsColumn sheet work class (numbersBefore rows columns tested opened sizes) first from r × KeepsTested (sizes .tested) tested ⌝ }
 {
     let count = from.cases - first;
     let mut tops = from;
     let mut i: usize = 0;
     while i < count {
-        let case = case_at(w, first + i);
+        let case = case_at(work, first + i);
         let test = case.test;
-        put_child(w, first + i, tops.nodes as u16);
+        put_child(work, first + i, tops.nodes as u16);
         let built = build_case(
-            s,
-            m,
+            sheet,
+            map,
             table,
             rows,
             columns,
             tested,
             opened,
-            n,
-            k,
+            sizes,
+            class,
             test,
-            w,
+            work,
             tops,
         );
         if !built.fits {
@@ -209,25 +219,35 @@ fn build_cases<'a>(
     Built { fits: true, tops }
 }
 
-// A switch on the column of class k.
+// A switch on the column of this class.
 fn build_switch<'a>(
-    s: &[u8],
-    m: SheetMap,
+    sheet: &[u8],
+    map: SheetMap,
     table: &[u8],
     rows: &'a [u8; CLAUSES_MOST],
     columns: &'a [u8; PATTERNS_MOST],
     tested: &mut [u8; PATTERNS_MOST],
     opened: &'a [u8; PATTERNS_MOST],
-    n: Sizes,
-    k: usize,
-    w: &mut [u8],
+    sizes: Sizes,
+    class: usize,
+    work: &mut [u8],
     tops: Tops,
 ) -> Built
-    requires { ⌜ AskedColumn (now s) m (now table) (matrixOf (now rows) (now columns) (now tested) (now opened) n) k × Roomy (now w) tops × (tops .nodes < nodesMost) ⌝ }
-    ensures { λ r. ⌜ Builds (sheetPaths (now (s .entry))) (now (w .entry)) (now (w .exit)) (treeAt (now (s .entry)) (inNumbers (matrixOf (now (rows .entry)) (now (columns .entry)) (now (tested .entry)) (now (opened .entry)) n))) tops r × StillTested (n .tested) (now (tested .entry)) (now (tested .exit)) ⌝ }
+    requires { ⌜ AskedColumn (now sheet) map (now table) (matrixNow rows columns tested opened sizes) class × Roomy (now work) tops × (tops .nodes < nodesMost) ⌝ }
+    ensures { λ r. ⌜ BuildsTree sheet work (treeAt (now (sheet .entry)) (numbersBefore rows columns tested opened sizes)) tops r × KeepsTested (sizes .tested) tested ⌝ }
 {
     let first = tops.cases;
-    let meeting = meet_cases(s, m, table, rows, n.rows, opened, k, w, first);
+    let meeting = meet_cases(
+        sheet,
+        map,
+        table,
+        rows,
+        sizes.rows,
+        opened,
+        class,
+        work,
+        first,
+    );
     let Meeting::Met(met) = meeting else {
         return Built { fits: false, tops };
     };
@@ -235,16 +255,16 @@ fn build_switch<'a>(
     from.nodes += 1;
     from.cases = met.end;
     let built = build_cases(
-        s,
-        m,
+        sheet,
+        map,
         table,
         rows,
         columns,
         tested,
         opened,
-        n,
-        k,
-        w,
+        sizes,
+        class,
+        work,
         first,
         from,
     );
@@ -254,55 +274,66 @@ fn build_switch<'a>(
     let next = built.tops;
     let mut wild = [0u8; CLAUSES_MOST];
     let mut rest = [0u8; PATTERNS_MOST];
-    let d = default_matrix(
+    let default_sizes = default_matrix(
         table,
         rows,
         columns,
         tested,
         opened,
-        n,
-        k,
+        sizes,
+        class,
         &mut wild,
         &mut rest,
     );
-    if d.rows == 0 {
-        put_switch(w, tops.nodes, k, first, met, 0);
+    if default_sizes.rows == 0 {
+        put_switch(work, tops.nodes, class, first, met, 0);
         return built;
     }
-    put_switch(w, tops.nodes, k, first, met, next.nodes + 1);
-    do_build_tree(s, m, table, &wild, &rest, tested, opened, d, w, next)
+    put_switch(work, tops.nodes, class, first, met, next.nodes + 1);
+    do_build_tree(
+        sheet,
+        map,
+        table,
+        &wild,
+        &rest,
+        tested,
+        opened,
+        default_sizes,
+        work,
+        next,
+    )
 }
 
 // The tree of the matrix of these parts, which has a row, from the tops on.
-pub fn do_build_tree<'a>(
-    s: &[u8],
-    m: SheetMap,
+pub(crate) fn do_build_tree<'a>(
+    sheet: &[u8],
+    map: SheetMap,
     table: &[u8],
     rows: &'a [u8; CLAUSES_MOST],
     columns: &'a [u8; PATTERNS_MOST],
     tested: &mut [u8; PATTERNS_MOST],
     opened: &'a [u8; PATTERNS_MOST],
-    n: Sizes,
-    w: &mut [u8],
+    sizes: Sizes,
+    work: &mut [u8],
     tops: Tops,
 ) -> Built
-    requires { ⌜ Asked (now s) m (now table) (matrixOf (now rows) (now columns) (now tested) (now opened) n) (now w) tops ⌝ }
-    ensures { λ r. ⌜ Builds (sheetPaths (now (s .entry))) (now (w .entry)) (now (w .exit)) (treeAt (now (s .entry)) (inNumbers (matrixOf (now (rows .entry)) (now (columns .entry)) (now (tested .entry)) (now (opened .entry)) n))) tops r × StillTested (n .tested) (now (tested .entry)) (now (tested .exit)) ⌝ }
+    requires { ⌜ Asked (now sheet) map (now table) (matrixNow rows columns tested opened sizes) (now work) tops ⌝ }
+    ensures { λ r. ⌜ BuildsTree sheet work (treeAt (now (sheet .entry)) (numbersBefore rows columns tested opened sizes)) tops r × KeepsTested (sizes .tested) tested ⌝ }
 {
     if tops.nodes == NODES_MOST {
         return Built { fits: false, tops };
     }
-    let choice = highest_occurrence(table, rows, n.rows, columns, n.columns, opened);
-    let Choice::Column(k) = choice else {
+    let choice = highest_occurrence(table, rows, sizes.rows, columns, sizes.columns, opened);
+    let Choice::Column(class) = choice else {
         let next = put_leaf(
-            s,
-            m,
+            sheet,
+            map,
             table,
             wide(rows[0]),
             tested,
-            n.tested,
+            sizes.tested,
             opened,
-            w,
+            work,
             tops,
         );
         return Built {
@@ -310,5 +341,17 @@ pub fn do_build_tree<'a>(
             tops: next,
         };
     };
-    build_switch(s, m, table, rows, columns, tested, opened, n, k, w, tops)
+    build_switch(
+        sheet,
+        map,
+        table,
+        rows,
+        columns,
+        tested,
+        opened,
+        sizes,
+        class,
+        work,
+        tops,
+    )
 }

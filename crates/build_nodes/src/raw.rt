@@ -14,32 +14,32 @@ ghost use Rattle.build_arena.specs.Arena.{arenaEnd};
 ghost use Rattle.build_nodes.specs.Raw.{BuildsRaw};
 
 // By the sheet's table.
-pub fn build_tree(s: &[u8], m: SheetMap, table: &[u8], work: &mut [u8]) -> Built
-    requires { ⌜ ReadyTable (now s) m (now table) × (arenaEnd ≤ length (now work)) ⌝ }
-    ensures { λ r. ⌜ BuildsRaw (now (s .entry)) (now (work .exit)) r ⌝ }
+pub fn build_tree(sheet: &[u8], map: SheetMap, table: &[u8], work: &mut [u8]) -> Built
+    requires { ⌜ ReadyTable (now sheet) map (now table) × (arenaEnd ≤ length (now work)) ⌝ }
+    ensures { λ r. ⌜ BuildsRaw (now (sheet .entry)) (now (work .exit)) r ⌝ }
 {
-    let x = first_matrix(s, m, table);
+    let first = first_matrix(sheet, map, table);
     let none = Tops {
         nodes: 0,
         cases: 0,
         bindings: 0,
         leaves: [0; CLAUSES_MOST],
     };
-    let n = Sizes {
-        rows: x.rows.count,
-        columns: x.columns.count,
-        tested: x.tested.count,
+    let sizes = Sizes {
+        rows: first.rows.count,
+        columns: first.columns.count,
+        tested: first.tested.count,
     };
-    let mut tested = x.tested.list;
+    let mut tested = first.tested.list;
     do_build_tree(
-        s,
-        m,
+        sheet,
+        map,
         table,
-        &x.rows.list,
-        &x.columns.list,
+        &first.rows.list,
+        &first.columns.list,
         &mut tested,
-        &x.opened,
-        n,
+        &first.opened,
+        sizes,
         work,
         none,
     )

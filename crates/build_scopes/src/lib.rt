@@ -16,8 +16,8 @@ ghost use Rattle.spec_rules.specs.Limits.{clausesMost};
 ghost use Rattle.build_scopes.specs.Marks.{ReadyWith};
 ghost use Rattle.build_scopes.specs.Scoped.{Surveyed, withClause, ScopedWith};
 
-pub mod descent;
-pub mod last;
+mod descent;
+mod last;
 pub mod marks;
 
 // The nodes of a small tree. A table is cleared whole as it is made; most trees are small, so theirs are.
@@ -33,32 +33,38 @@ pub struct Scopes {
 }
 
 // The scopes with those of clause c, the clauses after c being done.
-fn with_clause(w: &[u8], c: usize, last: &[u8], sets: &[u32], x: Scopes) -> Scopes
-    requires { ⌜ Surveyed (now w) (now last) (now sets) × (c < clausesMost) × (x .hoists < clausesMost) ⌝ }
-    ensures { λ r. ⌜ ((h : Surveyed (now (w .entry)) (now (last .entry)) (now (sets .entry))) → r ≡ withClause (h .tree) c x) ⌝ }
+fn with_clause(work: &[u8], c: usize, last: &[u8], sets: &[u32], scopes: Scopes) -> Scopes
+    requires { ⌜ Surveyed (now work) (now last) (now sets) × (c < clausesMost) × (scopes .hoists < clausesMost) ⌝ }
+    ensures { λ r. ⌜ ((h : Surveyed (now (work .entry)) (now (last .entry)) (now (sets .entry))) → r ≡ withClause (h .tree) c scopes) ⌝ }
 {
-    let mut y = x;
+    let mut y = scopes;
     if mark_of(sets[0], c) == 0 {
         y.idle = c;
         return y;
     }
-    let node = get_hoist_path(w, c, last, sets);
-    let leaf = first_leaf(w, c, sets);
+    let node = get_hoist_path(work, c, last, sets);
+    let leaf = first_leaf(work, c, sets);
     y.node[c] = node as u16;
     y.leaf[c] = leaf as u16;
-    y.hoists = x.hoists + 1;
+    y.hoists = scopes.hoists + 1;
     y
 }
 
 // Over tables with room for the nodes, whatever stands in them.
-fn hoist_paths(w: &[u8], nodes: usize, clauses: usize, last: &mut [u8], sets: &mut [u32]) -> Scopes
-    requires { ⌜ ReadyWith (now w) nodes × (clauses ≤ clausesMost) × (nodes ≤ length (now last)) × (nodes ≤ length (now sets)) ⌝ }
-    ensures { λ r. ⌜ ((h : ReadyWith (now (w .entry)) nodes) → ScopedWith (h .tree) clauses (now (sets .exit)) r) ⌝ }
+fn hoist_paths(
+    work: &[u8],
+    nodes: usize,
+    clauses: usize,
+    last: &mut [u8],
+    sets: &mut [u32],
+) -> Scopes
+    requires { ⌜ ReadyWith (now work) nodes × (clauses ≤ clausesMost) × (nodes ≤ length (now last)) × (nodes ≤ length (now sets)) ⌝ }
+    ensures { λ r. ⌜ ((h : ReadyWith (now (work .entry)) nodes) → ScopedWith (h .tree) clauses (now (sets .exit)) r) ⌝ }
 {
-    mark_last(w, nodes, last);
-    mark(w, nodes, sets);
+    mark_last(work, nodes, last);
+    mark(work, nodes, sets);
     let none = NODES_MOST as u16;
-    let mut x = Scopes {
+    let mut scopes = Scopes {
         node: [none; CLAUSES_MOST],
         leaf: [none; CLAUSES_MOST],
         hoists: 0,
@@ -67,20 +73,20 @@ fn hoist_paths(w: &[u8], nodes: usize, clauses: usize, last: &mut [u8], sets: &m
     let mut c = clauses;
     while 0 < c {
         c -= 1;
-        x = with_clause(w, c, last, sets, x);
+        scopes = with_clause(work, c, last, sets, scopes);
     }
-    x
+    scopes
 }
 
 // `sets` has room for the nodes, and afterwards the clauses with a leaf at or below each of them.
-pub fn get_hoist_paths(w: &[u8], nodes: usize, clauses: usize, sets: &mut [u32]) -> Scopes
-    requires { ⌜ ReadyWith (now w) nodes × (clauses ≤ clausesMost) × (nodes ≤ length (now sets)) ⌝ }
-    ensures { λ r. ⌜ ((h : ReadyWith (now (w .entry)) nodes) → ScopedWith (h .tree) clauses (now (sets .exit)) r) ⌝ }
+pub fn get_hoist_paths(work: &[u8], nodes: usize, clauses: usize, sets: &mut [u32]) -> Scopes
+    requires { ⌜ ReadyWith (now work) nodes × (clauses ≤ clausesMost) × (nodes ≤ length (now sets)) ⌝ }
+    ensures { λ r. ⌜ ((h : ReadyWith (now (work .entry)) nodes) → ScopedWith (h .tree) clauses (now (sets .exit)) r) ⌝ }
 {
     if nodes <= NODES_FEW {
         let mut last = [0u8; NODES_FEW];
-        return hoist_paths(w, nodes, clauses, &mut last, sets);
+        return hoist_paths(work, nodes, clauses, &mut last, sets);
     }
     let mut last = [0u8; NODES_MOST];
-    hoist_paths(w, nodes, clauses, &mut last, sets)
+    hoist_paths(work, nodes, clauses, &mut last, sets)
 }

@@ -21,14 +21,14 @@ pub struct Children {
     pub default: usize,
 }
 
-pub fn children_of(w: &[u8], k: usize) -> Children
-    requires { ⌜ (arenaEnd ≤ length (now w)) × (k < nodesMost) ⌝ }
-    ensures { λ r. ⌜ r ≡ childrenOf (now (w .entry)) k ⌝ }
+pub fn children_of(work: &[u8], k: usize) -> Children
+    requires { ⌜ (arenaEnd ≤ length (now work)) × (k < nodesMost) ⌝ }
+    ensures { λ r. ⌜ r ≡ childrenOf (now (work .entry)) k ⌝ }
 {
-    let first = node_word(w, k, node_words::FIRST_CASE) as usize;
-    let cases = node_word(w, k, node_words::CASES) as usize;
-    let tails = node_word(w, k, node_words::TAIL_CASES) as usize;
-    let default = node_word(w, k, node_words::DEFAULT) as usize;
+    let first = node_word(work, k, node_words::FIRST_CASE) as usize;
+    let cases = node_word(work, k, node_words::CASES) as usize;
+    let tails = node_word(work, k, node_words::TAIL_CASES) as usize;
+    let default = node_word(work, k, node_words::DEFAULT) as usize;
     Children {
         first,
         count: cases + tails,
@@ -37,14 +37,14 @@ pub fn children_of(w: &[u8], k: usize) -> Children
 }
 
 // The clauses of `all` and those with a leaf below the n cases from i on.
-fn union_cases(w: &[u8], i: usize, n: usize, all: u32, sets: &[u32]) -> u32
-    requires { ⌜ CasesInside (now w) i n (length (now sets)) ⌝ }
-    ensures { λ r. ⌜ r ≡ unionCases (now (w .entry)) (now (sets .entry)) i n all ⌝ }
+fn union_cases(work: &[u8], i: usize, n: usize, all: u32, sets: &[u32]) -> u32
+    requires { ⌜ CasesInside (now work) i n (length (now sets)) ⌝ }
+    ensures { λ r. ⌜ r ≡ unionCases (now (work .entry)) (now (sets .entry)) i n all ⌝ }
 {
     let mut set = all;
     let mut j = 0;
     while j < n {
-        let child = case_child(w, i + j) as usize;
+        let child = case_child(work, i + j) as usize;
         set = set | sets[child];
         j += 1;
     }
@@ -62,31 +62,37 @@ fn default_set(sets: &[u32], default: usize) -> u32
 }
 
 // The clauses with a leaf at or below node k; the sets of the nodes after k are known.
-fn node_set(w: &[u8], k: usize, sets: &[u32]) -> u32
-    requires { ⌜ NodeInside (now w) k (length (now sets)) ⌝ }
-    ensures { λ r. ⌜ r ≡ nodeSet (now (w .entry)) (now (sets .entry)) k ⌝ }
+fn node_set(work: &[u8], k: usize, sets: &[u32]) -> u32
+    requires { ⌜ NodeInside (now work) k (length (now sets)) ⌝ }
+    ensures { λ r. ⌜ r ≡ nodeSet (now (work .entry)) (now (sets .entry)) k ⌝ }
 {
-    if node_kind(w, k) == node_kinds::LEAF {
-        return 1 << node_word(w, k, node_words::CLAUSE);
+    if node_kind(work, k) == node_kinds::LEAF {
+        return 1 << node_word(work, k, node_words::CLAUSE);
     }
-    let at = children_of(w, k);
-    union_cases(w, at.first, at.count, default_set(sets, at.default), sets)
+    let at = children_of(work, k);
+    union_cases(
+        work,
+        at.first,
+        at.count,
+        default_set(sets, at.default),
+        sets,
+    )
 }
 
-pub fn mark(w: &[u8], nodes: usize, sets: &mut [u32])
-    requires { ⌜ ReadyWith (now w) nodes × (nodes ≤ length (now sets)) ⌝ }
-    ensures { λ _. ⌜ ((h : ReadyWith (now (w .entry)) nodes) → SetsMarked (h .tree) 0 (now (sets .exit))) ⌝ }
+pub(crate) fn mark(work: &[u8], nodes: usize, sets: &mut [u32])
+    requires { ⌜ ReadyWith (now work) nodes × (nodes ≤ length (now sets)) ⌝ }
+    ensures { λ _. ⌜ ((h : ReadyWith (now (work .entry)) nodes) → SetsMarked (h .tree) 0 (now (sets .exit))) ⌝ }
 {
     let mut k = nodes;
     while 0 < k {
         k -= 1;
-        let one = node_set(w, k, sets);
+        let one = node_set(work, k, sets);
         sets[k] = one;
     }
 }
 
 // The mark of clause c in a set: 1 where it is in it, or 0.
-pub fn mark_of(set: u32, c: usize) -> usize
+pub(crate) fn mark_of(set: u32, c: usize) -> usize
     requires { ⌜ c < clausesMost ⌝ }
     ensures { λ r. ⌜ r ≡ bitAt c set ⌝ }
 {
@@ -94,14 +100,14 @@ pub fn mark_of(set: u32, c: usize) -> usize
 }
 
 // How many of the n cases from i on have a child that is marked for clause c.
-fn marked_cases(w: &[u8], i: usize, n: usize, c: usize, sets: &[u32]) -> usize
-    requires { ⌜ CasesInside (now w) i n (length (now sets)) × (c < clausesMost) ⌝ }
-    ensures { λ r. ⌜ r ≡ markedCases (now (w .entry)) (column c (now (sets .entry))) i n ⌝ }
+fn marked_cases(work: &[u8], i: usize, n: usize, c: usize, sets: &[u32]) -> usize
+    requires { ⌜ CasesInside (now work) i n (length (now sets)) × (c < clausesMost) ⌝ }
+    ensures { λ r. ⌜ r ≡ markedCases (now (work .entry)) (column c (now (sets .entry))) i n ⌝ }
 {
     let mut count: usize = 0;
     let mut j = 0;
     while j < n {
-        let child = case_child(w, i + j) as usize;
+        let child = case_child(work, i + j) as usize;
         count += mark_of(sets[child], c);
         j += 1;
     }
@@ -109,13 +115,13 @@ fn marked_cases(w: &[u8], i: usize, n: usize, c: usize, sets: &[u32]) -> usize
 }
 
 // The child of the first of them that is marked, or 1,024.
-fn first_marked(w: &[u8], i: usize, n: usize, c: usize, sets: &[u32]) -> usize
-    requires { ⌜ CasesInside (now w) i n (length (now sets)) × (c < clausesMost) ⌝ }
-    ensures { λ r. ⌜ r ≡ firstMarked (now (w .entry)) (column c (now (sets .entry))) i n ⌝ }
+fn first_marked(work: &[u8], i: usize, n: usize, c: usize, sets: &[u32]) -> usize
+    requires { ⌜ CasesInside (now work) i n (length (now sets)) × (c < clausesMost) ⌝ }
+    ensures { λ r. ⌜ r ≡ firstMarked (now (work .entry)) (column c (now (sets .entry))) i n ⌝ }
 {
     let mut j = 0;
     while j < n {
-        let child = case_child(w, i + j) as usize;
+        let child = case_child(work, i + j) as usize;
         if mark_of(sets[child], c) == 1 {
             return child;
         }
@@ -132,23 +138,23 @@ fn marked_default(sets: &[u32], c: usize, default: usize) -> usize
 }
 
 // How many children of switch k are marked for clause c.
-pub fn marked_children(w: &[u8], k: usize, c: usize, sets: &[u32]) -> usize
-    requires { ⌜ SwitchInside (now w) k (length (now sets)) × (c < clausesMost) ⌝ }
-    ensures { λ r. ⌜ r ≡ markedChildren (now (w .entry)) (column c (now (sets .entry))) k ⌝ }
+pub(crate) fn marked_children(work: &[u8], k: usize, c: usize, sets: &[u32]) -> usize
+    requires { ⌜ SwitchInside (now work) k (length (now sets)) × (c < clausesMost) ⌝ }
+    ensures { λ r. ⌜ r ≡ markedChildren (now (work .entry)) (column c (now (sets .entry))) k ⌝ }
 {
-    let at = children_of(w, k);
-    let cases = marked_cases(w, at.first, at.count, c, sets);
+    let at = children_of(work, k);
+    let cases = marked_cases(work, at.first, at.count, c, sets);
     cases + marked_default(sets, c, at.default)
 }
 
 // The child of switch k marked for clause c that was built first: the default, then the cases in order.
-pub fn first_child(w: &[u8], k: usize, c: usize, sets: &[u32]) -> usize
-    requires { ⌜ SwitchInside (now w) k (length (now sets)) × (c < clausesMost) ⌝ }
-    ensures { λ r. ⌜ r ≡ firstChild (now (w .entry)) (column c (now (sets .entry))) k ⌝ }
+pub(crate) fn first_child(work: &[u8], k: usize, c: usize, sets: &[u32]) -> usize
+    requires { ⌜ SwitchInside (now work) k (length (now sets)) × (c < clausesMost) ⌝ }
+    ensures { λ r. ⌜ r ≡ firstChild (now (work .entry)) (column c (now (sets .entry))) k ⌝ }
 {
-    let at = children_of(w, k);
+    let at = children_of(work, k);
     if 0 < marked_default(sets, c, at.default) {
         return at.default - 1;
     }
-    first_marked(w, at.first, at.count, c, sets)
+    first_marked(work, at.first, at.count, c, sets)
 }

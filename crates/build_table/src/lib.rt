@@ -46,9 +46,9 @@ pub const INDEX: usize = 5 * PATTERNS_MOST;
 
 pub const DEPTH: usize = 6 * PATTERNS_MOST;
 
-pub const CLAUSE: usize = 7 * PATTERNS_MOST;
+const CLAUSE: usize = 7 * PATTERNS_MOST;
 
-pub const INDICES: usize = 8 * PATTERNS_MOST;
+const INDICES: usize = 8 * PATTERNS_MOST;
 
 // By clause and class: one more than the test there, or 0.
 pub const CELL: usize = INDICES + DEPTH_MOST * PATTERNS_MOST;
@@ -80,31 +80,36 @@ fn put_child(table: &mut [u8], p: usize, q: usize, step: u8, index: usize, tipo:
     table[CLAUSE + q] = clause;
 }
 
-// The n first children of p, with their types at entry e and each `stride` further on.
+// The types of a pattern's first children: how many, the entry of the first, and how much further on each next one is.
+struct TypeRun {
+    count: usize,
+    first: usize,
+    stride: usize,
+}
+
+// The first children of p, as many as there are types.
 fn put_children(
-    s: &[u8],
-    m: SheetMap,
+    sheet: &[u8],
+    map: SheetMap,
     table: &mut [u8],
     p: usize,
-    n: usize,
+    types: TypeRun,
     step: u8,
-    e: usize,
-    stride: usize,
     owner: u8,
 )
-    requires { ⌜ SheetAccepts (now s) m × (length (now table) ≡ tableSize) × Parts (now s) p n e stride ⌝ }
-    ensures { λ _. ⌜ now (table .exit) ≡ placedEach (now (s .entry)) (now (table .entry)) p step e stride owner 0 n ⌝ }
+    requires { ⌜ SheetAccepts (now sheet) map × (length (now table) ≡ tableSize) × Parts (now sheet) p (types .count) (types .first) (types .stride) ⌝ }
+    ensures { λ _. ⌜ now (table .exit) ≡ placedEach (now (sheet .entry)) (now (table .entry)) p step (types .first) (types .stride) owner 0 (types .count) ⌝ }
 {
-    let r = pattern_at(s, m, p);
+    let r = pattern_at(sheet, map, p);
     let mut i: usize = 0;
-    while i < n {
+    while i < types.count {
         put_child(
             table,
             p,
-            child_at(s, m, r.first + i),
+            child_at(sheet, map, r.first + i),
             step,
             i,
-            entry_at(s, m, e + stride * i),
+            entry_at(sheet, map, types.first + types.stride * i),
             owner,
         );
         i += 1;
@@ -123,138 +128,147 @@ fn one_constructor(ty: TypeRecord) -> bool
 
 // The fields of constructor pattern p: inside p, if it is a test.
 fn place_fields(
-    s: &[u8],
-    m: SheetMap,
+    sheet: &[u8],
+    map: SheetMap,
     table: &mut [u8],
     p: usize,
     r: PatternRecord,
     ty: TypeRecord,
     owner: u8,
 )
-    requires { ⌜ Reading (now s) m (now table) p r ty owner × (r .kind ≡ constructorPattern) ⌝ }
-    ensures { λ _. ⌜ now (table .exit) ≡ placedBelow (now (s .entry)) (now (table .entry)) p Constructor ⌝ }
+    requires { ⌜ Reading (now sheet) map (now table) p r ty owner × (r .kind ≡ constructorPattern) ⌝ }
+    ensures { λ _. ⌜ now (table .exit) ≡ placedBelow (now (sheet .entry)) (now (table .entry)) p Constructor ⌝ }
 {
-    let c = constructor_at(s, m, ty.first + r.a);
+    let fields = constructor_at(sheet, map, ty.first + r.a);
+    let types = TypeRun {
+        count: r.count,
+        first: fields.first,
+        stride: 1,
+    };
     if one_constructor(ty) {
-        put_children(
-            s,
-            m,
-            table,
-            p,
-            r.count,
-            step_kinds::CONSTR,
-            c.first,
-            1,
-            owner,
-        );
+        put_children(sheet, map, table, p, types, step_kinds::CONSTR, owner);
         return;
     }
     put_children(
-        s,
-        m,
+        sheet,
+        map,
         table,
         p,
-        r.count,
+        types,
         step_kinds::CONSTR,
-        c.first,
-        1,
         (p + 1) as u8,
     );
 }
 
 // The elements and the tail of list p, all inside p.
 fn place_tailed(
-    s: &[u8],
-    m: SheetMap,
+    sheet: &[u8],
+    map: SheetMap,
     table: &mut [u8],
     p: usize,
     r: PatternRecord,
     ty: TypeRecord,
     tipo: usize,
 )
-    requires { ⌜ Reading (now s) m (now table) p r ty (ownerOf (now s) p) × (r .kind ≡ listWithTailPattern) × (tipo ≡ typeOf (now s) p) ⌝ }
-    ensures { λ _. ⌜ now (table .exit) ≡ placedBelow (now (s .entry)) (now (table .entry)) p ListWithRest ⌝ }
+    requires { ⌜ Reading (now sheet) map (now table) p r ty (ownerOf (now sheet) p) × (r .kind ≡ listWithTailPattern) × (tipo ≡ typeOf (now sheet) p) ⌝ }
+    ensures { λ _. ⌜ now (table .exit) ≡ placedBelow (now (sheet .entry)) (now (table .entry)) p ListWithRest ⌝ }
 {
     let n = r.count - 1;
-    let tail = child_at(s, m, r.first + n);
+    let tail = child_at(sheet, map, r.first + n);
     put_children(
-        s,
-        m,
+        sheet,
+        map,
         table,
         p,
-        n,
+        TypeRun {
+            count: n,
+            first: ty.first,
+            stride: 0,
+        },
         step_kinds::LIST,
-        ty.first,
-        0,
         (p + 1) as u8,
     );
     put_child(table, p, tail, step_kinds::LISTTAIL, n, tipo, (p + 1) as u8);
 }
 
 // What pattern p gives to its children: one decision over kinds 0 to 9.
-fn place_children(s: &[u8], m: SheetMap, table: &mut [u8], p: usize)
-    requires { ⌜ SheetAccepts (now s) m × (length (now table) ≡ tableSize) × (p < patterns (now s)) × Placed (now s) (now table) p ⌝ }
-    ensures { λ _. ⌜ now (table .exit) ≡ placedBelow (now (s .entry)) (now (table .entry)) p (kindOf (now (s .entry)) p) ⌝ }
+fn place_children(sheet: &[u8], map: SheetMap, table: &mut [u8], p: usize)
+    requires { ⌜ SheetAccepts (now sheet) map × (length (now table) ≡ tableSize) × (p < patterns (now sheet)) × Placed (now sheet) (now table) p ⌝ }
+    ensures { λ _. ⌜ now (table .exit) ≡ placedBelow (now (sheet .entry)) (now (table .entry)) p (kindOf (now (sheet .entry)) p) ⌝ }
 {
-    let r = pattern_at(s, m, p);
+    let r = pattern_at(sheet, map, p);
     let tipo = at(table, TYPE + p);
     let owner = table[OWNER + p];
-    let ty = type_at(s, m, tipo);
+    let ty = type_at(sheet, map, tipo);
     let kind = r.kind;
     match kind {
-        pattern_kinds::ASSIGN => put_child(table, p, child_at(s, m, r.first), SAME, 0, tipo, owner),
-        pattern_kinds::LIST => put_children(
-            s,
-            m,
+        pattern_kinds::ASSIGN => put_child(
             table,
             p,
-            r.count,
-            step_kinds::LIST,
-            ty.first,
+            child_at(sheet, map, r.first),
+            SAME,
             0,
+            tipo,
+            owner,
+        ),
+        pattern_kinds::LIST => put_children(
+            sheet,
+            map,
+            table,
+            p,
+            TypeRun {
+                count: r.count,
+                first: ty.first,
+                stride: 0,
+            },
+            step_kinds::LIST,
             (p + 1) as u8,
         ),
-        pattern_kinds::LIST_WITH_TAIL => place_tailed(s, m, table, p, r, ty, tipo),
-        pattern_kinds::CONSTRUCTOR => place_fields(s, m, table, p, r, ty, owner),
+        pattern_kinds::LIST_WITH_TAIL => place_tailed(sheet, map, table, p, r, ty, tipo),
+        pattern_kinds::CONSTRUCTOR => place_fields(sheet, map, table, p, r, ty, owner),
         pattern_kinds::PAIR => put_children(
-            s,
-            m,
+            sheet,
+            map,
             table,
             p,
-            r.count,
+            TypeRun {
+                count: r.count,
+                first: ty.first,
+                stride: 1,
+            },
             step_kinds::PAIR,
-            ty.first,
-            1,
             owner,
         ),
         pattern_kinds::TUPLE => put_children(
-            s,
-            m,
+            sheet,
+            map,
             table,
             p,
-            r.count,
+            TypeRun {
+                count: r.count,
+                first: ty.first,
+                stride: 1,
+            },
             step_kinds::TUPLE,
-            ty.first,
-            1,
             owner,
         ),
         _ => {}
     }
 }
 
-// Whether the same step leads to a and to b, from patterns of the same class and type.
-fn same_step(table: &[u8], a: usize, b: usize) -> bool
-    requires { ⌜ (length (now table) ≡ tableSize) × (a < patternsMost) × (b < patternsMost) × (aboveIn (now table) a < patternsMost) × (aboveIn (now table) b < patternsMost) ⌝ }
-    ensures { λ r. ⌜ r ≡ sameStepIn (now (table .entry)) a b ⌝ }
+// Whether the same step leads to p and to q, from patterns of the same class and type.
+fn same_step(table: &[u8], p: usize, q: usize) -> bool
+    requires { ⌜ (length (now table) ≡ tableSize) × (p < patternsMost) × (q < patternsMost) × (aboveIn (now table) p < patternsMost) × (aboveIn (now table) q < patternsMost) ⌝ }
+    ensures { λ r. ⌜ r ≡ sameStepIn (now (table .entry)) p q ⌝ }
 {
-    if table[STEP + a] != table[STEP + b] {
+    if table[STEP + p] != table[STEP + q] {
         return false;
     }
-    if table[INDEX + a] != table[INDEX + b] {
+    if table[INDEX + p] != table[INDEX + q] {
         return false;
     }
-    let x = at(table, ABOVE + a);
-    let y = at(table, ABOVE + b);
+    let x = at(table, ABOVE + p);
+    let y = at(table, ABOVE + q);
     if table[CLASS + x] != table[CLASS + y] {
         return false;
     }
@@ -312,12 +326,12 @@ fn put_indices(table: &mut [u8], p: usize)
 }
 
 // Whether pattern p stands in a column: an integer, byte string, list, or constructor of a several-constructor type.
-pub fn is_test(s: &[u8], m: SheetMap, table: &[u8], p: usize) -> bool
-    requires { ⌜ SheetAccepts (now s) m × (length (now table) ≡ tableSize) × (p < patterns (now s)) × (getD (now table) (typeAt + p) 0 ≡ typeOf (now s) p) ⌝ }
-    ensures { λ r. ⌜ r ≡ isTest (now (s .entry)) p ⌝ }
+pub fn is_test(sheet: &[u8], map: SheetMap, table: &[u8], p: usize) -> bool
+    requires { ⌜ SheetAccepts (now sheet) map × (length (now table) ≡ tableSize) × (p < patterns (now sheet)) × (getD (now table) (typeAt + p) 0 ≡ typeOf (now sheet) p) ⌝ }
+    ensures { λ r. ⌜ r ≡ isTest (now (sheet .entry)) p ⌝ }
 {
-    let r = pattern_at(s, m, p);
-    let ty = type_at(s, m, at(table, TYPE + p));
+    let r = pattern_at(sheet, map, p);
+    let ty = type_at(sheet, map, at(table, TYPE + p));
     let kind = r.kind;
     match kind {
         pattern_kinds::INTEGER
@@ -330,11 +344,11 @@ pub fn is_test(s: &[u8], m: SheetMap, table: &[u8], p: usize) -> bool
 }
 
 // Pattern p in its clause's column, if it is a test.
-fn put_test(s: &[u8], m: SheetMap, table: &mut [u8], p: usize)
-    requires { ⌜ SheetAccepts (now s) m × (length (now table) ≡ tableSize) × (p < patterns (now s)) × Placed (now s) (now table) p × Classed (now s) (now table) p ⌝ }
-    ensures { λ _. ⌜ now (table .exit) ≡ tested (now (table .entry)) (isTest (now (s .entry)) p) p ⌝ }
+fn put_test(sheet: &[u8], map: SheetMap, table: &mut [u8], p: usize)
+    requires { ⌜ SheetAccepts (now sheet) map × (length (now table) ≡ tableSize) × (p < patterns (now sheet)) × Placed (now sheet) (now table) p × Classed (now sheet) (now table) p ⌝ }
+    ensures { λ _. ⌜ now (table .exit) ≡ tested (now (table .entry)) (isTest (now (sheet .entry)) p) p ⌝ }
 {
-    if is_test(s, m, table, p) {
+    if is_test(sheet, map, table, p) {
         let clause = at(table, CLAUSE + p);
         let class = at(table, CLASS + p);
         table[CELL + PATTERNS_MOST * clause + class] = (p + 1) as u8;
@@ -342,70 +356,70 @@ fn put_test(s: &[u8], m: SheetMap, table: &mut [u8], p: usize)
 }
 
 // The root of clause c.
-fn put_root(table: &mut [u8], r: usize, c: usize, tipo: usize)
-    requires { ⌜ (length (now table) ≡ tableSize) × (r < patternsMost) × (c < 256) × (tipo < 256) ⌝ }
-    ensures { λ _. ⌜ now (table .exit) ≡ rooted (now (table .entry)) r c tipo ⌝ }
+fn put_root(table: &mut [u8], root: usize, c: usize, tipo: usize)
+    requires { ⌜ (length (now table) ≡ tableSize) × (root < patternsMost) × (c < 256) × (tipo < 256) ⌝ }
+    ensures { λ _. ⌜ now (table .exit) ≡ rooted (now (table .entry)) root c tipo ⌝ }
 {
-    table[STEP + r] = SAME;
-    table[TYPE + r] = tipo as u8;
-    table[CLAUSE + r] = c as u8;
+    table[STEP + root] = SAME;
+    table[TYPE + root] = tipo as u8;
+    table[CLAUSE + root] = c as u8;
 }
 
 // The root of each clause.
-fn put_roots(s: &[u8], m: SheetMap, table: &mut [u8])
-    requires { ⌜ SheetAccepts (now s) m × (length (now table) ≡ tableSize) ⌝ }
-    ensures { λ _. ⌜ now (table .exit) ≡ rootedEach (now (s .entry)) (now (table .entry)) 0 (clauses (now (s .entry))) ⌝ }
+fn put_roots(sheet: &[u8], map: SheetMap, table: &mut [u8])
+    requires { ⌜ SheetAccepts (now sheet) map × (length (now table) ≡ tableSize) ⌝ }
+    ensures { λ _. ⌜ now (table .exit) ≡ rootedEach (now (sheet .entry)) (now (table .entry)) 0 (clauses (now (sheet .entry))) ⌝ }
 {
     let mut c: usize = 0;
-    while c < m.counts.clauses {
-        put_root(table, root_at(s, m, c), c, m.subject);
+    while c < map.counts.clauses {
+        put_root(table, root_at(sheet, map, c), c, map.subject);
         c += 1;
     }
 }
 
 // Pattern p, whose own fields are set: its class, its indices, its cell, and what it gives to its children.
-fn fill_at(s: &[u8], m: SheetMap, table: &mut [u8], p: usize)
-    requires { ⌜ SheetAccepts (now s) m × (p < patterns (now s)) × Filled (now s) (now table) p p p p ⌝ }
-    ensures { λ _. ⌜ Filled (now (s .entry)) (now (table .exit)) (p + 1) (p + 1) (p + 1) (p + 1) ⌝ }
+fn fill_at(sheet: &[u8], map: SheetMap, table: &mut [u8], p: usize)
+    requires { ⌜ SheetAccepts (now sheet) map × (p < patterns (now sheet)) × Filled (now sheet) (now table) p p p p ⌝ }
+    ensures { λ _. ⌜ Filled (now (sheet .entry)) (now (table .exit)) (p + 1) (p + 1) (p + 1) (p + 1) ⌝ }
 {
     put_class(table, p);
     put_indices(table, p);
-    put_test(s, m, table, p);
-    place_children(s, m, table, p);
+    put_test(sheet, map, table, p);
+    place_children(sheet, map, table, p);
 }
 
 // The table of a checked sheet, in bytes that are all zero.
-pub fn fill(s: &[u8], m: SheetMap, table: &mut [u8])
-    requires { ⌜ SheetAccepts (now s) m × (now table ≡ zeros tableSize) ⌝ }
-    ensures { λ _. ⌜ Tabled (now (s .entry)) (now (table .exit)) ⌝ }
+pub fn fill(sheet: &[u8], map: SheetMap, table: &mut [u8])
+    requires { ⌜ SheetAccepts (now sheet) map × (now table ≡ zeros tableSize) ⌝ }
+    ensures { λ _. ⌜ Tabled (now (sheet .entry)) (now (table .exit)) ⌝ }
 {
-    put_roots(s, m, table);
+    put_roots(sheet, map, table);
     let mut p: usize = 0;
-    while p < m.counts.patterns {
-        fill_at(s, m, table, p);
+    while p < map.counts.patterns {
+        fill_at(sheet, map, table, p);
         p += 1;
     }
 }
 
-// Whether the path of a comes before that of b, by their indices.
-pub fn before(table: &[u8], a: usize, b: usize) -> bool
-    requires { ⌜ (length (now table) ≡ tableSize) × (a < patternsMost) × (b < patternsMost) ⌝ }
-    requires { ⌜ (getD (now table) (depthAt + a) 0 < depthMost) × (getD (now table) (depthAt + b) 0 < depthMost) ⌝ }
-    ensures { λ r. ⌜ r ≡ firstBefore (indicesIn (now (table .entry)) a) (indicesIn (now (table .entry)) b) ⌝ }
+// Whether the path of p comes before that of q, by their indices.
+pub fn before(table: &[u8], p: usize, q: usize) -> bool
+    requires { ⌜ (length (now table) ≡ tableSize) × (p < patternsMost) × (q < patternsMost) ⌝ }
+    requires { ⌜ (getD (now table) (depthAt + p) 0 < depthMost) × (getD (now table) (depthAt + q) 0 < depthMost) ⌝ }
+    ensures { λ r. ⌜ r ≡ firstBefore (indicesIn (now (table .entry)) p) (indicesIn (now (table .entry)) q) ⌝ }
 {
-    let x = at(table, DEPTH + a);
-    let y = at(table, DEPTH + b);
+    let x = at(table, DEPTH + p);
+    let y = at(table, DEPTH + q);
     let mut i: usize = 0;
     while i < x {
         if i == y {
             return false;
         }
-        let p = table[INDICES + DEPTH_MOST * a + i];
-        let q = table[INDICES + DEPTH_MOST * b + i];
-        if p < q {
+        let one = table[INDICES + DEPTH_MOST * p + i];
+        let other = table[INDICES + DEPTH_MOST * q + i];
+        if one < other {
             return true;
         }
-        if q < p {
+        if other < one {
             return false;
         }
         i += 1;

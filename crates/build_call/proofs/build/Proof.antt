@@ -29,7 +29,7 @@ returns c =
     let z = c .before .before .before .before .before .before .before .before .before .before .before .before .before .zero-all in
     let b = c .before .before .before .before .before .before .before .before .build-clear in
     let w = c .before .before .zero-all2 in
-    call-whole (a .s .now) _ _ _ _ _ _ _ _ (z .kept .0) refl (z .kept .0) (b .ensures) (w .ensures ∙ ap zeros (b .kept .1 .1 .0))
+    call-whole (a .sheet .now) _ _ _ _ _ _ _ _ (z .kept .0) refl (z .kept .0) (b .ensures) (w .ensures ∙ ap zeros (b .kept .1 .1 .0))
 
 pub build-spec : {M : Type 1} → statement M
 build-spec =

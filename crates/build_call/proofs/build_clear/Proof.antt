@@ -9,12 +9,12 @@ use Rattle.build_call.proofs.build_clear.Tie as tie
 returns : tie.Need-returns
 returns c =
     let a = c .before .before .before .before .args in
-    gives-refusal (a .s .now) _ _ 1 0 (no-room (a .s .now) _ _ (inl (omega (arith, c .if1 .taken)))) (c .before .before .before .before .pre)
+    gives-refusal (a .sheet .now) _ _ 1 0 (no-room (a .sheet .now) _ _ (inl (omega (arith, c .if1 .taken)))) (c .before .before .before .before .pre)
 
 returns-2 : tie.Need-returns-2
 returns-2 c =
     let a = c .before .before .before .before .before .args in
-    gives-refusal (a .s .now) _ _ 1 0 (no-room (a .s .now) _ _ (inr (omega (arith, c .if2 .taken)))) (c .before .before .before .before .before .pre)
+    gives-refusal (a .sheet .now) _ _ 1 0 (no-room (a .sheet .now) _ _ (inr (omega (arith, c .if2 .taken)))) (c .before .before .before .before .before .pre)
 
 build-sheet-requires : tie.Need-build-sheet-requires
 build-sheet-requires c κs = search needs

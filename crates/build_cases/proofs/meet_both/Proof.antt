@@ -17,15 +17,15 @@ meet-rows-requires c κs =
     let s = c .before .before .before .before in
     let a = s .args in
     let l = c .before .longest-of in
-    let few = longest-few (bytes-of-fits (a .s .now) (c .before .before .before .shared-slice-known .given)) (s .pre .0 .0 .ok) (take (a .n) (a .tests .now)) (s .pre .0 .2) (l .result) (l .ensures) in
-    ((s .pre .0 .0, s .pre .0 .1, s .pre .0 .2, few .0, few .1), pass-begins (a .s .now) (a .work .now) (a .first) (s .pre .1 .0) (s .pre .1 .1))
+    let few = longest-few (bytes-of-fits (a .sheet .now) (c .before .before .before .shared-slice-known .given)) (s .pre .0 .0 .ok) (take (a .n) (a .tests .now)) (s .pre .0 .2) (l .result) (l .ensures) in
+    ((s .pre .0 .0, s .pre .0 .1, s .pre .0 .2, few .0, few .1), pass-begins (a .sheet .now) (a .work .now) (a .first) (s .pre .1 .0) (s .pre .1 .1))
 
 meet-rows-requires-2 : tie.Need-meet-rows-requires-2
 meet-rows-requires-2 c κs =
     let s = c .before .before .before .before .before .before .before .before in
     let a = s .args in
     let l = c .before .before .before .before .before .longest-of in
-    let few = longest-few (bytes-of-fits (a .s .now) (c .before .before .before .before .before .before .before .shared-slice-known .given)) (s .pre .0 .0 .ok) (take (a .n) (a .tests .now)) (s .pre .0 .2) (l .result) (l .ensures) in
+    let few = longest-few (bytes-of-fits (a .sheet .now) (c .before .before .before .before .before .before .before .shared-slice-known .given)) (s .pre .0 .0 .ok) (take (a .n) (a .tests .now)) (s .pre .0 .2) (l .result) (l .ensures) in
     ((s .pre .0 .0, s .pre .0 .1, s .pre .0 .2, few .0, few .1), second-begins (take (a .n) (a .tests .now)) (l .result) (l .ensures) (s .pre .1 .0) (s .pre .1 .1) (c .before .before .before .meet-rows .ensures))
 
 same-length : tie.Need-same-length
@@ -38,12 +38,12 @@ returns c =
     let l = c .before .before .before .before .before .before .before .before .before .longest-of in
     passes-past (take (a .n) (a .tests .now)) (l .result) (l .ensures) (s .pre .1 .0) (s .pre .1 .1) (c .before .before .before .before .before .before .before .meet-rows .ensures) (c .before .before .before .meet-rows2 .ensures) (c .if1 .taken)
 
-add-t15 : tie.Need-add-t15
-add-t15 c =
+add-t17 : tie.Need-add-t17
+add-t17 c =
     let s = c .before .before .before .before .before .before .before .before .before .before .before .before .before in
     let a = s .args in
     let l = c .before .before .before .before .before .before .before .before .before .before .longest-of in
-    let few = longest-few (bytes-of-fits (a .s .now) (c .before .before .before .before .before .before .before .before .before .before .before .before .shared-slice-known .given)) (s .pre .0 .0 .ok) (take (a .n) (a .tests .now)) (s .pre .0 .2) (l .result) (l .ensures) in
+    let few = longest-few (bytes-of-fits (a .sheet .now) (c .before .before .before .before .before .before .before .before .before .before .before .before .shared-slice-known .given)) (s .pre .0 .0 .ok) (take (a .n) (a .tests .now)) (s .pre .0 .2) (l .result) (l .ensures) in
     omega (arith, few .0, few .1)
 
 same-length-2 : tie.Need-same-length-2
@@ -65,6 +65,6 @@ meet-both-spec =
     meet-rows-requires-2
     same-length
     returns
-    add-t15
+    add-t17
     same-length-2
     returns-2)

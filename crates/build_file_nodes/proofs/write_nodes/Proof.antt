@@ -8,34 +8,34 @@ use Rattle.build_file_nodes.proofs.write_nodes.Tie as tie
 add-second : tie.Need-add-second
 add-second c =
     let s = c .before .before .before in
-    let z = sizes (s .args .w .now) (s .args .nodes) (s .args .cases) (s .args .x) (s .args .clauses) (s .pre .0) (s .args .classes .now) (s .pre .2) in omega (arith, z .0, z .1)
+    let z = sizes (s .args .work .now) (s .args .nodes) (s .args .cases) (s .args .scopes) (s .args .clauses) (s .pre .0) (s .args .classes .now) (s .pre .2) in omega (arith, z .0, z .1)
 
 mul-second : tie.Need-mul-second
 mul-second c =
     let s = c .before .before .before in
-    let z = sizes (s .args .w .now) (s .args .nodes) (s .args .cases) (s .args .x) (s .args .clauses) (s .pre .0) (s .args .classes .now) (s .pre .2) in omega (arith, z .0, z .1)
+    let z = sizes (s .args .work .now) (s .args .nodes) (s .args .cases) (s .args .scopes) (s .args .clauses) (s .pre .0) (s .args .classes .now) (s .pre .2) in omega (arith, z .0, z .1)
+
+mul-third : tie.Need-mul-third
+mul-third c =
+    let s = c .before .before .before in
+    let z = sizes (s .args .work .now) (s .args .nodes) (s .args .cases) (s .args .scopes) (s .args .clauses) (s .pre .0) (s .args .classes .now) (s .pre .2) in omega (arith, z .0, z .1)
+
+add-third : tie.Need-add-third
+add-third c =
+    let s = c .before .before .before in
+    let z = sizes (s .args .work .now) (s .args .nodes) (s .args .cases) (s .args .scopes) (s .args .clauses) (s .pre .0) (s .args .classes .now) (s .pre .2) in omega (arith, z .0, z .1)
 
 find-shift-requires : tie.Need-find-shift-requires
 find-shift-requires c κs =
     let s = c .before .before .before .before .before .before .before in
-    let z = sizes (s .args .w .now) (s .args .nodes) (s .args .cases) (s .args .x) (s .args .clauses) (s .pre .0) (s .args .classes .now) (s .pre .2) in
-    (shift-asked (s .args .w .now) (s .args .nodes) (s .args .cases) (s .args .x) (s .args .clauses) (s .pre .0) (s .args .classes .now) (s .pre .2), omega (arith, z .0))
-
-mul-put-nodes : tie.Need-mul-put-nodes
-mul-put-nodes c =
-    let s = c .before .before .before .before .before .before .before .before .before .before .before .before in
-    let z = sizes (s .args .w .now) (s .args .nodes) (s .args .cases) (s .args .x) (s .args .clauses) (s .pre .0) (s .args .classes .now) (s .pre .2) in omega (arith, z .0, z .1)
-
-add-put-nodes : tie.Need-add-put-nodes
-add-put-nodes c =
-    let s = c .before .before .before .before .before .before .before .before .before .before .before .before in
-    let z = sizes (s .args .w .now) (s .args .nodes) (s .args .cases) (s .args .x) (s .args .clauses) (s .pre .0) (s .args .classes .now) (s .pre .2) in omega (arith, z .0, z .1)
+    let z = sizes (s .args .work .now) (s .args .nodes) (s .args .cases) (s .args .scopes) (s .args .clauses) (s .pre .0) (s .args .classes .now) (s .pre .2) in
+    (shift-asked (s .args .work .now) (s .args .nodes) (s .args .cases) (s .args .scopes) (s .args .clauses) (s .pre .0) (s .args .classes .now) (s .pre .2), omega (arith, z .0))
 
 put-nodes-requires : tie.Need-put-nodes-requires
 put-nodes-requires c κs =
     let s = c .before .before .before .before .before .before .before .before .before .before .before .before .before .before in
     let found = c .before .before .before .before .before .before .find-shift in
-    nodes-asked (s .args .w .now) (s .args .nodes) (s .args .cases) (s .args .x) (s .args .clauses) (s .pre .0) (s .args .classes .now) (s .pre .2) (s .args .tree .now) (found .last .1 .1 .1 .0) (s .pre .1) (found .ensures)
+    nodes-asked (s .args .work .now) (s .args .nodes) (s .args .cases) (s .args .scopes) (s .args .clauses) (s .pre .0) (s .args .classes .now) (s .pre .2) (s .args .tree .now) (found .last .1 .1 .1 .0) (s .pre .1) (found .ensures)
 
 same-length : tie.Need-same-length
 same-length c = search needs
@@ -44,7 +44,7 @@ returns : tie.Need-returns
 returns c =
     let s = c .before .before .before .before .before .before .before .before .before .before .before .before .before .before .before .before .before in
     let put-nodes = c .before .before .put-nodes in
-    λ h. written (s .args .w .now) (s .args .nodes) (s .args .cases) (s .args .x) (s .args .clauses) h (s .args .classes .now) (s .pre .2) (s .args .tree .now) (put-nodes .last .1 .1 .1 .1 .1 .1 .0) (put-nodes .last .1 .1 .1 .1 .1 .1 .1 .1 .1 .0) (put-nodes .last .1 .1 .1 .1 .1 .1 .1 .1 .1 .1 .0) (put-nodes .result) (put-nodes .ensures)
+    λ h. written (s .args .work .now) (s .args .nodes) (s .args .cases) (s .args .scopes) (s .args .clauses) h (s .args .classes .now) (s .pre .2) (s .args .tree .now) (put-nodes .last .1 .1 .1 .1 .1 .1 .0) (put-nodes .last .1 .1 .1 .1 .1 .1 .1 .1 .0) (put-nodes .last .1 .1 .1 .1 .1 .1 .1 .1 .1 .0) (put-nodes .result) (put-nodes .ensures)
 
 pub write-nodes-spec : {M : Type 1} → statement M
 write-nodes-spec =
@@ -52,9 +52,9 @@ write-nodes-spec =
     (tie.spec
     add-second
     mul-second
+    mul-third
+    add-third
     find-shift-requires
-    mul-put-nodes
-    add-put-nodes
     put-nodes-requires
     same-length
     returns)

@@ -69,7 +69,7 @@ put-all-bindings-loop-holds : (t : ℕ) → put-all-bindings-lts.Need-loop-holds
 ) (put-all-bindings-at t) put-all-bindings.Post put-all-bindings-Inv-loop put-all-bindings-μ-loop
 put-all-bindings-loop-holds t c =
     let a = c .before .before .before in
-    (omega arith, a .pre .1 .2, refl, ap (boundAll (a .args .s .now) (bound (a .args .work .now) (a .args .top))) (each-first (a .args .s .now) (a .args .j) (a .args .n)))
+    (omega arith, a .pre .1 .2, refl, ap (boundAll (a .args .sheet .now) (bound (a .args .work .now) (a .args .top))) (each-first (a .args .sheet .now) (a .args .j) (a .args .n)))
 
 put-all-bindings-add-child-in : (t : ℕ) → put-all-bindings-lts.Need-add-child-in (
   child-in-reads.Asked,
@@ -79,7 +79,7 @@ put-all-bindings-add-child-in : (t : ℕ) → put-all-bindings-lts.Need-add-chil
 ) (put-all-bindings-at t) put-all-bindings.Post put-all-bindings-Inv-loop put-all-bindings-μ-loop
 put-all-bindings-add-child-in t c =
     let a = c .before .before .before .before .before in
-    omega (arith, entry-below (a .args .s .now) (a .pre .1 .0 .ok) (a .args .parent) (a .args .j) (a .args .n) (a .pre .1 .1) (c .before .loop .k) (child (a .args .s .now) (a .args .j + c .before .loop .k)) (c .loop-test .taken) refl)
+    omega (arith, entry-below (a .args .sheet .now) (a .pre .1 .0 .ok) (a .args .parent) (a .args .j) (a .args .n) (a .pre .1 .1) (c .before .loop .k) (child (a .args .sheet .now) (a .args .j + c .before .loop .k)) (c .loop-test .taken) refl)
 
 put-all-bindings-child-in-requires : (t : ℕ) → put-all-bindings-lts.Need-child-in-requires (
   child-in-reads.Asked,
@@ -89,7 +89,7 @@ put-all-bindings-child-in-requires : (t : ℕ) → put-all-bindings-lts.Need-chi
 ) (put-all-bindings-at t) put-all-bindings.Post put-all-bindings-Inv-loop put-all-bindings-μ-loop
 put-all-bindings-child-in-requires t c κs =
     let a = c .before .before .before .before .before in
-    (a .pre .1 .0 .ok .is-laid, a .pre .1 .0 .from-children, entry-below (a .args .s .now) (a .pre .1 .0 .ok) (a .args .parent) (a .args .j) (a .args .n) (a .pre .1 .1) (c .before .loop .k) (child (a .args .s .now) (a .args .j + c .before .loop .k)) (c .loop-test .taken) refl .0)
+    (a .pre .1 .0 .ok .is-laid, a .pre .1 .0 .from-children, entry-below (a .args .sheet .now) (a .pre .1 .0 .ok) (a .args .parent) (a .args .j) (a .args .n) (a .pre .1 .1) (c .before .loop .k) (child (a .args .sheet .now) (a .args .j + c .before .loop .k)) (c .loop-test .taken) refl .0)
 
 put-all-bindings-put-bindings-requires : (t : ℕ) → put-all-bindings-lts.Need-put-bindings-requires (
   child-in-reads.Asked,
@@ -99,7 +99,7 @@ put-all-bindings-put-bindings-requires : (t : ℕ) → put-all-bindings-lts.Need
 ) (put-all-bindings-at t) put-all-bindings.Post put-all-bindings-Inv-loop put-all-bindings-μ-loop
 put-all-bindings-put-bindings-requires t c κs =
     let a = c .before .before .before .before .before .before .before in
-    let below = entry-below (a .args .s .now) (a .pre .1 .0 .ok) (a .args .parent) (a .args .j) (a .args .n) (a .pre .1 .1) (c .before .before .before .loop .k) (c .before .child-in .result) (c .before .before .loop-test .taken) (c .before .child-in .ensures) in
+    let below = entry-below (a .args .sheet .now) (a .pre .1 .0 .ok) (a .args .parent) (a .args .j) (a .args .n) (a .pre .1 .1) (c .before .before .before .loop .k) (c .before .child-in .result) (c .before .before .loop-test .taken) (c .before .child-in .ensures) in
     (omega (arith, a .pre .0, below), (a .pre .1 .0, below .1, c .before .before .before .loop .inv .1))
 
 put-all-bindings-add-k : (t : ℕ) → put-all-bindings-lts.Need-add-k (
@@ -126,7 +126,7 @@ put-all-bindings-loop-again : (t : ℕ) → put-all-bindings-lts.Need-loop-again
 ) (put-all-bindings-at t) put-all-bindings.Post put-all-bindings-Inv-loop put-all-bindings-μ-loop
 put-all-bindings-loop-again t c =
     let a = c .before .before .before .before .before .before .before .before .before .before in
-    let s = a .args .s .now in
+    let s = a .args .sheet .now in
     let loop = c .before .before .before .before .before .before .loop in
     let more = c .before .before .before .before .before .loop-test .taken in
     let q = c .before .before .before .before .child-in in
@@ -156,7 +156,7 @@ put-all-bindings-returns : (t : ℕ) → put-all-bindings-lts.Need-returns (
 ) (put-all-bindings-at t) put-all-bindings.Post put-all-bindings-Inv-loop put-all-bindings-μ-loop
 put-all-bindings-returns t c =
     let a = c .before .before .before .before .before in
-    let s = a .args .s .now in
+    let s = a .args .sheet .now in
     let loop = c .before .loop in
     put-nothing s (bound (loop .work) (loop .next)) (eachFrom s (a .args .j) (a .args .n) (loop .k)) (each-none s (a .args .j) (a .args .n) (loop .k) (omega (arith, c .loop-test .left, loop .inv .0)))
     ∙ loop .inv .3
@@ -203,7 +203,7 @@ put-bindings-returns : (t : ℕ) → put-bindings-lts.Need-returns (
 ) (put-bindings-at t) put-bindings.Post
 put-bindings-returns t c =
     let a = c .before .before .before .before .before .before .before .before .before .before in
-    let s = a .args .s .now in
+    let s = a .args .sheet .now in
     let g = c .before .before .before .before .before .before .gives in
     let own = c .before .before .before .before .put-own in
     put-run s (bound (a .args .work .now) (a .args .top)) (bound (own .last .1 .1 .1 .1 .1 .0) (own .result)) (ownOf (g .result .named) (a .args .p)) (bindsOf s (a .args .p))
@@ -219,7 +219,7 @@ put-bindings-put-all-bindings-requires : (t : ℕ) → put-bindings-lts.Need-put
 ) (put-bindings-at t) put-bindings.Post
 put-bindings-put-all-bindings-requires t c κs =
     let a = c .before .before .before .before .before .before .before .before .before .before .before in
-    let s = a .args .s .now in
+    let s = a .args .sheet .now in
     let g = c .before .before .before .before .before .before .before .gives in
     let own = c .before .before .before .before .before .put-own in (
       omega (arith, a .pre .0, a .pre .1 .1, a .pre .1 .0 .ok .is-counted .patterns-most),
@@ -246,7 +246,7 @@ put-bindings-returns-2 : (t : ℕ) → put-bindings-lts.Need-returns-2 (
 ) (put-bindings-at t) put-bindings.Post
 put-bindings-returns-2 t c =
     let a = c .before .before .before .before .before .before .before .before .before .before .before .before .before .before in
-    let s = a .args .s .now in
+    let s = a .args .sheet .now in
     let g = c .before .before .before .before .before .before .before .before .before .before .gives in
     let own = c .before .before .before .before .before .before .before .before .put-own in
     let put = c .before .before .put-all-bindings in

@@ -26,7 +26,7 @@ loop-holds c =
     let s = c .before .before .before .before .before .before .before in
     let a = s .args in
     let put = c .before .before .put-root in
-    (omega arith, room-after (a .s .now) (a .work .now) (put .last .1 .1 .1 .1 .0) (a .top) (put .result) (bindsOf (a .s .now) (root (a .s .now) (a .c))) (s .pre .2) (put .ensures), refl, refl)
+    (omega arith, room-after (a .sheet .now) (a .work .now) (put .last .1 .1 .1 .1 .0) (a .top) (put .result) (bindsOf (a .sheet .now) (root (a .sheet .now) (a .c))) (s .pre .2) (put .ensures), refl, refl)
 
 class-at-requires : tie.Need-class-at-requires Inv-loop μ-loop
 class-at-requires c κs = omega (arith, c .loop-test .taken, c .before .before .before .before .before .before .before .before .before .pre .1 .whole .most)
@@ -40,7 +40,7 @@ put-opened-requires c κs =
     let more = c .before .before .loop-test .taken in (
       s .pre .0,
       s .pre .1 .clause,
-      tested-known (a .s .now) (a .opened .now) (a .tested .now) (a .c) (a .n) (s .pre .1) (loop .time) (class .result) more (class .ensures),
+      tested-known (a .sheet .now) (a .opened .now) (a .tested .now) (a .c) (a .n) (s .pre .1) (loop .time) (class .result) more (class .ensures),
       omega (arith, more, s .pre .1 .whole .most),
       loop .inv .1,
     )
@@ -59,14 +59,14 @@ loop-again c =
     let class = c .before .before .before .before .class-at in
     let put = c .before .before .put-opened in
     let more = c .before .before .before .before .before .loop-test .taken in
-    let held = numbersHeld (a .s .now) (openedTest (a .s .now) (a .opened .now) (a .c) (loop .time) (class .result)) in
+    let held = numbersHeld (a .sheet .now) (openedTest (a .sheet .now) (a .opened .now) (a .c) (loop .time) (class .result)) in
     let after = put .last .1 .1 .1 .1 .1 .1 .1 .0 in (
       omega (arith, more),
-      room-after (a .s .now) (loop .work) after (loop .next) (put .result) held (loop .inv .1) (put .ensures),
-      length-after (a .s .now) (loop .work) after (loop .next) (put .result) held (put .ensures) ∙ loop .inv .2,
-      put-turn (a .s .now) (bound (loop .work) (loop .next)) (bound after (put .result)) held
-          (leftFrom (a .s .now) (a .opened .now) (a .tested .now) (a .n) (a .c) (loop .time + 1)) (leftFrom (a .s .now) (a .opened .now) (a .tested .now) (a .n) (a .c) (loop .time))
-          (left-more (a .s .now) (a .opened .now) (a .tested .now) (a .n) (a .c) (omega (arith, s .pre .1 .whole)) (loop .time) (class .result) more (class .ensures)) (put .ensures)
+      room-after (a .sheet .now) (loop .work) after (loop .next) (put .result) held (loop .inv .1) (put .ensures),
+      length-after (a .sheet .now) (loop .work) after (loop .next) (put .result) held (put .ensures) ∙ loop .inv .2,
+      put-turn (a .sheet .now) (bound (loop .work) (loop .next)) (bound after (put .result)) held
+          (leftFrom (a .sheet .now) (a .opened .now) (a .tested .now) (a .n) (a .c) (loop .time + 1)) (leftFrom (a .sheet .now) (a .opened .now) (a .tested .now) (a .n) (a .c) (loop .time))
+          (left-more (a .sheet .now) (a .opened .now) (a .tested .now) (a .n) (a .c) (omega (arith, s .pre .1 .whole)) (loop .time) (class .result) more (class .ensures)) (put .ensures)
           ∙ loop .inv .3,
     )
 
@@ -74,7 +74,7 @@ same-length : tie.Need-same-length Inv-loop μ-loop
 same-length c =
     let a = c .before .before .before .before .before .before .before .before .before .args in
     let put = c .before .before .before .before .put-root in
-    c .before .loop .inv .2 ∙ length-after (a .s .now) (a .work .now) (put .last .1 .1 .1 .1 .0) (a .top) (put .result) (bindsOf (a .s .now) (root (a .s .now) (a .c))) (put .ensures)
+    c .before .loop .inv .2 ∙ length-after (a .sheet .now) (a .work .now) (put .last .1 .1 .1 .1 .0) (a .top) (put .result) (bindsOf (a .sheet .now) (root (a .sheet .now) (a .c))) (put .ensures)
 
 returns : tie.Need-returns Inv-loop μ-loop
 returns c =
@@ -82,7 +82,7 @@ returns c =
     let a = s .args in
     let put = c .before .before .before .before .put-root in
     let loop = c .before .loop in
-    leaf-put (a .s .now) (a .opened .now) (a .tested .now) (a .c) (a .n) (s .pre .1) (loop .time) (bound (a .work .now) (a .top)) (bound (put .last .1 .1 .1 .1 .0) (put .result)) (bound (loop .work) (loop .next))
+    leaf-put (a .sheet .now) (a .opened .now) (a .tested .now) (a .c) (a .n) (s .pre .1) (loop .time) (bound (a .work .now) (a .top)) (bound (put .last .1 .1 .1 .1 .0) (put .result)) (bound (loop .work) (loop .next))
     (omega (arith, c .loop-test .left, loop .inv .0)) (put .ensures) (loop .inv .3)
 
 pub leaf-bindings-spec : {M : Type 1} → statement M

@@ -13,7 +13,7 @@ add-result : tie.Need-add-result
 add-result c = search needs
 
 returns : tie.Need-returns
-returns c = let a = c .before .before .before .before in one-past (a .args .s .now) (a .args .work .now) (a .args .top) (a .args .p) (c .if1 .taken)
+returns c = let a = c .before .before .before .before in one-past (a .args .sheet .now) (a .args .work .now) (a .args .top) (a .args .p) (c .if1 .taken)
 
 pattern-in-requires : tie.Need-pattern-in-requires
 pattern-in-requires c κs = search needs
@@ -25,7 +25,7 @@ at-requires : tie.Need-at-requires
 at-requires c κs = search needs
 
 cast-put-binding : tie.Need-cast-put-binding
-cast-put-binding c = let a = c .before .before .before .before .before .before .before .before in omega (arith, name-small (a .args .s .now) (a .args .p) (c .before .before .before .pattern-in .result) (c .before .before .before .pattern-in .ensures) (bytes-of-fits (a .args .s .now) (c .before .before .before .before .before .before .before .shared-slice-known .given)))
+cast-put-binding c = let a = c .before .before .before .before .before .before .before .before in omega (arith, name-small (a .args .sheet .now) (a .args .p) (c .before .before .before .pattern-in .result) (c .before .before .before .pattern-in .ensures) (bytes-of-fits (a .args .sheet .now) (c .before .before .before .before .before .before .before .shared-slice-known .given)))
 
 cast-put-binding-2 : tie.Need-cast-put-binding-2
 cast-put-binding-2 c = let a = c .before .before .before .before .before .before .before .before in omega (arith, c .before .before .at .ensures, c .before .before .before .before .before .before .shared-slice-known2 .given (0 + a .args .p))
@@ -41,7 +41,7 @@ same-length c = search needs
 
 returns-2 : tie.Need-returns-2
 returns-2 c = let a = c .before .before .before .before .before .before .before .before .before .before .before in
-    one-fits (a .args .s .now) (a .args .work .now) (c .before .before .put-binding .last .0) (a .args .top) (a .args .p) (c .before .before .before .before .before .before .pattern-in .result .a) (c .before .before .before .before .before .at .result) (c .before .before .before .before .before .before .before .if1 .left)
+    one-fits (a .args .sheet .now) (a .args .work .now) (c .before .before .put-binding .last .0) (a .args .top) (a .args .p) (c .before .before .before .before .before .before .pattern-in .result .a) (c .before .before .before .before .before .at .result) (c .before .before .before .before .before .before .before .if1 .left)
     (ap (λ (r : PatternRecord). r .a) (c .before .before .before .before .before .before .pattern-in .ensures)) (c .before .before .before .before .before .at .ensures ∙ (a .pre .1 .classed (a .args .p) (a .pre .3)) .class) (c .before .before .put-binding .ensures)
 
 pub put-binding-spec : {M : Type 1} → statement M

@@ -15,7 +15,7 @@ same-length c = search needs
 returns : tie.Need-returns
 returns c =
     let a = c .before .before .before .before .before .before .before .before in
-    let s = a .args .s .now in
+    let s = a .args .sheet .now in
     let p = a .args .p in
     let put = c .before .before .put-binding in
     let x = bound (a .args .work .now) (a .args .top) in
@@ -25,7 +25,7 @@ returns c =
 returns-2 : tie.Need-returns-2
 returns-2 c =
     let a = c .before .before .before .before in
-    put-nothing (a .args .s .now) (bound (a .args .work .now) (a .args .top)) (ownOf (a .args .named) (a .args .p)) (pick-false (a .args .named) (a .args .p ∷ []) [] (c .if1 .left))
+    put-nothing (a .args .sheet .now) (bound (a .args .work .now) (a .args .top)) (ownOf (a .args .named) (a .args .p)) (pick-false (a .args .named) (a .args .p ∷ []) [] (c .if1 .left))
 
 pub put-own-spec : {M : Type 1} → statement M
 put-own-spec = tie.close (tie.spec put-binding-requires same-length returns returns-2)

@@ -12,7 +12,7 @@ use Rattle.build_leaves.proofs.put_root.Tie as tie
 root-at-requires : tie.Need-root-at-requires
 root-at-requires c κs = search needs
 
-root-known : (c : tie.After-root-at) → c .root-at .result < patterns (c .before .before .before .before .args .s .now)
+root-known : (c : tie.After-root-at) → c .root-at .result < patterns (c .before .before .before .before .args .sheet .now)
 root-known c = let a = c .before .before .before .before in omega (arith, c .root-at .ensures, a .pre .0 .checked .ok .is-shaped .root-pattern (a .args .c) (a .pre .1))
 
 gives-requires : tie.Need-gives-requires
@@ -30,7 +30,7 @@ same-length c = search needs
 returns : tie.Need-returns
 returns c =
     let a = c .before .before .before .before .before .before .before .before .before .before .before in
-    let s = a .args .s .now in
+    let s = a .args .sheet .now in
     let p = c .before .before .before .before .before .before .before .root-at in
     let g = c .before .before .before .before .before .before .gives in
     let own = c .before .before .before .before .put-own in
@@ -42,7 +42,7 @@ put-all-bindings-requires c κs =
     let a = c .before .before .before .before .before .before .before .before .before .before .before .before in
     let g = c .before .before .before .before .before .before .before .gives in
     let own = c .before .before .before .before .before .put-own in
-    (started (a .pre .0), g .ensures .entries, room-after (a .args .s .now) (a .args .work .now) (own .last .1 .1 .1 .1 .1 .0) (a .args .top) (own .result) (ownOf (g .result .named) (c .before .before .before .before .before .before .before .before .root-at .result)) (a .pre .2) (own .ensures))
+    (started (a .pre .0), g .ensures .entries, room-after (a .args .sheet .now) (a .args .work .now) (own .last .1 .1 .1 .1 .1 .0) (a .args .top) (own .result) (ownOf (g .result .named) (c .before .before .before .before .before .before .before .before .root-at .result)) (a .pre .2) (own .ensures))
 
 same-length-2 : tie.Need-same-length-2
 same-length-2 c = search needs
@@ -50,7 +50,7 @@ same-length-2 c = search needs
 returns-2 : tie.Need-returns-2
 returns-2 c =
     let a = c .before .before .before .before .before .before .before .before .before .before .before .before .before .before .before in
-    let s = a .args .s .now in
+    let s = a .args .sheet .now in
     let p = c .before .before .before .before .before .before .before .before .before .before .before .root-at in
     let g = c .before .before .before .before .before .before .before .before .before .before .gives in
     let own = c .before .before .before .before .before .before .before .before .put-own in

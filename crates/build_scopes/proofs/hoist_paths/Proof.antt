@@ -41,9 +41,9 @@ with-clause-requires c κs =
     let l = c .before .before .before .loop in
     let t = c .before .before .loop-test .taken in
     let h = s .pre .0 in (
-      surveyed (a .w .now) (a .nodes) (q .last .1 .1 .0) (m .last .1 .1 .0) (q .ensures) (omega (arith, q .kept .1 .1 .0, s .pre .2)) (m .ensures) (omega (arith, m .kept .1 .1 .0, s .pre .3)) h,
+      surveyed (a .work .now) (a .nodes) (q .last .1 .1 .0) (m .last .1 .1 .0) (q .ensures) (omega (arith, q .kept .1 .1 .0, s .pre .2)) (m .ensures) (omega (arith, m .kept .1 .1 .0, s .pre .3)) h,
       omega (arith, s .pre .1, l .inv .0, t),
-      hoists-few (h .tree) (a .clauses) (l .c) (l .x) t (s .pre .1) (l .inv .0) (l .inv .1 h),
+      hoists-few (h .tree) (a .clauses) (l .c) (l .scopes) t (s .pre .1) (l .inv .0) (l .inv .1 h),
     )
 
 loop-less : tie.Need-loop-less Inv-loop μ-loop
@@ -60,8 +60,8 @@ loop-again c =
     let down : l .c ≡ l .c - 1 + 1 = omega arith in (
       omega (arith, l .inv .0),
       λ h.
-          scoped-more (h .tree) (a .clauses) (l .c - 1) (l .x) (omega (arith, l .inv .0, t)) (s .pre .1) (subst (λ z. ScopedFrom (h .tree) (a .clauses) z (l .x)) down (l .inv .1 h)) (c .with-clause .result)
-          (c .with-clause .ensures (surveyed (a .w .now) (a .nodes) (q .last .1 .1 .0) (m .last .1 .1 .0) (q .ensures) (omega (arith, q .kept .1 .1 .0, s .pre .2)) (m .ensures) (omega (arith, m .kept .1 .1 .0, s .pre .3)) h)),
+          scoped-more (h .tree) (a .clauses) (l .c - 1) (l .scopes) (omega (arith, l .inv .0, t)) (s .pre .1) (subst (λ z. ScopedFrom (h .tree) (a .clauses) z (l .scopes)) down (l .inv .1 h)) (c .with-clause .result)
+          (c .with-clause .ensures (surveyed (a .work .now) (a .nodes) (q .last .1 .1 .0) (m .last .1 .1 .0) (q .ensures) (omega (arith, q .kept .1 .1 .0, s .pre .2)) (m .ensures) (omega (arith, m .kept .1 .1 .0, s .pre .3)) h)),
     )
 
 same-length : tie.Need-same-length Inv-loop μ-loop
@@ -76,7 +76,7 @@ returns c =
     let a = s .args in
     let m = c .before .before .before .before .mark in
     let l = c .before .loop in
-    λ h. record { scopes = scoped-end (h .tree) (a .clauses) (l .c) (l .x) (omega (arith, c .loop-test .left)) (l .inv .1 h); sets-marked = m .ensures h }
+    λ h. record { scopes = scoped-end (h .tree) (a .clauses) (l .c) (l .scopes) (omega (arith, c .loop-test .left)) (l .inv .1 h); sets-marked = m .ensures h }
 
 pub hoist-paths-spec : {M : Type 1} → statement M
 hoist-paths-spec =

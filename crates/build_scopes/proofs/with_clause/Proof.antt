@@ -9,7 +9,7 @@ shared-slice-read-mark-of : tie.Need-shared-slice-read-mark-of
 shared-slice-read-mark-of c =
     let s = c .before .before .before .before in
     let a = s .args in
-    root-there (a .w .now) (a .last .now) (a .sets .now) (s .pre .0)
+    root-there (a .work .now) (a .last .now) (a .sets .now) (s .pre .0)
 
 mark-of-requires : tie.Need-mark-of-requires
 mark-of-requires c κs = search needs
@@ -19,21 +19,21 @@ returns c =
     let s = c .before .before .before .before .before .before in
     let a = s .args in
     let m = c .before .mark-of in
-    λ h. idle-clause (a .w .now) (a .last .now) (a .sets .now) h (a .c) (m .result) (m .ensures) (a .x) (c .if1 .taken)
+    λ h. idle-clause (a .work .now) (a .last .now) (a .sets .now) h (a .c) (m .result) (m .ensures) (a .scopes) (c .if1 .taken)
 
 get-hoist-path-requires : tie.Need-get-hoist-path-requires
 get-hoist-path-requires c κs =
     let s = c .before .before .before .before .before .before in
     let a = s .args in
     let m = c .before .mark-of in
-    scope-marks (a .w .now) (a .last .now) (a .sets .now) (s .pre .0) (a .c) (m .result) (m .ensures) (s .pre .1) (c .if1 .left)
+    scope-marks (a .work .now) (a .last .now) (a .sets .now) (s .pre .0) (a .c) (m .result) (m .ensures) (s .pre .1) (c .if1 .left)
 
 first-leaf-requires : tie.Need-first-leaf-requires
 first-leaf-requires c κs =
     let s = c .before .before .before .before .before .before .before in
     let a = s .args in
     let m = c .before .before .mark-of in
-    clause-marks (a .w .now) (a .last .now) (a .sets .now) (s .pre .0) (a .c) (m .result) (m .ensures) (s .pre .1) (c .before .if1 .left)
+    clause-marks (a .work .now) (a .last .now) (a .sets .now) (s .pre .0) (a .c) (m .result) (m .ensures) (s .pre .1) (c .before .if1 .left)
 
 cast-y : tie.Need-cast-y
 cast-y c =
@@ -42,7 +42,7 @@ cast-y c =
     let m = c .before .before .before .mark-of in
     let n = c .before .before .if1 .left in
     let g = c .before .get-hoist-path in
-    let small = scope-small (a .w .now) (a .last .now) (a .sets .now) (s .pre .0) (a .c) (m .result) (m .ensures) n (g .result) (g .ensures (scope-marks (a .w .now) (a .last .now) (a .sets .now) (s .pre .0) (a .c) (m .result) (m .ensures) (s .pre .1) n)) in
+    let small = scope-small (a .work .now) (a .last .now) (a .sets .now) (s .pre .0) (a .c) (m .result) (m .ensures) n (g .result) (g .ensures (scope-marks (a .work .now) (a .last .now) (a .sets .now) (s .pre .0) (a .c) (m .result) (m .ensures) (s .pre .1) n)) in
     omega arith
 
 mul-y : tie.Need-mul-y
@@ -58,7 +58,7 @@ cast-y-2 c =
     let m = c .before .before .before .mark-of in
     let n = c .before .before .if1 .left in
     let f = c .first-leaf in
-    let small = leaf-small (a .w .now) (a .last .now) (a .sets .now) (s .pre .0) (a .c) (m .result) (m .ensures) n (f .result) (f .ensures (clause-marks (a .w .now) (a .last .now) (a .sets .now) (s .pre .0) (a .c) (m .result) (m .ensures) (s .pre .1) n)) in
+    let small = leaf-small (a .work .now) (a .last .now) (a .sets .now) (s .pre .0) (a .c) (m .result) (m .ensures) n (f .result) (f .ensures (clause-marks (a .work .now) (a .last .now) (a .sets .now) (s .pre .0) (a .c) (m .result) (m .ensures) (s .pre .1) n)) in
     omega arith
 
 mul-y-2 : tie.Need-mul-y-2
@@ -79,7 +79,7 @@ returns-2 c =
     let g = c .before .before .get-hoist-path in
     let f = c .before .first-leaf in
     λ h.
-    busy-clause (a .w .now) (a .last .now) (a .sets .now) h (a .c) (m .result) (m .ensures) (a .x) (g .result) (f .result) n (g .ensures (scope-marks (a .w .now) (a .last .now) (a .sets .now) h (a .c) (m .result) (m .ensures) (s .pre .1) n)) (f .ensures (clause-marks (a .w .now) (a .last .now) (a .sets .now) h (a .c) (m .result) (m .ensures) (s .pre .1) n))
+    busy-clause (a .work .now) (a .last .now) (a .sets .now) h (a .c) (m .result) (m .ensures) (a .scopes) (g .result) (f .result) n (g .ensures (scope-marks (a .work .now) (a .last .now) (a .sets .now) h (a .c) (m .result) (m .ensures) (s .pre .1) n)) (f .ensures (clause-marks (a .work .now) (a .last .now) (a .sets .now) h (a .c) (m .result) (m .ensures) (s .pre .1) n))
 
 pub with-clause-spec : {M : Type 1} → statement M
 with-clause-spec =

@@ -19,8 +19,8 @@ abbrev μ-loop : tie.MeasureT-loop
 record Rows (c : tie.After-at2 Inv-loop μ-loop) : Type 0 where
   first-short : c .before .at .result < 12
   second-short : c .at2 .result < 12
-  first-inside : indicesAt + 12 * c .before .before .before .args .a + c .before .at .result ≤ length (c .before .before .before .args .table .now)
-  second-inside : indicesAt + 12 * c .before .before .before .args .b + c .at2 .result ≤ length (c .before .before .before .args .table .now)
+  first-inside : indicesAt + 12 * c .before .before .before .args .p + c .before .at .result ≤ length (c .before .before .before .args .table .now)
+  second-inside : indicesAt + 12 * c .before .before .before .args .q + c .at2 .result ≤ length (c .before .before .before .args .table .now)
 
 rows : (c : tie.After-at2 Inv-loop μ-loop) → Rows c
 rows c =
@@ -35,13 +35,13 @@ rows c =
     }
 
 whole : (c : tie.After-at2 Inv-loop μ-loop)
-    → firstBefore (textAt (c .before .before .before .args .table .now) (indicesAt + 12 * c .before .before .before .args .a) (c .before .at .result))
-    (textAt (c .before .before .before .args .table .now) (indicesAt + 12 * c .before .before .before .args .b) (c .at2 .result))
-    ≡ firstBefore (indicesIn (c .before .before .before .args .table .now) (c .before .before .before .args .a))
-    (indicesIn (c .before .before .before .args .table .now) (c .before .before .before .args .b))
+    → firstBefore (textAt (c .before .before .before .args .table .now) (indicesAt + 12 * c .before .before .before .args .p) (c .before .at .result))
+    (textAt (c .before .before .before .args .table .now) (indicesAt + 12 * c .before .before .before .args .q) (c .at2 .result))
+    ≡ firstBefore (indicesIn (c .before .before .before .args .table .now) (c .before .before .before .args .p))
+    (indicesIn (c .before .before .before .args .table .now) (c .before .before .before .args .q))
 whole c =
     let a = c .before .before .before .args in
-    ap₂ (λ (u v : ℕ). firstBefore (textAt (a .table .now) (indicesAt + 12 * a .a) u) (textAt (a .table .now) (indicesAt + 12 * a .b) v)) (c .before .at .ensures) (c .at2 .ensures)
+    ap₂ (λ (u v : ℕ). firstBefore (textAt (a .table .now) (indicesAt + 12 * a .p) u) (textAt (a .table .now) (indicesAt + 12 * a .q) v)) (c .before .at .ensures) (c .at2 .ensures)
 
 add-at : tie.Need-add-at Inv-loop μ-loop
 add-at c = search needs
@@ -59,49 +59,49 @@ loop-holds : tie.Need-loop-holds Inv-loop μ-loop
 loop-holds c =
     let w = rows c in
     let a = c .before .before .before .args in
-    (omega arith, omega arith, before-begins (a .table .now) (indicesAt + 12 * a .a) (indicesAt + 12 * a .b) (c .before .at .result) (c .at2 .result) (w .first-inside) (w .second-inside))
+    (omega arith, omega arith, before-begins (a .table .now) (indicesAt + 12 * a .p) (indicesAt + 12 * a .q) (c .before .at .result) (c .at2 .result) (w .first-inside) (w .second-inside))
 
 returns : tie.Need-returns Inv-loop μ-loop
 returns c =
     let w = rows (c .before .before .before) in
     let a = c .before .before .before .before .before .before .args in
-    second-ends (a .table .now) (indicesAt + 12 * a .a) (indicesAt + 12 * a .b) (c .before .before .before .before .at .result) (c .before .before .before .at2 .result) (w .first-inside) (w .second-inside) (c .before .before .loop .i) (c .before .before .loop .inv .2) (c .before .loop-test .taken) (c .if1 .taken) ∙ whole (c .before .before .before)
+    second-ends (a .table .now) (indicesAt + 12 * a .p) (indicesAt + 12 * a .q) (c .before .before .before .before .at .result) (c .before .before .before .at2 .result) (w .first-inside) (w .second-inside) (c .before .before .loop .i) (c .before .before .loop .inv .2) (c .before .loop-test .taken) (c .if1 .taken) ∙ whole (c .before .before .before)
 
-mul-p : tie.Need-mul-p Inv-loop μ-loop
-mul-p c = let w = rows (c .before .before .before) in omega arith
+mul-one : tie.Need-mul-one Inv-loop μ-loop
+mul-one c = let w = rows (c .before .before .before) in omega arith
 
-add-p : tie.Need-add-p Inv-loop μ-loop
-add-p c = let w = rows (c .before .before .before) in omega arith
+add-one : tie.Need-add-one Inv-loop μ-loop
+add-one c = let w = rows (c .before .before .before) in omega arith
 
-add-p-2 : tie.Need-add-p-2 Inv-loop μ-loop
-add-p-2 c = let w = rows (c .before .before .before) in omega arith
+add-one-2 : tie.Need-add-one-2 Inv-loop μ-loop
+add-one-2 c = let w = rows (c .before .before .before) in omega arith
 
-shared-slice-read-p : tie.Need-shared-slice-read-p Inv-loop μ-loop
-shared-slice-read-p c = let w = rows (c .before .before .before .before) in omega (arith, w .first-inside)
+shared-slice-read-one : tie.Need-shared-slice-read-one Inv-loop μ-loop
+shared-slice-read-one c = let w = rows (c .before .before .before .before) in omega (arith, w .first-inside)
 
-mul-q : tie.Need-mul-q Inv-loop μ-loop
-mul-q c = let w = rows (c .before .before .before .before) in omega arith
+mul-other : tie.Need-mul-other Inv-loop μ-loop
+mul-other c = let w = rows (c .before .before .before .before) in omega arith
 
-add-q : tie.Need-add-q Inv-loop μ-loop
-add-q c = let w = rows (c .before .before .before .before) in omega arith
+add-other : tie.Need-add-other Inv-loop μ-loop
+add-other c = let w = rows (c .before .before .before .before) in omega arith
 
-add-q-2 : tie.Need-add-q-2 Inv-loop μ-loop
-add-q-2 c = let w = rows (c .before .before .before .before) in omega arith
+add-other-2 : tie.Need-add-other-2 Inv-loop μ-loop
+add-other-2 c = let w = rows (c .before .before .before .before) in omega arith
 
-shared-slice-read-q : tie.Need-shared-slice-read-q Inv-loop μ-loop
-shared-slice-read-q c = let w = rows (c .before .before .before .before .before) in omega (arith, w .second-inside)
+shared-slice-read-other : tie.Need-shared-slice-read-other Inv-loop μ-loop
+shared-slice-read-other c = let w = rows (c .before .before .before .before .before) in omega (arith, w .second-inside)
 
 returns-2 : tie.Need-returns-2 Inv-loop μ-loop
 returns-2 c =
     let w = rows (c .before .before .before .before .before .before) in
     let a = c .before .before .before .before .before .before .before .before .before .args in
-    before-less (a .table .now) (indicesAt + 12 * a .a) (indicesAt + 12 * a .b) (c .before .before .before .before .before .before .before .at .result) (c .before .before .before .before .before .before .at2 .result) (w .first-inside) (w .second-inside) (c .before .before .before .before .before .loop .i) (c .before .before .before .before .before .loop .inv .2) (c .before .before .before .before .loop-test .taken) (c .before .before .before .before .before .loop .inv .1) (c .before .before .before .if1 .left) (c .if2 .taken) ∙ whole (c .before .before .before .before .before .before)
+    before-less (a .table .now) (indicesAt + 12 * a .p) (indicesAt + 12 * a .q) (c .before .before .before .before .before .before .before .at .result) (c .before .before .before .before .before .before .at2 .result) (w .first-inside) (w .second-inside) (c .before .before .before .before .before .loop .i) (c .before .before .before .before .before .loop .inv .2) (c .before .before .before .before .loop-test .taken) (c .before .before .before .before .before .loop .inv .1) (c .before .before .before .if1 .left) (c .if2 .taken) ∙ whole (c .before .before .before .before .before .before)
 
 returns-3 : tie.Need-returns-3 Inv-loop μ-loop
 returns-3 c =
     let w = rows (c .before .before .before .before .before .before .before) in
     let a = c .before .before .before .before .before .before .before .before .before .before .args in
-    before-more (a .table .now) (indicesAt + 12 * a .a) (indicesAt + 12 * a .b) (c .before .before .before .before .before .before .before .before .at .result) (c .before .before .before .before .before .before .before .at2 .result) (w .first-inside) (w .second-inside) (c .before .before .before .before .before .before .loop .i) (c .before .before .before .before .before .before .loop .inv .2) (c .before .before .before .before .before .loop-test .taken) (c .before .before .before .before .before .before .loop .inv .1) (c .before .before .before .before .if1 .left) (c .if3 .taken) ∙ whole (c .before .before .before .before .before .before .before)
+    before-more (a .table .now) (indicesAt + 12 * a .p) (indicesAt + 12 * a .q) (c .before .before .before .before .before .before .before .before .at .result) (c .before .before .before .before .before .before .before .at2 .result) (w .first-inside) (w .second-inside) (c .before .before .before .before .before .before .loop .i) (c .before .before .before .before .before .before .loop .inv .2) (c .before .before .before .before .before .loop-test .taken) (c .before .before .before .before .before .before .loop .inv .1) (c .before .before .before .before .if1 .left) (c .if3 .taken) ∙ whole (c .before .before .before .before .before .before .before)
 
 add-i : tie.Need-add-i Inv-loop μ-loop
 add-i c = search needs
@@ -114,13 +114,13 @@ loop-again c =
     let w = rows (c .before .before .before .before .before .before .before) in
     let a = c .before .before .before .before .before .before .before .before .before .before .args in
     let l = c .before .before .before .before .before .before .loop in
-    (omega arith, omega (arith, c .before .before .before .before .if1 .left), before-goes-on (a .table .now) (indicesAt + 12 * a .a) (indicesAt + 12 * a .b) (c .before .before .before .before .before .before .before .before .at .result) (c .before .before .before .before .before .before .before .at2 .result) (w .first-inside) (w .second-inside) (l .i) (l .inv .2) (c .before .before .before .before .before .loop-test .taken) (l .inv .1) (c .before .before .before .before .if1 .left) (c .before .if2 .left) (c .if3 .left))
+    (omega arith, omega (arith, c .before .before .before .before .if1 .left), before-goes-on (a .table .now) (indicesAt + 12 * a .p) (indicesAt + 12 * a .q) (c .before .before .before .before .before .before .before .before .at .result) (c .before .before .before .before .before .before .before .at2 .result) (w .first-inside) (w .second-inside) (l .i) (l .inv .2) (c .before .before .before .before .before .loop-test .taken) (l .inv .1) (c .before .before .before .before .if1 .left) (c .before .if2 .left) (c .if3 .left))
 
 returns-4 : tie.Need-returns-4 Inv-loop μ-loop
 returns-4 c =
     let w = rows (c .before .before) in
     let a = c .before .before .before .before .before .args in
-    before-ends (a .table .now) (indicesAt + 12 * a .a) (indicesAt + 12 * a .b) (c .before .before .before .at .result) (c .before .before .at2 .result) (w .first-inside) (w .second-inside) (c .before .loop .i) (c .before .loop .inv .2) (c .before .loop .inv .0) (omega arith) (c .before .loop .inv .1) ∙ whole (c .before .before)
+    before-ends (a .table .now) (indicesAt + 12 * a .p) (indicesAt + 12 * a .q) (c .before .before .before .at .result) (c .before .before .at2 .result) (w .first-inside) (w .second-inside) (c .before .loop .i) (c .before .loop .inv .2) (c .before .loop .inv .0) (omega arith) (c .before .loop .inv .1) ∙ whole (c .before .before)
 
 pub before-spec : {M : Type 1} → statement M
 before-spec =
@@ -134,14 +134,14 @@ before-spec =
     at-requires-2
     loop-holds
     returns
-    mul-p
-    add-p
-    add-p-2
-    shared-slice-read-p
-    mul-q
-    add-q
-    add-q-2
-    shared-slice-read-q
+    mul-one
+    add-one
+    add-one-2
+    shared-slice-read-one
+    mul-other
+    add-other
+    add-other-2
+    shared-slice-read-other
     returns-2
     returns-3
     add-i

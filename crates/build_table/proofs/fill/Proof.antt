@@ -19,8 +19,8 @@ abbrev μ-loop : tie.MeasureT-loop
 μ-loop s m t₀ p₀ t p = patterns s - p
 
 -- the map's own numbers
-its : (c : tie.Start Inv-loop μ-loop) → Mapped (c .args .s .now) (c .args .m)
-its c = mapped (c .args .s .now) (c .args .m) (c .pre .0 .is-map)
+its : (c : tie.Start Inv-loop μ-loop) → Mapped (c .args .sheet .now) (c .args .map)
+its c = mapped (c .args .sheet .now) (c .args .map) (c .pre .0 .is-map)
 
 filled-as : {s t u : List ℕ} {n : ℕ} → u ≡ t → Filled s t n n n n → Filled s u n n n n
 filled-as e f = rw e f
@@ -37,7 +37,7 @@ put-roots-requires c κs =
 loop-holds : tie.Need-loop-holds Inv-loop μ-loop
 loop-holds c =
     let start = c .before .before .before .before .before .before in
-    let s = start .args .s .now in
+    let s = start .args .sheet .now in
     let roots = c .before .before .put-roots in
     let e = roots .ensures ∙ ap (λ (t : List ℕ). rootedEach s t 0 (clauses s)) (start .pre .1) in
     (omega arith, filled-as e (roots-filled (start .pre .0 .ok)))

@@ -14,12 +14,12 @@ filled-as e f = rw e f
 
 -- what is filled after each part
 with-class : (c : tie.After-put-class)
-    → Filled (c .before .before .before .before .args .s .now) (c .put-class .last .0) (c .before .before .before .before .args .p) (c .before .before .before .before .args .p + 1)
+    → Filled (c .before .before .before .before .args .sheet .now) (c .put-class .last .0) (c .before .before .before .before .args .p) (c .before .before .before .before .args .p + 1)
     (c .before .before .before .before .args .p) (c .before .before .before .before .args .p)
 with-class c = let pre = c .before .before .before .before .pre in filled-as (c .put-class .ensures) (class-filled (pre .0 .ok) (pre .1) (pre .2))
 
 with-indices : (c : tie.After-put-indices)
-    → Filled (c .before .before .before .before .before .before .before .before .args .s .now) (c .put-indices .last .0) (c .before .before .before .before .before .before .before .before .args .p)
+    → Filled (c .before .before .before .before .before .before .before .before .args .sheet .now) (c .put-indices .last .0) (c .before .before .before .before .before .before .before .before .args .p)
     (c .before .before .before .before .before .before .before .before .args .p + 1) (c .before .before .before .before .before .before .before .before .args .p + 1)
     (c .before .before .before .before .before .before .before .before .args .p)
 with-indices c =
@@ -27,7 +27,7 @@ with-indices c =
     filled-as (c .put-indices .ensures) (indices-filled (pre .0 .ok) (pre .1) (with-class (c .before .before .before .before)))
 
 with-test : (c : tie.After-put-test)
-    → Filled (c .before .before .before .before .before .before .before .before .before .before .before .before .args .s .now) (c .put-test .last .1 .1 .0)
+    → Filled (c .before .before .before .before .before .before .before .before .before .before .before .before .args .sheet .now) (c .put-test .last .1 .1 .0)
     (c .before .before .before .before .before .before .before .before .before .before .before .before .args .p)
     (c .before .before .before .before .before .before .before .before .before .before .before .before .args .p + 1)
     (c .before .before .before .before .before .before .before .before .before .before .before .before .args .p + 1)

@@ -22,16 +22,16 @@ one-constructor-requires : tie.Need-one-constructor-requires
 one-constructor-requires c κs = search needs
 
 returns : tie.Need-returns
-returns c = let start = c .before .before .before .before .before .before .before in constructor-tests (start .args .s .now) (start .args .p) (c .before .before .before .before .pattern-at .result) (c .before .before .before .before .pattern-at .ensures) (c .before .before .type-at .result) (c .before .before .before .at .result) (c .one-constructor .result) (c .before .before .before .at .ensures ∙ start .pre .3) (c .before .before .type-at .ensures) (c .one-constructor .ensures) (c .before .match .keys1)
+returns c = let start = c .before .before .before .before .before .before .before in constructor-tests (start .args .sheet .now) (start .args .p) (c .before .before .before .before .pattern-at .result) (c .before .before .before .before .pattern-at .ensures) (c .before .before .type-at .result) (c .before .before .before .at .result) (c .one-constructor .result) (c .before .before .before .at .ensures ∙ start .pre .3) (c .before .before .type-at .ensures) (c .one-constructor .ensures) (c .before .match .keys1)
 
 returns-2 : tie.Need-returns-2
-returns-2 c = let start = c .before .before .before .before .before .before .before .before in text-or-list-tests (start .args .s .now) (start .args .p) (c .before .before .before .before .before .pattern-at .result) (c .before .before .before .before .before .pattern-at .ensures) (omega arith) (omega arith)
+returns-2 c = let start = c .before .before .before .before .before .before .before .before in text-or-list-tests (start .args .sheet .now) (start .args .p) (c .before .before .before .before .before .pattern-at .result) (c .before .before .before .before .before .pattern-at .ensures) (omega arith) (omega arith)
 
 returns-3 : tie.Need-returns-3
-returns-3 c = let start = c .before .before .before .before .before .before .before in plain-tests-not (start .args .s .now) (start .args .p) (c .before .before .before .before .pattern-at .result) (c .before .before .before .before .pattern-at .ensures) (omega arith)
+returns-3 c = let start = c .before .before .before .before .before .before .before in plain-tests-not (start .args .sheet .now) (start .args .p) (c .before .before .before .before .pattern-at .result) (c .before .before .before .before .pattern-at .ensures) (omega arith)
 
 returns-4 : tie.Need-returns-4
-returns-4 c = let start = c .before .before .before .before .before .before .before .before in pair-tests-not (start .args .s .now) (start .args .p) (c .before .before .before .before .before .pattern-at .result) (c .before .before .before .before .before .pattern-at .ensures) (omega arith) (c .before .before .match .rest .1)
+returns-4 c = let start = c .before .before .before .before .before .before .before .before in pair-tests-not (start .args .sheet .now) (start .args .p) (c .before .before .before .before .before .pattern-at .result) (c .before .before .before .before .before .pattern-at .ensures) (omega arith) (c .before .before .match .rest .1)
 
 pub is-test-spec : {M : Type 1} → statement M
 is-test-spec =

@@ -12,11 +12,11 @@ use Rattle.build_table.proofs.place_children.Statement.{statement}
 use Rattle.build_table.proofs.place_children.Tie as tie
 
 -- what was read before the kinds part
-its-type : (c : tie.After-type-at) → c .before .before .at .result ≡ typeOf (c .before .before .before .before .before .before .before .args .s .now) (c .before .before .before .before .before .before .before .args .p)
+its-type : (c : tie.After-type-at) → c .before .before .at .result ≡ typeOf (c .before .before .before .before .before .before .before .args .sheet .now) (c .before .before .before .before .before .before .before .args .p)
 its-type c = c .before .before .at .ensures ∙ c .before .before .before .before .before .before .before .pre .3 .type
 
 reading : (c : tie.After-type-at)
-    → Reading (c .before .before .before .before .before .before .before .args .s .now) (c .before .before .before .before .before .before .before .args .m)
+    → Reading (c .before .before .before .before .before .before .before .args .sheet .now) (c .before .before .before .before .before .before .before .args .map)
     (c .before .before .before .before .before .before .before .args .table .now) (c .before .before .before .before .before .before .before .args .p)
     (c .before .before .before .before .pattern-at .result) (c .type-at .result)
     (getD (c .before .before .before .before .before .before .before .args .table .now) (192 + c .before .before .before .before .before .before .before .args .p) 0)
@@ -27,7 +27,7 @@ reading c =
       long = start .pre .1;
       known = start .pre .2;
       is-pattern = c .before .before .before .before .pattern-at .ensures;
-      is-type = c .type-at .ensures ∙ ap (typeOfRecord (start .args .s .now)) (its-type c);
+      is-type = c .type-at .ensures ∙ ap (typeOfRecord (start .args .sheet .now)) (its-type c);
       is-owner = start .pre .3 .owner;
     }
 

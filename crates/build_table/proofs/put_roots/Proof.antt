@@ -18,11 +18,11 @@ abbrev μ-loop : tie.MeasureT-loop
 μ-loop s m t₀ c₀ t c = clauses s - c
 
 -- the map's own numbers
-its : (c : tie.Start Inv-loop μ-loop) → Mapped (c .args .s .now) (c .args .m)
-its c = mapped (c .args .s .now) (c .args .m) (c .pre .0 .is-map)
+its : (c : tie.Start Inv-loop μ-loop) → Mapped (c .args .sheet .now) (c .args .map)
+its c = mapped (c .args .sheet .now) (c .args .map) (c .pre .0 .is-map)
 
 loop-holds : tie.Need-loop-holds Inv-loop μ-loop
-loop-holds c = let start = c .before .before in (omega arith, start .pre .1, ap (rootedEach (start .args .s .now) (start .args .table .now) 0) (sub-zero (clauses (start .args .s .now))))
+loop-holds c = let start = c .before .before in (omega arith, start .pre .1, ap (rootedEach (start .args .sheet .now) (start .args .table .now) 0) (sub-zero (clauses (start .args .sheet .now))))
 
 root-at-requires : tie.Need-root-at-requires Inv-loop μ-loop
 root-at-requires c κs = let start = c .before .before .before .before .before .before in (start .pre .0 .ok .is-laid, start .pre .0 .is-map, omega (arith, its start .of-clauses))
@@ -32,7 +32,7 @@ put-root-requires c κs =
     let start = c .before .before .before .before .before .before .before in
     let l = c .before .before .before .before .loop in
     let ok = start .pre .0 .ok in
-    let below : l .c < clauses (start .args .s .now) = omega (arith, its start .of-clauses) in (
+    let below : l .c < clauses (start .args .sheet .now) = omega (arith, its start .of-clauses) in (
       l .inv .1,
       omega (arith, c .root-at .ensures, ok .is-shaped .root-pattern (l .c) below, ok .is-counted .patterns-most),
       omega (arith, ok .is-counted .clauses-most),
@@ -51,10 +51,10 @@ loop-again c =
     let l = c .before .before .before .before .before .before .before .loop in
     let r = c .before .before .before .root-at in
     let u = c .before .before .put-root in
-    let below : l .c < clauses (start .args .s .now) = omega (arith, its start .of-clauses) in (
+    let below : l .c < clauses (start .args .sheet .now) = omega (arith, its start .of-clauses) in (
       omega arith,
-      ap length (u .ensures) ∙ length-rooted (l .table) (r .result) (l .c) (start .args .m .subject) ∙ l .inv .1,
-      rootedEach-on (start .args .s .now) (clauses (start .args .s .now)) (l .table) (u .last .0) (l .c) (r .result) (start .args .m .subject) below (r .ensures) (its start .of-subject) (u .ensures)
+      ap length (u .ensures) ∙ length-rooted (l .table) (r .result) (l .c) (start .args .map .subject) ∙ l .inv .1,
+      rootedEach-on (start .args .sheet .now) (clauses (start .args .sheet .now)) (l .table) (u .last .0) (l .c) (r .result) (start .args .map .subject) below (r .ensures) (its start .of-subject) (u .ensures)
           ∙ l .inv .2,
     )
 
@@ -65,7 +65,7 @@ returns : tie.Need-returns Inv-loop μ-loop
 returns c =
     let start = c .before .before .before .before .before in
     let l = c .before .before .loop in
-    sym (rootedEach-end (start .args .s .now) (clauses (start .args .s .now)) (l .table) (l .c) (omega (arith, its start .of-clauses))) ∙ l .inv .2
+    sym (rootedEach-end (start .args .sheet .now) (clauses (start .args .sheet .now)) (l .table) (l .c) (omega (arith, its start .of-clauses))) ∙ l .inv .2
 
 pub put-roots-spec : {M : Type 1} → statement M
 put-roots-spec =

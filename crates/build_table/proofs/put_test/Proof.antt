@@ -50,13 +50,13 @@ same-length : tie.Need-same-length
 same-length c = search needs
 
 returns : tie.Need-returns
-returns c = let start = c .before .before .before .before .before .before .before .before .before in tested-yes (start .args .table .now) (start .args .p) (isTest (start .args .s .now) (start .args .p)) (c .before .before .before .before .before .is-test .result) (c .before .before .at .result) (c .at2 .result) (c .before .before .before .before .before .is-test .ensures) (c .before .before .before .before .if1 .taken) (c .before .before .at .ensures) (c .at2 .ensures)
+returns c = let start = c .before .before .before .before .before .before .before .before .before in tested-yes (start .args .table .now) (start .args .p) (isTest (start .args .sheet .now) (start .args .p)) (c .before .before .before .before .before .is-test .result) (c .before .before .at .result) (c .at2 .result) (c .before .before .before .before .before .is-test .ensures) (c .before .before .before .before .if1 .taken) (c .before .before .at .ensures) (c .at2 .ensures)
 
 same-length-2 : tie.Need-same-length-2
 same-length-2 c = search needs
 
 returns-2 : tie.Need-returns-2
-returns-2 c = let start = c .before .before .before .before .before in tested-no (start .args .table .now) (start .args .p) (isTest (start .args .s .now) (start .args .p)) (c .before .is-test .result) (c .before .is-test .ensures) (c .if1 .left)
+returns-2 c = let start = c .before .before .before .before .before in tested-no (start .args .table .now) (start .args .p) (isTest (start .args .sheet .now) (start .args .p)) (c .before .is-test .result) (c .before .is-test .ensures) (c .if1 .left)
 
 pub put-test-spec : {M : Type 1} → statement M
 put-test-spec =

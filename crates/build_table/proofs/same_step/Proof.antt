@@ -16,7 +16,7 @@ shared-slice-read-if1-2 : tie.Need-shared-slice-read-if1-2
 shared-slice-read-if1-2 c = search needs
 
 returns : tie.Need-returns
-returns c = let a = c .before .before .before .before .args in step-differs (a .table .now) (a .a) (a .b) (c .if1 .taken)
+returns c = let a = c .before .before .before .before .args in step-differs (a .table .now) (a .p) (a .q) (c .if1 .taken)
 
 add-if2 : tie.Need-add-if2
 add-if2 c = search needs
@@ -31,7 +31,7 @@ shared-slice-read-if2-2 : tie.Need-shared-slice-read-if2-2
 shared-slice-read-if2-2 c = search needs
 
 returns-2 : tie.Need-returns-2
-returns-2 c = let a = c .before .before .before .before .before .before .before .args in index-differs (a .table .now) (a .a) (a .b) (c .before .before .before .if1 .left) (c .if2 .taken)
+returns-2 c = let a = c .before .before .before .before .before .before .before .args in index-differs (a .table .now) (a .p) (a .q) (c .before .before .before .if1 .left) (c .if2 .taken)
 
 add-at : tie.Need-add-at
 add-at c = search needs
@@ -58,7 +58,7 @@ shared-slice-read-if3-2 : tie.Need-shared-slice-read-if3-2
 shared-slice-read-if3-2 c = search needs
 
 returns-3 : tie.Need-returns-3
-returns-3 c = let a = c .before .before .before .before .before .before .before .before .before .before .before .before .args in class-differs (a .table .now) (a .a) (a .b) (c .before .before .before .before .before .before .before .before .if1 .left) (c .before .before .before .before .before .if2 .left) (c .before .before .before .before .at .result) (c .before .before .before .at2 .result) (c .before .before .before .before .at .ensures) (c .before .before .before .at2 .ensures) (c .if3 .taken)
+returns-3 c = let a = c .before .before .before .before .before .before .before .before .before .before .before .before .args in class-differs (a .table .now) (a .p) (a .q) (c .before .before .before .before .before .before .before .before .if1 .left) (c .before .before .before .before .before .if2 .left) (c .before .before .before .before .at .result) (c .before .before .before .at2 .result) (c .before .before .before .before .at .ensures) (c .before .before .before .at2 .ensures) (c .if3 .taken)
 
 add-result : tie.Need-add-result
 add-result c = search needs
@@ -73,7 +73,7 @@ shared-slice-read-result-2 : tie.Need-shared-slice-read-result-2
 shared-slice-read-result-2 c = search needs
 
 returns-4 : tie.Need-returns-4
-returns-4 c = let a = c .before .before .before .before .before .before .before .before .before .before .before .before .before .before .args in types-compared (a .table .now) (a .a) (a .b) (c .before .before .before .before .before .before .before .before .before .before .if1 .left) (c .before .before .before .before .before .before .before .if2 .left) (c .before .before .before .before .before .before .at .result) (c .before .before .before .before .before .at2 .result) (c .before .before .before .before .before .before .at .ensures) (c .before .before .before .before .before .at2 .ensures) (c .before .before .if3 .left)
+returns-4 c = let a = c .before .before .before .before .before .before .before .before .before .before .before .before .before .before .args in types-compared (a .table .now) (a .p) (a .q) (c .before .before .before .before .before .before .before .before .before .before .if1 .left) (c .before .before .before .before .before .before .before .if2 .left) (c .before .before .before .before .before .before .at .result) (c .before .before .before .before .before .at2 .result) (c .before .before .before .before .before .before .at .ensures) (c .before .before .before .before .before .at2 .ensures) (c .before .before .if3 .left)
 
 pub same-step-spec : {M : Type 1} → statement M
 same-step-spec =

@@ -20,7 +20,7 @@ abbrev μ-loop : tie.MeasureT-loop
 μ-loop w clauses x n₀ c₀ n c = clauses - c
 
 loop-holds : tie.Need-loop-holds Inv-loop μ-loop
-loop-holds c = (omega arith, omega arith, sum-start (λ k. leafBindings (c .before .args .w .now) (getD (c .before .args .t2 .leaf) k 0)) (c .before .args .clauses))
+loop-holds c = (omega arith, omega arith, sum-start (λ k. leafBindings (c .before .args .work .now) (getD (c .before .args .t2 .leaf) k 0)) (c .before .args .clauses))
 
 mul-bindings-of : tie.Need-mul-bindings-of Inv-loop μ-loop
 mul-bindings-of c = search needs
@@ -35,7 +35,7 @@ add-n : tie.Need-add-n Inv-loop μ-loop
 add-n c =
     let s = c .before .before .before .before .before in
     let l = c .before .before .before .loop in
-    omega (arith, s .pre .1, c .before .before .loop-test .taken, l .inv .1, c .bindings-of .ensures, leaf-most (s .args .w .now) (getD (s .args .t2 .leaf) (l .c) 0) (bytes-of-fits (c .before .before .before .before .before .args .w .now) (c .before .before .before .before .shared-slice-known .given)))
+    omega (arith, s .pre .1, c .before .before .loop-test .taken, l .inv .1, c .bindings-of .ensures, leaf-most (s .args .work .now) (getD (s .args .t2 .leaf) (l .c) 0) (bytes-of-fits (c .before .before .before .before .before .args .work .now) (c .before .before .before .before .shared-slice-known .given)))
 
 add-c : tie.Need-add-c Inv-loop μ-loop
 add-c c = omega (arith, c .before .before .before .before .before .pre .1, c .before .before .loop-test .taken)
@@ -49,14 +49,14 @@ loop-again c =
     let a = s .args in
     let l = c .before .before .before .loop in
     let t = c .before .before .loop-test .taken in
-    let f : ℕ → ℕ = λ k. leafBindings (a .w .now) (getD (a .t2 .leaf) k 0) in
-    (omega (arith, t), omega (arith, l .inv .1, c .bindings-of .ensures, leaf-most (a .w .now) (getD (a .t2 .leaf) (l .c) 0) (bytes-of-fits (c .before .before .before .before .before .args .w .now) (c .before .before .before .before .shared-slice-known .given))), sum-more f (l .c) (a .clauses) (sum f 0 (a .clauses)) (l .n) (c .bindings-of .result) t (l .inv .2) (c .bindings-of .ensures))
+    let f : ℕ → ℕ = λ k. leafBindings (a .work .now) (getD (a .t2 .leaf) k 0) in
+    (omega (arith, t), omega (arith, l .inv .1, c .bindings-of .ensures, leaf-most (a .work .now) (getD (a .t2 .leaf) (l .c) 0) (bytes-of-fits (c .before .before .before .before .before .args .work .now) (c .before .before .before .before .shared-slice-known .given))), sum-more f (l .c) (a .clauses) (sum f 0 (a .clauses)) (l .n) (c .bindings-of .result) t (l .inv .2) (c .bindings-of .ensures))
 
 returns : tie.Need-returns Inv-loop μ-loop
 returns c =
     let a = c .before .before .before .args in
     let l = c .before .loop in
-    let f : ℕ → ℕ = λ k. leafBindings (a .w .now) (getD (a .t2 .leaf) k 0) in
+    let f : ℕ → ℕ = λ k. leafBindings (a .work .now) (getD (a .t2 .leaf) k 0) in
     sum-done f (l .c) (a .clauses) (sum f 0 (a .clauses)) (l .n) (omega (arith, c .loop-test .left)) (l .inv .2)
 
 pub hoist-bindings-spec : {M : Type 1} → statement M

@@ -17,7 +17,7 @@ on : (b : Bool) → not b ≡ false → b ≡ true
 on true e = refl
 on false e = sym e
 
-checked : (c : tie.Start) → SheetAccepts (c .args .s .now) (c .args .m)
+checked : (c : tie.Start) → SheetAccepts (c .args .sheet .now) (c .args .map)
 checked c = c .pre .0
 
 slice-aggregate-fill : tie.Need-slice-aggregate-fill
@@ -44,17 +44,17 @@ returns : tie.Need-returns
 returns c =
     let s = c .before .before .before .before .before .before .before .before .before .before .before .before .before .before in
     let over = c .before .before .before .before .before .build-tree .ensures .over (off _ (c .before .if1 .taken)) in
-    rw (c .refused .ensures) (gives-refusal (s .args .s .now) _ _ 12 0 (end-12-raw (s .args .s .now) over) (s .pre .3))
+    rw (c .refused .ensures) (gives-refusal (s .args .sheet .now) _ _ 12 0 (end-12-raw (s .args .sheet .now) over) (s .pre .3))
 
 slice-aggregate-finish : tie.Need-slice-aggregate-finish
 slice-aggregate-finish c = search needs
 
 finish-requires : tie.Need-finish-requires
 finish-requires c κs =
-    let s = c .before .before .before .before .before .before .before .before .before .before .before .before .before .before .before .before .before .before in
-    let built = c .before .before .before .before .before .before .before .before .before .build-tree in
-    let fits = built .ensures .put (on _ (c .before .before .before .before .before .if1 .left)) in
-    ((s .pre .0, c .before .before .before .before .before .before .before .before .before .before .before .before .before .fill .ensures, raw-built (s .pre .0 .ok) _ (built .result .tops) (omega (arith, s .pre .2, built .kept .1 .1 .1 .0)) fits), (s .pre .1, s .pre .3))
+    let s = c .before .before .before .before .before .before .before .before .before .before .before .before .before .before .before .before in
+    let built = c .before .before .before .before .before .before .before .build-tree in
+    let fits = built .ensures .put (on _ (c .before .before .before .if1 .left)) in
+    ((s .pre .0, c .before .before .before .before .before .before .before .before .before .before .before .fill .ensures, raw-built (s .pre .0 .ok) _ (built .result .tops) (omega (arith, s .pre .2, built .kept .1 .1 .1 .0)) fits), (s .pre .1, s .pre .3))
 
 same-length-2 : tie.Need-same-length-2
 same-length-2 c = search needs

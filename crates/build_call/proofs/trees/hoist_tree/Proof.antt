@@ -21,7 +21,7 @@ slice-aggregate-hoist-with-2 c = search needs
 
 hoist-with-requires-2 : tie.Need-hoist-with-requires-2
 hoist-with-requires-2 c κs =
-    let s = c .before .before .before .before .before .before .before in
+    let s = c .before .before .before .before .before .before .before .before in
     ((s .pre .0 .0, s .pre .0 .1, s .pre .0 .2, omega (arith, s .pre .0 .2 .nodes-fit, s .pre .0 .2 .nodes-are)), s .pre .1)
 
 same-length-2 : tie.Need-same-length-2

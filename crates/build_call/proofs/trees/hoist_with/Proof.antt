@@ -7,12 +7,12 @@ use borrow.Author.Needs.{needs}
 use Rattle.build_call.proofs.trees.hoist_with.Statement.{statement}
 use Rattle.build_call.proofs.trees.hoist_with.Tie as tie
 
-ok : (c : tie.Start) → Accepted (c .args .s .now)
+ok : (c : tie.Start) → Accepted (c .args .sheet .now)
 ok c = c .pre .0 .0 .ok
 
 -- the map's own numbers
-its : (c : tie.Start) → Mapped (c .args .s .now) (c .args .m)
-its c = mapped (c .args .s .now) (c .args .m) (c .pre .0 .0 .is-map)
+its : (c : tie.Start) → Mapped (c .args .sheet .now) (c .args .map)
+its c = mapped (c .args .sheet .now) (c .args .map) (c .pre .0 .0 .is-map)
 
 get-hoist-paths-requires : tie.Need-get-hoist-paths-requires
 get-hoist-paths-requires c κs =

@@ -9,7 +9,7 @@ use Rattle.spec_rules.specs.Limits.{patternsMost}
 use Rattle.spec_rules.specs.Hoisting.{hoistAll}
 use Rattle.spec_rules.specs.Calls.{sheetTree}
 use Rattle.build_table.specs.Standing.{sheetPaths}
-use Rattle.build_file_nodes.specs.declared.nodes.Tops.{Tops}
+use Rattle.build_file_nodes.specs.declared.Tops.{Tops}
 use Rattle.build_file_nodes.specs.Written.{WritingAsked, Written}
 use Rattle.spec_accepted.specs.SheetFacts.{Accepted}
 use Rattle.format_sheet.specs.SectionsLaws.{Mapped, mapped}
@@ -17,17 +17,17 @@ use Rattle.build_call.specs.RawLaws.{asked-at, written-at, nodes-written
 use Rattle.build_call.proofs.trees.write_tree.Statement.{statement}
 use Rattle.build_call.proofs.trees.write_tree.Tie as tie
 
-ok : (c : tie.Start) → Accepted (c .args .s .now)
+ok : (c : tie.Start) → Accepted (c .args .sheet .now)
 ok c = c .pre .0 .0 .ok
 
 -- the map's own numbers
-its : (c : tie.Start) → Mapped (c .args .s .now) (c .args .m)
-its c = mapped (c .args .s .now) (c .args .m) (c .pre .0 .0 .is-map)
+its : (c : tie.Start) → Mapped (c .args .sheet .now) (c .args .map)
+its c = mapped (c .args .sheet .now) (c .args .map) (c .pre .0 .0 .is-map)
 
 -- what is written so far: the three sections of the sheet's tree
 told : (c : tie.Start) (middle classes : List ℕ) (r : Tops)
-    → ((a : WritingAsked (c .args .w .now) (c .args .nodes) (c .args .cases) (c .args .x) (c .args .m .counts .clauses)) → Written (a .ready .table) (hoistAll (c .args .m .counts .clauses) (a .tree)) (c .args .tree .now) middle classes r)
-    → Written (sheetPaths (c .args .s .now)) (sheetTree (c .args .s .now)) (c .args .tree .now) middle classes r
+    → ((a : WritingAsked (c .args .work .now) (c .args .tops .nodes) (c .args .tops .cases) (c .args .scopes) (c .args .map .counts .clauses)) → Written (a .ready .table) (hoistAll (c .args .map .counts .clauses) (a .tree)) (c .args .tree .now) middle classes r)
+    → Written (sheetPaths (c .args .sheet .now)) (sheetTree (c .args .sheet .now)) (c .args .tree .now) middle classes r
 told c middle classes r e = written-at (ok c) _ _ _ _ (c .pre .0 .2) _ (its c .of-clauses) _ middle classes r e
 
 write-nodes-requires : tie.Need-write-nodes-requires
@@ -94,7 +94,7 @@ put-tail-requires c κs =
     let s = c .before .before .before .before .before .before .before .before .before .before .before .before .before .before in
     let write-nodes = c .before .before .before .before .before .before .before .write-nodes in
     let f = told s _ _ (write-nodes .result) (write-nodes .ensures) in
-    tail-is-ready (ok s) _ _ _ _ (s .pre .0 .2) (s .pre .0 .0 .verdict) _ _ _ _ f (s .args .m) (s .args .table .now) (s .pre .0 .0) (s .pre .0 .1) (omega (arith, s .pre .1 .0, write-nodes .kept .1 .1 .1 .1 .1 .0))
+    tail-is-ready (ok s) _ _ _ _ (s .pre .0 .2) (s .pre .0 .0 .verdict) _ _ _ _ f (s .args .map) (s .args .table .now) (s .pre .0 .0) (s .pre .0 .1) (omega (arith, s .pre .1 .0, write-nodes .kept .1 .1 .1 .1 .1 .0))
 
 cast-t23 : tie.Need-cast-t23
 cast-t23 c =

@@ -20,7 +20,7 @@ abbrev μ-loop : tie.MeasureT-loop
 μ-loop s m tests n l₀ i₀ l i = i
 
 loop-holds : tie.Need-loop-holds Inv-loop μ-loop
-loop-holds c = (search needs, longest-starts (c .before .args .s .now) (c .before .args .tests .now) (c .before .args .n))
+loop-holds c = (search needs, longest-starts (c .before .args .sheet .now) (c .before .args .tests .now) (c .before .args .n))
 
 sub-i : tie.Need-sub-i Inv-loop μ-loop
 sub-i c = search needs
@@ -36,13 +36,13 @@ pattern-at-requires c κs =
     let s = c .before .before .before .before .before in
     let a = s .args in
     let l = c .before .before .before .loop in
-    let known = all-at (TestKnown (a .s .now)) (a .tests .now) (a .n) (l .i - 1) (omega arith) (omega (arith, s .pre .1 .long, s .pre .1 .most)) (s .pre .2) in
+    let known = all-at (TestKnown (a .sheet .now)) (a .tests .now) (a .n) (l .i - 1) (omega arith) (omega (arith, s .pre .1 .long, s .pre .1 .most)) (s .pre .2) in
     (s .pre .0 .ok .is-laid, s .pre .0 .is-map, rw (c .wide .ensures) (known .known))
 
 longer-of-requires : tie.Need-longer-of-requires Inv-loop μ-loop
 longer-of-requires c κs =
     let s = c .before .before .before .before .before .before in
-    record-small (bytes-of-fits (s .args .s .now) (c .before .before .before .before .before .shared-slice-known .given)) (c .before .wide .result) (c .pattern-at .result) (c .pattern-at .ensures)
+    record-small (bytes-of-fits (s .args .sheet .now) (c .before .before .before .before .before .shared-slice-known .given)) (c .before .wide .result) (c .pattern-at .result) (c .pattern-at .ensures)
 
 loop-less : tie.Need-loop-less Inv-loop μ-loop
 loop-less c = search needs
@@ -54,14 +54,14 @@ loop-again c =
     let l = c .before .before .before .before .before .loop in (
       search needs,
       longest-step (s .pre .0 .ok) (a .tests .now) (a .n) (l .i) (omega (arith, s .pre .1 .long, s .pre .1 .most)) (omega arith) (l .inv .0) (s .pre .2)
-          (c .before .before .wide .result) (c .before .before .wide .ensures) (c .before .pattern-at .result) (c .before .pattern-at .ensures) (l .l) (c .longer-of .result) (l .inv .1) (c .longer-of .ensures),
+          (c .before .before .wide .result) (c .before .before .wide .ensures) (c .before .pattern-at .result) (c .before .pattern-at .ensures) (l .longest) (c .longer-of .result) (l .inv .1) (c .longer-of .ensures),
     )
 
 returns : tie.Need-returns Inv-loop μ-loop
 returns c =
     let a = c .before .before .before .args in
     let l = c .before .loop in
-    longest-ends (a .s .now) (a .tests .now) (a .n) (l .i) (l .l) (omega arith) (l .inv .1)
+    longest-ends (a .sheet .now) (a .tests .now) (a .n) (l .i) (l .longest) (omega arith) (l .inv .1)
 
 pub longest-of-spec : {M : Type 1} → statement M
 longest-of-spec =

@@ -28,7 +28,7 @@ same-length c = search needs
 returns-2 : tie.Need-returns-2
 returns-2 c =
     let a = c .before .before .before .before .before .before .before in
-    let is = fields-searched (a .args .test) (c .before .before .fields-of .result) (c .before .before .fields-of .ensures) (a .args .s .now) (a .args .work .now) (a .args .from) (a .args .to - a .args .from) (c .before .same-case .result) (c .before .same-case .ensures) in
+    let is = fields-searched (a .args .test) (c .before .before .fields-of .result) (c .before .before .fields-of .ensures) (a .args .sheet .now) (a .args .work .now) (a .args .from) (a .args .to - a .args .from) (c .before .same-case .result) (c .before .same-case .ensures) in
     meets-found (a .args .test) (c .before .same-case .result) is (c .if2 .taken)
 
 put-case-requires : tie.Need-put-case-requires
@@ -44,7 +44,7 @@ returns-3 : tie.Need-returns-3
 returns-3 c =
     let e = c .before .before .before .before in
     let a = c .before .before .before .before .before .before .before .before .before .before .before in
-    let is = fields-searched (a .args .test) (e .before .before .fields-of .result) (e .before .before .fields-of .ensures) (a .args .s .now) (a .args .work .now) (a .args .from) (a .args .to - a .args .from) (e .before .same-case .result) (e .before .same-case .ensures) in
+    let is = fields-searched (a .args .test) (e .before .before .fields-of .result) (e .before .before .fields-of .ensures) (a .args .sheet .now) (a .args .work .now) (a .args .from) (a .args .to - a .args .from) (e .before .same-case .result) (e .before .same-case .ensures) in
     meets-new (a .args .test) (e .before .same-case .result) is (a .pre .0 .0) (a .pre .0 .2) (omega arith) (omega (arith, begun-most (a .pre .1))) _ (c .before .before .put-case .ensures)
 
 pub meet-spec : {M : Type 1} → statement M

@@ -13,15 +13,16 @@ use Rattle.build_cases.proofs.rows.meet_rows.Statement.{statement}
 use Rattle.build_cases.proofs.rows.meet_rows.Tie as tie
 
 abbrev Inv-loop : tie.InvT-loop
-Inv-loop s m tests n l tail work₀ from top₀ i₀ work top i = (i ≤ n) × Meets s work₀ from from (meetTests s from tail l (take i tests)) top work
+Inv-loop s m tests n pass work₀ from top₀ i₀ work top i =
+    (i ≤ n) × Meets s work₀ from from (meetTests s from (pass .tail) (pass .longest) (take i tests)) top work
 
 abbrev μ-loop : tie.MeasureT-loop
-μ-loop s m tests n l tail work₀ from top₀ i₀ work top i = n - i
+μ-loop s m tests n pass work₀ from top₀ i₀ work top i = n - i
 
 loop-holds : tie.Need-loop-holds Inv-loop μ-loop
 loop-holds c =
     let a = c .before .before .args in
-    (search needs, pass-none (a .tail) (a .l) (a .tests .now))
+    (search needs, pass-none (a .pass .tail) (a .pass .longest) (a .tests .now))
 
 element-copy-out-wide : tie.Need-element-copy-out-wide Inv-loop μ-loop
 element-copy-out-wide c = let s = c .before .before .before .before in omega (arith, s .pre .0 .1 .long, s .pre .0 .1 .most)
@@ -34,7 +35,7 @@ meet-test-requires c κs =
     let s = c .before .before .before .before .before .before .before in
     let a = s .args in
     let l = c .before .before .before .before .loop in
-    let known = all-at (TestKnown (a .s .now)) (a .tests .now) (a .n) (l .i) (omega arith) (omega (arith, s .pre .0 .1 .long, s .pre .0 .1 .most)) (s .pre .0 .2) in
+    let known = all-at (TestKnown (a .sheet .now)) (a .tests .now) (a .n) (l .i) (omega arith) (omega (arith, s .pre .0 .1 .long, s .pre .0 .1 .most)) (s .pre .0 .2) in
     ((s .pre .0 .0, rw (c .before .wide .ensures) known, s .pre .0 .3, s .pre .0 .4), meets-begun (s .pre .1) (l .inv .1))
 
 add-i : tie.Need-add-i Inv-loop μ-loop
@@ -49,7 +50,7 @@ loop-again c =
     let a = s .args in
     let l = c .before .before .before .before .before .before .before .loop in (
       search needs,
-      pass-one (a .tail) (a .l) (a .tests .now) (l .i) (omega (arith, s .pre .0 .1 .long, s .pre .0 .1 .most)) (c .before .before .before .before .wide .result) (c .before .before .before .before .wide .ensures) (l .inv .1) (c .before .before .meet-test .ensures),
+      pass-one (a .pass .tail) (a .pass .longest) (a .tests .now) (l .i) (omega (arith, s .pre .0 .1 .long, s .pre .0 .1 .most)) (c .before .before .before .before .wide .result) (c .before .before .before .before .wide .ensures) (l .inv .1) (c .before .before .meet-test .ensures),
     )
 
 same-length : tie.Need-same-length Inv-loop μ-loop
@@ -59,7 +60,7 @@ returns : tie.Need-returns Inv-loop μ-loop
 returns c =
     let a = c .before .before .before .before .args in
     let l = c .before .loop in
-    pass-ends (a .tail) (a .l) (a .tests .now) (l .i) (a .n) (omega arith) (l .inv .1)
+    pass-ends (a .pass .tail) (a .pass .longest) (a .tests .now) (l .i) (a .n) (omega arith) (l .inv .1)
 
 pub meet-rows-spec : {M : Type 1} → statement M
 meet-rows-spec =

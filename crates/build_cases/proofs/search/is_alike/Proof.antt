@@ -36,7 +36,7 @@ unfolding isAlike
 returns-5 c =
     let b = c .before .before .before .before .before .before in
     let a = b .before .before .before .before .before .before .before .args in
-    alike-number (a .work .now) (a .i) (a .f .kind) (a .f .number) (a .f .len) (b .before .before .before .before .before .case-kind .result) (b .before .before .case-length .result) (c .before .case-number .result)
+    alike-number (a .work .now) (a .i) (a .fields .kind) (a .fields .number) (a .fields .len) (b .before .before .before .before .before .case-kind .result) (b .before .before .case-length .result) (c .before .case-number .result)
     (b .before .before .before .before .before .case-kind .ensures) (b .before .before .before .if1 .left) (b .before .before .case-length .ensures) (b .if2 .left)
     (c .before .before .before .before .if3 .left) (c .before .before .if4 .left) (c .before .case-number .ensures)
 

@@ -96,7 +96,7 @@ cases-again : tie.Need-cases-again Inv-loop μ-loop Inv-cases μ-cases
 cases-again c =
     let a = c .before .before .before .before .before .before .before .before in
     let i = c .before .before .before .cases .i in
-    let h = hasTest (a .args .s .now) (a .args .work .now) (a .args .f .kind) (a .args .f .number) (a .args .f .len) in
+    let h = hasTest (a .args .sheet .now) (a .args .work .now) (a .args .fields .kind) (a .args .fields .number) (a .args .fields .len) in
     let past : h i ≡ false =
     ⊎-elim
     (λ w.
@@ -111,14 +111,14 @@ cases-again c =
 returns : tie.Need-returns Inv-loop μ-loop Inv-cases μ-cases
 returns c =
     let a = c .before .before .before .before .before .before in
-    let h = hasTest (a .args .s .now) (a .args .work .now) (a .args .f .kind) (a .args .f .number) (a .args .f .len) in
+    let h = hasTest (a .args .sheet .now) (a .args .work .now) (a .args .fields .kind) (a .args .fields .number) (a .args .fields .len) in
     sym (c .if1 .taken) ∙ sym (first-end h (c .before .cases .i) (a .args .to) (omega arith)) ∙ c .before .cases .inv .2
 
 returns-2 : tie.Need-returns-2 Inv-loop μ-loop Inv-cases μ-cases
 returns-2 c =
     let l = c .before in
     let a = l .before .before .before .before .before .before .before .before .before .before .before in
-    let h = hasTest (a .args .s .now) (a .args .work .now) (a .args .f .kind) (a .args .f .number) (a .args .f .len) in
+    let h = hasTest (a .args .sheet .now) (a .args .work .now) (a .args .fields .kind) (a .args .fields .number) (a .args .fields .len) in
     let here : h (l .before .before .before .before .before .before .cases .i) ≡ true =
     texts-same (a .pre .0 .0) (a .args .work .now) (l .before .before .before .before .before .before .cases .i) (a .pre .0 .2) (a .pre .1 .3 .fields (l .before .before .before .before .before .before .cases .i) (omega arith) (omega arith))
     (a .args .pool + l .before .wide3 .result) (a .args .pool + l .before .before .before .before .before .before .before .before .wide .result)

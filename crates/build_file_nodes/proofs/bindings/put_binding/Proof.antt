@@ -48,7 +48,7 @@ returns c =
     let binding-at = c .before .before .before .before .before .before .before .before .before .before .binding-at in
     let used = c .before .before .before .before .before .before .used in
     let wide = c .before .before .before .before .wide in
-    binding-put (s .args .w .now) (s .args .b) (s .args .at) (usesOf (s .args .number .now) (s .args .list .now) (s .args .paths)) (usesOf (used .last .0) (used .last .1 .0) (used .result)) (s .args .tree .now) (binding-at .result .name) (binding-at .result .path) (wide .result) (ap (λ z. z .name) (binding-at .ensures)) (ap (λ z. z .path) (binding-at .ensures)) (used .ensures) (wide .ensures) (c .before .before .put-two-words .ensures)
+    binding-put (s .args .work .now) (s .args .i) (s .args .at) (usesOf (s .args .number .now) (s .args .list .now) (s .args .paths)) (usesOf (used .last .0) (used .last .1 .0) (used .result)) (s .args .tree .now) (binding-at .result .name) (binding-at .result .path) (wide .result) (ap (λ z. z .name) (binding-at .ensures)) (ap (λ z. z .path) (binding-at .ensures)) (used .ensures) (wide .ensures) (c .before .before .put-two-words .ensures)
 
 pub put-binding-spec : {M : Type 1} → statement M
 put-binding-spec =

@@ -15,7 +15,7 @@ abbrev μ-loop : tie.MeasureT-loop
 loop-holds : tie.Need-loop-holds Inv-loop μ-loop
 loop-holds c =
     let s = c .before .before in
-    bindings-start (s .args .w .now) (s .args .first) (s .args .count) (s .args .at) (usesOf (s .args .number .now) (s .args .list .now) (s .args .paths)) (s .args .tree .now) (s .pre .2)
+    bindings-start (s .args .work .now) (s .args .first) (s .args .count) (s .args .at) (usesOf (s .args .number .now) (s .args .list .now) (s .args .paths)) (s .args .tree .now) (s .pre .2)
 
 add-put-binding : tie.Need-add-put-binding Inv-loop μ-loop
 add-put-binding c =
@@ -37,7 +37,7 @@ put-binding-requires c κs =
     let s = c .before .before .before .before .before .before .before in
     let loop = c .before .before .before .before .loop in
     let loop-test = c .before .before .before .loop-test in
-    (binding-asked (s .args .w .now) (s .args .first) (s .args .count) (loop .i) (s .pre .0) (loop-test .taken), omega (arith, s .pre .1, loop .inv .long), loop .inv .counted)
+    (binding-asked (s .args .work .now) (s .args .first) (s .args .count) (loop .i) (s .pre .0) (loop-test .taken), omega (arith, s .pre .1, loop .inv .long), loop .inv .counted)
 
 add-i : tie.Need-add-i Inv-loop μ-loop
 add-i c =
@@ -53,7 +53,7 @@ loop-again c =
     let loop = c .before .before .before .before .before .before .before .loop in
     let loop-test = c .before .before .before .before .before .before .loop-test in
     let put-binding = c .before .before .put-binding in
-    bindings-next (s .args .w .now) (s .args .first) (s .args .count) (s .args .at) (usesOf (s .args .number .now) (s .args .list .now) (s .args .paths)) (s .args .tree .now) (loop .tree) (usesOf (loop .number) (loop .list) (loop .v)) (loop .i) (loop .inv) (loop-test .taken) (s .pre .0) (put-binding .last .1 .1 .0) (usesOf (put-binding .last .1 .1 .1 .1 .0) (put-binding .last .1 .1 .1 .1 .1 .0) (put-binding .result)) (put-binding .ensures)
+    bindings-next (s .args .work .now) (s .args .first) (s .args .count) (s .args .at) (usesOf (s .args .number .now) (s .args .list .now) (s .args .paths)) (s .args .tree .now) (loop .tree) (usesOf (loop .number) (loop .list) (loop .known)) (loop .i) (loop .inv) (loop-test .taken) (s .pre .0) (put-binding .last .1 .1 .0) (usesOf (put-binding .last .1 .1 .1 .1 .0) (put-binding .last .1 .1 .1 .1 .1 .0) (put-binding .result)) (put-binding .ensures)
 
 same-length : tie.Need-same-length Inv-loop μ-loop
 same-length c =
@@ -65,7 +65,7 @@ returns c =
     let s = c .before .before .before .before in
     let loop = c .before .loop in
     let loop-test = c .loop-test in
-    bindings-end (s .args .w .now) (s .args .first) (s .args .count) (s .args .at) (usesOf (s .args .number .now) (s .args .list .now) (s .args .paths)) (s .args .tree .now) (loop .tree) (usesOf (loop .number) (loop .list) (loop .v)) (loop .i) (loop .inv) (loop-test .left)
+    bindings-end (s .args .work .now) (s .args .first) (s .args .count) (s .args .at) (usesOf (s .args .number .now) (s .args .list .now) (s .args .paths)) (s .args .tree .now) (loop .tree) (usesOf (loop .number) (loop .list) (loop .known)) (loop .i) (loop .inv) (loop-test .left)
 
 pub put-bindings-spec : {M : Type 1} → statement M
 put-bindings-spec =

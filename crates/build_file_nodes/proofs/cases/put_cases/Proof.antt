@@ -14,7 +14,7 @@ abbrev μ-loop : tie.MeasureT-loop
 μ-loop w first count shift tree₀ at i₀ tree i = count - i
 
 loop-holds : tie.Need-loop-holds Inv-loop μ-loop
-loop-holds c = let a = c .before .before .args in cases-start (a .w .now) (movedBy (a .shift .now)) (a .first) (a .count) (a .at) (a .tree .now)
+loop-holds c = let a = c .before .before .args in cases-start (a .work .now) (movedBy (a .shift .now)) (a .first) (a .count) (a .at) (a .tree .now)
 
 add-case-child : tie.Need-add-case-child Inv-loop μ-loop
 add-case-child c = omega (arith, c .before .before .before .before .pre .0 .inside)
@@ -58,7 +58,7 @@ loop-again c =
     let child = c .before .before .before .before .before .before .case-child in
     let moved = c .before .before .before .before .move-by in
     let put = c .before .before .put-case in
-    cases-next (a .w .now) (movedBy (a .shift .now)) (a .first) (a .count) (a .at) (a .tree .now) (l .tree) (l .i) (child .result) (moved .result) (put .last .1 .1 .0) (l .inv) (c .before .before .before .before .before .before .before .loop-test .taken) (child .ensures) (moved .ensures) (put .ensures)
+    cases-next (a .work .now) (movedBy (a .shift .now)) (a .first) (a .count) (a .at) (a .tree .now) (l .tree) (l .i) (child .result) (moved .result) (put .last .1 .1 .0) (l .inv) (c .before .before .before .before .before .before .before .loop-test .taken) (child .ensures) (moved .ensures) (put .ensures)
 
 same-length : tie.Need-same-length Inv-loop μ-loop
 same-length c = c .before .loop .inv .long
@@ -67,7 +67,7 @@ returns : tie.Need-returns Inv-loop μ-loop
 returns c =
     let a = c .before .before .before .before .args in
     let l = c .before .loop in
-    cases-end (a .w .now) (movedBy (a .shift .now)) (a .first) (a .count) (a .at) (a .tree .now) (l .tree) (l .i) (l .inv) (c .loop-test .left)
+    cases-end (a .work .now) (movedBy (a .shift .now)) (a .first) (a .count) (a .at) (a .tree .now) (l .tree) (l .i) (l .inv) (c .loop-test .left)
 
 pub put-cases-spec : {M : Type 1} → statement M
 put-cases-spec =

@@ -32,7 +32,7 @@ element-copy-out-if1-2 c =
 returns : tie.Need-returns Inv-loop μ-loop
 returns c =
     let s = c .before .before .before .before .before in
-    hoists-none (s .args .w .now) (s .args .start) (placesOf (s .args .node .now) (s .args .leaf .now)) (s .args .k) (s .args .clauses) (s .args .tree .now) (reachOf (s .args .number .now) (s .args .list .now) (s .args .f)) (s .pre .counted) (s .pre .none-here (c .if1 .taken))
+    hoists-none (s .args .work .now) (s .args .start) (placesOf (s .args .node .now) (s .args .leaf .now)) (s .args .k) (s .args .clauses) (s .args .tree .now) (reachOf (s .args .number .now) (s .args .list .now) (s .args .tops)) (s .pre .counted) (s .pre .none-here (c .if1 .taken))
 
 next-hoist-requires : tie.Need-next-hoist-requires Inv-loop μ-loop
 next-hoist-requires c κs =
@@ -43,7 +43,7 @@ loop-holds : tie.Need-loop-holds Inv-loop μ-loop
 loop-holds c =
     let s = c .before .before .before .before .before .before in
     let next-hoist = c .next-hoist in
-    hoists-start (s .args .w .now) (s .args .start) (placesOf (s .args .node .now) (s .args .leaf .now)) (s .args .k) (s .args .clauses) (s .args .tree .now) (reachOf (s .args .number .now) (s .args .list .now) (s .args .f)) (next-hoist .result) (s .pre .counted) (next-hoist .ensures)
+    hoists-start (s .args .work .now) (s .args .start) (placesOf (s .args .node .now) (s .args .leaf .now)) (s .args .k) (s .args .clauses) (s .args .tree .now) (reachOf (s .args .number .now) (s .args .list .now) (s .args .tops)) (next-hoist .result) (s .pre .counted) (next-hoist .ensures)
 
 mul-as-count : tie.Need-mul-as-count Inv-loop μ-loop
 mul-as-count c =
@@ -64,7 +64,7 @@ put-hoist-requires c κs =
     let loop = c .before .before .before .before .before .before .loop in
     let loop-test = c .before .before .before .before .before .loop-test in
     let as-count = c .before .before .before .as-count in
-    subst (λ z. BoundAsked (s .args .w .now) z (s .args .start) (loop .tree) (reachOf (loop .number) (loop .list) (loop .g))) (sym (as-count .ensures)) (hoist-asked (s .args .w .now) (s .args .start) (placesOf (s .args .node .now) (s .args .leaf .now)) (s .args .k) (s .args .clauses) (s .args .tree .now) (reachOf (s .args .number .now) (s .args .list .now) (s .args .f)) (s .args .shift .now) (s .pre) (loop .tree) (reachOf (loop .number) (loop .list) (loop .g)) (loop .c) (loop .inv) (loop-test .taken))
+    subst (λ z. BoundAsked (s .args .work .now) z (s .args .start) (loop .tree) (reachOf (loop .number) (loop .list) (loop .next))) (sym (as-count .ensures)) (hoist-asked (s .args .work .now) (s .args .start) (placesOf (s .args .node .now) (s .args .leaf .now)) (s .args .k) (s .args .clauses) (s .args .tree .now) (reachOf (s .args .number .now) (s .args .list .now) (s .args .tops)) (s .args .shift .now) (s .pre) (loop .tree) (reachOf (loop .number) (loop .list) (loop .next)) (loop .c) (loop .inv) (loop-test .taken))
 
 add-next-hoist : tie.Need-add-next-hoist Inv-loop μ-loop
 add-next-hoist c =
@@ -89,7 +89,7 @@ loop-again c =
     let as-count = c .before .before .before .before .before .before .before .as-count in
     let put-hoist = c .before .before .before .put-hoist in
     let next-hoist2 = c .next-hoist2 in
-    hoists-next (s .args .w .now) (s .args .start) (placesOf (s .args .node .now) (s .args .leaf .now)) (s .args .k) (s .args .clauses) (s .args .tree .now) (reachOf (s .args .number .now) (s .args .list .now) (s .args .f)) (s .args .shift .now) (s .pre) (loop .tree) (reachOf (loop .number) (loop .list) (loop .g)) (loop .c) (loop .inv) (loop-test .taken) (put-hoist .last .1 .1 .0) (reachOf (put-hoist .last .1 .1 .1 .1 .0) (put-hoist .last .1 .1 .1 .1 .1 .0) (put-hoist .result)) (next-hoist2 .result) (put-hoist .kept .1 .1 .0) (hoist-from (s .args .w .now) (s .args .start) (loop .tree) (reachOf (loop .number) (loop .list) (loop .g)) (as-count .result) _ (as-count .ensures) _ (put-hoist .ensures)) (next-hoist2 .ensures)
+    hoists-next (s .args .work .now) (s .args .start) (placesOf (s .args .node .now) (s .args .leaf .now)) (s .args .k) (s .args .clauses) (s .args .tree .now) (reachOf (s .args .number .now) (s .args .list .now) (s .args .tops)) (s .args .shift .now) (s .pre) (loop .tree) (reachOf (loop .number) (loop .list) (loop .next)) (loop .c) (loop .inv) (loop-test .taken) (put-hoist .last .1 .1 .0) (reachOf (put-hoist .last .1 .1 .1 .1 .0) (put-hoist .last .1 .1 .1 .1 .1 .0) (put-hoist .result)) (next-hoist2 .result) (put-hoist .kept .1 .1 .0) (hoist-from (s .args .work .now) (s .args .start) (loop .tree) (reachOf (loop .number) (loop .list) (loop .next)) (as-count .result) _ (as-count .ensures) _ (put-hoist .ensures)) (next-hoist2 .ensures)
 
 same-length : tie.Need-same-length Inv-loop μ-loop
 same-length c =
@@ -101,7 +101,7 @@ returns-2 c =
     let s = c .before .before .before .before .before .before .before .before in
     let loop = c .before .loop in
     let loop-test = c .loop-test in
-    hoists-end (s .args .w .now) (s .args .start) (placesOf (s .args .node .now) (s .args .leaf .now)) (s .args .k) (s .args .clauses) (s .args .tree .now) (reachOf (s .args .number .now) (s .args .list .now) (s .args .f)) (loop .tree) (reachOf (loop .number) (loop .list) (loop .g)) (loop .c) (loop .inv) (loop-test .left)
+    hoists-end (s .args .work .now) (s .args .start) (placesOf (s .args .node .now) (s .args .leaf .now)) (s .args .k) (s .args .clauses) (s .args .tree .now) (reachOf (s .args .number .now) (s .args .list .now) (s .args .tops)) (loop .tree) (reachOf (loop .number) (loop .list) (loop .next)) (loop .c) (loop .inv) (loop-test .left)
 
 pub put-hoists-spec : {M : Type 1} → statement M
 put-hoists-spec =

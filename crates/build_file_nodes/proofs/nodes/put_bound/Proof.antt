@@ -56,7 +56,7 @@ put-bindings-requires c κs =
     let node-word2 = c .before .before .before .before .before .before .before .before .before .before .node-word2 in
     let node-word3 = c .before .before .before .before .before .before .before .before .before .node-word3 in
     let put-node = c .before .before .before .before .before .put-node in
-    (bindings-asked-as (s .args .w .now) (node-word2 .result) (node-word3 .result) _ _ (node-word2 .ensures) (node-word3 .ensures) (s .pre .sound .bindings), omega (arith, s .pre .bindings-fit, s .pre .start, s .pre .tree-room, put-node .kept .0, node-word3 .ensures), s .pre .counted)
+    (bindings-asked-as (s .args .work .now) (node-word2 .result) (node-word3 .result) _ _ (node-word2 .ensures) (node-word3 .ensures) (s .pre .sound .bindings), omega (arith, s .pre .bindings-fit, s .pre .start, s .pre .tree-room, put-node .kept .0, node-word3 .ensures), s .pre .counted)
 
 add-t22 : tie.Need-add-t22
 add-t22 c = omega (arith, c .before .before .before .before .before .before .before .before .before .before .before .before .before .before .before .before .before .before .pre .nodes-fit)
@@ -78,7 +78,7 @@ returns c =
     let first-of = c .before .before .before .before .before .before .before .before .before .before .before .before .first-of in
     let put-node = c .before .before .before .before .before .before .before .before .before .put-node in
     let put-bindings = c .before .before .before .put-bindings in
-    bound-put (s .args .w .now) (s .args .start) (s .args .leaf) (s .args .kind) (s .args .child) (s .args .tree .now) (reachOf (s .args .number .now) (s .args .list .now) (s .args .f)) (node-word .result) (node-word2 .result) (node-word3 .result) (first-of .result) (usesOf (put-bindings .last .1 .1 .1 .1 .1 .0) (put-bindings .last .1 .1 .1 .1 .1 .1 .0) (put-bindings .result)) (node-word .ensures) (node-word2 .ensures) (node-word3 .ensures) (first-of .ensures) (put-node .ensures) (put-bindings .ensures)
+    bound-put (s .args .work .now) (s .args .start) (s .args .leaf) (s .args .kind) (s .args .child) (s .args .tree .now) (reachOf (s .args .number .now) (s .args .list .now) (s .args .tops)) (node-word .result) (node-word2 .result) (node-word3 .result) (first-of .result) (usesOf (put-bindings .last .1 .1 .1 .1 .1 .0) (put-bindings .last .1 .1 .1 .1 .1 .1 .0) (put-bindings .result)) (node-word .ensures) (node-word2 .ensures) (node-word3 .ensures) (first-of .ensures) (put-node .ensures) (put-bindings .ensures)
 
 pub put-bound-spec : {M : Type 1} → statement M
 put-bound-spec =

@@ -27,7 +27,7 @@ returns c =
     let node-kind = c .before .before .before .before .before .before .before .node-kind in
     let if1 = c .before .before .before .before .before .before .if1 in
     let put-bound = c .before .before .put-bound in
-    put-bound .ensures ∙ sym (own-leaf (s .args .w .now) (s .args .cases) (s .args .bindings) (movedBy (s .args .shift .now)) (s .args .k) (outOf (s .args .tree .now) (reachOf (s .args .number .now) (s .args .list .now) (s .args .f))) (sym (node-kind .ensures) ∙ if1 .taken))
+    put-bound .ensures ∙ sym (own-leaf (s .args .work .now) (s .args .starts .cases) (s .args .starts .bindings) (movedBy (s .args .shift .now)) (s .args .k) (outOf (s .args .tree .now) (reachOf (s .args .number .now) (s .args .list .now) (s .args .tops))) (sym (node-kind .ensures) ∙ if1 .taken))
 
 put-switch-requires : tie.Need-put-switch-requires
 put-switch-requires c κs =
@@ -45,7 +45,7 @@ returns-2 c =
     let node-kind = c .before .before .before .before .before .before .before .node-kind in
     let if1 = c .before .before .before .before .before .before .if1 in
     let put-switch = c .before .before .put-switch in
-    put-switch .ensures ∙ sym (own-switch (s .args .w .now) (s .args .cases) (s .args .bindings) (movedBy (s .args .shift .now)) (s .args .k) (outOf (s .args .tree .now) (reachOf (s .args .number .now) (s .args .list .now) (s .args .f))) (λ e. if1 .left (node-kind .ensures ∙ e)))
+    put-switch .ensures ∙ sym (own-switch (s .args .work .now) (s .args .starts .cases) (s .args .starts .bindings) (movedBy (s .args .shift .now)) (s .args .k) (outOf (s .args .tree .now) (reachOf (s .args .number .now) (s .args .list .now) (s .args .tops))) (λ e. if1 .left (node-kind .ensures ∙ e)))
 
 pub put-own-spec : {M : Type 1} → statement M
 put-own-spec =

@@ -33,7 +33,7 @@ put-cases-requires c κs =
     let s = c .before .before .before .before .before .before .before .before .before .before in
     let children-of = c .before .before .before .before .before .before .before .children-of in
     let put-switch-node = c .before .before .before .put-switch-node in
-    (cases-asked-as (s .args .w .now) (children-of .result .first) (children-of .result .count) _ _ (ap (λ z. z .first) (children-of .ensures)) (ap (λ z. z .count) (children-of .ensures)) (s .pre .asked .sound .cases), omega (arith, s .pre .asked .cases-fit, s .pre .start, s .pre .asked .tree-room, put-switch-node .kept .1 .1 .1 .0, ap (λ z. z .count) (children-of .ensures)))
+    (cases-asked-as (s .args .work .now) (children-of .result .first) (children-of .result .count) _ _ (ap (λ z. z .first) (children-of .ensures)) (ap (λ z. z .count) (children-of .ensures)) (s .pre .asked .sound .cases), omega (arith, s .pre .asked .cases-fit, s .pre .start, s .pre .asked .tree-room, put-switch-node .kept .1 .1 .1 .0, ap (λ z. z .count) (children-of .ensures)))
 
 add-t21 : tie.Need-add-t21
 add-t21 c =
@@ -55,7 +55,7 @@ returns c =
     let children-of = c .before .before .before .before .before .before .before .before .before .before .before .children-of in
     let put-switch-node = c .before .before .before .before .before .before .before .put-switch-node in
     let put-cases = c .before .before .before .put-cases in
-    switch-put (s .args .w .now) (s .args .start) (movedBy (s .args .shift .now)) (s .args .k) (s .args .tree .now) (reachOf (s .args .number .now) (s .args .list .now) (s .args .f)) (children-of .result .first) (children-of .result .count) (usesOf (put-switch-node .last .1 .1 .1 .1 .0) (put-switch-node .last .1 .1 .1 .1 .1 .0) (put-switch-node .result)) (ap (λ z. z .first) (children-of .ensures)) (ap (λ z. z .count) (children-of .ensures)) (put-switch-node .ensures) (put-cases .ensures)
+    switch-put (s .args .work .now) (s .args .start) (movedBy (s .args .shift .now)) (s .args .k) (s .args .tree .now) (reachOf (s .args .number .now) (s .args .list .now) (s .args .tops)) (children-of .result .first) (children-of .result .count) (usesOf (put-switch-node .last .1 .1 .1 .1 .0) (put-switch-node .last .1 .1 .1 .1 .1 .0) (put-switch-node .result)) (ap (λ z. z .first) (children-of .ensures)) (ap (λ z. z .count) (children-of .ensures)) (put-switch-node .ensures) (put-cases .ensures)
 
 pub put-switch-spec : {M : Type 1} → statement M
 put-switch-spec =

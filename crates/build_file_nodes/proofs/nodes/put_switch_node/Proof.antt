@@ -61,7 +61,7 @@ sub-own c =
     let node-word = c .before .before .before .before .before .before .before .before .before .node-word in
     let used = c .before .before .used in
     let wide = c .wide in
-    omega (arith, wide .ensures, used-some (usesOf (s .args .number .now) (s .args .list .now) (s .args .f .paths)) (usesOf (used .last .0) (used .last .1 .0) (used .result)) (node-word .result) (used .ensures) (s .pre .counted) (omega (arith, s .pre .sound .path, node-word .ensures)))
+    omega (arith, wide .ensures, used-some (usesOf (s .args .number .now) (s .args .list .now) (s .args .tops .paths)) (usesOf (used .last .0) (used .last .1 .0) (used .result)) (node-word .result) (used .ensures) (s .pre .counted) (omega (arith, s .pre .sound .path, node-word .ensures)))
 
 node-kind-requires : tie.Need-node-kind-requires
 node-kind-requires c κs =
@@ -96,7 +96,7 @@ returns c =
     let wide = c .before .before .before .before .before .before .before .wide in
     let node-kind = c .before .before .before .before .before .before .node-kind in
     let put-node = c .before .before .put-node in
-    switch-node-put (s .args .w .now) (movedBy (s .args .shift .now)) (s .args .k) (s .args .tree .now) (reachOf (s .args .number .now) (s .args .list .now) (s .args .f)) (node-word .result) (node-word2 .result) (node-word3 .result) (moved-default .result) (usesOf (used .last .0) (used .last .1 .0) (used .result)) (wide .result) (node-kind .result) (node-word .ensures) (node-word2 .ensures) (node-word3 .ensures) (moved-default .ensures ∙ ap (movedDefault (movedBy (s .args .shift .now))) (node-word4 .ensures)) (used .ensures) (wide .ensures) (node-kind .ensures) (put-node .ensures)
+    switch-node-put (s .args .work .now) (movedBy (s .args .shift .now)) (s .args .k) (s .args .tree .now) (reachOf (s .args .number .now) (s .args .list .now) (s .args .tops)) (node-word .result) (node-word2 .result) (node-word3 .result) (moved-default .result) (usesOf (used .last .0) (used .last .1 .0) (used .result)) (wide .result) (node-kind .result) (node-word .ensures) (node-word2 .ensures) (node-word3 .ensures) (moved-default .ensures ∙ ap (movedDefault (movedBy (s .args .shift .now))) (node-word4 .ensures)) (used .ensures) (wide .ensures) (node-kind .ensures) (put-node .ensures)
 
 pub put-switch-node-spec : {M : Type 1} → statement M
 put-switch-node-spec =

@@ -15,7 +15,7 @@ abbrev μ-loop : tie.MeasureT-loop
 loop-holds : tie.Need-loop-holds Inv-loop μ-loop
 loop-holds c =
     let a = c .before .before .before .before .args in
-    (omega arith, stepped-none (a .s .now) (a .classes .now) (a .tree .now) (a .at) (a .count))
+    (omega arith, stepped-none (a .sheet .now) (a .classes .now) (a .tree .now) (a .at) (a .count))
 
 at-requires : tie.Need-at-requires Inv-loop μ-loop
 at-requires c κs = let start = c .before .before .before .before .before .before in omega (arith, start .pre .0 .2 .inside)
@@ -28,7 +28,7 @@ put-steps-requires c κs =
     let taken = c .before .before .loop-test .taken in
     let class = c .before .at in (
       (start .pre .0 .0, start .pre .0 .1, omega (arith, class .ensures, start .pre .0 .2 .known (l .i) taken)),
-      omega (arith, stepped-room (a .s .now) (a .classes .now) (a .tree .now) (a .at) (a .count) (l .inv .1) (start .pre .0 .2 .inside) taken (class .result) (class .ensures), l .inv .1 .as-long, start .pre .1),
+      omega (arith, stepped-room (a .sheet .now) (a .classes .now) (a .tree .now) (a .at) (a .count) (l .inv .1) (start .pre .0 .2 .inside) taken (class .result) (class .ensures), l .inv .1 .as-long, start .pre .1),
     )
 
 add-i : tie.Need-add-i Inv-loop μ-loop
@@ -44,7 +44,7 @@ loop-again c =
     let l = c .before .before .before .before .before .before .loop in
     let taken = c .before .before .before .before .before .loop-test .taken in
     let class = c .before .before .before .before .at in
-    (omega arith, stepped-more (a .s .now) (a .classes .now) (a .tree .now) (a .at) (a .count) (l .inv .1) (start .pre .0 .2 .inside) taken (class .result) (class .ensures) (c .before .before .put-steps .ensures))
+    (omega arith, stepped-more (a .sheet .now) (a .classes .now) (a .tree .now) (a .at) (a .count) (l .inv .1) (start .pre .0 .2 .inside) taken (class .result) (class .ensures) (c .before .before .put-steps .ensures))
 
 same-length : tie.Need-same-length Inv-loop μ-loop
 same-length c = c .before .loop .inv .1 .as-long
@@ -53,7 +53,7 @@ returns : tie.Need-returns Inv-loop μ-loop
 returns c =
     let a = c .before .before .before .before .before .before .args in
     let l = c .before .loop in
-    stepped-all (a .s .now) (a .classes .now) (a .tree .now) (a .at) (a .count) (l .inv .1) (c .loop-test .left)
+    stepped-all (a .sheet .now) (a .classes .now) (a .tree .now) (a .at) (a .count) (l .inv .1) (c .loop-test .left)
 
 pub put-all-steps-spec : {M : Type 1} → statement M
 put-all-steps-spec =

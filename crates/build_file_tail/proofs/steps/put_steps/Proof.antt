@@ -30,7 +30,7 @@ loop-holds : tie.Need-loop-holds Inv-loop μ-loop
 loop-holds c =
     let start = c .before .before .before .before in
     let a = start .args in
-    climbs (a .s .now) (a .tree .now) (a .at) (a .class) (start .pre .0 .2) (a .at + 6 * c .at .result) (ap (λ (n : ℕ). a .at + n) (depth-is (start .pre .0 .0) (start .pre .0 .1) (start .args .class) (start .pre .0 .2) (c .at .result) (c .at .ensures)))
+    climbs (a .sheet .now) (a .tree .now) (a .at) (a .class) (start .pre .0 .2) (a .at + 6 * c .at .result) (ap (λ (n : ℕ). a .at + n) (depth-is (start .pre .0 .0) (start .pre .0 .1) (start .args .class) (start .pre .0 .2) (c .at .result) (c .at .ensures)))
 
 put-step-requires : tie.Need-put-step-requires Inv-loop μ-loop
 put-step-requires c κs =

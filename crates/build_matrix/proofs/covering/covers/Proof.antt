@@ -26,7 +26,7 @@ covers-text-requires c κs =
     let r = c .before .before .before .pattern-at in
     let g = c .before .test2 .given in
     let e : a .test ≡ Test.Text (g .0 .0) (g .0 .1 .0) (g .0 .1 .1 .0) = search needs in
-    (s .pre .0, pool-text (a .s .now) (a .test) (s .pre .2) e, record-text (s .pre .0 .ok) (a .p) (s .pre .1) (r .result) (r .ensures))
+    (s .pre .0, pool-text (a .sheet .now) (a .test) (s .pre .2) e, record-text (s .pre .0 .ok) (a .p) (s .pre .1) (r .result) (r .ensures))
 
 enum-known-test-3 : tie.Need-enum-known-test-3
 enum-known-test-3 c = search needs
@@ -46,7 +46,7 @@ returns c =
     let a = s .args in
     let r = c .before .before .before .before .pattern-at in
     let e : a .test ≡ Test.Constr (c .before .before .test .given .0 .0) = search needs in
-    covers-by (s .pre .0 .ok) (a .p) (s .pre .1) (r .result) (r .ensures) (a .test) (c .covers-constructor .result) (c .covers-constructor .ensures ∙ ap (coversRead (a .s .now) (r .result)) (sym e))
+    covers-by (s .pre .0 .ok) (a .p) (s .pre .1) (r .result) (r .ensures) (a .test) (c .covers-constructor .result) (c .covers-constructor .ensures ∙ ap (coversRead (a .sheet .now) (r .result)) (sym e))
 
 returns-2 : tie.Need-returns-2
 returns-2 c =
@@ -54,7 +54,7 @@ returns-2 c =
     let a = s .args in
     let r = c .before .before .before .before .pattern-at in
     let e : a .test ≡ Test.Text (c .before .before .test2 .given .0 .0) (c .before .before .test2 .given .0 .1 .0) (c .before .before .test2 .given .0 .1 .1 .0) = search needs in
-    covers-by (s .pre .0 .ok) (a .p) (s .pre .1) (r .result) (r .ensures) (a .test) (c .covers-text .result) (c .covers-text .ensures ∙ ap (coversRead (a .s .now) (r .result)) (sym e))
+    covers-by (s .pre .0 .ok) (a .p) (s .pre .1) (r .result) (r .ensures) (a .test) (c .covers-text .result) (c .covers-text .ensures ∙ ap (coversRead (a .sheet .now) (r .result)) (sym e))
 
 returns-3 : tie.Need-returns-3
 returns-3 c =
@@ -62,7 +62,7 @@ returns-3 c =
     let a = s .args in
     let r = c .before .before .before .before .pattern-at in
     let e : a .test ≡ Test.List (c .before .before .test3 .given .0 .0) = search needs in
-    covers-by (s .pre .0 .ok) (a .p) (s .pre .1) (r .result) (r .ensures) (a .test) (c .covers-list .result) (c .covers-list .ensures ∙ ap (coversRead (a .s .now) (r .result)) (sym e))
+    covers-by (s .pre .0 .ok) (a .p) (s .pre .1) (r .result) (r .ensures) (a .test) (c .covers-list .result) (c .covers-list .ensures ∙ ap (coversRead (a .sheet .now) (r .result)) (sym e))
 
 returns-4 : tie.Need-returns-4
 returns-4 c =
@@ -70,7 +70,7 @@ returns-4 c =
     let a = s .args in
     let r = c .before .before .before .before .pattern-at in
     let e : a .test ≡ Test.Tailed (c .before .before .test4 .given .0 .0) = search needs in
-    covers-by (s .pre .0 .ok) (a .p) (s .pre .1) (r .result) (r .ensures) (a .test) (c .covers-tailed .result) (c .covers-tailed .ensures ∙ ap (coversRead (a .s .now) (r .result)) (sym e))
+    covers-by (s .pre .0 .ok) (a .p) (s .pre .1) (r .result) (r .ensures) (a .test) (c .covers-tailed .result) (c .covers-tailed .ensures ∙ ap (coversRead (a .sheet .now) (r .result)) (sym e))
 
 pub covers-spec : {M : Type 1} → statement M
 covers-spec =

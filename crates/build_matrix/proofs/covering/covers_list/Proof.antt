@@ -5,13 +5,13 @@ use Rattle.build_matrix.proofs.covering.covers_list.Statement.{statemen
 use Rattle.build_matrix.proofs.covering.covers_list.Tie as tie
 
 returns : tie.Need-returns
-returns c = let a = c .before .before .before .args in list-is (a .r) (a .n) (c .before .if1 .taken)
+returns c = let a = c .before .before .before .args in list-is (a .r) (a .count) (c .before .if1 .taken)
 
 covers-tailed-requires : tie.Need-covers-tailed-requires
 covers-tailed-requires c κs = search needs
 
 returns-2 : tie.Need-returns-2
-returns-2 c = let a = c .before .before .before .args in list-not (a .r) (a .n) (c .covers-tailed .result) (c .before .if1 .left) (c .covers-tailed .ensures)
+returns-2 c = let a = c .before .before .before .args in list-not (a .r) (a .count) (c .covers-tailed .result) (c .before .if1 .left) (c .covers-tailed .ensures)
 
 pub covers-list-spec : {M : Type 1} → statement M
 covers-list-spec = tie.close (tie.spec returns covers-tailed-requires returns-2)

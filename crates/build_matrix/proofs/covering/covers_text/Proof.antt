@@ -13,7 +13,7 @@ returns c =
     let s = c .before .before .before .before in
     let a = s .args in
     let k = c .before .before .text-pattern in
-    text-not (a .s .now) (a .r) (a .kind) (a .start) (a .count) (k .result) (k .ensures) (c .if1 .taken)
+    text-not (a .sheet .now) (a .r) (a .kind) (a .start) (a .count) (k .result) (k .ensures) (c .if1 .taken)
 
 same-texts-requires : tie.Need-same-texts-requires
 same-texts-requires c κs =
@@ -28,7 +28,7 @@ returns-2 c =
     let s = c .before .before .before .before .before in
     let a = s .args in
     let k = c .before .before .before .text-pattern in
-    text-is (a .s .now) (a .r) (a .kind) (a .start) (a .count) (k .result) (k .ensures) (c .same-texts .result) (c .before .if1 .left) (c .same-texts .ensures)
+    text-is (a .sheet .now) (a .r) (a .kind) (a .start) (a .count) (k .result) (k .ensures) (c .same-texts .result) (c .before .if1 .left) (c .same-texts .ensures)
 
 pub covers-text-spec : {M : Type 1} → statement M
 covers-text-spec = tie.close (tie.spec text-pattern-requires returns same-texts-requires returns-2)

@@ -8,31 +8,31 @@ returns : tie.Need-returns
 returns c =
     let s = c .before .before in
     let a = s .args in
-    texts-not (a .s .now) (a .m) (s .pre .0) (a .a) (a .n) (a .b) (a .k) (s .pre .1) (s .pre .2) (c .if1 .taken)
+    texts-not (a .sheet .now) (a .map) (s .pre .0) (a .start) (a .count) (a .other) (a .size) (s .pre .1) (s .pre .2) (c .if1 .taken)
 
 add-same-text : tie.Need-add-same-text
 add-same-text c =
     let s = c .before .before .before in
     let a = s .args in
-    omega (arith, text-there (a .s .now) (a .m) (s .pre .0) (a .a) (a .n) (a .b) (a .k) (a .a) (a .n) (s .pre .1), s .pre .0 .ok .is-laid .length-most)
+    omega (arith, text-there (a .sheet .now) (a .map) (s .pre .0) (a .start) (a .count) (a .other) (a .size) (a .start) (a .count) (s .pre .1), s .pre .0 .ok .is-laid .length-most)
 
 add-same-text-2 : tie.Need-add-same-text-2
 add-same-text-2 c =
     let s = c .before .before .before .before in
     let a = s .args in
-    omega (arith, text-there (a .s .now) (a .m) (s .pre .0) (a .a) (a .n) (a .b) (a .k) (a .b) (a .k) (s .pre .2), s .pre .0 .ok .is-laid .length-most)
+    omega (arith, text-there (a .sheet .now) (a .map) (s .pre .0) (a .start) (a .count) (a .other) (a .size) (a .other) (a .size) (s .pre .2), s .pre .0 .ok .is-laid .length-most)
 
 same-text-requires : tie.Need-same-text-requires
 same-text-requires c κs =
     let s = c .before .before .before .before in
     let a = s .args in
-    (text-there (a .s .now) (a .m) (s .pre .0) (a .a) (a .n) (a .b) (a .k) (a .a) (a .n) (s .pre .1), omega (arith, text-there (a .s .now) (a .m) (s .pre .0) (a .a) (a .n) (a .b) (a .k) (a .b) (a .k) (s .pre .2), c .before .before .if1 .left))
+    (text-there (a .sheet .now) (a .map) (s .pre .0) (a .start) (a .count) (a .other) (a .size) (a .start) (a .count) (s .pre .1), omega (arith, text-there (a .sheet .now) (a .map) (s .pre .0) (a .start) (a .count) (a .other) (a .size) (a .other) (a .size) (s .pre .2), c .before .before .if1 .left))
 
 returns-2 : tie.Need-returns-2
 returns-2 c =
     let s = c .before .before .before .before .before in
     let a = s .args in
-    texts-are (a .s .now) (a .m) (s .pre .0) (a .a) (a .n) (a .b) (a .k) (c .same-text .result) (c .before .before .before .if1 .left) (c .same-text .ensures)
+    texts-are (a .sheet .now) (a .map) (s .pre .0) (a .start) (a .count) (a .other) (a .size) (c .same-text .result) (c .before .before .before .if1 .left) (c .same-text .ensures)
 
 pub same-texts-spec : {M : Type 1} → statement M
 same-texts-spec =

@@ -36,7 +36,7 @@ occurrence-requires c κs =
     let s = c .before .before .before .before .before in
     let a = s .args in
     let l = c .before .before .before .loop in
-    (s .pre .0, rw (c .wide .ensures) (all-at (λ k. All (InTable (a .table .now) k) (take (a .n) (a .rows .now))) (a .columns .now) (a .k) (l .i) (c .before .before .loop-test .taken) (omega (arith, s .pre .1 .long, s .pre .1 .most)) (s .pre .2)))
+    (s .pre .0, rw (c .wide .ensures) (all-at (λ k. All (InTable (a .table .now) k) (take (a .height) (a .rows .now))) (a .columns .now) (a .width) (l .i) (c .before .before .loop-test .taken) (omega (arith, s .pre .1 .long, s .pre .1 .most)) (s .pre .2)))
 
 better-of-requires : tie.Need-better-of-requires Inv-loop μ-loop
 better-of-requires c κs = search needs
@@ -52,14 +52,14 @@ loop-again c =
     let s = c .before .before .before .before .before .before .before in
     let a = s .args in
     let l = c .before .before .before .before .before .loop in
-    let counts : ℕ → ℕ = λ k. countOf (heldIn (a .table .now) (a .opened .now) k) (take (a .n) (a .rows .now)) in
+    let counts : ℕ → ℕ = λ k. countOf (heldIn (a .table .now) (a .opened .now) k) (take (a .height) (a .rows .now)) in
     let k = getD (a .columns .now) (l .i) 0 in
     let class = c .before .before .wide in
     let amount = c .before .occurrence in (
       search needs,
-      best-more counts (l .best) (c .better-of .result) k (amount .result) (slice (l .i + 1) (a .k) (a .columns .now))
+      best-more counts (l .best) (c .better-of .result) k (amount .result) (slice (l .i + 1) (a .width) (a .columns .now))
           (amount .ensures ∙ ap counts (class .ensures)) (c .better-of .ensures ∙ ap (λ (x : ℕ). bettered (l .best) x (amount .result)) (class .ensures))
-          ∙ ap (bestOf counts (l .best .choice) (l .best .amount)) (sym (slice-on (a .columns .now) (l .i) (a .k) (c .before .before .before .before .loop-test .taken) (omega (arith, s .pre .1 .long, s .pre .1 .most)))) ∙ l .inv .1,
+          ∙ ap (bestOf counts (l .best .choice) (l .best .amount)) (sym (slice-on (a .columns .now) (l .i) (a .width) (c .before .before .before .before .loop-test .taken) (omega (arith, s .pre .1 .long, s .pre .1 .most)))) ∙ l .inv .1,
     )
 
 returns : tie.Need-returns Inv-loop μ-loop
@@ -67,7 +67,7 @@ returns c =
     let s = c .before .before .before in
     let a = s .args in
     let l = c .before .loop in
-    best-end (λ k. countOf (heldIn (a .table .now) (a .opened .now) k) (take (a .n) (a .rows .now))) (l .best) (slice (l .i) (a .k) (a .columns .now)) (slice-end (a .columns .now) (l .i) (a .k) (omega (arith, l .inv .0, c .loop-test .left))) ∙ l .inv .1
+    best-end (λ k. countOf (heldIn (a .table .now) (a .opened .now) k) (take (a .height) (a .rows .now))) (l .best) (slice (l .i) (a .width) (a .columns .now)) (slice-end (a .columns .now) (l .i) (a .width) (omega (arith, l .inv .0, c .loop-test .left))) ∙ l .inv .1
 
 pub highest-occurrence-spec : {M : Type 1} → statement M
 highest-occurrence-spec =

@@ -11,7 +11,7 @@ add-result : tie.Need-add-result
 add-result c = search needs
 
 returns : tie.Need-returns
-returns c = let a = c .args in holds-push-row (a .list .now) (a .count) (a .x) (c .pre .0 .long) (c .pre .1)
+returns c = let a = c .args in holds-push-row (a .list .now) (a .count) (a .number) (c .pre .0 .long) (c .pre .1)
 
 pub put-row-spec : {M : Type 1} → statement M
 put-row-spec = tie.close (tie.spec element-write-list add-result returns)

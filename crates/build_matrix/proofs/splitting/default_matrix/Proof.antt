@@ -30,8 +30,8 @@ returns c =
     let columns = c .before .before .before .put-rest in
     let tested = c .before .push in
     stands-for
-    (matrixOf (rows .last .1 .1 .1 .1 .1 .0) (columns .last .0) (tested .last .0) (a .opened .now) (record { rows = rows .result; columns = columns .result; tested = a .n .tested + 1 }))
-    (defaultRead (a .table .now) (a .class) (inNumbers (matrixOf (a .rows .now) (a .columns .now) (a .tested .now) (a .opened .now) (a .n))))
+    (matrixOf (rows .last .1 .1 .1 .1 .1 .0) (columns .last .0) (tested .last .0) (a .opened .now) (record { rows = rows .result; columns = columns .result; tested = a .sizes .tested + 1 }))
+    (defaultRead (a .table .now) (a .class) (inNumbers (matrixOf (a .rows .now) (a .columns .now) (a .tested .now) (a .opened .now) (a .sizes))))
     (rows .ensures) (columns .ensures) (tested .ensures) refl (s .pre .0 .whole .long-opened)
 
 pub default-matrix-spec : {M : Type 1} → statement M

@@ -23,10 +23,10 @@ loop-holds : tie.Need-loop-holds Inv-loop μ-loop
 loop-holds c =
     let s = c .before .before in
     let h : Holds (asClasses (zeros 192) 0) [] = record { long = refl; most = omega arith; are = refl } in
-    let e : s .args .m .counts .clauses ≡ clauses (s .args .s .now) = ap (λ (m : SheetMap). m .counts .clauses) (s .pre .checked .is-map) in (
+    let e : s .args .map .counts .clauses ≡ clauses (s .args .sheet .now) = ap (λ (m : SheetMap). m .counts .clauses) (s .pre .checked .is-map) in (
       omega arith,
       record { whole = whole h; each = tt },
-      holds-same h (sym (ap (columnsFrom (s .args .s .now)) e ∙ columns-none (s .args .s .now))),
+      holds-same h (sym (ap (columnsFrom (s .args .sheet .now)) e ∙ columns-none (s .args .sheet .now))),
     )
 
 sub-c : tie.Need-sub-c Inv-loop μ-loop
@@ -59,7 +59,7 @@ loop-again c =
 
 returns : tie.Need-returns Inv-loop μ-loop
 returns c =
-    let s = c .before .before .before .before .args .s .now in
+    let s = c .before .before .before .before .args .sheet .now in
     let l = c .before .loop in
     let e : l .c ≡ 0 = omega (arith, c .loop-test .left) in
     holds-same (l .inv .2) (ap (columnsFrom s) e ∙ columns-all s)

@@ -15,7 +15,7 @@ use Rattle.build_matrix.proofs.splitting.first_matrix.Tie as tie
 all-rows-requires : tie.Need-all-rows-requires
 all-rows-requires c κs =
     let s = c .before .before in
-    let e : s .args .m .counts .clauses ≡ clauses (s .args .s .now) = ap (λ (m : SheetMap). m .counts .clauses) (s .pre .checked .is-map) in
+    let e : s .args .map .counts .clauses ≡ clauses (s .args .sheet .now) = ap (λ (m : SheetMap). m .counts .clauses) (s .pre .checked .is-map) in
     omega (arith, s .pre .checked .ok .is-counted .clauses-most)
 
 first-columns-requires : tie.Need-first-columns-requires
@@ -28,10 +28,10 @@ returns : tie.Need-returns
 unfolding firstNumbered
 returns c =
     let s = c .before .before .before .before .before in
-    let e : s .args .m .counts .clauses ≡ clauses (s .args .s .now) = ap (λ (m : SheetMap). m .counts .clauses) (s .pre .checked .is-map) in
+    let e : s .args .map .counts .clauses ≡ clauses (s .args .sheet .now) = ap (λ (m : SheetMap). m .counts .clauses) (s .pre .checked .is-map) in
     stands-for
     (record { rows = c .before .before .all-rows .result; columns = c .before .first-columns .result; tested = c .empty .result; opened = zeros patternsMost })
-    (firstNumbered (s .args .s .now))
+    (firstNumbered (s .args .sheet .now))
     (holds-rows-same (c .before .before .all-rows .ensures) (ap (upFrom 0) e)) (c .before .first-columns .ensures) (c .empty .ensures) refl refl
 
 pub first-matrix-spec : {M : Type 1} → statement M

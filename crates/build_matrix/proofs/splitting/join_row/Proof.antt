@@ -19,14 +19,14 @@ covers-requires c κs =
     let s = c .before .before .before .before in
     let a = s .args in
     let e : a .held ≡ HeldTest (c .before .held .given .0 .0) = search needs in
-    (s .pre .0 .0, held-test (a .s .now) (a .held) (s .pre .0 .1) e, s .pre .0 .2)
+    (s .pre .0 .0, held-test (a .sheet .now) (a .held) (s .pre .0 .1) e, s .pre .0 .2)
 
 returns : tie.Need-returns
 returns c =
     let s = c .before .before .before .before .before .before in
     let a = s .args in
     let e : a .held ≡ HeldTest (c .before .before .before .held .given .0 .0) = search needs in
-    joined-not (joinsCase (a .s .now) (meant (a .s .now) (a .test))) (asRows (a .rows .now) (a .o .rows)) (asRows (a .opens .now) (a .o .opens)) (a .held) (a .c) (s .pre .1 .0) (s .pre .1 .1) e (sym (c .before .covers .ensures) ∙ not-true (c .before .covers .result) (c .if1 .taken))
+    joined-not (joinsCase (a .sheet .now) (meant (a .sheet .now) (a .test))) (asRows (a .rows .now) (a .counts .rows)) (asRows (a .opens .now) (a .counts .opens)) (a .held) (a .c) (s .pre .1 .0) (s .pre .1 .1) e (sym (c .before .covers .ensures) ∙ not-true (c .before .covers .result) (c .if1 .taken))
 
 put-row-requires : tie.Need-put-row-requires
 put-row-requires c κs = let s = c .before .before .before .before .before .before .before in (s .pre .1 .0, s .pre .1 .2)
@@ -36,7 +36,7 @@ cast-put-row c =
     let s = c .before .before .before .before .before .before .before .before .before in
     let a = s .args in
     let e : a .held ≡ HeldTest (c .before .before .before .before .before .before .held .given .0 .0) = search needs in
-    let k = held-test (a .s .now) (a .held) (s .pre .0 .1) e in
+    let k = held-test (a .sheet .now) (a .held) (s .pre .0 .1) e in
     omega (arith, k .known, s .pre .0 .0 .ok .is-counted .patterns-most)
 
 put-row-requires-2 : tie.Need-put-row-requires-2
@@ -57,7 +57,7 @@ returns-2 c =
     let row = c .before .before .put-row in
     let test = c .put-row2 in
     let covers = c .before .before .before .before .before .covers in
-    joined-test (joinsCase (a .s .now) (meant (a .s .now) (a .test))) (asRows (a .rows .now) (a .o .rows)) (asRows (a .opens .now) (a .o .opens)) (a .held) (a .c) {p = p} (asRows (row .last .0) (row .result)) (asRows (test .last .0) (test .result)) (row .ensures) (test .ensures) e
+    joined-test (joinsCase (a .sheet .now) (meant (a .sheet .now) (a .test))) (asRows (a .rows .now) (a .counts .rows)) (asRows (a .opens .now) (a .counts .opens)) (a .held) (a .c) {p = p} (asRows (row .last .0) (row .result)) (asRows (test .last .0) (test .result)) (row .ensures) (test .ensures) e
     (sym (covers .ensures) ∙ not-false (covers .result) (c .before .before .before .before .if1 .left))
 
 returns-3 : tie.Need-returns-3
@@ -65,7 +65,7 @@ returns-3 c =
     let s = c .before .before .before .before .before in
     let a = s .args in
     let e : a .held ≡ Wildcard = search needs in
-    joined-wild (joinsCase (a .s .now) (meant (a .s .now) (a .test))) (asRows (a .rows .now) (a .o .rows)) (asRows (a .opens .now) (a .o .opens)) (a .held) (a .c) (asRows (c .put-row3 .last .0) (c .put-row3 .result)) (c .put-row3 .ensures) (s .pre .1 .1) e
+    joined-wild (joinsCase (a .sheet .now) (meant (a .sheet .now) (a .test))) (asRows (a .rows .now) (a .counts .rows)) (asRows (a .opens .now) (a .counts .opens)) (a .held) (a .c) (asRows (c .put-row3 .last .0) (c .put-row3 .result)) (c .put-row3 .ensures) (s .pre .1 .1) e
 
 pub join-row-spec : {M : Type 1} → statement M
 join-row-spec =

@@ -48,7 +48,7 @@ test-at-requires c κs =
     let a = s .args in
     let l = c .before .before .before .loop in
     let row = getD (a .from .now) (l .i) 0 in
-    let low = all-at (λ k. k < clauses (a .s .now)) (a .from .now) (a .n) (l .i) (c .before .before .loop-test .taken) (omega (arith, s .pre .0 .1 .long, s .pre .0 .1 .most)) (s .pre .0 .2) in
+    let low = all-at (λ k. k < clauses (a .sheet .now)) (a .from .now) (a .n) (l .i) (c .before .before .loop-test .taken) (omega (arith, s .pre .0 .1 .long, s .pre .0 .1 .most)) (s .pre .0 .2) in
     rw (c .wide .ensures) (in-table (s .pre .0 .0) row (a .class) low (s .pre .0 .3))
 
 join-row-requires : tie.Need-join-row-requires Inv-loop μ-loop
@@ -57,12 +57,12 @@ join-row-requires c κs =
     let a = s .args in
     let l = c .before .before .before .before .before .before .loop in
     let row = getD (a .from .now) (l .i) 0 in
-    let low = all-at (λ k. k < clauses (a .s .now)) (a .from .now) (a .n) (l .i) (c .before .before .before .before .before .loop-test .taken) (omega (arith, s .pre .0 .1 .long, s .pre .0 .1 .most)) (s .pre .0 .2) in
+    let low = all-at (λ k. k < clauses (a .sheet .now)) (a .from .now) (a .n) (l .i) (c .before .before .before .before .before .loop-test .taken) (omega (arith, s .pre .0 .1 .long, s .pre .0 .1 .most)) (s .pre .0 .2) in
     let read = c .before .before .test-at in
-    let held : read .result ≡ liveIn (a .s .now) (a .opened .now) (a .class) row =
+    let held : read .result ≡ liveIn (a .sheet .now) (a .opened .now) (a .class) row =
     read .ensures ∙ ap (heldIn (a .table .now) (a .opened .now) (a .class)) (c .before .before .before .wide .ensures) ∙ held-read (s .pre .0 .0) row (a .class) low (s .pre .0 .3) (a .opened .now)
     in (
-      (s .pre .0 .0 .checked, held-live (a .s .now) (a .opened .now) (a .class) row (read .result) held, s .pre .0 .4),
+      (s .pre .0 .0 .checked, held-live (a .sheet .now) (a .opened .now) (a .class) row (read .result) held, s .pre .0 .4),
       (l .inv .3, l .inv .4, omega (arith, l .inv .1, c .before .before .before .before .before .loop-test .taken, s .pre .0 .1 .most), omega (arith, l .inv .2, c .before .before .before .before .before .loop-test .taken, s .pre .0 .1 .most)),
     )
 
@@ -78,15 +78,15 @@ loop-again c =
     let a = s .args in
     let l = c .before .before .before .before .before .before .before .loop in
     let row = getD (a .from .now) (l .i) 0 in
-    let low = all-at (λ k. k < clauses (a .s .now)) (a .from .now) (a .n) (l .i) (c .before .before .before .before .before .before .loop-test .taken) (omega (arith, s .pre .0 .1 .long, s .pre .0 .1 .most)) (s .pre .0 .2) in
+    let low = all-at (λ k. k < clauses (a .sheet .now)) (a .from .now) (a .n) (l .i) (c .before .before .before .before .before .before .loop-test .taken) (omega (arith, s .pre .0 .1 .long, s .pre .0 .1 .most)) (s .pre .0 .2) in
     let read = c .before .before .before .test-at in
-    let held : read .result ≡ liveIn (a .s .now) (a .opened .now) (a .class) row =
+    let held : read .result ≡ liveIn (a .sheet .now) (a .opened .now) (a .class) row =
     read .ensures ∙ ap (heldIn (a .table .now) (a .opened .now) (a .class)) (c .before .before .before .before .wide .ensures) ∙ held-read (s .pre .0 .0) row (a .class) low (s .pre .0 .3) (a .opened .now)
     in
-    let joins = joinsCase (a .s .now) (meant (a .s .now) (a .test)) in
-    let live = liveIn (a .s .now) (a .opened .now) (a .class) in
-    let rows = asRows (l .rows) (l .o .rows) in
-    let opens = asRows (l .opens) (l .o .opens) in
+    let joins = joinsCase (a .sheet .now) (meant (a .sheet .now) (a .test)) in
+    let live = liveIn (a .sheet .now) (a .opened .now) (a .class) in
+    let rows = asRows (l .rows) (l .counts .rows) in
+    let opens = asRows (l .opens) (l .counts .opens) in
     let one = c .join-row in
     let next = asRows (one .last .1 .1 .0) (one .result .rows) in
     let next-opens = asRows (one .last .1 .1 .1 .0) (one .result .opens) in
@@ -105,7 +105,7 @@ returns c =
     let s = c .before .before .before .before in
     let a = s .args in
     let l = c .before .loop in
-    joining-end (joinsCase (a .s .now) (meant (a .s .now) (a .test))) (liveIn (a .s .now) (a .opened .now) (a .class)) (asRows (l .rows) (l .o .rows)) (asRows (l .opens) (l .o .opens)) (slice (l .i) (a .n) (a .from .now)) (take (a .n) (a .from .now))
+    joining-end (joinsCase (a .sheet .now) (meant (a .sheet .now) (a .test))) (liveIn (a .sheet .now) (a .opened .now) (a .class)) (asRows (l .rows) (l .counts .rows)) (asRows (l .opens) (l .counts .opens)) (slice (l .i) (a .n) (a .from .now)) (take (a .n) (a .from .now))
     (slice-end (a .from .now) (l .i) (a .n) (omega (arith, l .inv .0, c .loop-test .left))) (l .inv .3) (l .inv .4) (l .inv .5)
 
 pub join-rows-spec : {M : Type 1} → statement M

@@ -21,7 +21,7 @@ loop-holds c =
     let s = c .before .before in
     let a = s .args in
     let h : Holds (asClasses (a .list .now) 0) [] = record { long = s .pre .1; most = omega arith; are = refl } in
-    (omega arith, record { whole = whole h; each = tt }, holds-same h (sym (opens-none (a .s .now) (a .opens .now) (a .n))))
+    (omega arith, record { whole = whole h; each = tt }, holds-same h (sym (opens-none (a .sheet .now) (a .opens .now) (a .n))))
 
 sub-i : tie.Need-sub-i Inv-loop μ-loop
 sub-i c = omega (arith, c .loop-test .taken)
@@ -60,7 +60,7 @@ returns c =
     let a = s .args in
     let l = c .before .loop in
     let e : l .i ≡ 0 = omega (arith, c .loop-test .left) in
-    holds-same (l .inv .2) (ap (opensFrom (a .s .now) (a .opens .now) (a .n)) e)
+    holds-same (l .inv .2) (ap (opensFrom (a .sheet .now) (a .opens .now) (a .n)) e)
 
 pub open-all-spec : {M : Type 1} → statement M
 open-all-spec =

@@ -112,7 +112,7 @@ build-case-do-build-tree-requires : (t : ℕ) → build-case-lts.Need-do-build-t
   do-build-tree-below t,
   do-build-tree.Post,
 ) (build-case-at t) build-case.Post
-build-case-do-build-tree-requires t c κs = (omega (arith, c .before .before .before .before .before .before .before .before .before .before .before .before .before .before .pre .0, tested-room (c .before .before .before .before .before .before .before .before .before .before .before .before .before .before .pre .1 .col), case-more (c .before .before .before .before .before .before .before .before .before .before .before .before .before .before .pre .1 .col) (matrixOf (c .before .before .before .before .before .case-matrix .last .1 .1 .1 .1 .1 .1 .1 .1 .1 .1 .0) (c .before .before .before .before .before .case-matrix .last .1 .1 .1 .1 .1 .1 .1 .1 .1 .1 .1 .0) (c .before .before .before .before .before .case-matrix .last .1 .1 .1 .1 .1 .0) (c .before .before .before .before .before .case-matrix .last .1 .1 .1 .1 .1 .1 .0) (c .before .before .before .before .before .case-matrix .result)) (meant (c .before .before .before .before .before .before .before .before .before .before .before .before .before .before .args .s .now) (c .before .before .before .before .before .before .before .before .before .before .before .before .before .before .args .test)) (c .before .before .before .before .before .case-matrix .ensures .whole) (c .before .before .before .before .before .case-matrix .ensures .are)), case-asked (c .before .before .before .before .before .before .before .before .before .before .before .before .before .before .pre .1) (matrixOf (c .before .before .before .before .before .case-matrix .last .1 .1 .1 .1 .1 .1 .1 .1 .1 .1 .0) (c .before .before .before .before .before .case-matrix .last .1 .1 .1 .1 .1 .1 .1 .1 .1 .1 .1 .0) (c .before .before .before .before .before .case-matrix .last .1 .1 .1 .1 .1 .0) (c .before .before .before .before .before .case-matrix .last .1 .1 .1 .1 .1 .1 .0) (c .before .before .before .before .before .case-matrix .result)) (c .before .before .before .before .before .case-matrix .ensures))
+build-case-do-build-tree-requires t c κs = (omega (arith, c .before .before .before .before .before .before .before .before .before .before .before .before .before .before .pre .0, tested-room (c .before .before .before .before .before .before .before .before .before .before .before .before .before .before .pre .1 .col), case-more (c .before .before .before .before .before .before .before .before .before .before .before .before .before .before .pre .1 .col) (matrixOf (c .before .before .before .before .before .case-matrix .last .1 .1 .1 .1 .1 .1 .1 .1 .1 .1 .0) (c .before .before .before .before .before .case-matrix .last .1 .1 .1 .1 .1 .1 .1 .1 .1 .1 .1 .0) (c .before .before .before .before .before .case-matrix .last .1 .1 .1 .1 .1 .0) (c .before .before .before .before .before .case-matrix .last .1 .1 .1 .1 .1 .1 .0) (c .before .before .before .before .before .case-matrix .result)) (meant (c .before .before .before .before .before .before .before .before .before .before .before .before .before .before .args .sheet .now) (c .before .before .before .before .before .before .before .before .before .before .before .before .before .before .args .test)) (c .before .before .before .before .before .case-matrix .ensures .whole) (c .before .before .before .before .before .case-matrix .ensures .are)), case-asked (c .before .before .before .before .before .before .before .before .before .before .before .before .before .before .pre .1) (matrixOf (c .before .before .before .before .before .case-matrix .last .1 .1 .1 .1 .1 .1 .1 .1 .1 .1 .0) (c .before .before .before .before .before .case-matrix .last .1 .1 .1 .1 .1 .1 .1 .1 .1 .1 .1 .0) (c .before .before .before .before .before .case-matrix .last .1 .1 .1 .1 .1 .0) (c .before .before .before .before .before .case-matrix .last .1 .1 .1 .1 .1 .1 .0) (c .before .before .before .before .before .case-matrix .result)) (c .before .before .before .before .before .case-matrix .ensures))
 
 build-case-same-length : (t : ℕ) → build-case-lts.Need-same-length (
   case-matrix-reads.Asked,
@@ -128,7 +128,7 @@ build-case-returns : (t : ℕ) → build-case-lts.Need-returns (
   do-build-tree-below t,
   do-build-tree.Post,
 ) (build-case-at t) build-case.Post
-build-case-returns t c = (case-tree (c .before .before .before .before .before .before .before .before .before .before .before .before .before .before .before .before .before .pre .1) (matrixOf (c .before .before .before .before .before .before .before .before .case-matrix .last .1 .1 .1 .1 .1 .1 .1 .1 .1 .1 .0) (c .before .before .before .before .before .before .before .before .case-matrix .last .1 .1 .1 .1 .1 .1 .1 .1 .1 .1 .1 .0) (c .before .before .before .before .before .before .before .before .case-matrix .last .1 .1 .1 .1 .1 .0) (c .before .before .before .before .before .before .before .before .case-matrix .last .1 .1 .1 .1 .1 .1 .0) (c .before .before .before .before .before .before .before .before .case-matrix .result)) (c .before .before .before .before .before .before .before .before .case-matrix .ensures) (c .before .before .do-build-tree .ensures .0), still-on (case-still (c .before .before .before .before .before .before .before .before .before .before .before .before .before .before .before .before .before .pre .1 .col) (matrixOf (c .before .before .before .before .before .before .before .before .case-matrix .last .1 .1 .1 .1 .1 .1 .1 .1 .1 .1 .0) (c .before .before .before .before .before .before .before .before .case-matrix .last .1 .1 .1 .1 .1 .1 .1 .1 .1 .1 .1 .0) (c .before .before .before .before .before .before .before .before .case-matrix .last .1 .1 .1 .1 .1 .0) (c .before .before .before .before .before .before .before .before .case-matrix .last .1 .1 .1 .1 .1 .1 .0) (c .before .before .before .before .before .before .before .before .case-matrix .result)) (meant (c .before .before .before .before .before .before .before .before .before .before .before .before .before .before .before .before .before .args .s .now) (c .before .before .before .before .before .before .before .before .before .before .before .before .before .before .before .before .before .args .test)) (c .before .before .before .before .before .before .before .before .case-matrix .ensures .whole) (c .before .before .before .before .before .before .before .before .case-matrix .ensures .are)) (still-fewer (case-more (c .before .before .before .before .before .before .before .before .before .before .before .before .before .before .before .before .before .pre .1 .col) (matrixOf (c .before .before .before .before .before .before .before .before .case-matrix .last .1 .1 .1 .1 .1 .1 .1 .1 .1 .1 .0) (c .before .before .before .before .before .before .before .before .case-matrix .last .1 .1 .1 .1 .1 .1 .1 .1 .1 .1 .1 .0) (c .before .before .before .before .before .before .before .before .case-matrix .last .1 .1 .1 .1 .1 .0) (c .before .before .before .before .before .before .before .before .case-matrix .last .1 .1 .1 .1 .1 .1 .0) (c .before .before .before .before .before .before .before .before .case-matrix .result)) (meant (c .before .before .before .before .before .before .before .before .before .before .before .before .before .before .before .before .before .args .s .now) (c .before .before .before .before .before .before .before .before .before .before .before .before .before .before .before .before .before .args .test)) (c .before .before .before .before .before .before .before .before .case-matrix .ensures .whole) (c .before .before .before .before .before .before .before .before .case-matrix .ensures .are)) (c .before .before .do-build-tree .ensures .1)))
+build-case-returns t c = (case-tree (c .before .before .before .before .before .before .before .before .before .before .before .before .before .before .before .before .before .pre .1) (matrixOf (c .before .before .before .before .before .before .before .before .case-matrix .last .1 .1 .1 .1 .1 .1 .1 .1 .1 .1 .0) (c .before .before .before .before .before .before .before .before .case-matrix .last .1 .1 .1 .1 .1 .1 .1 .1 .1 .1 .1 .0) (c .before .before .before .before .before .before .before .before .case-matrix .last .1 .1 .1 .1 .1 .0) (c .before .before .before .before .before .before .before .before .case-matrix .last .1 .1 .1 .1 .1 .1 .0) (c .before .before .before .before .before .before .before .before .case-matrix .result)) (c .before .before .before .before .before .before .before .before .case-matrix .ensures) (c .before .before .do-build-tree .ensures .0), still-on (case-still (c .before .before .before .before .before .before .before .before .before .before .before .before .before .before .before .before .before .pre .1 .col) (matrixOf (c .before .before .before .before .before .before .before .before .case-matrix .last .1 .1 .1 .1 .1 .1 .1 .1 .1 .1 .0) (c .before .before .before .before .before .before .before .before .case-matrix .last .1 .1 .1 .1 .1 .1 .1 .1 .1 .1 .1 .0) (c .before .before .before .before .before .before .before .before .case-matrix .last .1 .1 .1 .1 .1 .0) (c .before .before .before .before .before .before .before .before .case-matrix .last .1 .1 .1 .1 .1 .1 .0) (c .before .before .before .before .before .before .before .before .case-matrix .result)) (meant (c .before .before .before .before .before .before .before .before .before .before .before .before .before .before .before .before .before .args .sheet .now) (c .before .before .before .before .before .before .before .before .before .before .before .before .before .before .before .before .before .args .test)) (c .before .before .before .before .before .before .before .before .case-matrix .ensures .whole) (c .before .before .before .before .before .before .before .before .case-matrix .ensures .are)) (still-fewer (case-more (c .before .before .before .before .before .before .before .before .before .before .before .before .before .before .before .before .before .pre .1 .col) (matrixOf (c .before .before .before .before .before .before .before .before .case-matrix .last .1 .1 .1 .1 .1 .1 .1 .1 .1 .1 .0) (c .before .before .before .before .before .before .before .before .case-matrix .last .1 .1 .1 .1 .1 .1 .1 .1 .1 .1 .1 .0) (c .before .before .before .before .before .before .before .before .case-matrix .last .1 .1 .1 .1 .1 .0) (c .before .before .before .before .before .before .before .before .case-matrix .last .1 .1 .1 .1 .1 .1 .0) (c .before .before .before .before .before .before .before .before .case-matrix .result)) (meant (c .before .before .before .before .before .before .before .before .before .before .before .before .before .before .before .before .before .args .sheet .now) (c .before .before .before .before .before .before .before .before .before .before .before .before .before .before .before .before .before .args .test)) (c .before .before .before .before .before .before .before .before .case-matrix .ensures .whole) (c .before .before .before .before .before .before .before .before .case-matrix .ensures .are)) (c .before .before .do-build-tree .ensures .1)))
 
 abbrev build-cases-Inv-loop : build-cases-lts.InvT-loop
 build-cases-Inv-loop s m t rows columns tested₀ opened n k work₀ first count tops₀ i₀ tested work tops i =
@@ -140,17 +140,17 @@ build-cases-μ-loop s m t rows columns tested₀ opened n k work₀ first count 
 -- ---- what is known at places of the code
 -- what is known in a turn of the loop
 turn-at : (t : ℕ) (c : build-cases-lts.In-loop (case-at-reads.Asked, case-at-reads.Learnt, put-child-reads.Asked, put-child-reads.Learnt, build-case-below t, build-case.Post) (build-cases-at t) build-cases.Post build-cases-Inv-loop build-cases-μ-loop)
-    → Turn (c .before .before .before .before .before .before .args .s .now) (c .before .before .before .before .before .before .args .m) (c .before .before .before .before .before .before .args .table .now) (matrixOf (c .before .before .before .before .before .before .args .rows .now) (c .before .before .before .before .before .before .args .columns .now) (c .before .before .before .before .before .before .args .tested .now) (c .before .before .before .before .before .before .args .opened .now) (c .before .before .before .before .before .before .args .n)) (c .before .before .before .before .before .before .args .k) (c .before .before .before .before .before .before .args .first) (c .before .before .before .before .before .before .args .w .now) (c .before .before .before .before .before .before .args .from) (c .before .loop .i) (c .before .loop .tested) (c .before .loop .w) (c .before .loop .tops)
+    → Turn (c .before .before .before .before .before .before .args .sheet .now) (c .before .before .before .before .before .before .args .map) (c .before .before .before .before .before .before .args .table .now) (matrixOf (c .before .before .before .before .before .before .args .rows .now) (c .before .before .before .before .before .before .args .columns .now) (c .before .before .before .before .before .before .args .tested .now) (c .before .before .before .before .before .before .args .opened .now) (c .before .before .before .before .before .before .args .sizes)) (c .before .before .before .before .before .before .args .class) (c .before .before .before .before .before .before .args .first) (c .before .before .before .before .before .before .args .work .now) (c .before .before .before .before .before .before .args .from) (c .before .loop .i) (c .before .loop .tested) (c .before .loop .work) (c .before .loop .tops)
 turn-at t c = record { col = c .before .before .before .before .before .before .pre .1 .0; asked = c .before .before .before .before .before .before .pre .1 .1; part = c .before .loop .inv .3; inside = c .loop-test .taken; kept = c .before .loop .inv .2 }
 
 -- what is known of a switch whose cases are met
 opened-at : (t : ℕ) (c : build-switch-lts.After-known-told (meet-cases-reads.Asked, meet-cases-reads.Learnt, build-cases-below t, build-cases.Post, default-matrix-reads.Asked, default-matrix-reads.Learnt, put-switch-reads.Asked, put-switch-reads.Learnt, do-build-tree-below t, do-build-tree.Post) (build-switch-at t) build-switch.Post)
-    → Opened (c .before .before .before .before .before .before .before .before .before .before .args .s .now) (c .before .before .before .before .before .before .before .before .before .before .args .m) (c .before .before .before .before .before .before .before .before .before .before .args .table .now) (matrixOf (c .before .before .before .before .before .before .before .before .before .before .args .rows .now) (c .before .before .before .before .before .before .before .before .before .before .args .columns .now) (c .before .before .before .before .before .before .before .before .before .before .args .tested .now) (c .before .before .before .before .before .before .before .before .before .before .args .opened .now) (c .before .before .before .before .before .before .before .before .before .before .args .n)) (c .before .before .before .before .before .before .before .before .before .before .args .k) (c .before .before .before .before .before .before .before .before .before .before .args .w .now) (c .before .before .before .before .before .before .before .before .before .before .args .tops) (c .before .before .before .before .before .meet-cases .last .1 .1 .1 .1 .1 .1 .1 .0) (c .before .meeting .given .0 .0) (record { nodes = (c .before .before .before .before .before .before .before .before .before .before .args .tops .nodes) + 1; cases = (c .before .meeting .given .0 .0) .end; bindings = c .before .before .before .before .before .before .before .before .before .before .args .tops .bindings; leaves = c .before .before .before .before .before .before .before .before .before .before .args .tops .leaves })
+    → Opened (c .before .before .before .before .before .before .before .before .before .before .args .sheet .now) (c .before .before .before .before .before .before .before .before .before .before .args .map) (c .before .before .before .before .before .before .before .before .before .before .args .table .now) (matrixOf (c .before .before .before .before .before .before .before .before .before .before .args .rows .now) (c .before .before .before .before .before .before .before .before .before .before .args .columns .now) (c .before .before .before .before .before .before .before .before .before .before .args .tested .now) (c .before .before .before .before .before .before .before .before .before .before .args .opened .now) (c .before .before .before .before .before .before .before .before .before .before .args .sizes)) (c .before .before .before .before .before .before .before .before .before .before .args .class) (c .before .before .before .before .before .before .before .before .before .before .args .work .now) (c .before .before .before .before .before .before .before .before .before .before .args .tops) (c .before .before .before .before .before .meet-cases .last .1 .1 .1 .1 .1 .1 .1 .0) (c .before .meeting .given .0 .0) (record { nodes = (c .before .before .before .before .before .before .before .before .before .before .args .tops .nodes) + 1; cases = (c .before .meeting .given .0 .0) .end; bindings = c .before .before .before .before .before .before .before .before .before .before .args .tops .bindings; leaves = c .before .before .before .before .before .before .before .before .before .before .args .tops .leaves })
 opened-at t c = opened (c .before .before .before .before .before .before .before .before .before .before .pre .1 .0) (c .before .before .before .before .before .before .before .before .before .before .pre .1 .1) (c .before .before .before .before .before .before .before .before .before .before .pre .1 .2) (c .before .before .before .before .before .meet-cases .result) (c .before .meeting .given .0 .0) (c .before .meeting .given .1) (c .before .before .before .before .before .meet-cases .ensures)
 
 -- and whose cases are built
 cased-at : (t : ℕ) (c : build-switch-lts.After-default-matrix (meet-cases-reads.Asked, meet-cases-reads.Learnt, build-cases-below t, build-cases.Post, default-matrix-reads.Asked, default-matrix-reads.Learnt, put-switch-reads.Asked, put-switch-reads.Learnt, do-build-tree-below t, do-build-tree.Post) (build-switch-at t) build-switch.Post)
-    → Cased (c .before .before .before .before .before .before .before .before .before .before .before .before .before .before .before .before .before .before .before .before .before .before .before .args .s .now) (c .before .before .before .before .before .before .before .before .before .before .before .before .before .before .before .before .before .before .before .before .before .before .before .args .m) (c .before .before .before .before .before .before .before .before .before .before .before .before .before .before .before .before .before .before .before .before .before .before .before .args .table .now) (matrixOf (c .before .before .before .before .before .before .before .before .before .before .before .before .before .before .before .before .before .before .before .before .before .before .before .args .rows .now) (c .before .before .before .before .before .before .before .before .before .before .before .before .before .before .before .before .before .before .before .before .before .before .before .args .columns .now) (c .before .before .before .before .before .before .before .before .before .before .before .before .before .before .before .before .before .before .before .before .before .before .before .args .tested .now) (c .before .before .before .before .before .before .before .before .before .before .before .before .before .before .before .before .before .before .before .before .before .before .before .args .opened .now) (c .before .before .before .before .before .before .before .before .before .before .before .before .before .before .before .before .before .before .before .before .before .before .before .args .n)) (c .before .before .before .before .before .before .before .before .before .before .before .before .before .before .before .before .before .before .before .before .before .before .before .args .k) (c .before .before .before .before .before .before .before .before .before .before .before .before .before .before .before .before .before .before .before .before .before .before .before .args .w .now) (c .before .before .before .before .before .before .before .before .before .before .before .before .before .before .before .before .before .before .before .before .before .before .before .args .tops) (c .before .before .before .before .before .before .before .before .before .before .before .before .before .before .before .before .before .before .meet-cases .last .1 .1 .1 .1 .1 .1 .1 .0) (c .before .before .before .before .before .before .before .before .before .before .before .before .before .before .meeting .given .0 .0) (record { nodes = (c .before .before .before .before .before .before .before .before .before .before .before .before .before .before .before .before .before .before .before .before .before .before .before .args .tops .nodes) + 1; cases = (c .before .before .before .before .before .before .before .before .before .before .before .before .before .before .meeting .given .0 .0) .end; bindings = c .before .before .before .before .before .before .before .before .before .before .before .before .before .before .before .before .before .before .before .before .before .before .before .args .tops .bindings; leaves = c .before .before .before .before .before .before .before .before .before .before .before .before .before .before .before .before .before .before .before .before .before .before .before .args .tops .leaves }) (c .before .before .before .before .before .before .before .before .before .build-cases .last .1 .1 .1 .1 .1 .1 .1 .1 .1 .0) (c .before .before .before .before .before .before .before .before .before .build-cases .result) (matrixOf (c .default-matrix .last .1 .1 .1 .1 .1 .1 .1 .0) (c .default-matrix .last .1 .1 .1 .1 .1 .1 .1 .1 .0) (c .default-matrix .last .1 .1 .1 .0) (c .before .before .before .before .before .before .before .before .before .before .before .before .before .before .before .before .before .before .before .before .before .before .before .args .opened .now) (c .default-matrix .result))
+    → Cased (c .before .before .before .before .before .before .before .before .before .before .before .before .before .before .before .before .before .before .before .before .before .before .before .args .sheet .now) (c .before .before .before .before .before .before .before .before .before .before .before .before .before .before .before .before .before .before .before .before .before .before .before .args .map) (c .before .before .before .before .before .before .before .before .before .before .before .before .before .before .before .before .before .before .before .before .before .before .before .args .table .now) (matrixOf (c .before .before .before .before .before .before .before .before .before .before .before .before .before .before .before .before .before .before .before .before .before .before .before .args .rows .now) (c .before .before .before .before .before .before .before .before .before .before .before .before .before .before .before .before .before .before .before .before .before .before .before .args .columns .now) (c .before .before .before .before .before .before .before .before .before .before .before .before .before .before .before .before .before .before .before .before .before .before .before .args .tested .now) (c .before .before .before .before .before .before .before .before .before .before .before .before .before .before .before .before .before .before .before .before .before .before .before .args .opened .now) (c .before .before .before .before .before .before .before .before .before .before .before .before .before .before .before .before .before .before .before .before .before .before .before .args .sizes)) (c .before .before .before .before .before .before .before .before .before .before .before .before .before .before .before .before .before .before .before .before .before .before .before .args .class) (c .before .before .before .before .before .before .before .before .before .before .before .before .before .before .before .before .before .before .before .before .before .before .before .args .work .now) (c .before .before .before .before .before .before .before .before .before .before .before .before .before .before .before .before .before .before .before .before .before .before .before .args .tops) (c .before .before .before .before .before .before .before .before .before .before .before .before .before .before .before .before .before .before .meet-cases .last .1 .1 .1 .1 .1 .1 .1 .0) (c .before .before .before .before .before .before .before .before .before .before .before .before .before .before .meeting .given .0 .0) (record { nodes = (c .before .before .before .before .before .before .before .before .before .before .before .before .before .before .before .before .before .before .before .before .before .before .before .args .tops .nodes) + 1; cases = (c .before .before .before .before .before .before .before .before .before .before .before .before .before .before .meeting .given .0 .0) .end; bindings = c .before .before .before .before .before .before .before .before .before .before .before .before .before .before .before .before .before .before .before .before .before .before .before .args .tops .bindings; leaves = c .before .before .before .before .before .before .before .before .before .before .before .before .before .before .before .before .before .before .before .before .before .before .before .args .tops .leaves }) (c .before .before .before .before .before .before .before .before .before .build-cases .last .1 .1 .1 .1 .1 .1 .1 .1 .1 .0) (c .before .before .before .before .before .before .before .before .before .build-cases .result) (matrixOf (c .default-matrix .last .1 .1 .1 .1 .1 .1 .1 .0) (c .default-matrix .last .1 .1 .1 .1 .1 .1 .1 .1 .0) (c .default-matrix .last .1 .1 .1 .0) (c .before .before .before .before .before .before .before .before .before .before .before .before .before .before .before .before .before .before .before .before .before .before .before .args .opened .now) (c .default-matrix .result))
 cased-at t c =
     record {
       begun = (opened-at t (c .before .before .before .before .before .before .before .before .before .before .before .before .before));
@@ -309,7 +309,7 @@ build-cases-returns-2 : (t : ℕ) → build-cases-lts.Need-returns-2 (
   build-case-below t,
   build-case.Post,
 ) (build-cases-at t) build-cases.Post build-cases-Inv-loop build-cases-μ-loop
-build-cases-returns-2 t c = (loop-end (c .before .before .before .before .before .before .pre .1 .0) (c .before .before .before .before .before .before .pre .1 .1) (c .before .loop .i) (c .before .loop .w) (c .before .loop .tops) (record { fits = true; tops = c .before .loop .tops }) (c .before .loop .inv .3) (c .loop-test .left) refl, c .before .loop .inv .2)
+build-cases-returns-2 t c = (loop-end (c .before .before .before .before .before .before .pre .1 .0) (c .before .before .before .before .before .before .pre .1 .1) (c .before .loop .i) (c .before .loop .work) (c .before .loop .tops) (record { fits = true; tops = c .before .loop .tops }) (c .before .loop .inv .3) (c .loop-test .left) refl, c .before .loop .inv .2)
 
 build-switch-meet-cases-requires : (t : ℕ) → build-switch-lts.Need-meet-cases-requires (
   meet-cases-reads.Asked,
@@ -379,7 +379,7 @@ build-switch-returns : (t : ℕ) → build-switch-lts.Need-returns (
   do-build-tree-below t,
   do-build-tree.Post,
 ) (build-switch-at t) build-switch.Post
-build-switch-returns t c = (no-room (c .before .before .before .before .before .before .before .before .before .pre .1 .0) (c .before .before .before .before .before .before .before .before .before .args .w .now) (c .before .before .before .before .meet-cases .last .1 .1 .1 .1 .1 .1 .1 .0) (record { fits = false; tops = c .before .before .before .before .before .before .before .before .before .args .tops }) (c .before .before .before .before .meet-cases .result) (c .enum-told .given .1) (c .before .before .before .before .meet-cases .ensures) refl, still ((c .before .before .before .before .before .before .before .before .before .pre .1 .0) .there .whole .whole-tested .long))
+build-switch-returns t c = (no-room (c .before .before .before .before .before .before .before .before .before .pre .1 .0) (c .before .before .before .before .before .before .before .before .before .args .work .now) (c .before .before .before .before .meet-cases .last .1 .1 .1 .1 .1 .1 .1 .0) (record { fits = false; tops = c .before .before .before .before .before .before .before .before .before .args .tops }) (c .before .before .before .before .meet-cases .result) (c .enum-told .given .1) (c .before .before .before .before .meet-cases .ensures) refl, still ((c .before .before .before .before .before .before .before .before .before .pre .1 .0) .there .whole .whole-tested .long))
 
 build-switch-add-from : (t : ℕ) → build-switch-lts.Need-add-from (
   meet-cases-reads.Asked,
@@ -573,7 +573,7 @@ do-build-tree-returns : (t : ℕ) → do-build-tree-lts.Need-returns (
   build-switch-below t,
   build-switch.Post,
 ) (do-build-tree-at t) do-build-tree.Post
-do-build-tree-returns t c = (full-builds (c .before .before .before .before .before .pre .1 .ready .checked .ok) (c .before .before .before .before .before .pre .1 .there) (c .before .before .before .before .before .args .w .now) (c .before .before .before .before .before .args .w .now) (c .before .before .before .before .before .args .tops) (record { fits = false; tops = c .before .before .before .before .before .args .tops }) (c .if1 .taken) refl, still ((c .before .before .before .before .before .pre .1 .there) .whole .whole-tested .long))
+do-build-tree-returns t c = (full-builds (c .before .before .before .before .before .pre .1 .ready .checked .ok) (c .before .before .before .before .before .pre .1 .there) (c .before .before .before .before .before .args .work .now) (c .before .before .before .before .before .args .work .now) (c .before .before .before .before .before .args .tops) (record { fits = false; tops = c .before .before .before .before .before .args .tops }) (c .if1 .taken) refl, still ((c .before .before .before .before .before .pre .1 .there) .whole .whole-tested .long))
 
 do-build-tree-highest-occurrence-requires :
     (t : ℕ) → do-build-tree-lts.Need-highest-occurrence-requires (
@@ -670,7 +670,7 @@ do-build-tree-returns-2 : (t : ℕ) → do-build-tree-lts.Need-returns-2 (
   build-switch-below t,
   build-switch.Post,
 ) (do-build-tree-at t) do-build-tree.Post
-do-build-tree-returns-2 t c = (leaf-builds (c .before .before .before .before .before .before .before .before .before .before .before .before .before .before .before .pre .1 .ready .checked .ok) (c .before .before .before .before .before .before .before .before .before .before .before .before .before .before .before .pre .1 .there) (c .before .before .before .before .before .before .before .before .before .before .before .before .before .before .before .args .w .now) (c .before .before .put-leaf .last .1 .1 .1 .1 .1 .1 .1 .0) (c .before .before .before .before .before .before .before .before .before .before .before .before .before .before .before .args .tops) (c .before .before .put-leaf .result) (record { fits = true; tops = c .before .before .put-leaf .result }) (c .before .before .before .before .before .wide .result) (asked-chosen (c .before .before .before .before .before .before .before .before .before .before .before .before .before .before .before .pre .1) (c .before .before .before .before .before .before .before .before .before .highest-occurrence .result) (c .before .before .before .before .before .before .before .before .before .highest-occurrence .ensures) (c .before .before .before .before .before .before .before .enum-told .given .1)) (c .before .before .before .before .before .wide .ensures) refl (c .before .before .put-leaf .ensures), still ((c .before .before .before .before .before .before .before .before .before .before .before .before .before .before .before .pre .1 .there) .whole .whole-tested .long))
+do-build-tree-returns-2 t c = (leaf-builds (c .before .before .before .before .before .before .before .before .before .before .before .before .before .before .before .pre .1 .ready .checked .ok) (c .before .before .before .before .before .before .before .before .before .before .before .before .before .before .before .pre .1 .there) (c .before .before .before .before .before .before .before .before .before .before .before .before .before .before .before .args .work .now) (c .before .before .put-leaf .last .1 .1 .1 .1 .1 .1 .1 .0) (c .before .before .before .before .before .before .before .before .before .before .before .before .before .before .before .args .tops) (c .before .before .put-leaf .result) (record { fits = true; tops = c .before .before .put-leaf .result }) (c .before .before .before .before .before .wide .result) (asked-chosen (c .before .before .before .before .before .before .before .before .before .before .before .before .before .before .before .pre .1) (c .before .before .before .before .before .before .before .before .before .highest-occurrence .result) (c .before .before .before .before .before .before .before .before .before .highest-occurrence .ensures) (c .before .before .before .before .before .before .before .enum-told .given .1)) (c .before .before .before .before .before .wide .ensures) refl (c .before .before .put-leaf .ensures), still ((c .before .before .before .before .before .before .before .before .before .before .before .before .before .before .before .pre .1 .there) .whole .whole-tested .long))
 
 do-build-tree-build-switch-requires : (t : ℕ) → do-build-tree-lts.Need-build-switch-requires (
   highest-occurrence-reads.Asked,

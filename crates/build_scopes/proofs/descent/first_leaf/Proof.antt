@@ -20,43 +20,43 @@ loop-holds : tie.Need-loop-holds Inv-loop μ-loop
 loop-holds c =
     let s = c .before .before in
     let a = s .args in
-    λ h. way-start never (a .w .now) (h .tree) (a .c) (h .ready) (h .leaf-there)
+    λ h. way-start never (a .work .now) (h .tree) (a .c) (h .ready) (h .leaf-there)
 
 node-kind-requires : tie.Need-node-kind-requires Inv-loop μ-loop
 node-kind-requires c κs =
     let s = c .before .before .before in
     let a = s .args in
     let l = c .loop in
-    (s .pre .ready .nodes .room, way-inside never (a .w .now) (s .pre .tree) (a .c) (l .k) (s .pre .ready) (l .inv (s .pre)))
+    (s .pre .ready .nodes .room, way-inside never (a .work .now) (s .pre .tree) (a .c) (l .k) (s .pre .ready) (l .inv (s .pre)))
 
 returns : tie.Need-returns Inv-loop μ-loop
 returns c =
     let s = c .before .before .before .before .before in
     let a = s .args in
     let l = c .before .before .loop in
-    λ h. leaf-found (a .w .now) (a .c) (a .sets .now) h (l .k) (l .inv h) (sym (c .before .node-kind .ensures) ∙ c .if1 .taken)
+    λ h. leaf-found (a .work .now) (a .c) (a .sets .now) h (l .k) (l .inv h) (sym (c .before .node-kind .ensures) ∙ c .if1 .taken)
 
 first-child-requires : tie.Need-first-child-requires Inv-loop μ-loop
 first-child-requires c κs =
     let s = c .before .before .before .before .before in
     let a = s .args in
     let l = c .before .before .loop in
-    (leaf-child (a .w .now) (a .c) (a .sets .now) (s .pre) (l .k) (l .inv (s .pre)) (λ x. c .if1 .left (c .before .node-kind .ensures ∙ x)), s .pre .small)
+    (leaf-child (a .work .now) (a .c) (a .sets .now) (s .pre) (l .k) (l .inv (s .pre)) (λ x. c .if1 .left (c .before .node-kind .ensures ∙ x)), s .pre .small)
 
 loop-less : tie.Need-loop-less Inv-loop μ-loop
 loop-less c =
     let s = c .before .before .before .before .before .before in
     let a = s .args in
     let l = c .before .before .before .loop in
-    let n = leaf-on (a .w .now) (a .c) (a .sets .now) (s .pre) (l .k) (l .inv (s .pre)) (λ x. c .before .if1 .left (c .before .before .node-kind .ensures ∙ x)) in
-    omega (arith, n .above, way-inside never (a .w .now) (s .pre .tree) (a .c) (l .k) (s .pre .ready) (l .inv (s .pre)), c .first-child .ensures)
+    let n = leaf-on (a .work .now) (a .c) (a .sets .now) (s .pre) (l .k) (l .inv (s .pre)) (λ x. c .before .if1 .left (c .before .before .node-kind .ensures ∙ x)) in
+    omega (arith, n .above, way-inside never (a .work .now) (s .pre .tree) (a .c) (l .k) (s .pre .ready) (l .inv (s .pre)), c .first-child .ensures)
 
 loop-again : tie.Need-loop-again Inv-loop μ-loop
 loop-again c =
     let s = c .before .before .before .before .before .before in
     let a = s .args in
     let l = c .before .before .before .loop in
-    λ h. subst (λ z. OnWay never (h .tree) (a .c) z) (sym (c .first-child .ensures)) (leaf-on (a .w .now) (a .c) (a .sets .now) h (l .k) (l .inv h) (λ x. c .before .if1 .left (c .before .before .node-kind .ensures ∙ x)) .next)
+    λ h. subst (λ z. OnWay never (h .tree) (a .c) z) (sym (c .first-child .ensures)) (leaf-on (a .work .now) (a .c) (a .sets .now) h (l .k) (l .inv h) (λ x. c .before .if1 .left (c .before .before .node-kind .ensures ∙ x)) .next)
 
 pub first-leaf-spec : {M : Type 1} → statement M
 first-leaf-spec =

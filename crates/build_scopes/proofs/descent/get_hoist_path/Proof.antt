@@ -20,43 +20,43 @@ loop-holds : tie.Need-loop-holds Inv-loop μ-loop
 loop-holds c =
     let s = c .before .before .before in
     let a = s .args in
-    λ h. way-start (isScope (a .c)) (a .w .now) (h .marks .tree) (a .c) (h .marks .ready) (h .marks .leaf-there)
+    λ h. way-start (isScope (a .c)) (a .work .now) (h .marks .tree) (a .c) (h .marks .ready) (h .marks .leaf-there)
 
 is-scope-requires : tie.Need-is-scope-requires Inv-loop μ-loop
 is-scope-requires c κs =
     let s = c .before .before .before .before in
     let a = s .args in
     let l = c .loop in
-    scope-asked (a .w .now) (a .c) (a .last .now) (a .sets .now) (s .pre) (l .k) (l .inv (s .pre))
+    scope-asked (a .work .now) (a .c) (a .last .now) (a .sets .now) (s .pre) (l .k) (l .inv (s .pre))
 
 returns : tie.Need-returns Inv-loop μ-loop
 returns c =
     let s = c .before .before .before .before .before .before in
     let a = s .args in
     let l = c .before .before .loop in
-    λ h. scope-found (a .w .now) (a .c) (a .last .now) (a .sets .now) h (l .k) (l .inv h) (sym (c .if1 .taken) ∙ c .before .is-scope .ensures)
+    λ h. scope-found (a .work .now) (a .c) (a .last .now) (a .sets .now) h (l .k) (l .inv h) (sym (c .if1 .taken) ∙ c .before .is-scope .ensures)
 
 first-child-requires : tie.Need-first-child-requires Inv-loop μ-loop
 first-child-requires c κs =
     let s = c .before .before .before .before .before .before in
     let a = s .args in
     let l = c .before .before .loop in
-    (scope-child (a .w .now) (a .c) (a .last .now) (a .sets .now) (s .pre) (l .k) (l .inv (s .pre)) (sym (c .if1 .left) ∙ c .before .is-scope .ensures), s .pre .marks .small)
+    (scope-child (a .work .now) (a .c) (a .last .now) (a .sets .now) (s .pre) (l .k) (l .inv (s .pre)) (sym (c .if1 .left) ∙ c .before .is-scope .ensures), s .pre .marks .small)
 
 loop-less : tie.Need-loop-less Inv-loop μ-loop
 loop-less c =
     let s = c .before .before .before .before .before .before .before in
     let a = s .args in
     let l = c .before .before .before .loop in
-    let n = scope-on (a .w .now) (a .c) (a .last .now) (a .sets .now) (s .pre) (l .k) (l .inv (s .pre)) (sym (c .before .if1 .left) ∙ c .before .before .is-scope .ensures) in
-    omega (arith, n .above, way-inside (isScope (a .c)) (a .w .now) (s .pre .marks .tree) (a .c) (l .k) (s .pre .marks .ready) (l .inv (s .pre)), c .first-child .ensures)
+    let n = scope-on (a .work .now) (a .c) (a .last .now) (a .sets .now) (s .pre) (l .k) (l .inv (s .pre)) (sym (c .before .if1 .left) ∙ c .before .before .is-scope .ensures) in
+    omega (arith, n .above, way-inside (isScope (a .c)) (a .work .now) (s .pre .marks .tree) (a .c) (l .k) (s .pre .marks .ready) (l .inv (s .pre)), c .first-child .ensures)
 
 loop-again : tie.Need-loop-again Inv-loop μ-loop
 loop-again c =
     let s = c .before .before .before .before .before .before .before in
     let a = s .args in
     let l = c .before .before .before .loop in
-    λ h. subst (λ z. OnWay (isScope (a .c)) (h .marks .tree) (a .c) z) (sym (c .first-child .ensures)) (scope-on (a .w .now) (a .c) (a .last .now) (a .sets .now) h (l .k) (l .inv h) (sym (c .before .if1 .left) ∙ c .before .before .is-scope .ensures) .next)
+    λ h. subst (λ z. OnWay (isScope (a .c)) (h .marks .tree) (a .c) z) (sym (c .first-child .ensures)) (scope-on (a .work .now) (a .c) (a .last .now) (a .sets .now) h (l .k) (l .inv h) (sym (c .before .if1 .left) ∙ c .before .before .is-scope .ensures) .next)
 
 pub get-hoist-path-spec : {M : Type 1} → statement M
 get-hoist-path-spec =

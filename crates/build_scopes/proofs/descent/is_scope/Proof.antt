@@ -15,7 +15,7 @@ cast-if1 c = omega (arith, c .shared-slice-known4 .given (c .before .before .bef
 returns : tie.Need-returns
 returns c =
     let a = c .before .before .before .before .before .args in
-    scopeHere-last (a .w .now) (a .last .now) (column (a .c) (a .sets .now)) (a .c) (a .k) (c .if1 .taken)
+    scopeHere-last (a .work .now) (a .last .now) (column (a .c) (a .sets .now)) (a .c) (a .k) (c .if1 .taken)
 
 marked-children-requires : tie.Need-marked-children-requires
 marked-children-requires c κs = let s = c .before .before .before .before .before in (s .pre .switch (c .if1 .left), s .pre .small)
@@ -23,7 +23,7 @@ marked-children-requires c κs = let s = c .before .before .before .before .befo
 returns-2 : tie.Need-returns-2
 returns-2 c =
     let a = c .before .before .before .before .before .before .args in
-    scopeHere-children (a .w .now) (a .last .now) (column (a .c) (a .sets .now)) (a .c) (a .k) (c .marked-children .result) (c .before .if1 .left) (c .marked-children .ensures)
+    scopeHere-children (a .work .now) (a .last .now) (column (a .c) (a .sets .now)) (a .c) (a .k) (c .marked-children .result) (c .before .if1 .left) (c .marked-children .ensures)
 
 pub is-scope-spec : {M : Type 1} → statement M
 is-scope-spec =

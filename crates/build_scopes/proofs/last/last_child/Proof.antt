@@ -13,7 +13,7 @@ add-case-child c =
     let a = c .before .before .before .before .before .args in
     let x = c .before .before .before .children-of .result in
     let e = c .before .before .before .children-of .ensures in
-    let n = cases-run (a .w .now) (a .k) (a .nodes) x e (c .before .before .before .before .before .pre) in
+    let n = cases-run (a .work .now) (a .k) (a .nodes) x e (c .before .before .before .before .before .pre) in
     omega (arith, n .1)
 
 sub-case-child : tie.Need-sub-case-child
@@ -21,7 +21,7 @@ sub-case-child c =
     let a = c .before .before .before .before .before .args in
     let x = c .before .before .before .children-of .result in
     let e = c .before .before .before .children-of .ensures in
-    let n = cases-run (a .w .now) (a .k) (a .nodes) x e (c .before .before .before .before .before .pre) in
+    let n = cases-run (a .work .now) (a .k) (a .nodes) x e (c .before .before .before .before .before .pre) in
     omega (arith, n .0)
 
 case-child-requires : tie.Need-case-child-requires
@@ -29,7 +29,7 @@ case-child-requires c κs =
     let a = c .before .before .before .before .before .args in
     let x = c .before .before .before .children-of .result in
     let e = c .before .before .before .children-of .ensures in
-    let n = cases-run (a .w .now) (a .k) (a .nodes) x e (c .before .before .before .before .before .pre) in
+    let n = cases-run (a .work .now) (a .k) (a .nodes) x e (c .before .before .before .before .before .pre) in
     (c .before .before .before .before .before .pre .cases .room, omega (arith, n .0, n .1))
 
 cast-result : tie.Need-cast-result
@@ -40,7 +40,7 @@ returns c =
     let a = c .before .before .before .before .before .before .args in
     let x = c .before .before .before .before .children-of .result in
     let e = c .before .before .before .before .children-of .ensures in
-    lastChild-case (a .w .now) (a .k) (a .nodes) x e (c .case-child .result) (c .before .before .if1 .taken) (c .case-child .ensures)
+    lastChild-case (a .work .now) (a .k) (a .nodes) x e (c .case-child .result) (c .before .before .if1 .taken) (c .case-child .ensures)
 
 sub-result : tie.Need-sub-result
 sub-result c = search needs
@@ -50,7 +50,7 @@ returns-2 c =
     let a = c .before .before .before .before .before .args in
     let x = c .before .before .before .children-of .result in
     let e = c .before .before .before .children-of .ensures in
-    lastChild-default (a .w .now) (a .k) (a .nodes) x e (c .before .if1 .left)
+    lastChild-default (a .work .now) (a .k) (a .nodes) x e (c .before .if1 .left)
 
 pub last-child-spec : {M : Type 1} → statement M
 last-child-spec =

@@ -20,7 +20,7 @@ returns : tie.Need-returns
 returns c =
     let a = c .before .before .before .before .before .args in
     let kind = c .before .before .node-kind in
-    lastOf-leaf (a .w .now) (a .k) (kind .result) (kind .ensures) (a .last .now) (c .node-word .result) (c .before .if1 .taken) (c .node-word .ensures)
+    lastOf-leaf (a .work .now) (a .k) (kind .result) (kind .ensures) (a .last .now) (c .node-word .result) (c .before .if1 .taken) (c .node-word .ensures)
 
 last-child-requires : tie.Need-last-child-requires
 last-child-requires c κs = c .before .before .before .before .pre .switch (λ x. c .if1 .left (c .before .node-kind .ensures ∙ x))
@@ -28,13 +28,13 @@ last-child-requires c κs = c .before .before .before .before .pre .switch (λ x
 shared-slice-read-result : tie.Need-shared-slice-read-result
 shared-slice-read-result c =
     let s = c .before .before .before .before .before .before in
-    omega (arith, lastChild-inside (s .args .w .now) (s .args .k) (length (s .args .last .now)) (s .pre .switch (λ x. c .before .before .if1 .left (c .before .before .before .node-kind .ensures ∙ x))), c .before .last-child .ensures)
+    omega (arith, lastChild-inside (s .args .work .now) (s .args .k) (length (s .args .last .now)) (s .pre .switch (λ x. c .before .before .if1 .left (c .before .before .before .node-kind .ensures ∙ x))), c .before .last-child .ensures)
 
 returns-2 : tie.Need-returns-2
 returns-2 c =
     let a = c .before .before .before .before .before .before .args in
     let kind = c .before .before .before .node-kind in
-    lastOf-switch (a .w .now) (a .k) (kind .result) (kind .ensures) (a .last .now) (c .before .last-child .result) (c .before .before .if1 .left) (c .before .last-child .ensures)
+    lastOf-switch (a .work .now) (a .k) (kind .result) (kind .ensures) (a .last .now) (c .before .last-child .result) (c .before .before .if1 .left) (c .before .last-child .ensures)
 
 pub last-of-spec : {M : Type 1} → statement M
 last-of-spec =

@@ -29,7 +29,7 @@ last-of-requires c κs =
     let s = c .before .before .before .before .before in
     let l = c .before .before .loop in
     let h = s .pre .0 in
-    node-inside (s .args .w .now) (h .tree) (h .ready) (l .k - 1) (omega (arith, h .count, l .inv .0, c .before .loop-test .taken)) (length (l .last)) (omega (arith, h .count, l .inv .1, s .pre .1))
+    node-inside (s .args .work .now) (h .tree) (h .ready) (l .k - 1) (omega (arith, h .count, l .inv .0, c .before .loop-test .taken)) (length (l .last)) (omega (arith, h .count, l .inv .1, s .pre .1))
 
 slice-write-last : tie.Need-slice-write-last Inv-loop μ-loop
 slice-write-last c = omega (arith, c .before .before .before .loop .inv .0, c .before .before .before .loop .inv .1, c .before .before .before .before .before .before .pre .1, c .before .before .loop-test .taken)
@@ -45,7 +45,7 @@ loop-again c =
       omega (arith, l .inv .0),
       simp length-set (l .inv .1),
       λ h.
-          last-more (s .args .w .now) (h .tree) (h .ready) (l .k - 1) (omega (arith, h .count, l .inv .0, c .before .before .loop-test .taken)) (l .last) (c .last-of .result) (omega (arith, l .inv .0, l .inv .1, s .pre .1, c .before .before .loop-test .taken)) (c .last-of .ensures) (subst (λ z. LastMarked (h .tree) z (l .last)) (sym down) (l .inv .2 h)),
+          last-more (s .args .work .now) (h .tree) (h .ready) (l .k - 1) (omega (arith, h .count, l .inv .0, c .before .before .loop-test .taken)) (l .last) (c .last-of .result) (omega (arith, l .inv .0, l .inv .1, s .pre .1, c .before .before .loop-test .taken)) (c .last-of .ensures) (subst (λ z. LastMarked (h .tree) z (l .last)) (sym down) (l .inv .2 h)),
     )
 
 same-length : tie.Need-same-length Inv-loop μ-loop

@@ -14,35 +14,35 @@ marked-default-requires c κs =
     let a = c .before .before .before .args in
     let x = c .children-of .result in
     let e = c .children-of .ensures in
-    (default-asked (a .w .now) (a .k) (length (a .sets .now)) x e (c .before .before .before .pre .0), c .before .before .before .pre .1)
+    (default-asked (a .work .now) (a .k) (length (a .sets .now)) x e (c .before .before .before .pre .0), c .before .before .before .pre .1)
 
 sub-result : tie.Need-sub-result
 sub-result c =
     let a = c .before .before .before .before .before .before .args in
     let x = c .before .before .before .children-of .result in
     let e = c .before .before .before .children-of .ensures in
-    default-there (a .w .now) (a .k) (length (a .sets .now)) x e (column (a .c) (a .sets .now)) (c .before .before .marked-default .result) (c .before .before .marked-default .ensures) (c .before .if1 .taken)
+    default-there (a .work .now) (a .k) (length (a .sets .now)) x e (column (a .c) (a .sets .now)) (c .before .before .marked-default .result) (c .before .before .marked-default .ensures) (c .before .if1 .taken)
 
 returns : tie.Need-returns
 returns c =
     let a = c .before .before .before .before .before .before .args in
     let x = c .before .before .before .children-of .result in
     let e = c .before .before .before .children-of .ensures in
-    firstChild-default (a .w .now) (a .k) (length (a .sets .now)) x e (column (a .c) (a .sets .now)) (c .before .before .marked-default .result) (c .before .before .marked-default .ensures) (c .before .if1 .taken)
+    firstChild-default (a .work .now) (a .k) (length (a .sets .now)) x e (column (a .c) (a .sets .now)) (c .before .before .marked-default .result) (c .before .before .marked-default .ensures) (c .before .if1 .taken)
 
 first-marked-requires : tie.Need-first-marked-requires
 first-marked-requires c κs =
     let a = c .before .before .before .before .before .args in
     let x = c .before .before .children-of .result in
     let e = c .before .before .children-of .ensures in
-    (cases-asked (a .w .now) (a .k) (length (a .sets .now)) x e (c .before .before .before .before .before .pre .0), c .before .before .before .before .before .pre .1)
+    (cases-asked (a .work .now) (a .k) (length (a .sets .now)) x e (c .before .before .before .before .before .pre .0), c .before .before .before .before .before .pre .1)
 
 returns-2 : tie.Need-returns-2
 returns-2 c =
     let a = c .before .before .before .before .before .before .args in
     let x = c .before .before .before .children-of .result in
     let e = c .before .before .before .children-of .ensures in
-    firstChild-case (a .w .now) (a .k) (length (a .sets .now)) x e (column (a .c) (a .sets .now)) (c .before .before .marked-default .result) (c .first-marked .result) (c .before .before .marked-default .ensures) (c .before .if1 .left) (c .first-marked .ensures)
+    firstChild-case (a .work .now) (a .k) (length (a .sets .now)) x e (column (a .c) (a .sets .now)) (c .before .before .marked-default .result) (c .first-marked .result) (c .before .before .marked-default .ensures) (c .before .if1 .left) (c .first-marked .ensures)
 
 pub first-child-spec : {M : Type 1} → statement M
 first-child-spec =

@@ -16,7 +16,7 @@ abbrev μ-loop : tie.MeasureT-loop
 μ-loop w i n c sets j₀ j = n - j
 
 loop-holds : tie.Need-loop-holds Inv-loop μ-loop
-loop-holds c = let a = c .before .before .args in (omega arith, firstMarked-start (a .w .now) (column (a .c) (a .sets .now)) (a .i) (a .n))
+loop-holds c = let a = c .before .before .args in (omega arith, firstMarked-start (a .work .now) (column (a .c) (a .sets .now)) (a .i) (a .n))
 
 add-case-child : tie.Need-add-case-child Inv-loop μ-loop
 add-case-child c = search needs
@@ -42,7 +42,7 @@ returns c =
     let l = c .before .before .before .before .before .loop in
     let child = c .before .before .before .case-child in
     let mark = c .before .mark-of in
-    firstMarked-found (a .w .now) (column (a .c) (a .sets .now)) (a .i) (a .n) (l .j) (child .result) (c .before .before .before .before .loop-test .taken) (child .ensures) (sym (column-read (a .c) (a .sets .now) (child .result) (mark .result) (mark .ensures)) ∙ c .if1 .taken) ∙ l .inv .1
+    firstMarked-found (a .work .now) (column (a .c) (a .sets .now)) (a .i) (a .n) (l .j) (child .result) (c .before .before .before .before .loop-test .taken) (child .ensures) (sym (column-read (a .c) (a .sets .now) (child .result) (mark .result) (mark .ensures)) ∙ c .if1 .taken) ∙ l .inv .1
 
 add-j : tie.Need-add-j Inv-loop μ-loop
 add-j c = search needs
@@ -56,13 +56,13 @@ loop-again c =
     let l = c .before .before .before .before .before .loop in
     let child = c .before .before .before .case-child in
     let mark = c .before .mark-of in
-    (omega arith, firstMarked-on (a .w .now) (column (a .c) (a .sets .now)) (a .i) (a .n) (l .j) (child .result) (c .before .before .before .before .loop-test .taken) (child .ensures) (λ x. c .if1 .left (column-read (a .c) (a .sets .now) (child .result) (mark .result) (mark .ensures) ∙ x)) ∙ l .inv .1)
+    (omega arith, firstMarked-on (a .work .now) (column (a .c) (a .sets .now)) (a .i) (a .n) (l .j) (child .result) (c .before .before .before .before .loop-test .taken) (child .ensures) (λ x. c .if1 .left (column-read (a .c) (a .sets .now) (child .result) (mark .result) (mark .ensures) ∙ x)) ∙ l .inv .1)
 
 returns-2 : tie.Need-returns-2 Inv-loop μ-loop
 returns-2 c =
     let a = c .before .before .before .before .args in
     let l = c .before .loop in
-    firstMarked-end (a .w .now) (column (a .c) (a .sets .now)) (a .i) (a .n) (l .j) (c .loop-test .left) ∙ l .inv .1
+    firstMarked-end (a .work .now) (column (a .c) (a .sets .now)) (a .i) (a .n) (l .j) (c .loop-test .left) ∙ l .inv .1
 
 pub first-marked-spec : {M : Type 1} → statement M
 first-marked-spec =

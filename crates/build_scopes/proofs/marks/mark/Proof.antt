@@ -29,7 +29,7 @@ node-set-requires c κs =
     let s = c .before .before .before .before .before in
     let l = c .before .before .loop in
     let h = s .pre .0 in
-    node-inside (s .args .w .now) (h .tree) (h .ready) (l .k - 1) (omega (arith, h .count, l .inv .0, c .before .loop-test .taken)) (length (l .sets)) (omega (arith, h .count, l .inv .1, s .pre .1))
+    node-inside (s .args .work .now) (h .tree) (h .ready) (l .k - 1) (omega (arith, h .count, l .inv .0, c .before .loop-test .taken)) (length (l .sets)) (omega (arith, h .count, l .inv .1, s .pre .1))
 
 mul-sets : tie.Need-mul-sets Inv-loop μ-loop
 mul-sets c = search needs
@@ -48,7 +48,7 @@ loop-again c =
       omega (arith, l .inv .0),
       simp length-set (l .inv .1),
       λ h.
-          sets-more (s .args .w .now) (h .tree) (h .ready) (l .k - 1) (omega (arith, h .count, l .inv .0, c .before .before .loop-test .taken)) (l .sets) (c .node-set .result) (omega (arith, l .inv .0, l .inv .1, s .pre .1, c .before .before .loop-test .taken)) (c .node-set .ensures) (subst (λ z. SetsMarked (h .tree) z (l .sets)) (sym down) (l .inv .2 h)),
+          sets-more (s .args .work .now) (h .tree) (h .ready) (l .k - 1) (omega (arith, h .count, l .inv .0, c .before .before .loop-test .taken)) (l .sets) (c .node-set .result) (omega (arith, l .inv .0, l .inv .1, s .pre .1, c .before .before .loop-test .taken)) (c .node-set .ensures) (subst (λ z. SetsMarked (h .tree) z (l .sets)) (sym down) (l .inv .2 h)),
     )
 
 same-length : tie.Need-same-length Inv-loop μ-loop

@@ -18,7 +18,7 @@ abbrev μ-loop : tie.MeasureT-loop
 μ-loop w i n c sets count₀ j₀ count j = n - j
 
 loop-holds : tie.Need-loop-holds Inv-loop μ-loop
-loop-holds c = let a = c .before .before .args in (omega arith, omega (arith, markedCases-start (a .w .now) (column (a .c) (a .sets .now)) (a .i) (a .n)), omega arith)
+loop-holds c = let a = c .before .before .args in (omega arith, omega (arith, markedCases-start (a .work .now) (column (a .c) (a .sets .now)) (a .i) (a .n)), omega arith)
 
 add-case-child : tie.Need-add-case-child Inv-loop μ-loop
 add-case-child c = search needs
@@ -56,7 +56,7 @@ loop-again c =
     let child = c .before .before .case-child in
     let mark = c .mark-of in (
       omega arith,
-      markedCases-next (a .w .now) (column (a .c) (a .sets .now)) (a .i) (a .n) (l .j) (child .result) (mark .result) (l .count) (markedCases (a .w .now) (column (a .c) (a .sets .now)) (a .i) (a .n)) (c .before .before .before .loop-test .taken) (child .ensures) (column-read (a .c) (a .sets .now) (child .result) (mark .result) (mark .ensures)) (l .inv .1),
+      markedCases-next (a .work .now) (column (a .c) (a .sets .now)) (a .i) (a .n) (l .j) (child .result) (mark .result) (l .count) (markedCases (a .work .now) (column (a .c) (a .sets .now)) (a .i) (a .n)) (c .before .before .before .loop-test .taken) (child .ensures) (column-read (a .c) (a .sets .now) (child .result) (mark .result) (mark .ensures)) (l .inv .1),
       omega (arith, mark .ensures, bitAt-most (a .c) (getD (a .sets .now) (child .result) 0), l .inv .2),
     )
 
@@ -64,7 +64,7 @@ returns : tie.Need-returns Inv-loop μ-loop
 returns c =
     let a = c .before .before .before .before .args in
     let l = c .before .loop in
-    markedCases-end (a .w .now) (column (a .c) (a .sets .now)) (a .i) (a .n) (l .j) (l .count) (markedCases (a .w .now) (column (a .c) (a .sets .now)) (a .i) (a .n)) (c .loop-test .left) (l .inv .1)
+    markedCases-end (a .work .now) (column (a .c) (a .sets .now)) (a .i) (a .n) (l .j) (l .count) (markedCases (a .work .now) (column (a .c) (a .sets .now)) (a .i) (a .n)) (c .loop-test .left) (l .inv .1)
 
 pub marked-cases-spec : {M : Type 1} → statement M
 marked-cases-spec =

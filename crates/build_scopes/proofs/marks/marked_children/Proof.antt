@@ -16,21 +16,21 @@ marked-cases-requires c κs =
     let a = c .before .before .before .args in
     let x = c .children-of .result in
     let e = c .children-of .ensures in
-    (cases-asked (a .w .now) (a .k) (length (a .sets .now)) x e (c .before .before .before .pre .0), c .before .before .before .pre .1)
+    (cases-asked (a .work .now) (a .k) (length (a .sets .now)) x e (c .before .before .before .pre .0), c .before .before .before .pre .1)
 
 marked-default-requires : tie.Need-marked-default-requires
 marked-default-requires c κs =
     let a = c .before .before .before .before .args in
     let x = c .before .children-of .result in
     let e = c .before .children-of .ensures in
-    (default-asked (a .w .now) (a .k) (length (a .sets .now)) x e (c .before .before .before .before .pre .0), c .before .before .before .before .pre .1)
+    (default-asked (a .work .now) (a .k) (length (a .sets .now)) x e (c .before .before .before .before .pre .0), c .before .before .before .before .pre .1)
 
 add-result : tie.Need-add-result
 add-result c =
     let a = c .before .before .before .before .before .args in
     let x = c .before .before .children-of .result in
     let e = c .before .before .children-of .ensures in
-    let n = markedChildren-small (a .w .now) (a .k) (length (a .sets .now)) x e (column (a .c) (a .sets .now)) (c .before .marked-cases .result) (c .marked-default .result) (c .before .before .before .before .before .pre .0) (column-most (a .c) (a .sets .now)) (c .before .marked-cases .ensures) (c .marked-default .ensures) in
+    let n = markedChildren-small (a .work .now) (a .k) (length (a .sets .now)) x e (column (a .c) (a .sets .now)) (c .before .marked-cases .result) (c .marked-default .result) (c .before .before .before .before .before .pre .0) (column-most (a .c) (a .sets .now)) (c .before .marked-cases .ensures) (c .marked-default .ensures) in
     omega arith
 
 returns : tie.Need-returns
@@ -38,7 +38,7 @@ returns c =
     let a = c .before .before .before .before .before .args in
     let x = c .before .before .children-of .result in
     let e = c .before .before .children-of .ensures in
-    markedChildren-is (a .w .now) (a .k) (length (a .sets .now)) x e (column (a .c) (a .sets .now)) (c .before .marked-cases .result) (c .marked-default .result) (c .before .marked-cases .ensures) (c .marked-default .ensures)
+    markedChildren-is (a .work .now) (a .k) (length (a .sets .now)) x e (column (a .c) (a .sets .now)) (c .before .marked-cases .result) (c .marked-default .result) (c .before .marked-cases .ensures) (c .marked-default .ensures)
 
 pub marked-children-spec : {M : Type 1} → statement M
 marked-children-spec =

@@ -26,7 +26,7 @@ returns c =
     let a = s .args in
     let kind = c .before .before .node-kind in
     let small = s .pre .clause (sym (kind .ensures) ∙ c .before .if1 .taken) in
-    nodeSet-leaf (a .w .now) (a .sets .now) (a .k) (kind .result) (kind .ensures) (c .node-word .result) (c .before .if1 .taken) (c .node-word .ensures) (omega (arith, small, c .node-word .ensures))
+    nodeSet-leaf (a .work .now) (a .sets .now) (a .k) (kind .result) (kind .ensures) (c .node-word .result) (c .before .if1 .taken) (c .node-word .ensures) (omega (arith, small, c .node-word .ensures))
 
 children-of-requires : tie.Need-children-of-requires
 children-of-requires c κs = search needs
@@ -36,14 +36,14 @@ default-set-requires c κs =
     let s = c .before .before .before .before .before in
     let a = s .args in
     let x = c .children-of in
-    default-asked (a .w .now) (a .k) (length (a .sets .now)) (x .result) (x .ensures) (s .pre .switch (λ z. c .before .if1 .left (c .before .before .node-kind .ensures ∙ z)))
+    default-asked (a .work .now) (a .k) (length (a .sets .now)) (x .result) (x .ensures) (s .pre .switch (λ z. c .before .if1 .left (c .before .before .node-kind .ensures ∙ z)))
 
 union-cases-requires : tie.Need-union-cases-requires
 union-cases-requires c κs =
     let s = c .before .before .before .before .before .before in
     let a = s .args in
     let x = c .before .children-of in
-    cases-asked (a .w .now) (a .k) (length (a .sets .now)) (x .result) (x .ensures) (s .pre .switch (λ z. c .before .before .if1 .left (c .before .before .before .node-kind .ensures ∙ z)))
+    cases-asked (a .work .now) (a .k) (length (a .sets .now)) (x .result) (x .ensures) (s .pre .switch (λ z. c .before .before .if1 .left (c .before .before .before .node-kind .ensures ∙ z)))
 
 returns-2 : tie.Need-returns-2
 returns-2 c =
@@ -51,7 +51,7 @@ returns-2 c =
     let kind = c .before .before .before .before .node-kind in
     let x = c .before .before .children-of in
     let d = c .before .default-set in
-    nodeSet-switch (a .w .now) (a .sets .now) (a .k) (kind .result) (kind .ensures) (x .result) (d .result) (c .union-cases .result) (c .before .before .before .if1 .left) (x .ensures) (d .ensures) (c .union-cases .ensures)
+    nodeSet-switch (a .work .now) (a .sets .now) (a .k) (kind .result) (kind .ensures) (x .result) (d .result) (c .union-cases .result) (c .before .before .before .if1 .left) (x .ensures) (d .ensures) (c .union-cases .ensures)
 
 pub node-set-spec : {M : Type 1} → statement M
 node-set-spec =

@@ -15,7 +15,7 @@ abbrev μ-loop : tie.MeasureT-loop
 μ-loop w i n all sets set₀ j₀ set j = n - j
 
 loop-holds : tie.Need-loop-holds Inv-loop μ-loop
-loop-holds c = let a = c .before .before .args in (omega arith, union-start (a .w .now) (a .sets .now) (a .i) (a .n) (a .all))
+loop-holds c = let a = c .before .before .args in (omega arith, union-start (a .work .now) (a .sets .now) (a .i) (a .n) (a .all))
 
 add-case-child : tie.Need-add-case-child Inv-loop μ-loop
 add-case-child c = search needs
@@ -43,14 +43,14 @@ loop-again c =
     let a = c .before .before .before .before .before .before .args in
     let l = c .before .before .before .loop in (
       omega arith,
-      union-next (a .w .now) (a .sets .now) (a .i) (a .n) (l .j) (c .before .case-child .result) (l .set) (unionCases (a .w .now) (a .sets .now) (a .i) (a .n) (a .all)) (c .before .before .loop-test .taken) (c .before .case-child .ensures) (l .inv .1),
+      union-next (a .work .now) (a .sets .now) (a .i) (a .n) (l .j) (c .before .case-child .result) (l .set) (unionCases (a .work .now) (a .sets .now) (a .i) (a .n) (a .all)) (c .before .before .loop-test .taken) (c .before .case-child .ensures) (l .inv .1),
     )
 
 returns : tie.Need-returns Inv-loop μ-loop
 returns c =
     let a = c .before .before .before .before .args in
     let l = c .before .loop in
-    union-end (a .w .now) (a .sets .now) (a .i) (a .n) (l .j) (l .set) (unionCases (a .w .now) (a .sets .now) (a .i) (a .n) (a .all)) (c .loop-test .left) (l .inv .1)
+    union-end (a .work .now) (a .sets .now) (a .i) (a .n) (l .j) (l .set) (unionCases (a .work .now) (a .sets .now) (a .i) (a .n) (a .all)) (c .loop-test .left) (l .inv .1)
 
 pub union-cases-spec : {M : Type 1} → statement M
 union-cases-spec =
