@@ -5,3 +5,4 @@ pub mod SheetFacts
 pub mod PatternsLaws
 pub mod PanelFacts
 pub mod TreeFacts
+pub mod WalkRunsLaws

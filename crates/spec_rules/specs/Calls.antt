@@ -9,7 +9,7 @@ use lib.Dec.{eqb, leb, ltb}
 use Rattle.base_words.specs.Words.{both, textAt, zeros}
 use Rattle.spec_rules.specs.Limits.{nodesMost, bindingsMost, treeRoom, workRoom, boundRoom}
 use Rattle.spec_rules.specs.Kinds.{bytesRecord}
-use Rattle.spec_rules.specs.RefusalNumbers.{roomRefusal, nodesRefusal, bindingsRefusal, idleRefusal, panelMisfitRefusal, treeRefusal, stuckRefusal, noTextRefusal}
+use Rattle.spec_rules.specs.RefusalNumbers.{roomRefusal, nodesRefusal, bindingsRefusal, idleRefusal, panelMisfitRefusal, treeRefusal, noTextRefusal}
 use Rattle.spec_rules.specs.Searching.{lowest}
 use Rattle.spec_rules.specs.SheetFile.{clauses, pool}
 use Rattle.spec_rules.specs.Patterns.{Pat, clausePatterns}
@@ -21,6 +21,7 @@ use Rattle.spec_rules.specs.TreeReader.{treeFits, treeOf}
 use Rattle.spec_rules.specs.PanelFile.{records, recordKind, recordFirst, recordCount, panelPoolAt, panelVerdict}
 use Rattle.spec_rules.specs.Fitting.{panelFits}
 use Rattle.spec_rules.specs.Walking.{Bound, Walked, reached, noLeaf, stuck, walk}
+use Rattle.spec_rules.specs.WalkPlaces.{lastNode, stuckStep}
 use Rattle.spec_rules.specs.Meaning.{firstMatch}
 
 -- A call's answer: what it gives, or a refusal with number and place.
@@ -105,7 +106,7 @@ unfolding verdict panelVerdict panelFits
 fitCall s v = andThen (verdict s) (andThen (panelVerdict v) (require (panelFits s v) panelMisfitRefusal accepted))
 
 -- ---- the walk: "a tree, any panel and a binding buffer"
--- 1: "binding buffer under 576 u16"; 31; 21 to 24; 32
+-- 1: "binding buffer under 576 u16"; 31; 21 to 24; 32, whose place is two numbers and which is therefore an end of its own
 unfoldable pub walkRoom : ℕ → Verdict
 walkRoom boundLength = require (leb boundRoom boundLength) roomRefusal accepted
 
@@ -113,15 +114,17 @@ unfoldable pub treeFileVerdict : List ℕ → Verdict
 unfolding treeFits
 treeFileVerdict t = require (treeFits t) treeRefusal accepted
 
+-- at a leaf its clause and how many bindings; of 32 the node and the step
 pub data WalkEnd : Type 0 where
   leafOf : ℕ → ℕ → WalkEnd
   withoutLeaf : WalkEnd
+  stuckAt : ℕ → ℕ → WalkEnd
 
--- at a leaf its clause and how many bindings
-unfoldable pub walkEnd : Walked → Answer WalkEnd
-walkEnd (reached c xs) = answers (leafOf c (length xs))
-walkEnd noLeaf = answers withoutLeaf
-walkEnd stuck = refuses stuckRefusal 0
+unfoldable pub walkEnd : List ℕ → List ℕ → Walked → WalkEnd
+unfolding lastNode stuckStep
+walkEnd t v (reached c xs) = leafOf c (length xs)
+walkEnd t v noLeaf = withoutLeaf
+walkEnd t v stuck = stuckAt (lastNode t v) (stuckStep t v (lastNode t v))
 
 unfoldable pub walkAnswer : List ℕ → List ℕ → ℕ → Answer WalkEnd
 unfolding walkRoom treeFileVerdict panelVerdict treeOf walk walkEnd
@@ -129,7 +132,7 @@ walkAnswer t v boundLength =
     unless (walkRoom boundLength)
     (unless (treeFileVerdict t)
     (unless (panelVerdict v)
-    (walkEnd (walk (treeOf t) v))))
+    (answers (walkEnd t v (walk (treeOf t) v)))))
 
 -- "(name, record, dropped) for each binding", "or No leaf with no bindings"
 unfoldable pub boundWords : List Bound → List ℕ

@@ -21,6 +21,8 @@ pub mod PanelFile
 pub mod Fitting
 pub mod Positions
 pub mod Walking
+pub mod WalkPlaces
+pub mod WalkPlacesLaws
 pub mod Meaning
 pub mod Calls
 pub mod Listing

@@ -1,4 +1,5 @@
--- 01, "Proved cases": P1 to P12 over the definitions, from the bytes of sheets and panels; four sheets and a list switch more (P13 to P17), and refusal 1.
+-- 01, "Proved cases": P1 to P12 over the definitions, from the bytes of sheets and panels; four sheets and a list switch more (P13 to P17),
+-- 32 with its place (P18 to P22), and refusal 1.
 -- Each holds by computing; the bytes are in Samples.
 use Prim.Native.Nat.{ℕ, _-_}
 use mathlib.Core.Path.{_≡_, refl}
@@ -10,14 +11,15 @@ use Rattle.spec_rules.specs.Sections.{sheetFileOf, panelFileOf}
 use Rattle.spec_rules.specs.SheetRefusals.{accepted, refused, verdict}
 use Rattle.spec_rules.specs.SheetFile.{subject, typesAt, constructorsAt, entriesAt, patternsAt, childrenAt, clausesAt, poolAt, poolEnd}
 use Rattle.spec_rules.specs.PanelFile.{recordsAt, partsAt, panelPoolAt, panelPoolEnd}
-use Rattle.spec_rules.specs.Rows.{tuple, constr, list, listtail, Path, Binding}
+use Rattle.spec_rules.specs.Rows.{pair, tuple, constr, list, listtail, Path, Binding}
 use Rattle.spec_rules.specs.Splitting.{Constr, Int, ListOf, ListWithTail}
 use Rattle.spec_rules.specs.Building.{Tree, absent, leaf, hoist, switch, listswitch, cnil, ccons}
+use Rattle.spec_rules.specs.TreeFile.{treeFile}
 use Rattle.spec_rules.specs.TreeReader.{treeFits, treeOf}
 use Rattle.spec_rules.specs.Walking.{reached, noLeaf, walk}
-use Rattle.spec_rules.specs.Calls.{answers, refuses, leafOf, withoutLeaf, sheetTree, sheetTreeFile, buildAnswer, fitCall, walkCall, textPart, meaning}
+use Rattle.spec_rules.specs.Calls.{answers, refuses, leafOf, withoutLeaf, stuckAt, sheetTree, sheetTreeFile, buildAnswer, fitCall, walkCall, textPart, meaning}
 use Rattle.spec_rules.specs.Listing.{sheetListing}
-use Rattle.spec_rules.specs.Samples.{sheet1, panel2, panel3, panel4, panel5, sheet6, sheet7, panel7, sheet8, sheet9, sheet10, sheet11, sheet12, sheet13, sheet14, sheet15, sheet16, file1, listing1}
+use Rattle.spec_rules.specs.Samples.{sheet1, panel2, panel3, panel4, panel5, sheet6, sheet7, panel7, panel18, sheet8, sheet9, sheet10, sheet11, sheet12, sheet13, sheet14, sheet15, sheet16, file1, listing1}
 
 -- ---- P1 "this tree"
 abbrev n1 : List Binding
@@ -290,6 +292,45 @@ P17 : walk
     ≡ reached 3 []
 unfolding walk panelFileOf
 P17 = refl
+
+-- ---- 32 says the node and the step; (5,5) is the panel of P19 to P22
+-- at a test on the empty path: an integer at P1's list switch
+P18 : walkCall file1 panel7 boundRoom ≡ record { answer = answers (stuckAt 2 0); bound = zeros 576 }
+unfolding walkCall panelFileOf
+P18 = refl
+
+-- at the first step
+P19 : walkCall (treeFile [] (listswitch (pair 0 0 ∷ []) (ccons (ListOf 0) 0 (leaf 0 []) cnil) cnil absent)) panel18 boundRoom
+    ≡ record { answer = answers (stuckAt 0 0); bound = zeros 576 }
+unfolding walkCall treeFile panelFileOf
+P19 = refl
+
+-- at the second of two steps, with a default that is not taken
+P20 : walkCall (treeFile [] (switch (tuple 1 0 ∷ pair 0 1 ∷ []) (ccons (Constr 0) 0 (leaf 0 []) cnil) (leaf 1 []))) panel18 boundRoom
+    ≡ record { answer = answers (stuckAt 0 1); bound = zeros 576 }
+unfolding walkCall treeFile panelFileOf
+P20 = refl
+
+-- under a hoist, at a leaf's second binding: its first can be followed, and its third sticks at another step
+abbrev n123 : List Binding
+n123 =
+    record { name = 1; path = [] }
+    ∷ record { name = 2; path = tuple 1 0 ∷ pair 0 1 ∷ [] }
+    ∷ record { name = 3; path = pair 0 0 ∷ [] }
+    ∷ []
+
+P21 : walkCall (treeFile [] (hoist 0 n123 (leaf 0 n123))) panel18 boundRoom ≡ record { answer = answers (stuckAt 1 1); bound = zeros 576 }
+unfolding walkCall treeFile panelFileOf
+P21 = refl
+
+-- behind a default, at a test: the default's list switch is reached, and not the first case's
+abbrev part1 : ℕ → Tree
+part1 c = listswitch (tuple 1 0 ∷ []) (ccons (ListOf 0) 0 (leaf c []) cnil) cnil absent
+
+P22 : walkCall (treeFile (49 ∷ []) (switch (tuple 0 0 ∷ []) (ccons (Int (49 ∷ [])) 0 (part1 0) cnil) (part1 1))) panel18 boundRoom
+    ≡ record { answer = answers (stuckAt 3 1); bound = zeros 576 }
+unfolding walkCall treeFile panelFileOf
+P22 = refl
 
 -- ---- refusal 1: a buffer one byte, or one u16, too small
 P1-room : buildAnswer sheet1 65535 workRoom ≡ refuses 1 0

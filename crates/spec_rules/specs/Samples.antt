@@ -414,6 +414,21 @@ sheet15 = sheetFileOf (record {
   subject = 0;
 })
 
+-- one more, for walks that are stuck: (5,5)
+abbrev pub panel18 : List ℕ
+panel18 = panelFileOf (record {
+  records =
+      -- record 0: tuple, parts 1, 2
+      4 ∷ 0 ∷ 0 ∷ 0 ∷ 0 ∷ 0 ∷ 2 ∷ 0 ∷
+      -- record 1: integer 5
+      0 ∷ 0 ∷ 0 ∷ 0 ∷ 0 ∷ 0 ∷ 1 ∷ 0 ∷
+      -- record 2: integer 5
+      0 ∷ 0 ∷ 0 ∷ 0 ∷ 0 ∷ 0 ∷ 1 ∷ 0 ∷ [];
+  parts = 1 ∷ 0 ∷ 2 ∷ 0 ∷ [];
+  -- 5
+  pool = 53 ∷ [];
+})
+
 -- the tree file of P1's sheet
 abbrev pub file1 : List ℕ
 file1 =

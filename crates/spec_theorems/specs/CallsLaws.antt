@@ -12,14 +12,15 @@ use borrow.Author.Tests.{leb-true, le-leb, lt-leb}
 use Rattle.base_words.specs.Words.{both, textAt, zeros}
 use Rattle.base_words.specs.WordsLaws.{both-true, both-make, both-first-false, both-second-false, textAt-append-left, textAt-whole}
 use Rattle.spec_rules.specs.Limits.{treeRoom, workRoom, boundRoom, nodeBindingsMost}
-use Rattle.spec_rules.specs.RefusalNumbers.{roomRefusal, panelMisfitRefusal, treeRefusal, stuckRefusal, noTextRefusal}
+use Rattle.spec_rules.specs.RefusalNumbers.{roomRefusal, panelMisfitRefusal, treeRefusal, noTextRefusal}
 use Rattle.spec_rules.specs.SheetFile.{clauses}
 use Rattle.spec_rules.specs.SheetRefusals.{Verdict, accepted, refused, require, verdict}
 use Rattle.spec_rules.specs.TreeReader.{treeFits, treeOf}
 use Rattle.spec_rules.specs.PanelFile.{panelPoolAt, recordFirst, recordCount, panelVerdict}
 use Rattle.spec_rules.specs.Fitting.{panelFits}
 use Rattle.spec_rules.specs.Walking.{Bound, Walked, reached, noLeaf, stuck, walk}
-use Rattle.spec_rules.specs.Calls.{Answer, answers, refuses, unless, sheetTree, sheetTreeFile, treeVerdict, buildRoom, Built, builtOf, buildAnswer, buildCall, fitCall, walkRoom, treeFileVerdict, leafOf, withoutLeaf, walkEnd, walkAnswer, boundWords, walkedWords, walkCall, hasText, textCall}
+use Rattle.spec_rules.specs.WalkPlaces.{lastNode, stuckStep}
+use Rattle.spec_rules.specs.Calls.{Answer, answers, refuses, unless, sheetTree, sheetTreeFile, treeVerdict, buildRoom, Built, builtOf, buildAnswer, buildCall, fitCall, walkRoom, treeFileVerdict, leafOf, withoutLeaf, stuckAt, walkEnd, walkAnswer, boundWords, walkedWords, walkCall, hasText, textCall}
 use Rattle.spec_theorems.specs.Said.{Builds, Fits, WalkEnds, at-a-leaf, without-leaf, with-32}
 
 -- ---- an answer is no refusal
@@ -168,18 +169,21 @@ module _ (t v : List ℕ) (n : ℕ) where
   walk-panel l e number place f = rw (le-leb boundRoom n l, e, f)
 
   module _ (room : boundRoom ≤ n) (fits : treeFits t ≡ true) (panel : panelVerdict v ≡ accepted) where
-    pub walk-answers : walkAnswer t v n ≡ walkEnd (walk (treeOf t) v)
+    pub walk-answers : walkAnswer t v n ≡ answers (walkEnd t v (walk (treeOf t) v))
     unfolding walkAnswer walkRoom treeFileVerdict
     walk-answers = rw (le-leb boundRoom n room, fits, panel)
 
+    walk-answers-end : (w : Walked) → walk (treeOf t) v ≡ w → walkAnswer t v n ≡ answers (walkEnd t v w)
+    walk-answers-end w e = walk-answers ∙ ap (λ (u : Walked). answers (walkEnd t v u)) e
+
     pub walk-reached : (c : ℕ) (xs : List Bound) → walk (treeOf t) v ≡ reached c xs → walkAnswer t v n ≡ answers (leafOf c (length xs))
-    walk-reached c xs e = walk-answers ∙ ap walkEnd e ∙ unfold walkEnd in refl
+    walk-reached c xs e = walk-answers-end (reached c xs) e ∙ unfold walkEnd in refl
 
     pub walk-without : walk (treeOf t) v ≡ noLeaf → walkAnswer t v n ≡ answers withoutLeaf
-    walk-without e = walk-answers ∙ ap walkEnd e ∙ unfold walkEnd in refl
+    walk-without e = walk-answers-end noLeaf e ∙ unfold walkEnd in refl
 
-    pub walk-stuck : walk (treeOf t) v ≡ stuck → walkAnswer t v n ≡ refuses stuckRefusal 0
-    walk-stuck e = walk-answers ∙ ap walkEnd e ∙ unfold walkEnd in refl
+    pub walk-stuck : walk (treeOf t) v ≡ stuck → walkAnswer t v n ≡ answers (stuckAt (lastNode t v) (stuckStep t v (lastNode t v)))
+    walk-stuck e = walk-answers-end stuck e ∙ unfold walkEnd in refl
 
     pub walk-writes : (c : ℕ) (xs : List Bound) → walk (treeOf t) v ≡ reached c xs → (walkCall t v n) .bound ≡ boundWords xs ++ zeros (n - 3 * length xs)
     unfolding walkCall walkedWords
@@ -188,6 +192,9 @@ module _ (t v : List ℕ) (n : ℕ) where
     no-words : zeros (n - 0) ≡ zeros n
     no-words = let e : n - 0 ≡ n = omega arith in ap zeros e
 
+    pub walk-stuck-writes : walk (treeOf t) v ≡ stuck → (walkCall t v n) .bound ≡ zeros n
+    walk-stuck-writes e = unfold walkCall walkedWords in rw (walk-stuck e, e) no-words
+
     -- LEMMA
     pub walk-ends : WalkEnds t v n
     walk-ends = go (walk (treeOf t) v) refl
@@ -195,13 +202,10 @@ module _ (t v : List ℕ) (n : ℕ) where
         without : walk (treeOf t) v ≡ noLeaf → (walkCall t v n) .bound ≡ zeros n
         without e = unfold walkCall walkedWords in rw (walk-without e, e) no-words
 
-        refused-32 : walk (treeOf t) v ≡ stuck → (walkCall t v n) .bound ≡ zeros n
-        refused-32 e = unfold walkCall in rw (walk-stuck e)
-
         go : (w : Walked) → walk (treeOf t) v ≡ w → WalkEnds t v n
         go (reached c xs) e = at-a-leaf c xs e (walk-reached c xs e) (walk-writes c xs e)
         go noLeaf e = without-leaf e (walk-without e) (without e)
-        go stuck e = with-32 e (walk-stuck e) (refused-32 e)
+        go stuck e = with-32 e (walk-stuck e) (walk-stuck-writes e)
 
   -- a refusal leaves zeros
   pub walk-refused-writes : (number place : ℕ) → walkAnswer t v n ≡ refuses number place → (walkCall t v n) .bound ≡ zeros n

@@ -3,26 +3,30 @@
 use Prim.Native.Nat.{ℕ, _+_, _-_, _*_, _≤_, _<_}
 use mathlib.Core.Path.{_≡_}
 use mathlib.Core.Bool.{Bool, true, false}
+use mathlib.Core.Logic.{_⊎_}
 use mathlib.Core.List.{List, [], _∷_, _++_}
+use mathlib.Core.Option.{none, some}
 use lib.Dec.{eqb}
 use lib.ListN.{length}
 use Rattle.spec_rules.specs.Limits.{nodesMost, bindingsMost, treeRoom}
 use Rattle.spec_rules.specs.Kinds.{listRecord}
-use Rattle.spec_rules.specs.RefusalNumbers.{stuckRefusal}
 use Rattle.base_words.specs.Words.{zeros}
 use Rattle.spec_rules.specs.SearchingLaws.{Lowest}
 use Rattle.spec_rules.specs.SheetFile.{types, patterns, clauses}
 use Rattle.spec_rules.specs.Patterns.{clausePattern, names}
-use Rattle.spec_rules.specs.Rows.{Binding, bit}
+use Rattle.spec_rules.specs.Rows.{Step, Path, Binding, bit}
 use Rattle.spec_rules.specs.SheetRefusals.{isIn, lengthFits, layoutFits, hasClause, countsFit, typesFit, transparent, shapeFits, badText, misfit, nameTwice, verdict, accepted}
+use Rattle.spec_rules.specs.Splitting.{Test}
+use Rattle.spec_rules.specs.SplittingLaws.{All}
 use Rattle.spec_rules.specs.Building.{Tree}
 use Rattle.spec_rules.specs.Hoisting.{nodesIn, bindingsIn, hasLeaf}
-use Rattle.spec_rules.specs.TreeReader.{nodes, bindings, treeOf}
+use Rattle.spec_rules.specs.TreeReader.{nodes, bindings, nodeKind, nodePath, nodeFirstCase, nodeClause, nodeFirstBinding, nodeBindings, caseKind, Switch, List-switch, Leaf, nodeKindOf, nodeChildren, pathAt, bindingsFrom, nodeFor, treeBelow, treeOf}
 use Rattle.spec_rules.specs.PanelFile.{records, recordKind, recordCount, panelLengthFits, panelLayoutFits, panelShapeFits, panelTextsFit, panelVerdict}
 use Rattle.spec_rules.specs.Fitting.{panelFits}
-use Rattle.spec_rules.specs.Walking.{Position, Bound, panelRoot, Walked, reached, noLeaf, stuck, walk}
+use Rattle.spec_rules.specs.Walking.{Position, Bound, panelRoot, takeStep, follow, bound, Walked, reached, noLeaf, stuck, shownAt, testKind, walk}
+use Rattle.spec_rules.specs.WalkPlaces.{lastNode, stuckStep}
 use Rattle.spec_rules.specs.Meaning.{matches, gives}
-use Rattle.spec_rules.specs.Calls.{answers, refuses, sheetTree, sheetTreeFile, treeVerdict, Built, leafOf, withoutLeaf, walkAnswer, boundWords, walkCall}
+use Rattle.spec_rules.specs.Calls.{answers, sheetTree, sheetTreeFile, treeVerdict, Built, leafOf, withoutLeaf, stuckAt, walkAnswer, boundWords, walkCall}
 use Rattle.spec_match.specs.Bindings.{SameUpToOrder, allBindings}
 
 -- ---- sheets and panels
@@ -76,12 +80,66 @@ pub record InPanel (v : List ℕ) (x : Position) : Type 0 where
   pub most : x .dropped ≤ recordCount v (x .place)
   pub of-list : (recordKind v (x .place) ≡ listRecord → ⊥) → x .dropped ≡ 0
 
--- ---- how a walk call ends where 1, 31 and 21 to 24 are not given: at a leaf, without one, or with 32; with what it writes
+-- ---- how a walk call ends where 1, 31 and 21 to 24 are not given: at a leaf, without one, or with 32 and its place; with what it writes
 pub data WalkEnds (t v : List ℕ) (n : ℕ) : Type 0 where
   at-a-leaf : (c : ℕ) (xs : List Bound) → walk (treeOf t) v ≡ reached c xs → walkAnswer t v n ≡ answers (leafOf c (length xs))
       → (walkCall t v n) .bound ≡ boundWords xs ++ zeros (n - 3 * length xs) → WalkEnds t v n
   without-leaf : walk (treeOf t) v ≡ noLeaf → walkAnswer t v n ≡ answers withoutLeaf → (walkCall t v n) .bound ≡ zeros n → WalkEnds t v n
-  with-32 : walk (treeOf t) v ≡ stuck → walkAnswer t v n ≡ refuses stuckRefusal 0 → (walkCall t v n) .bound ≡ zeros n → WalkEnds t v n
+  with-32 : walk (treeOf t) v ≡ stuck → walkAnswer t v n ≡ answers (stuckAt (lastNode t v) (stuckStep t v (lastNode t v)))
+      → (walkCall t v n) .bound ≡ zeros n → WalkEnds t v n
+
+-- ---- 32's place: "the number of the step that could not be taken (from 0; a test on a wrong kind of part counts as the path's length)"
+-- step n of path p is the one that cannot be taken from x on: the n steps before it can
+pub record StepFails (v : List ℕ) (p : Path) (x : Position) (n : ℕ) : Type 0 where
+  pub before : Path
+  pub step : Step
+  pub after : Path
+  pub from : Position
+  pub is-path : p ≡ before ++ (step ∷ after)
+  pub its-number : length before ≡ n
+  pub taken : follow v before x ≡ some from
+  pub not-taken : takeStep v step from ≡ none
+
+-- the part at x is not of the kind that node k tests: it shows no test of the kind of the switch's cases, which are all alike; or it is
+-- no list, and the node is a list switch
+pub data WrongKind (t v : List ℕ) (k : ℕ) (x : Position) : Type 0 where
+  not-of-its-cases : nodeKindOf (nodeKind t k) ≡ Switch
+      → ((u : Test) → shownAt v x ≡ some u → testKind u ≡ caseKind t (nodeFirstCase t k) → ⊥) → WrongKind t v k x
+  no-list : nodeKindOf (nodeKind t k) ≡ List-switch → (recordKind v (x .place) ≡ listRecord → ⊥) → WrongKind t v k x
+
+-- "at a leaf the first binding that sticks decides": all before it can be followed
+pub record BindingFails (v : List ℕ) (bs : List Binding) (n : ℕ) : Type 0 where
+  pub before : List Binding
+  pub binding : Binding
+  pub after : List Binding
+  pub are-bindings : bs ≡ before ++ (binding ∷ after)
+  pub followed : All (λ b. (x : Position) × (follow v (b .path) panelRoot ≡ some x)) before
+  pub fails : StepFails v (binding .path) panelRoot n
+
+-- node k is there and sticks at step n: at its path, at its test, or at one of a leaf's bindings
+pub data StuckThere (t v : List ℕ) (k n : ℕ) : Type 0 where
+  at-a-step : k < nodes t → (nodeKindOf (nodeKind t k) ≡ Switch) ⊎ (nodeKindOf (nodeKind t k) ≡ List-switch)
+      → StepFails v (pathAt t (nodePath t k)) panelRoot n → StuckThere t v k n
+  at-a-test : k < nodes t → (x : Position) → follow v (pathAt t (nodePath t k)) panelRoot ≡ some x → WrongKind t v k x
+      → n ≡ length (pathAt t (nodePath t k)) → StuckThere t v k n
+  at-a-binding : k < nodes t → nodeKindOf (nodeKind t k) ≡ Leaf
+      → BindingFails v (bindingsFrom t (nodeFirstBinding t k) (nodeBindings t k)) n → StuckThere t v k n
+
+-- node k is there and is a leaf of clause c, and following its bindings gives xs
+pub record LeafThere (t v : List ℕ) (k c : ℕ) (xs : List Bound) : Type 0 where
+  pub there : k < nodes t
+  pub is-leaf : nodeKindOf (nodeKind t k) ≡ Leaf
+  pub its-clause : nodeClause t k ≡ c
+  pub its-bindings : bound v (bindingsFrom t (nodeFirstBinding t k) (nodeBindings t k)) ≡ some xs
+
+-- node k leads the walk to node c: c is a child of k and a later node of the file; whatever trees the children of k stand for, the walk
+-- of k is that of c's; and so the walk of the tree below k is that of the tree below c
+pub record LeadsOn (t v : List ℕ) (k c : ℕ) : Type 0 where
+  pub child : isIn c (nodeChildren t k) ≡ true
+  pub later : k < c
+  pub there : c < nodes t
+  pub whatever-below : (f : ℕ → Tree) → walk (nodeFor f t k (nodeKindOf (nodeKind t k))) v ≡ walk (f c) v
+  pub same-walk : walk (treeBelow (nodes t) t k) v ≡ walk (treeBelow (nodes t) t c) v
 
 -- ---- what the build answers is the file's length and the records written
 pub record TellsTheFile (s : List ℕ) (x : Built) : Type 0 where

@@ -8,6 +8,7 @@ use mathlib.Core.Path.{_≡_, sym, ap, _∙_}
 use mathlib.Core.Logic.{_⊎_, _↔_}
 use mathlib.Core.Bool.{true, false, not}
 use mathlib.Core.List.{List, _++_}
+use mathlib.Core.Option.{some}
 use lib.ListN.{length}
 use Rattle.base_words.specs.Words.{Bytes, textAt, zeros}
 use Rattle.spec_rules.specs.Limits.{nodesMost, bindingsMost, treeRoom, workRoom, boundRoom, nodeBindingsMost}
@@ -20,16 +21,17 @@ use Rattle.spec_rules.specs.Columns.{before, columns}
 use Rattle.spec_rules.specs.Splitting.{split, splitByFilters}
 use Rattle.spec_rules.specs.Building.{Tree, treeTo, matrixPlaces, plainTree}
 use Rattle.spec_rules.specs.Hoisting.{nodesIn, bindingsIn, hasLeaf}
-use Rattle.spec_rules.specs.TreeReader.{nodes, bindings, treeFits, treeBelow, treeOf}
+use Rattle.spec_rules.specs.TreeReader.{nodes, bindings, nodeKind, treeFits, nodeKindOf, nodeFor, treeBelow, treeOf}
 use Rattle.spec_rules.specs.PanelFile.{records, panelPoolAt, recordFirst, recordCount, panelLengthFits, panelLayoutFits, panelShapeFits, panelTextsFit, panelVerdict}
 use Rattle.spec_rules.specs.Fitting.{hasTypeTo, panelFits}
 use Rattle.spec_rules.specs.Walking.{Bound, reached, noLeaf, stuck, walk}
+use Rattle.spec_rules.specs.WalkPlaces.{goesOn, lastNode, stuckStep}
 use Rattle.spec_rules.specs.Calls.{answers, refuses, sheetPatterns, sheetTree, sheetTreeFile, treeVerdict, Built, builtOf, buildAnswer, buildCall, fitCall, leafOf, withoutLeaf, walkAnswer, boundWords, walkCall, hasText, textCall, meaning}
 use Rattle.spec_rules.specs.SplittingLaws.{All, split-filters}
 use Rattle.spec_accepted.specs.SheetFacts.{accepted-sheet}
 use Rattle.spec_accepted.specs.PatternsLaws.{pattern-deep}
 use Rattle.spec_accepted.specs.PanelFacts.{accepted-panel, hasType-deep}
-use Rattle.spec_accepted.specs.TreeFacts.{tree-sound, treeBelow-enough}
+use Rattle.spec_accepted.specs.TreeFacts.{tree-sound, tree-length-small, treeBelow-enough}
 use Rattle.spec_hoist.specs.Trees.{hoistsOf, EachHoist, Above, Leaf, leavesOf, Among}
 use Rattle.spec_hoist.specs.WholeTreeLaws.{wholeTree-once, wholeTree-above, wholeTree-hasLeaf, wholeTree-walk}
 use Rattle.spec_match.specs.Tests.{clauseRows-test}
@@ -42,12 +44,13 @@ use Rattle.spec_match.specs.Answers.{SameAnswer}
 use Rattle.spec_match.specs.Typing.{sheet-first-match}
 use Rattle.spec_match.specs.ColumnTypes.{Meets}
 use Rattle.spec_match.specs.SheetColumns.{sheet-columns-ordered}
-use Rattle.spec_theorems.specs.Said.{Builds, Fits, FirstMatch, NoMatch, EndsAt, OfClause, InPanel, WalkEnds, TellsTheFile, Passes2, Passes3, Passes4, Passes5, Passes6, Passes7, Passes8, Passes9, Passes10, Passes11, Passes12, Passes13, Passes14, Passes21, Passes22, Passes23, Passes24}
+use Rattle.spec_theorems.specs.Said.{Builds, Fits, FirstMatch, NoMatch, EndsAt, OfClause, InPanel, WalkEnds, StuckThere, LeafThere, LeadsOn, TellsTheFile, Passes2, Passes3, Passes4, Passes5, Passes6, Passes7, Passes8, Passes9, Passes10, Passes11, Passes12, Passes13, Passes14, Passes21, Passes22, Passes23, Passes24}
 use Rattle.spec_theorems.specs.SheetLeaves.{length-sheetPatterns, each-leaf, sheet-leaves, sheet-hoists}
 use Rattle.spec_theorems.specs.SheetFileLaws.{sheet-file-fits, sheet-file-read, sheet-file-nodes, sheet-file-bindings, sheet-file-small, sheet-file-bytes}
 use Rattle.spec_theorems.specs.Stages.{one-refusal, not-both}
 use Rattle.spec_theorems.specs.Refusals.{sheet-accepted, sheet-numbers, refusal-2, refusal-3, refusal-4, refusal-5, refusal-6, refusal-7, refusal-8, refusal-9, refusal-10, refusal-11, tree-accepted, tree-numbers, refusal-12, refusal-13, refusal-14, panel-accepted, panel-numbers, refusal-21, refusal-22, refusal-23, refusal-24}
 use Rattle.spec_theorems.specs.Positions.{walk-from, length-bound, walk-in-panel, leaves-few}
+use Rattle.spec_theorems.specs.WalkPlaces.{goes-on-leads, last-walk, stuck-there, leaf-there, place-short}
 use Rattle.spec_theorems.specs.FirstMatches.{first-or-none, ends-at, ends-without}
 use Rattle.spec_theorems.specs.CallsLaws.{BuildAnswers, build-room, build-sheet, build-tree, build-answers, build-answers-only, build-writes, build-file, build-refused-writes, fit-sheet, fit-panel, fit-type, fit-accepts, fit-accepts-only, walk-room, walk-tree, walk-panel, walk-reached, walk-without, walk-writes, walk-ends, walk-refused-writes, room-enough, text-panel, text-none, text-answers}
 
@@ -335,7 +338,7 @@ module _ (s v : List ℕ) where
   pub fit-accepts-exactly : (fitCall s v ≡ accepted) ↔ ((verdict s ≡ accepted) × Fits s v)
   fit-accepts-exactly = (fit-accepts-only s v, λ (h, f). fit-accepts s v h f)
 
--- the walk: 1, then 31, then 21 to 24, then 32; else `the-walk-ends` says what it answers
+-- the walk: 1, then 31, then 21 to 24; else `the-walk-ends` says what it answers, 32 with its place among it
 module _ (t v : List ℕ) (n : ℕ) where
   pub walk-refuses-1 : n < boundRoom → walkAnswer t v n ≡ refuses 1 0
   walk-refuses-1 = walk-room t v n
@@ -377,6 +380,29 @@ module _ (t v : List ℕ) (panel : panelVerdict v ≡ accepted) where
     pub the-least-room-is-enough : (c : ℕ) (xs : List Bound) → walk (treeOf t) v ≡ reached c xs → length (boundWords xs) ≤ boundRoom
     the-least-room-is-enough c xs e = room-enough xs (few-are-bound c xs e)
 
-    -- the call ends in one of three ways: at a leaf, without one, with 32
+    -- the call ends in one of three ways: at a leaf, without one, with 32 and its place
     pub the-walk-ends : (n : ℕ) → boundRoom ≤ n → WalkEnds t v n
     the-walk-ends n room = walk-ends t v n room fits panel
+
+-- where it ends, on whatever panel: `lastNode` and `stuckStep` are the place of 32
+module _ (t v : List ℕ) (fits : treeFits t ≡ true) where
+  -- each step is the walk's own: the node that a node goes on to is the one whose walk it is
+  pub each-step-is-the-walks : (k c : ℕ) → k < nodes t → goesOn t v k ≡ some c → LeadsOn t v k c
+  each-step-is-the-walks = goes-on-leads t v (tree-sound t fits)
+
+  -- and the last node goes no further: the walk is its walk, whatever trees its children would stand for
+  pub the-walk-is-the-last-nodes : (f : ℕ → Tree) → walk (treeOf t) v ≡ walk (nodeFor f t (lastNode t v) (nodeKindOf (nodeKind t (lastNode t v)))) v
+  the-walk-is-the-last-nodes = last-walk t v (tree-sound t fits)
+
+  -- the place of 32 is never made up: that node is there and sticks at that step, of its path, at its test, or of the first binding of a
+  -- leaf that cannot be followed
+  pub the-place-is-there : walk (treeOf t) v ≡ stuck → StuckThere t v (lastNode t v) (stuckStep t v (lastNode t v))
+  the-place-is-there = stuck-there t v fits
+
+  -- where a leaf is reached, that node is a leaf of the clause, whose bindings give what the walk answers
+  pub the-leaf-is-there : (c : ℕ) (xs : List Bound) → walk (treeOf t) v ≡ reached c xs → LeafThere t v (lastNode t v) c xs
+  the-leaf-is-there = leaf-there t v fits
+
+  -- both numbers of the place fit 16 bits
+  pub the-place-is-short : Bytes t → (lastNode t v < 65536) × (stuckStep t v (lastNode t v) < 65536)
+  the-place-is-short bytes = place-short t v fits (tree-length-small (tree-sound t fits .is-laid) bytes)
