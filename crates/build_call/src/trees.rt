@@ -59,7 +59,7 @@ fn write_tree(
         tops.nodes,
         tops.cases,
         scopes,
-        map.counts.clauses,
+        map.clauses.count,
         tree,
         &mut classes,
     );
@@ -93,7 +93,7 @@ fn write_hoisted(
     requires { ⌜ ClearTree (now tree) ⌝ }
     ensures { λ r. ⌜ GivesTree sheet tree r ⌝ }
 {
-    let more = hoist_bindings(work, scopes, map.counts.clauses);
+    let more = hoist_bindings(work, scopes, map.clauses.count);
     if BINDINGS_MOST < tops.bindings + more {
         return refused(refusals::BINDINGS);
     }
@@ -121,7 +121,7 @@ fn hoist_with(
     requires { ⌜ ClearTree (now tree) ⌝ }
     ensures { λ r. ⌜ GivesTree sheet tree r ⌝ }
 {
-    let scopes = get_hoist_paths(work, tops.nodes, map.counts.clauses, sets);
+    let scopes = get_hoist_paths(work, tops.nodes, map.clauses.count, sets);
     write_hoisted(sheet, map, table, work, tops, scopes, tree)
 }
 
@@ -159,7 +159,7 @@ fn finish(
     requires { ⌜ ClearTree (now tree) ⌝ }
     ensures { λ r. ⌜ GivesTree sheet tree r ⌝ }
 {
-    let clauses = map.counts.clauses;
+    let clauses = map.clauses.count;
     let leaves = tops.leaves;
     let more = hoists(leaves, clauses);
     if NODES_MOST < tops.nodes + more {

@@ -30,7 +30,7 @@ pub(crate) fn meet(
     if to == CASES_MOST {
         return to;
     }
-    if same_case(sheet, map.at.pool, work, from, to, fields_of(test)) < to {
+    if same_case(sheet, map.pool.start, work, from, to, fields_of(test)) < to {
         return to;
     }
     put_case(work, to, Case { test, child: 0 });

@@ -80,14 +80,14 @@ module _ {s t : List ℕ} (tabled : Tabled s t) {classes : List ℕ} {n : ℕ} (
 
 -- ---- the pool, by the sheet's map
 module _ {s : List ℕ} {m : SheetMap} (ch : SheetAccepts s m) where
-  pub pool-size : m .counts .pool ≡ poolSize s
+  pub pool-size : m .pool .count ≡ poolSize s
   pool-size = mapped s m (ch .is-map) .of-pool
 
-  pub pool-room : m .at .pool + m .counts .pool ≤ length s
+  pub pool-room : m .pool .start + m .pool .count ≤ length s
   pool-room =
       omega (arith, mapped s m (ch .is-map) .at-pool, pool-size, ch .ok .is-laid .pool-end, ch .ok .is-laid .trailer-end)
 
-  pub pool-text : textAt s (m .at .pool) (m .counts .pool) ≡ pool s
+  pub pool-text : textAt s (m .pool .start) (m .pool .count) ≡ pool s
   unfolding pool poolText
   pool-text = rw (mapped s m (ch .is-map) .at-pool, pool-size, add-zero (poolAt s))
 

@@ -56,7 +56,7 @@ module _ {s : List ℕ} {m : SheetMap} {t classes : List ℕ} {n : ℕ} {tree : 
   length-pool : length (pool s) ≡ poolSize s
   length-pool =
       ap length (sym (pool-text (r .checked)))
-      ∙ length-textAt s (m .at .pool) (m .counts .pool) (pool-room (r .checked))
+      ∙ length-textAt s (m .pool .start) (m .pool .count) (pool-room (r .checked))
       ∙ pool-size (r .checked)
 
   -- how long the parts are

@@ -30,8 +30,8 @@ fn copy_pool(sheet: &[u8], map: SheetMap, tree: &mut [u8], at: usize) -> usize
     requires { ⌜ SheetAccepts (now sheet) map × (at + poolSize (now sheet) ≤ length (now tree)) ⌝ }
     ensures { λ r. ⌜ Puts (now (tree .entry)) (now (tree .exit)) at r (pool (now (sheet .entry))) ⌝ }
 {
-    let from = map.at.pool;
-    let size = map.counts.pool;
+    let from = map.pool.start;
+    let size = map.pool.count;
     let mut i: usize = 0;
     while i < size {
         tree[at + i] = sheet[from + i];

@@ -71,7 +71,7 @@ room-after s w w' top r qs h e =
     record { long = omega (arith, h .long, length-after s w w' top r qs e); most = omega arith }
 
 -- ---- where the records are
-pub started : {s : List ℕ} {m : SheetMap} {t : List ℕ} → ReadyTable s m t → Started s t (m .at .patterns) (m .at .children)
+pub started : {s : List ℕ} {m : SheetMap} {t : List ℕ} → ReadyTable s m t → Started s t (m .patterns .start) (m .children .start)
 started {s = s} {m = m} ready =
     let at = mapped s m (ready .checked .is-map) in
     record { ok = ready .checked .ok; tabled = ready .tabled; from-patterns = at .at-patterns; from-children = at .at-children }

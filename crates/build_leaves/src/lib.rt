@@ -199,8 +199,8 @@ fn put_root(
     requires { ⌜ ReadyTable (now sheet) map (now table) × (c < clauses (now sheet)) × Room (now work) top ⌝ }
     ensures { λ r. ⌜ Binds sheet work top (bindsOf (now (sheet .entry)) (root (now (sheet .entry)) c)) r ⌝ }
 {
-    let records = map.at.patterns;
-    let list = map.at.children;
+    let records = map.patterns.start;
+    let list = map.children.start;
     let p = root_at(sheet, map, c);
     let g = gives(sheet, records, list, table, p);
     let own = put_own(sheet, records, table, p, g.named, work, top);
@@ -239,8 +239,8 @@ fn put_opened(
     }
     put_all_bindings(
         sheet,
-        map.at.patterns,
-        map.at.children,
+        map.patterns.start,
+        map.children.start,
         table,
         p,
         run.first,

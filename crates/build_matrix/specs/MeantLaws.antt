@@ -194,10 +194,10 @@ text-pattern-most kind = go (eqb kind intCase)
     go false = (omega arith, omega arith)
 
 module _ (s : List ℕ) (m : SheetMap) (c : SheetAccepts s m) (a n b k : ℕ) where
-  pool-is : m .at .pool ≡ poolAt s
-  pool-is = ap (λ (x : SheetMap). x .at .pool) (c .is-map)
+  pool-is : m .pool .start ≡ poolAt s
+  pool-is = ap (λ (x : SheetMap). x .pool .start) (c .is-map)
 
-  pub text-there : (i : ℕ) (l : ℕ) → i + l ≤ poolSize s → m .at .pool + i + l ≤ length s
+  pub text-there : (i : ℕ) (l : ℕ) → i + l ≤ poolSize s → m .pool .start + i + l ≤ length s
   text-there i l h = omega (arith, pool-is, text-in (c .ok .is-laid) i l h)
 
   pub texts-not : a + n ≤ poolSize s → b + k ≤ poolSize s → (n ≡ k → ⊥) → false ≡ sameText (poolText s a n) (poolText s b k)
@@ -207,7 +207,7 @@ module _ (s : List ℕ) (m : SheetMap) (c : SheetAccepts s m) (a n b k : ℕ) wh
       (λ e. h (sym (length-textAt s (poolAt s + a) n (omega (arith, text-in (c .ok .is-laid) a n x))) ∙ ap length e
       ∙ length-textAt s (poolAt s + b) k (omega (arith, text-in (c .ok .is-laid) b k y)))))
 
-  pub texts-are : (x : Bool) → n ≡ k → x ≡ sameText (textAt s (m .at .pool + a) n) (textAt s (m .at .pool + b) n) → x ≡ sameText (poolText s a n) (poolText s b k)
+  pub texts-are : (x : Bool) → n ≡ k → x ≡ sameText (textAt s (m .pool .start + a) n) (textAt s (m .pool .start + b) n) → x ≡ sameText (poolText s a n) (poolText s b k)
   unfolding poolText
   texts-are x e f =
       f ∙ ap (λ (i : ℕ). sameText (textAt s (i + a) n) (textAt s (i + b) n)) pool-is

@@ -33,9 +33,9 @@ fn same_texts(
     }
     same_text(
         sheet,
-        map.at.pool + start,
+        map.pool.start + start,
         sheet,
-        map.at.pool + other,
+        map.pool.start + other,
         count,
     )
 }

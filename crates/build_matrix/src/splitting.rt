@@ -59,7 +59,7 @@ fn first_columns(sheet: &[u8], map: SheetMap, table: &[u8]) -> Classes
 {
     let mut list = [0u8; PATTERNS_MOST];
     let mut count: usize = 0;
-    let mut c = map.counts.clauses;
+    let mut c = map.clauses.count;
     while 0 < c {
         c -= 1;
         count = map_pattern_to_row(sheet, map, table, &mut list, count, root_at(sheet, map, c));
@@ -72,7 +72,7 @@ pub fn first_matrix(sheet: &[u8], map: SheetMap, table: &[u8]) -> Matrix
     requires { ⌜ ReadyTable (now sheet) map (now table) ⌝ }
     ensures { λ r. ⌜ StandsFor r (firstNumbered (now (sheet .entry))) ⌝ }
 {
-    let rows = all_rows(map.counts.clauses);
+    let rows = all_rows(map.clauses.count);
     let columns = first_columns(sheet, map, table);
     Matrix {
         rows,

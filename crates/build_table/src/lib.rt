@@ -371,7 +371,7 @@ fn put_roots(sheet: &[u8], map: SheetMap, table: &mut [u8])
     ensures { λ _. ⌜ now (table .exit) ≡ rootedEach (now (sheet .entry)) (now (table .entry)) 0 (clauses (now (sheet .entry))) ⌝ }
 {
     let mut c: usize = 0;
-    while c < map.counts.clauses {
+    while c < map.clauses.count {
         put_root(table, root_at(sheet, map, c), c, map.subject);
         c += 1;
     }
@@ -395,7 +395,7 @@ pub fn fill(sheet: &[u8], map: SheetMap, table: &mut [u8])
 {
     put_roots(sheet, map, table);
     let mut p: usize = 0;
-    while p < map.counts.patterns {
+    while p < map.patterns.count {
         fill_at(sheet, map, table, p);
         p += 1;
     }

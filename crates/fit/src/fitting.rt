@@ -64,9 +64,9 @@ fn parts_below(x: Record, y: TypeRecord, kind: u8) -> Below
 }
 
 // A constructor is one of its type's, and has as many parts as that has fields.
-fn fields_below(s: &[u8], sm: SheetMap, x: Record, y: TypeRecord) -> Below
-    requires { ⌜ Typing (now s) sm y ⌝ }
-    ensures { λ r. ⌜ r ≡ fieldsBelow (now (s .entry)) x y ⌝ }
+fn fields_below(sheet: &[u8], map: SheetMap, x: Record, y: TypeRecord) -> Below
+    requires { ⌜ Typing (now sheet) map y ⌝ }
+    ensures { λ r. ⌜ r ≡ fieldsBelow (now (sheet .entry)) x y ⌝ }
 {
     if y.kind != type_kinds::DATA {
         return Below::Alone(false);
@@ -74,7 +74,7 @@ fn fields_below(s: &[u8], sm: SheetMap, x: Record, y: TypeRecord) -> Below
     if y.count <= x.a {
         return Below::Alone(false);
     }
-    let c = constructor_at(s, sm, y.first + x.a);
+    let c = constructor_at(sheet, map, y.first + x.a);
     if c.count != x.count {
         return Below::Alone(false);
     }
@@ -87,12 +87,19 @@ fn fields_below(s: &[u8], sm: SheetMap, x: Record, y: TypeRecord) -> Below
 }
 
 // Record r and type t agree in kind and count, and what is left.
-fn below_record(s: &[u8], sm: SheetMap, v: &[u8], vm: PanelMap, r: usize, t: usize) -> Below
-    requires { ⌜ ReadyToFit (now s) sm (now v) vm × (r < records (now v)) × (t < types (now s)) ⌝ }
-    ensures { λ res. ⌜ res ≡ below (now (s .entry)) (now (v .entry)) r t ⌝ }
+fn below_record(
+    sheet: &[u8],
+    map: SheetMap,
+    panel: &[u8],
+    places: PanelMap,
+    r: usize,
+    t: usize,
+) -> Below
+    requires { ⌜ ReadyToFit (now sheet) map (now panel) places × (r < records (now panel)) × (t < types (now sheet)) ⌝ }
+    ensures { λ res. ⌜ res ≡ below (now (sheet .entry)) (now (panel .entry)) r t ⌝ }
 {
-    let x = record_at(v, r);
-    let y = type_at(s, sm, t);
+    let x = record_at(panel, r);
+    let y = type_at(sheet, map, t);
     let kind = x.kind;
     match kind {
         record_kinds::INTEGER => Below::Alone(y.kind == type_kinds::INT),
@@ -100,58 +107,75 @@ fn below_record(s: &[u8], sm: SheetMap, v: &[u8], vm: PanelMap, r: usize, t: usi
         record_kinds::LIST => list_below(x, y),
         record_kinds::PAIR => parts_below(x, y, type_kinds::PAIR),
         record_kinds::TUPLE => parts_below(x, y, type_kinds::TUPLE),
-        record_kinds::CONSTRUCTOR => fields_below(s, sm, x, y),
+        record_kinds::CONSTRUCTOR => fields_below(sheet, map, x, y),
         _ => Below::Alone(false),
     }
 }
 
 // Record r is of type t.
-fn record_fits(s: &[u8], sm: SheetMap, v: &[u8], vm: PanelMap, r: usize, t: usize) -> bool
-    requires { ⌜ ReadyToFit (now s) sm (now v) vm × (r < records (now v)) × (t < types (now s)) ⌝ }
-    ensures { λ res. ⌜ res ≡ hasTypeTo recordsMost (now (s .entry)) (now (v .entry)) r t ⌝ }
+fn record_fits(
+    sheet: &[u8],
+    map: SheetMap,
+    panel: &[u8],
+    places: PanelMap,
+    r: usize,
+    t: usize,
+) -> bool
+    requires { ⌜ ReadyToFit (now sheet) map (now panel) places × (r < records (now panel)) × (t < types (now sheet)) ⌝ }
+    ensures { λ res. ⌜ res ≡ hasTypeTo recordsMost (now (sheet .entry)) (now (panel .entry)) r t ⌝ }
 {
-    match below_record(s, sm, v, vm, r, t) {
+    match below_record(sheet, map, panel, places, r, t) {
         Below::Alone(fits) => fits,
         Below::Parts {
             first,
             count,
             entry,
             step,
-        } => parts_fit(s, sm, v, vm, r, first, count, entry, step),
+        } => parts_fit(sheet, map, panel, places, r, first, count, entry, step),
     }
 }
 
 // The n parts from entry j of the owner's list on are each of the type at its own type entry: the first at e, each next one `step`
 // further on.
 fn parts_fit(
-    s: &[u8],
-    sm: SheetMap,
-    v: &[u8],
-    vm: PanelMap,
+    sheet: &[u8],
+    map: SheetMap,
+    panel: &[u8],
+    places: PanelMap,
     owner: usize,
     j: usize,
     n: usize,
     e: usize,
     step: usize,
 ) -> bool
-    requires { ⌜ ReadyToFit (now s) sm (now v) vm × Run (now s) (now v) owner j n e step ⌝ }
-    ensures { λ res. ⌜ res ≡ partsFit (hasTypeTo recordsMost (now (s .entry)) (now (v .entry))) (now (s .entry)) (now (v .entry)) j n e step ⌝ }
+    requires { ⌜ ReadyToFit (now sheet) map (now panel) places × Run (now sheet) (now panel) owner j n e step ⌝ }
+    ensures { λ res. ⌜ res ≡ partsFit (hasTypeTo recordsMost (now (sheet .entry)) (now (panel .entry))) (now (sheet .entry)) (now (panel .entry)) j n e step ⌝ }
 {
     if n == 0 {
         return true;
     }
-    let r = part_at(v, vm, j);
-    let t = entry_at(s, sm, e);
-    if !record_fits(s, sm, v, vm, r, t) {
+    let r = part_at(panel, places, j);
+    let t = entry_at(sheet, map, e);
+    if !record_fits(sheet, map, panel, places, r, t) {
         return false;
     }
-    parts_fit(s, sm, v, vm, owner, j + 1, n - 1, e + step, step)
+    parts_fit(
+        sheet,
+        map,
+        panel,
+        places,
+        owner,
+        j + 1,
+        n - 1,
+        e + step,
+        step,
+    )
 }
 
 // 25: the root is of the subject's type.
-pub(crate) fn fits(s: &[u8], sm: SheetMap, v: &[u8], vm: PanelMap) -> bool
-    requires { ⌜ ReadyToFit (now s) sm (now v) vm ⌝ }
-    ensures { λ res. ⌜ res ≡ panelFits (now (s .entry)) (now (v .entry)) ⌝ }
+pub(crate) fn fits(sheet: &[u8], map: SheetMap, panel: &[u8], places: PanelMap) -> bool
+    requires { ⌜ ReadyToFit (now sheet) map (now panel) places ⌝ }
+    ensures { λ res. ⌜ res ≡ panelFits (now (sheet .entry)) (now (panel .entry)) ⌝ }
 {
-    record_fits(s, sm, v, vm, 0, sm.subject)
+    record_fits(sheet, map, panel, places, 0, map.subject)
 }

@@ -22,11 +22,11 @@ pub enum Fitted {
 }
 
 // 25, of an accepted sheet and an accepted panel.
-fn fit_both(s: &[u8], sm: SheetMap, v: &[u8], vm: PanelMap) -> Fitted
-    requires { ⌜ SheetAccepts (now s) sm × Accepts (now v) vm ⌝ }
-    ensures { λ res. ⌜ res ≡ fitted (now (s .entry)) (now (v .entry)) ⌝ }
+fn fit_both(sheet: &[u8], map: SheetMap, panel: &[u8], places: PanelMap) -> Fitted
+    requires { ⌜ SheetAccepts (now sheet) map × Accepts (now panel) places ⌝ }
+    ensures { λ res. ⌜ res ≡ fitted (now (sheet .entry)) (now (panel .entry)) ⌝ }
 {
-    if fits(s, sm, v, vm) {
+    if fits(sheet, map, panel, places) {
         Fitted::Fits
     } else {
         Fitted::Refused {
@@ -37,22 +37,22 @@ fn fit_both(s: &[u8], sm: SheetMap, v: &[u8], vm: PanelMap) -> Fitted
 }
 
 // The fit check of an accepted sheet.
-fn fit_panel(s: &[u8], sm: SheetMap, v: &[u8]) -> Fitted
-    requires { ⌜ SheetAccepts (now s) sm ⌝ }
-    ensures { λ res. ⌜ res ≡ fitted (now (s .entry)) (now (v .entry)) ⌝ }
+fn fit_panel(sheet: &[u8], map: SheetMap, panel: &[u8]) -> Fitted
+    requires { ⌜ SheetAccepts (now sheet) map ⌝ }
+    ensures { λ res. ⌜ res ≡ fitted (now (sheet .entry)) (now (panel .entry)) ⌝ }
 {
-    match format_panel::check(v) {
-        format_panel::CheckedPanel::Accepted(vm) => fit_both(s, sm, v, vm),
+    match format_panel::check(panel) {
+        format_panel::CheckedPanel::Accepted(places) => fit_both(sheet, map, panel, places),
         format_panel::CheckedPanel::Refused { number, place } => Fitted::Refused { number, place },
     }
 }
 
 // The fit check: refusals 2 to 11 of the sheet, 21 to 24 of the panel, then 25.
-pub fn fit(s: &[u8], v: &[u8]) -> Fitted
-    ensures { λ res. ⌜ res ≡ fitted (now (s .entry)) (now (v .entry)) ⌝ }
+pub fn fit(sheet: &[u8], panel: &[u8]) -> Fitted
+    ensures { λ res. ⌜ res ≡ fitted (now (sheet .entry)) (now (panel .entry)) ⌝ }
 {
-    match format_sheet::check(s) {
-        format_sheet::CheckedSheet::Accepted(sm) => fit_panel(s, sm, v),
+    match format_sheet::check(sheet) {
+        format_sheet::CheckedSheet::Accepted(map) => fit_panel(sheet, map, panel),
         format_sheet::CheckedSheet::Refused { number, place } => Fitted::Refused { number, place },
     }
 }

@@ -100,12 +100,12 @@ module _ (v : List ℕ) (r dropped : ℕ) where
           has-not y (both-second-false (ltb r (records v)) _ (both-first-false (leb (recordKind v r) bytesRecord) _ (lt-leb _ _ (rw read at h)))) e
 
       module _ (m : PanelMap) (map : m ≡ mapOf v) (l : r < records v) (short : x .kind ≤ bytesRecord) where
-        pub text-start : m .«pool_at» + x .first + x .count ≤ length v
+        pub text-start : m .pool .start + x .first + x .count ≤ length v
         text-start =
             let a = accepted-panel v ok in
             omega (arith, text-inside v r x read m (opened v m (a .is-laid) map) (a .is-shaped) l short)
 
-        pub text-at : dropped ≡ 0 → At (m .«pool_at» + x .first) (x .count) ≡ located v r dropped
+        pub text-at : dropped ≡ 0 → At (m .pool .start + x .first) (x .count) ≡ located v r dropped
         unfolding located locatedBy textCall hasText
         text-at none = rw (map, read, ok, lt-ltb _ _ l, le-leb (recordKind v r) bytesRecord (omega (arith, kind-read)), none)
 

@@ -4,14 +4,16 @@ use mathlib.Core.Path.{_≡_}
 use mathlib.Core.Bool.{Bool}
 use mathlib.Core.List.{List, [], _∷_}
 use Prim.Native.Nat.{ℕ, _+_, _-_, _*_, _/_}
-use native.Mathlib.Nat.{sub-zero, zero-add}
+use native.Mathlib.Nat.{zero-add, div-one}
 use lib.Dec.{eqb, leb}
 use lib.ListN.{length, getD}
 use Rattle.base_words.specs.Words.{wordAt, both}
 use Rattle.spec_rules.specs.Limits.{recordSize, partSize, panelTrailer, recordsMost}
 use Rattle.spec_rules.specs.SheetRefusals.{wholeBetween}
-use Rattle.spec_rules.specs.PanelFile.{panelStart, recordsAt, partsAt, panelPoolAt, panelPoolEnd, panelSizes, records, parts, recordKind, recordZero, recordA, recordFirst, recordCount, panelLayoutFits}
+use Rattle.spec_rules.specs.PanelFile.{panelStart, recordsAt, partsAt, panelPoolAt, panelPoolEnd, panelSizes, records, parts, panelPoolSize, recordKind, recordZero, recordA, recordFirst, recordCount, panelLayoutFits}
 use Rattle.spec_accepted.specs.PanelFacts.{PanelLaid}
+use Rattle.format_parts.specs.declared.sections.Section.{Section}
+use Rattle.format_parts.specs.Sections.{sectionOf}
 use Rattle.format_panel.specs.declared.PanelMap.{PanelMap}
 use Rattle.format_panel.specs.declared.records.Record.{Record}
 use Rattle.format_panel.specs.Opened.{mapOf, recordOf}
@@ -29,11 +31,12 @@ module _ (v : List ℕ) where
   unfolding panelLayoutFits records recordsAt partsAt panelPoolAt panelPoolEnd
   layout-read a b c ea eb ec = rw (ea, eb, ec)
 
-  pub map-read : (b c : ℕ) → PanelLaid v → b ≡ panelStart v 1 → c ≡ panelStart v 2
-      → _≡_ {A = PanelMap} (record { «parts_at» = b; «pool_at» = c; «pool_end» = length v - panelTrailer; records = b / recordSize; parts = (c - b) / partSize }) (mapOf v)
-  unfolding records parts partsAt panelPoolAt panelPoolEnd
-  map-read b c laid eb ec =
-      rw (eb, ec, laid .records-start, sub-zero)
+  -- the map, made of sections from one start to the next
+  pub map-read : (a b c : ℕ) → a ≡ panelStart v 0 → b ≡ panelStart v 1 → c ≡ panelStart v 2
+      → (ra pa po : Section) → ra ≡ sectionOf a b recordSize → pa ≡ sectionOf b c partSize → po ≡ sectionOf c (length v - panelTrailer) 1
+      → _≡_ {A = PanelMap} (record { records = ra; parts = pa; pool = po }) (mapOf v)
+  unfolding recordsAt partsAt panelPoolAt panelPoolEnd records parts panelPoolSize
+  map-read a b c ea eb ec ra pa po er ep eo = simp (er, ep, eo, ea, eb, ec, div-one)
 
   pub record-read : (r a f n : ℕ) → PanelLaid v
       → a ≡ wordAt v (recordSize * r + 2) → f ≡ wordAt v (recordSize * r + 4) → n ≡ wordAt v (recordSize * r + 6)

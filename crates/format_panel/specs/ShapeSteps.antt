@@ -88,7 +88,7 @@ module _ (v : List ℕ) (r : ℕ) where
 
 -- ---- an entry
 module _ (v : List ℕ) (m : PanelMap) (o : Opened v m) where
-  pub part-read : (j p : ℕ) → p ≡ wordAt v (m .«parts_at» + partSize * j) → p ≡ part v j
+  pub part-read : (j p : ℕ) → p ≡ wordAt v (m .parts .start + partSize * j) → p ≡ part v j
   unfolding part
   part-read j p e = e ∙ rw (o .parts-at)
 

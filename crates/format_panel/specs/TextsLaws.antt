@@ -59,13 +59,13 @@ module _ (v : List ℕ) (r : ℕ) (x : Record) (read : x ≡ recordOf v r) where
   short-bytes h short = rw (bytes-text h, le-leb _ _ short)
 
   module _ (m : PanelMap) (o : Opened v m) where
-    pub short-integer : (b : Bool) → x .kind ≤ bytesRecord → (x .kind ≡ bytesRecord → ⊥) → x .count ≤ textMost → b ≡ canonical (textAt v (m .«pool_at» + x .first) (x .count)) → b ≡ recordTextFits v r
+    pub short-integer : (b : Bool) → x .kind ≤ bytesRecord → (x .kind ≡ bytesRecord → ⊥) → x .count ≤ textMost → b ≡ canonical (textAt v (m .pool .start + x .first) (x .count)) → b ≡ recordTextFits v r
     unfolding recordText
     short-integer b h d short e =
         let zero : x .kind ≡ integerRecord = omega arith in
         rw (integer-text zero, le-leb _ _ short) (rw (o .pool-at, read) at e)
 
-    pub text-inside : PanelShaped v → r < records v → x .kind ≤ bytesRecord → m .«pool_at» + x .first + x .count + panelTrailer ≤ length v
+    pub text-inside : PanelShaped v → r < records v → x .kind ≤ bytesRecord → m .pool .start + x .first + x .count + panelTrailer ≤ length v
     text-inside sh l h =
         let run = sh .text-run r l (omega (arith, kind-read)) in
         rw (o .pool-at, read) (panel-text-inside (o .laid) (recordFirst v r) (recordCount v r) (run .inside))

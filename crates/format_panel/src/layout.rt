@@ -11,6 +11,7 @@ use base_numbers::panel::RECORD_SIZE;
 use base_numbers::panel::RECORDS_MOST;
 use base_numbers::panel_starts;
 use base_words::word_at;
+use format_parts::sections::section_of;
 use format_parts::sections::whole_records;
 ghost use mathlib.Core.Path.{_≡_};
 ghost use Prim.Native.Nat.{_<_, _≤_};
@@ -21,35 +22,35 @@ ghost use Rattle.spec_accepted.specs.PanelFacts.{PanelLaid};
 ghost use Rattle.format_panel.specs.Opened.{mapOf};
 
 // 21: from 8 to 16,384 bytes, and the trailer's length is the panel's.
-pub(crate) fn length_fits(v: &[u8]) -> bool
-    ensures { λ r. ⌜ r ≡ panelLengthFits (now (v .entry)) ⌝ }
+pub(crate) fn length_fits(panel: &[u8]) -> bool
+    ensures { λ r. ⌜ r ≡ panelLengthFits (now (panel .entry)) ⌝ }
 {
-    if v.len() < PANEL_TRAILER {
+    if panel.len() < PANEL_TRAILER {
         return false;
     }
-    if PANEL_MOST < v.len() {
+    if PANEL_MOST < panel.len() {
         return false;
     }
-    let told = word_at(v, v.len() - PANEL_LENGTH_BACK) as usize;
-    told == v.len()
+    let told = word_at(panel, panel.len() - PANEL_LENGTH_BACK) as usize;
+    told == panel.len()
 }
 
 // Start k of the trailer.
-fn start(v: &[u8], k: usize) -> usize
-    requires { ⌜ (panelTrailer ≤ length (now v)) × (k < panelStarts) ⌝ }
-    ensures { λ r. ⌜ r ≡ panelStart (now (v .entry)) k ⌝ }
+fn start(panel: &[u8], k: usize) -> usize
+    requires { ⌜ (panelTrailer ≤ length (now panel)) × (k < panelStarts) ⌝ }
+    ensures { λ r. ⌜ r ≡ panelStart (now (panel .entry)) k ⌝ }
 {
-    word_at(v, v.len() - PANEL_TRAILER + WORD_SIZE * k) as usize
+    word_at(panel, panel.len() - PANEL_TRAILER + WORD_SIZE * k) as usize
 }
 
 // 22: the starts rise from 0, pass not the trailer and cut no record; there are 1 to 512 records.
-pub(crate) fn layout_fits(v: &[u8]) -> bool
-    requires { ⌜ panelTrailer ≤ length (now v) ⌝ }
-    ensures { λ r. ⌜ r ≡ panelLayoutFits (now (v .entry)) ⌝ }
+pub(crate) fn layout_fits(panel: &[u8]) -> bool
+    requires { ⌜ panelTrailer ≤ length (now panel) ⌝ }
+    ensures { λ r. ⌜ r ≡ panelLayoutFits (now (panel .entry)) ⌝ }
 {
-    let records_at = start(v, panel_starts::RECORDS);
-    let parts_at = start(v, panel_starts::PARTS);
-    let pool_at = start(v, panel_starts::POOL);
+    let records_at = start(panel, panel_starts::RECORDS);
+    let parts_at = start(panel, panel_starts::PARTS);
+    let pool_at = start(panel, panel_starts::POOL);
     if records_at != 0 {
         return false;
     }
@@ -59,7 +60,7 @@ pub(crate) fn layout_fits(v: &[u8]) -> bool
     if !whole_records(PART_SIZE, parts_at, pool_at) {
         return false;
     }
-    if !whole_records(BYTE_SIZE, pool_at, v.len() - PANEL_TRAILER) {
+    if !whole_records(BYTE_SIZE, pool_at, panel.len() - PANEL_TRAILER) {
         return false;
     }
     let records = parts_at / RECORD_SIZE;
@@ -69,18 +70,20 @@ pub(crate) fn layout_fits(v: &[u8]) -> bool
     records <= RECORDS_MOST
 }
 
-// Where the sections stand, and how many records and parts there are.
-pub(crate) fn map_of(v: &[u8]) -> PanelMap
-    requires { ⌜ PanelLaid (now v) ⌝ }
-    ensures { λ r. ⌜ r ≡ mapOf (now (v .entry)) ⌝ }
+// The sections of a panel whose layout fits.
+pub(crate) fn map_of(panel: &[u8]) -> PanelMap
+    requires { ⌜ PanelLaid (now panel) ⌝ }
+    ensures { λ r. ⌜ r ≡ mapOf (now (panel .entry)) ⌝ }
 {
-    let parts_at = start(v, panel_starts::PARTS);
-    let pool_at = start(v, panel_starts::POOL);
+    let records_at = start(panel, panel_starts::RECORDS);
+    let parts_at = start(panel, panel_starts::PARTS);
+    let pool_at = start(panel, panel_starts::POOL);
+    let records = section_of(records_at, parts_at, RECORD_SIZE);
+    let parts = section_of(parts_at, pool_at, PART_SIZE);
+    let pool = section_of(pool_at, panel.len() - PANEL_TRAILER, BYTE_SIZE);
     PanelMap {
-        parts_at,
-        pool_at,
-        pool_end: v.len() - PANEL_TRAILER,
-        records: parts_at / RECORD_SIZE,
-        parts: (pool_at - parts_at) / PART_SIZE,
+        records,
+        parts,
+        pool,
     }
 }

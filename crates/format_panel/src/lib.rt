@@ -17,6 +17,7 @@ mod texts;
 
 use base_numbers::record_kinds;
 use base_numbers::refusals;
+use format_parts::sections::Section;
 use layout::layout_fits;
 use layout::length_fits;
 use layout::map_of;
@@ -24,13 +25,11 @@ use records::record_at;
 use shape::shape_fits;
 use texts::texts_fit;
 
-// Where the sections of a panel stand, and how many records and parts it has. The records start at 0.
+// Where the sections of a panel stand. The records start at 0.
 pub struct PanelMap {
-    pub parts_at: usize,
-    pub pool_at: usize,
-    pub pool_end: usize,
-    pub records: usize,
-    pub parts: usize,
+    pub records: Section,
+    pub parts: Section,
+    pub pool: Section,
 }
 
 pub enum CheckedPanel {
@@ -45,35 +44,35 @@ pub enum Located {
 }
 
 // The check of a panel: 21 length, 22 layout and count of records, 23 shape, 24 text.
-pub fn check(v: &[u8]) -> CheckedPanel
-    ensures { λ r. ⌜ r ≡ checked (now (v .entry)) ⌝ }
+pub fn check(panel: &[u8]) -> CheckedPanel
+    ensures { λ r. ⌜ r ≡ checked (now (panel .entry)) ⌝ }
 {
-    if !length_fits(v) {
+    if !length_fits(panel) {
         return CheckedPanel::Refused {
             number: refusals::PANEL_LENGTH,
             place: 0,
         };
     }
-    if !layout_fits(v) {
+    if !layout_fits(panel) {
         return CheckedPanel::Refused {
             number: refusals::PANEL_LAYOUT,
             place: 0,
         };
     }
-    let m = map_of(v);
-    if !shape_fits(v, m) {
+    let map = map_of(panel);
+    if !shape_fits(panel, map) {
         return CheckedPanel::Refused {
             number: refusals::PANEL_SHAPE,
             place: 0,
         };
     }
-    if !texts_fit(v, m) {
+    if !texts_fit(panel, map) {
         return CheckedPanel::Refused {
             number: refusals::PANEL_TEXT,
             place: 0,
         };
     }
-    CheckedPanel::Accepted(m)
+    CheckedPanel::Accepted(map)
 }
 
 // 33: the position is not an integer or byte string of the panel with 0 dropped.
@@ -87,15 +86,15 @@ fn not_text() -> Located
 }
 
 // The text of record r with so many elements dropped, in an accepted panel.
-fn text_in(v: &[u8], m: PanelMap, r: u16, dropped: u16) -> Located
-    requires { ⌜ Accepts (now v) m ⌝ }
-    ensures { λ res. ⌜ res ≡ located (now (v .entry)) r dropped ⌝ }
+fn text_in(panel: &[u8], map: PanelMap, r: u16, dropped: u16) -> Located
+    requires { ⌜ Accepts (now panel) map ⌝ }
+    ensures { λ res. ⌜ res ≡ located (now (panel .entry)) r dropped ⌝ }
 {
     let at = r as usize;
-    if m.records <= at {
+    if map.records.count <= at {
         return not_text();
     }
-    let x = record_at(v, at);
+    let x = record_at(panel, at);
     if record_kinds::BYTES < x.kind {
         return not_text();
     }
@@ -103,17 +102,17 @@ fn text_in(v: &[u8], m: PanelMap, r: u16, dropped: u16) -> Located
         return not_text();
     }
     Located::At {
-        start: m.pool_at + x.first,
+        start: map.pool.start + x.first,
         count: x.count,
     }
 }
 
 // The text call: where the bytes of an integer or a byte string stand in the panel.
-pub fn text(v: &[u8], r: u16, dropped: u16) -> Located
-    ensures { λ res. ⌜ res ≡ located (now (v .entry)) r dropped ⌝ }
+pub fn text(panel: &[u8], r: u16, dropped: u16) -> Located
+    ensures { λ res. ⌜ res ≡ located (now (panel .entry)) r dropped ⌝ }
 {
-    match check(v) {
-        CheckedPanel::Accepted(m) => text_in(v, m, r, dropped),
+    match check(panel) {
+        CheckedPanel::Accepted(map) => text_in(panel, map, r, dropped),
         CheckedPanel::Refused { number, place } => Located::Refused { number, place },
     }
 }

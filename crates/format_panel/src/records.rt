@@ -21,24 +21,24 @@ pub struct Record {
 }
 
 // Record r of a panel.
-pub fn record_at(v: &[u8], r: usize) -> Record
-    requires { ⌜ PanelLaid (now v) × (r < records (now v)) ⌝ }
-    ensures { λ res. ⌜ res ≡ recordOf (now (v .entry)) r ⌝ }
+pub fn record_at(panel: &[u8], r: usize) -> Record
+    requires { ⌜ PanelLaid (now panel) × (r < records (now panel)) ⌝ }
+    ensures { λ res. ⌜ res ≡ recordOf (now (panel .entry)) r ⌝ }
 {
     let at = RECORD_SIZE * r;
     Record {
-        kind: v[at],
-        zero: v[at + record_fields::ZERO],
-        a: word_at(v, at + record_fields::A) as usize,
-        first: word_at(v, at + record_fields::FIRST) as usize,
-        count: word_at(v, at + record_fields::COUNT) as usize,
+        kind: panel[at],
+        zero: panel[at + record_fields::ZERO],
+        a: word_at(panel, at + record_fields::A) as usize,
+        first: word_at(panel, at + record_fields::FIRST) as usize,
+        count: word_at(panel, at + record_fields::COUNT) as usize,
     }
 }
 
 // Part j of a panel: the number of a record.
-pub fn part_at(v: &[u8], m: PanelMap, j: usize) -> usize
-    requires { ⌜ Opened (now v) m × (j < parts (now v)) ⌝ }
-    ensures { λ res. ⌜ res ≡ part (now (v .entry)) j ⌝ }
+pub fn part_at(panel: &[u8], map: PanelMap, j: usize) -> usize
+    requires { ⌜ Opened (now panel) map × (j < parts (now panel)) ⌝ }
+    ensures { λ res. ⌜ res ≡ part (now (panel .entry)) j ⌝ }
 {
-    word_at(v, m.parts_at + PART_SIZE * j) as usize
+    word_at(panel, map.parts.start + PART_SIZE * j) as usize
 }

@@ -58,15 +58,15 @@ fn fields_fit(x: Record, held: usize, pool: usize) -> bool
 }
 
 // Entry j, in the list of record r: its record is higher than r, met for the first time, and not too deep.
-fn enter_part(v: &[u8], m: PanelMap, depths: &mut [u8], r: usize, j: usize) -> bool
-    requires { ⌜ Opened (now v) m × (length (now depths) ≡ recordsMost) × (r < records (now v)) × (j < parts (now v)) ⌝ }
-    ensures { λ res. ⌜ seen (now (depths .exit)) res ≡ enterPart (now (v .entry)) (met (now (depths .entry))) r j ⌝ }
+fn enter_part(panel: &[u8], map: PanelMap, depths: &mut [u8], r: usize, j: usize) -> bool
+    requires { ⌜ Opened (now panel) map × (length (now depths) ≡ recordsMost) × (r < records (now panel)) × (j < parts (now panel)) ⌝ }
+    ensures { λ res. ⌜ seen (now (depths .exit)) res ≡ enterPart (now (panel .entry)) (met (now (depths .entry))) r j ⌝ }
 {
-    let p = part_at(v, m, j);
+    let p = part_at(panel, map, j);
     if p <= r {
         return false;
     }
-    if m.records <= p {
+    if map.records.count <= p {
         return false;
     }
     if depths[p] != 0 {
@@ -81,13 +81,13 @@ fn enter_part(v: &[u8], m: PanelMap, depths: &mut [u8], r: usize, j: usize) -> b
 }
 
 // The n entries from j on, in the list of record r.
-fn enter_parts(v: &[u8], m: PanelMap, depths: &mut [u8], r: usize, j: usize, n: usize) -> bool
-    requires { ⌜ Opened (now v) m × (length (now depths) ≡ recordsMost) × (r < records (now v)) × (j + n ≤ parts (now v)) ⌝ }
-    ensures { λ res. ⌜ seen (now (depths .exit)) res ≡ enterParts (now (v .entry)) (met (now (depths .entry))) r j n ⌝ }
+fn enter_parts(panel: &[u8], map: PanelMap, depths: &mut [u8], r: usize, j: usize, n: usize) -> bool
+    requires { ⌜ Opened (now panel) map × (length (now depths) ≡ recordsMost) × (r < records (now panel)) × (j + n ≤ parts (now panel)) ⌝ }
+    ensures { λ res. ⌜ seen (now (depths .exit)) res ≡ enterParts (now (panel .entry)) (met (now (depths .entry))) r j n ⌝ }
 {
     let mut k: usize = 0;
     while k < n {
-        if !enter_part(v, m, depths, r, j + k) {
+        if !enter_part(panel, map, depths, r, j + k) {
             return false;
         }
         k += 1;
@@ -96,30 +96,30 @@ fn enter_parts(v: &[u8], m: PanelMap, depths: &mut [u8], r: usize, j: usize, n: 
 }
 
 // Record r: it was met, as the root or as somebody's part; its fields fit; and then its parts.
-fn enter_record(v: &[u8], m: PanelMap, depths: &mut [u8], r: usize) -> bool
-    requires { ⌜ Opened (now v) m × (length (now depths) ≡ recordsMost) × (r < records (now v)) ⌝ }
-    ensures { λ res. ⌜ seen (now (depths .exit)) res ≡ enterRecord (now (v .entry)) (met (now (depths .entry))) r ⌝ }
+fn enter_record(panel: &[u8], map: PanelMap, depths: &mut [u8], r: usize) -> bool
+    requires { ⌜ Opened (now panel) map × (length (now depths) ≡ recordsMost) × (r < records (now panel)) ⌝ }
+    ensures { λ res. ⌜ seen (now (depths .exit)) res ≡ enterRecord (now (panel .entry)) (met (now (depths .entry))) r ⌝ }
 {
     if depths[r] == 0 {
         return false;
     }
-    let x = record_at(v, r);
-    if !fields_fit(x, m.parts, m.pool_end - m.pool_at) {
+    let x = record_at(panel, r);
+    if !fields_fit(x, map.parts.count, map.pool.count) {
         return false;
     }
     if x.kind < record_kinds::LIST {
         return true;
     }
-    enter_parts(v, m, depths, r, x.first, x.count)
+    enter_parts(panel, map, depths, r, x.first, x.count)
 }
 
-fn enter_records(v: &[u8], m: PanelMap, depths: &mut [u8]) -> bool
-    requires { ⌜ Opened (now v) m × (length (now depths) ≡ recordsMost) ⌝ }
-    ensures { λ res. ⌜ seen (now (depths .exit)) res ≡ enterRecords (now (v .entry)) (met (now (depths .entry))) 0 (records (now (v .entry))) ⌝ }
+fn enter_records(panel: &[u8], map: PanelMap, depths: &mut [u8]) -> bool
+    requires { ⌜ Opened (now panel) map × (length (now depths) ≡ recordsMost) ⌝ }
+    ensures { λ res. ⌜ seen (now (depths .exit)) res ≡ enterRecords (now (panel .entry)) (met (now (depths .entry))) 0 (records (now (panel .entry))) ⌝ }
 {
     let mut r: usize = 0;
-    while r < m.records {
-        if !enter_record(v, m, depths, r) {
+    while r < map.records.count {
+        if !enter_record(panel, map, depths, r) {
             return false;
         }
         r += 1;
@@ -128,14 +128,14 @@ fn enter_records(v: &[u8], m: PanelMap, depths: &mut [u8]) -> bool
 }
 
 // 23: every record but the root is one part of a lower record, each part is in one list, and no record is deeper than 32.
-pub(crate) fn shape_fits(v: &[u8], m: PanelMap) -> bool
-    requires { ⌜ Opened (now v) m ⌝ }
-    ensures { λ r. ⌜ r ≡ panelShapeFits (now (v .entry)) ⌝ }
+pub(crate) fn shape_fits(panel: &[u8], map: PanelMap) -> bool
+    requires { ⌜ Opened (now panel) map ⌝ }
+    ensures { λ r. ⌜ r ≡ panelShapeFits (now (panel .entry)) ⌝ }
 {
-    if m.parts + 1 != m.records {
+    if map.parts.count + 1 != map.records.count {
         return false;
     }
     let mut depths = [0u8; RECORDS_MOST];
     depths[0] = 1;
-    enter_records(v, m, &mut depths)
+    enter_records(panel, map, &mut depths)
 }

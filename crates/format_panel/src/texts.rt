@@ -11,11 +11,11 @@ ghost use Rattle.spec_accepted.specs.PanelFacts.{PanelShaped};
 ghost use Rattle.format_panel.specs.Opened.{Opened};
 
 // The text of record r, if it has one.
-fn text_fits(v: &[u8], m: PanelMap, r: usize) -> bool
-    requires { ⌜ Opened (now v) m × PanelShaped (now v) × (r < records (now v)) ⌝ }
-    ensures { λ res. ⌜ res ≡ recordTextFits (now (v .entry)) r ⌝ }
+fn text_fits(panel: &[u8], map: PanelMap, r: usize) -> bool
+    requires { ⌜ Opened (now panel) map × PanelShaped (now panel) × (r < records (now panel)) ⌝ }
+    ensures { λ res. ⌜ res ≡ recordTextFits (now (panel .entry)) r ⌝ }
 {
-    let x = record_at(v, r);
+    let x = record_at(panel, r);
     let kind = x.kind;
     if record_kinds::BYTES < kind {
         return true;
@@ -26,17 +26,17 @@ fn text_fits(v: &[u8], m: PanelMap, r: usize) -> bool
     if kind == record_kinds::BYTES {
         return true;
     }
-    canonical(v, m.pool_at + x.first, x.count)
+    canonical(panel, map.pool.start + x.first, x.count)
 }
 
 // 24, of every record.
-pub(crate) fn texts_fit(v: &[u8], m: PanelMap) -> bool
-    requires { ⌜ Opened (now v) m × PanelShaped (now v) ⌝ }
-    ensures { λ r. ⌜ r ≡ panelTextsFit (now (v .entry)) ⌝ }
+pub(crate) fn texts_fit(panel: &[u8], map: PanelMap) -> bool
+    requires { ⌜ Opened (now panel) map × PanelShaped (now panel) ⌝ }
+    ensures { λ r. ⌜ r ≡ panelTextsFit (now (panel .entry)) ⌝ }
 {
     let mut r: usize = 0;
-    while r < m.records {
-        if !text_fits(v, m, r) {
+    while r < map.records.count {
+        if !text_fits(panel, map, r) {
             return false;
         }
         r += 1;

@@ -15,15 +15,13 @@ use Rattle.spec_rules.specs.SheetFile.{clauses}
 use Rattle.spec_rules.specs.SheetRefusals.{Verdict, accepted, refused, require, requireNone, lengthFits, layoutFits, hasClause, countsFit, verdict}
 use Rattle.spec_rules.specs.SheetRefusalsLaws.{verdict-in-order}
 use Rattle.spec_accepted.specs.SheetFacts.{accepted-sheet}
-use Rattle.format_sheet.specs.declared.Starts.{Starts}
-use Rattle.format_sheet.specs.declared.Counts.{Counts}
 use Rattle.format_sheet.specs.declared.SheetMap.{SheetMap}
 use Rattle.format_sheet.specs.declared.CheckedSheet.{CheckedSheet}
 use Rattle.format_sheet.specs.declared.CheckedSheet.the-variants.{Accepted, Refused}
 use Rattle.format_sheet.specs.declared.Found.{Found}
 use Rattle.format_sheet.specs.declared.Found.the-variants.{At, Nothing}
-use Rattle.format_sheet.specs.Sections.{startsOf, countsOf, mapOf, startsFit, countsBetween, fewEnough}
-use Rattle.format_sheet.specs.SectionsLaws.{startsFit-is, countsBetween-is, fewEnough-is}
+use Rattle.format_sheet.specs.Sections.{mapOf, fewEnough}
+use Rattle.format_sheet.specs.SectionsLaws.{fewEnough-is}
 use Rattle.format_sheet.specs.Found.{foundOf}
 use Rattle.format_sheet.specs.TestsLaws.{passed, stopped}
 use Rattle.format_sheet.specs.Check.{answer, checked, SheetAccepts, fromTypes, fromPatterns, fromClauses}
@@ -61,27 +59,20 @@ pub long-enough : (s : List ℕ) → lengthFits s ≡ true → sheetTrailer ≤ 
 unfolding lengthFits
 long-enough s h = leb-true sheetTrailer (length s) (both-true (leb sheetTrailer (length s)) _ h .0)
 
-module _ (s : List ℕ) (at : Starts) (e : at ≡ startsOf s) where
-  pub layout-is : {r : Bool} → r ≡ startsFit at → r ≡ layoutFits s
-  layout-is f = f ∙ ap startsFit e ∙ startsFit-is s
+module _ (s : List ℕ) (m : SheetMap) (e : m ≡ mapOf s) where
+  clauses-are : m .clauses .count ≡ clauses s
+  clauses-are = ap (λ (x : SheetMap). x .clauses .count) e
 
-  module _ (n : Counts) (f : n ≡ countsBetween at) where
-    counts-are : n ≡ countsOf s
-    counts-are = f ∙ ap countsBetween e ∙ countsBetween-is s
+  pub counts-is : {r : Bool} → r ≡ fewEnough m → r ≡ countsFit s
+  counts-is g = g ∙ ap fewEnough e ∙ fewEnough-is s
 
-    pub counts-is : {r : Bool} → r ≡ fewEnough n → r ≡ countsFit s
-    counts-is g = g ∙ ap fewEnough counts-are ∙ fewEnough-is s
+  pub no-clause : m .clauses .count ≡ 0 → hasClause s ≡ false
+  unfolding hasClause
+  no-clause z = le-ltb 0 (clauses s) (omega (arith, clauses-are))
 
-    pub no-clause : n .clauses ≡ 0 → hasClause s ≡ false
-    unfolding hasClause
-    no-clause z = let k : n .clauses ≡ clauses s = ap (λ (x : Counts). x .clauses) counts-are in le-ltb 0 (clauses s) (omega arith)
-
-    pub some-clause : (n .clauses ≡ 0 → ⊥) → hasClause s ≡ true
-    unfolding hasClause
-    some-clause z = let k : n .clauses ≡ clauses s = ap (λ (x : Counts). x .clauses) counts-are in lt-ltb 0 (clauses s) (omega arith)
-
-    pub map-is : (subject : ℕ) → subject ≡ mapOf s .subject → _≡_ {A = SheetMap} (record { at = at; counts = n; subject = subject }) (mapOf s)
-    map-is subject g = rw (e, counts-are, g)
+  pub some-clause : (m .clauses .count ≡ 0 → ⊥) → hasClause s ≡ true
+  unfolding hasClause
+  some-clause z = let k = clauses-are in lt-ltb 0 (clauses s) (omega arith)
 
 pub clause-refused : (s : List ℕ) (rest : Verdict) → hasClause s ≡ false → _≡_ {A = CheckedSheet} (Refused noClauseRefusal 0) (answer s (require (hasClause s) noClauseRefusal rest))
 clause-refused s rest e = rw e

@@ -25,39 +25,39 @@ pattern-parts s at a run ea er =
     rw (ea, first, count)
 
 module _ {s : List ℕ} {m : SheetMap} (l : Laid s) (e : m ≡ mapOf s) where
-  pub type-room : (t : ℕ) → t < types s → m .at .types + typeSize * t + typeSize ≤ length s
+  pub type-room : (t : ℕ) → t < types s → m .types .start + typeSize * t + typeSize ≤ length s
   type-room t h = omega (arith, mapped s m e .at-types, type-inside l t h)
 
-  pub constructor-room : (c : ℕ) → c < constructors s → m .at .constructors + constructorSize * c + constructorSize ≤ length s
+  pub constructor-room : (c : ℕ) → c < constructors s → m .constructors .start + constructorSize * c + constructorSize ≤ length s
   constructor-room c h = omega (arith, mapped s m e .at-constructors, constructor-inside l c h)
 
-  pub entry-room : (i : ℕ) → i < entries s → m .at .entries + entrySize * i + entrySize ≤ length s
+  pub entry-room : (i : ℕ) → i < entries s → m .entries .start + entrySize * i + entrySize ≤ length s
   entry-room i h = omega (arith, mapped s m e .at-entries, entry-inside l i h)
 
-  pub root-room : (c : ℕ) → c < clauses s → m .at .clauses + clauseSize * c + clauseSize ≤ length s
+  pub root-room : (c : ℕ) → c < clauses s → m .clauses .start + clauseSize * c + clauseSize ≤ length s
   root-room c h = omega (arith, mapped s m e .at-clauses, clause-inside l c h)
 
 module _ (s : List ℕ) {m : SheetMap} (e : m ≡ mapOf s) where
-  pub type-is : (t : ℕ) → typeFrom s (m .at .types + typeSize * t) ≡ typeOf s t
+  pub type-is : (t : ℕ) → typeFrom s (m .types .start + typeSize * t) ≡ typeOf s t
   unfolding typeKind typeFlag typeFirst typeCount
   type-is t = rw (mapped s m e .at-types)
 
-  pub constructor-is : (c : ℕ) → runFrom s (m .at .constructors + constructorSize * c) ≡ constructorOf s c
+  pub constructor-is : (c : ℕ) → runFrom s (m .constructors .start + constructorSize * c) ≡ constructorOf s c
   unfolding constructorFirst constructorCount
   constructor-is c = rw (mapped s m e .at-constructors)
 
-  pub entry-is : (i : ℕ) → wordAt s (m .at .entries + entrySize * i) ≡ entry s i
+  pub entry-is : (i : ℕ) → wordAt s (m .entries .start + entrySize * i) ≡ entry s i
   unfolding entry
   entry-is i = rw (mapped s m e .at-entries)
 
-  pub pattern-is : (p : ℕ) → patternFrom s (m .at .patterns + patternSize * p) ≡ patternOf s p
+  pub pattern-is : (p : ℕ) → patternFrom s (m .patterns .start + patternSize * p) ≡ patternOf s p
   unfolding patternKind patternZero patternA patternFirst patternCount
   pattern-is p = rw (mapped s m e .at-patterns)
 
-  pub child-is : (j : ℕ) → wordAt s (m .at .children + childSize * j) ≡ child s j
+  pub child-is : (j : ℕ) → wordAt s (m .children .start + childSize * j) ≡ child s j
   unfolding child
   child-is j = rw (mapped s m e .at-children)
 
-  pub root-is : (c : ℕ) → wordAt s (m .at .clauses + clauseSize * c) ≡ root s c
+  pub root-is : (c : ℕ) → wordAt s (m .clauses .start + clauseSize * c) ≡ root s c
   unfolding root
   root-is c = rw (mapped s m e .at-clauses)

@@ -1,69 +1,32 @@
--- Where the sections of a sheet are and how many records each has, as the check hands it on; refusals 3 and 5 over those numbers.
+-- Where the sections of a sheet are and how many records each has, as the check hands it on; refusal 5 over those numbers.
 -- Rests on the definitions of spec_rules; SectionsLaws has that they agree.
-use Prim.Native.Nat.{ℕ, _-_, _/_}
 use mathlib.Core.Bool.{Bool}
-use mathlib.Core.List.{List, [], _∷_}
-use lib.Dec.{eqb, leb}
+use mathlib.Core.List.{List}
+use Prim.Native.Nat.{ℕ}
+use lib.Dec.{leb}
 use Rattle.base_words.specs.Words.{both}
-use Rattle.spec_rules.specs.Limits.{typeSize, constructorSize, entrySize, patternSize, childSize, clauseSize, typesMost, constructorsMost, entriesMost, patternsMost, childrenMost, clausesMost}
-use Rattle.spec_rules.specs.SheetFile.{subject, typesAt, constructorsAt, entriesAt, patternsAt, childrenAt, clausesAt, poolAt, poolEnd, sheetSizes, types, constructors, entries, patterns, children, clauses, poolSize}
-use Rattle.spec_rules.specs.SheetRefusals.{wholeRecords, wholeBetween}
-use Rattle.format_sheet.specs.declared.Starts.{Starts}
-use Rattle.format_sheet.specs.declared.Counts.{Counts}
+use Rattle.spec_rules.specs.Limits.{typesMost, constructorsMost, entriesMost, patternsMost, childrenMost, clausesMost}
+use Rattle.spec_rules.specs.SheetFile.{subject, typesAt, constructorsAt, entriesAt, patternsAt, childrenAt, clausesAt, poolAt, types, constructors, entries, patterns, children, clauses, poolSize}
 use Rattle.format_sheet.specs.declared.SheetMap.{SheetMap}
 
-abbrev pub startsOf : List ℕ → Starts
-startsOf s = record {
-  types = typesAt s;
-  constructors = constructorsAt s;
-  entries = entriesAt s;
-  patterns = patternsAt s;
-  children = childrenAt s;
-  clauses = clausesAt s;
-  pool = poolAt s;
-  end = poolEnd s;
-}
-
-abbrev pub countsOf : List ℕ → Counts
-countsOf s = record {
-  types = types s;
-  constructors = constructors s;
-  entries = entries s;
-  patterns = patterns s;
-  children = children s;
-  clauses = clauses s;
-  pool = poolSize s;
-}
-
 abbrev pub mapOf : List ℕ → SheetMap
-mapOf s = record { at = startsOf s; counts = countsOf s; subject = subject s }
-
--- 3, of starts
-abbrev pub placesOf : Starts → List ℕ
-placesOf at = at .types ∷ at .constructors ∷ at .entries ∷ at .patterns ∷ at .children ∷ at .clauses ∷ at .pool ∷ at .end ∷ []
-
-unfoldable pub startsFit : Starts → Bool
-unfolding wholeRecords
-startsFit at = both (eqb (at .types) 0) (wholeBetween sheetSizes (placesOf at))
-
--- how many records lie between starts
-abbrev pub countsBetween : Starts → Counts
-countsBetween at = record {
-  types = (at .constructors - at .types) / typeSize;
-  constructors = (at .entries - at .constructors) / constructorSize;
-  entries = (at .patterns - at .entries) / entrySize;
-  patterns = (at .children - at .patterns) / patternSize;
-  children = (at .clauses - at .children) / childSize;
-  clauses = (at .pool - at .clauses) / clauseSize;
-  pool = at .end - at .pool;
+mapOf s = record {
+  types = record { start = typesAt s; count = types s };
+  constructors = record { start = constructorsAt s; count = constructors s };
+  entries = record { start = entriesAt s; count = entries s };
+  patterns = record { start = patternsAt s; count = patterns s };
+  children = record { start = childrenAt s; count = children s };
+  clauses = record { start = clausesAt s; count = clauses s };
+  pool = record { start = poolAt s; count = poolSize s };
+  subject = subject s;
 }
 
--- 5, of counts
-unfoldable pub fewEnough : Counts → Bool
-fewEnough n =
-    both (leb (n .types) typesMost)
-    (both (leb (n .constructors) constructorsMost)
-    (both (leb (n .entries) entriesMost)
-    (both (leb (n .patterns) patternsMost)
-    (both (leb (n .children) childrenMost)
-    (leb (n .clauses) clausesMost)))))
+-- 5, of the counts of a map
+unfoldable pub fewEnough : SheetMap → Bool
+fewEnough m =
+    both (leb (m .types .count) typesMost)
+    (both (leb (m .constructors .count) constructorsMost)
+    (both (leb (m .entries .count) entriesMost)
+    (both (leb (m .patterns .count) patternsMost)
+    (both (leb (m .children .count) childrenMost)
+    (leb (m .clauses .count) clausesMost)))))

@@ -147,14 +147,14 @@ module _ (s : List ℕ) (m : SheetMap) (e : m ≡ mapOf s) (p : ℕ) (r : Patter
   zero-is : r .zero ≡ patternZero s p
   zero-is = ap (λ (x : PatternRecord). x .zero) f
 
-  own-is : ownFields r (m .counts .children) (m .counts .pool) (patternKindOf (r .kind)) ≡ ownFields (patternOf s p) (children s) (poolSize s) (patternKindOf (patternKind s p))
+  own-is : ownFields r (m .children .count) (m .pool .count) (patternKindOf (r .kind)) ≡ ownFields (patternOf s p) (children s) (poolSize s) (patternKindOf (patternKind s p))
   own-is = rw (e, f)
 
   pub zero-stops : (r .zero ≡ 0 → ⊥) → false ≡ recordFits s p
   unfolding recordFits
   zero-stops h = rw (ne-eqb (patternZero s p) 0 (λ z. h (zero-is ∙ z)))
 
-  module _ (z : r .zero ≡ 0) {own : Bool} (q : own ≡ ownFields r (m .counts .children) (m .counts .pool) (patternKindOf (r .kind))) where
+  module _ (z : r .zero ≡ 0) {own : Bool} (q : own ≡ ownFields r (m .children .count) (m .pool .count) (patternKindOf (r .kind))) where
     record-is : {b : Bool} → own ≡ b → recordFits s p ≡ both b (tailRule s p (patternKindOf (patternKind s p)))
     unfolding recordFits
     record-is x =
@@ -173,9 +173,9 @@ module _ (s : List ℕ) (m : SheetMap) (e : m ≡ mapOf s) (p : ℕ) (r : Patter
     pub tail-room : not own ≡ false → r .kind ≡ listWithTailPattern → (2 ≤ r .count) × (r .first + r .count ≤ children s)
     unfolding ownFields patternKindOf
     tail-room y k =
-        let own-yes : both (leb 2 (r .count)) (plainRun (r .a) (r .first) (r .count) (m .counts .children)) ≡ true = rw k at (sym q ∙ passed refl y) in
+        let own-yes : both (leb 2 (r .count)) (plainRun (r .a) (r .first) (r .count) (m .children .count)) ≡ true = rw k at (sym q ∙ passed refl y) in
         let a = both-true (leb 2 (r .count)) _ own-yes in
-        let b = both-true (eqb (r .a) 0) (runIn (r .first) (r .count) (m .counts .children)) (a .1) in
+        let b = both-true (eqb (r .a) 0) (runIn (r .first) (r .count) (m .children .count)) (a .1) in
         (leb-true _ _ (a .0), omega (arith, mapped s m e .of-children, run-in _ _ _ (b .1) .inside))
 
     pub with-tail : {tail : Bool} → not own ≡ false → r .kind ≡ listWithTailPattern → tail ≡ leb (patternKind s (child s (r .first + (r .count - 1)))) variablePattern → tail ≡ recordFits s p

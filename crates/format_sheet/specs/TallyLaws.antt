@@ -65,7 +65,7 @@ module _ (s : List ℕ) where
   pub entries-done : (j : ℕ) {l : List ℕ} → children s ≤ j → EntryTally s j l → AllMet s l
   entries-done j h t = record { long = t .long; all-met = tally-ends (isEntry s) (λ p. times (isRoot s p) 0 (clauses s)) (children s) j h t }
 
-  pub stand-once : (m : SheetMap) {l : List ℕ} → m ≡ mapOf s → AllMet s l → metOnce l (m .counts .patterns) ≡ every (standsOnce s) 0 (patterns s)
+  pub stand-once : (m : SheetMap) {l : List ℕ} → m ≡ mapOf s → AllMet s l → metOnce l (m .patterns .count) ≡ every (standsOnce s) 0 (patterns s)
   unfolding metOnce standsOnce
   stand-once m {l} e met =
       ap (every (λ k. eqb (getD l k 0) 1) 0) (mapped s m e .of-patterns)
@@ -133,7 +133,7 @@ module _ (s : List ℕ) where
         sym (every-false (listedOnce s) 0 (children s) (w .0) (omega arith) (omega (arith, w .2, first-is, count-is, inside .run-inside p h))
         (ne-eqb (times (lists s (w .0)) 0 (patterns s)) 1 (λ (q : times (lists s (w .0)) 0 (patterns s) ≡ 1). some (omega (arith, t .tally (w .0), more)))))
 
-  pub lists-done : (m : SheetMap) (p : ℕ) {l : List ℕ} → m ≡ mapOf s → patterns s ≤ p → ListTally s p l → metOnce l (m .counts .children) ≡ every (listedOnce s) 0 (children s)
+  pub lists-done : (m : SheetMap) (p : ℕ) {l : List ℕ} → m ≡ mapOf s → patterns s ≤ p → ListTally s p l → metOnce l (m .children .count) ≡ every (listedOnce s) 0 (children s)
   unfolding metOnce listedOnce
   lists-done m p {l} e h t =
       ap (every (λ k. eqb (getD l k 0) 1) 0) (mapped s m e .of-children)

@@ -65,11 +65,11 @@ module _ (s : List ℕ) (p : ℕ) (r : PatternRecord) (f : r ≡ patternOf s p) 
       (λ e. b (kind-is ∙ pattern-byte (patternKind s p) ByteString e (omega arith))))
 
   module _ (m : SheetMap) (e : m ≡ mapOf s) where
-    pub text-room : Laid s → Shaped s → p < patterns s → r .kind ≡ integerPattern → m .at .pool + r .first + r .count ≤ length s
+    pub text-room : Laid s → Shaped s → p < patterns s → r .kind ≡ integerPattern → m .pool .start + r .first + r .count ≤ length s
     text-room l sh h k =
         omega (arith, mapped s m e .at-pool, first-is, count-is, text-inside l (patternFirst s p) (patternCount s p) (sh .text-run p h (omega (arith, kind-is, k)) (omega (arith, kind-is, k)) .inside))
 
-    pub integer-asked : {b : Bool} → r .kind ≡ integerPattern → r .count ≤ textMost → b ≡ canonical (textAt s (m .at .pool + r .first) (r .count)) → not b ≡ badText s p
+    pub integer-asked : {b : Bool} → r .kind ≡ integerPattern → r .count ≤ textMost → b ≡ canonical (textAt s (m .pool .start + r .first) (r .count)) → not b ≡ badText s p
     unfolding badText textOfKind patternKindOf shortText poolText
     integer-asked k l g =
         rw (sym kind-is ∙ k, le-leb (patternCount s p) textMost (omega (arith, count-is)))

@@ -21,7 +21,7 @@ use Rattle.format_sheet.specs.TestsLaws.{passed, stopped}
 -- ---- 6
 module _ (s : List ℕ) (m : SheetMap) (e : m ≡ mapOf s) where
   module _ (t : ℕ) (r : TypeRecord) (f : r ≡ typeOf s t) where
-    parts-are : partsFit r (m .counts .entries) (m .counts .constructors) ≡ typeParts s t
+    parts-are : partsFit r (m .entries .count) (m .constructors .count) ≡ typeParts s t
     unfolding partsFit typeParts
     parts-are = rw (e, f)
 
@@ -29,26 +29,26 @@ module _ (s : List ℕ) (m : SheetMap) (e : m ≡ mapOf s) where
     unfolding flagsFit typeFlags
     flags-are = rw f
 
-    pub type-stops : {parts : Bool} → parts ≡ partsFit r (m .counts .entries) (m .counts .constructors) → not parts ≡ true
+    pub type-stops : {parts : Bool} → parts ≡ partsFit r (m .entries .count) (m .constructors .count) → not parts ≡ true
         → false ≡ typeKeepsRules s t
     unfolding typeKeepsRules
     type-stops q no-parts = let p : typeParts s t ≡ false = stopped (q ∙ parts-are) no-parts in rw p
 
-    pub type-goes-on : {parts flags : Bool} → parts ≡ partsFit r (m .counts .entries) (m .counts .constructors) → not parts ≡ false
+    pub type-goes-on : {parts flags : Bool} → parts ≡ partsFit r (m .entries .count) (m .constructors .count) → not parts ≡ false
         → flags ≡ flagsFit (r .kind) (r .flag) → flags ≡ typeKeepsRules s t
     unfolding typeKeepsRules
     type-goes-on q has-parts g = let p : typeParts s t ≡ true = passed (q ∙ parts-are) has-parts in rw p (g ∙ flags-are)
 
-  pub constructor-keeps : (c : ℕ) (r : Run) → r ≡ constructorOf s c → {b : Bool} → b ≡ runIn (r .first) (r .count) (m .counts .entries)
+  pub constructor-keeps : (c : ℕ) (r : Run) → r ≡ constructorOf s c → {b : Bool} → b ≡ runIn (r .first) (r .count) (m .entries .count)
       → b ≡ constructorKeepsRules s c
   unfolding constructorKeepsRules
   constructor-keeps c r f q = q ∙ rw (e, f)
 
-  pub entry-keeps : (i r : ℕ) → r ≡ entry s i → ltb r (m .counts .types) ≡ entryKeepsRules s i
+  pub entry-keeps : (i r : ℕ) → r ≡ entry s i → ltb r (m .types .count) ≡ entryKeepsRules s i
   unfolding entryKeepsRules
   entry-keeps i r f = rw (e, f)
 
-  pub subject-known : ltb (m .subject) (m .counts .types) ≡ ltb (subject s) (types s)
+  pub subject-known : ltb (m .subject) (m .types .count) ≡ ltb (subject s) (types s)
   subject-known = rw e
 
 -- ---- 7

@@ -65,9 +65,9 @@ fn asks_parts(r: PatternRecord, ty: TypeRecord, kind: u8) -> Question
 }
 
 // Of a constructor: the type has it, with as many fields.
-fn asks_fields(s: &[u8], m: SheetMap, r: PatternRecord, ty: TypeRecord) -> Question
-    requires { ⌜ Laid (now s) × (m ≡ mapOf (now s)) × (ty .kind ≡ dataType → ty .first + ty .count ≤ constructors (now s)) ⌝ }
-    ensures { λ x. ⌜ x ≡ argumentsFit (now (s .entry)) r ty ⌝ }
+fn asks_fields(sheet: &[u8], map: SheetMap, r: PatternRecord, ty: TypeRecord) -> Question
+    requires { ⌜ Laid (now sheet) × (map ≡ mapOf (now sheet)) × (ty .kind ≡ dataType → ty .first + ty .count ≤ constructors (now sheet)) ⌝ }
+    ensures { λ x. ⌜ x ≡ argumentsFit (now (sheet .entry)) r ty ⌝ }
 {
     if ty.kind != type_kinds::DATA {
         return Question::Settled(false);
@@ -75,22 +75,22 @@ fn asks_fields(s: &[u8], m: SheetMap, r: PatternRecord, ty: TypeRecord) -> Quest
     if ty.count <= r.a {
         return Question::Settled(false);
     }
-    let c = constructor_at(s, m, ty.first + r.a);
+    let c = constructor_at(sheet, map, ty.first + r.a);
     asks_each(c.count == r.count, r.first, r.count, c.first, 1)
 }
 
 // The pattern p held against type t.
-fn asks(s: &[u8], m: SheetMap, p: usize, t: usize) -> Question
-    requires { ⌜ ReadySheet (now s) m × (p < patterns (now s)) × (t < types (now s)) ⌝ }
-    ensures { λ r. ⌜ r ≡ asked (now (s .entry)) p t (patternKindOf (patternKind (now (s .entry)) p)) ⌝ }
+fn asks(sheet: &[u8], map: SheetMap, p: usize, t: usize) -> Question
+    requires { ⌜ ReadySheet (now sheet) map × (p < patterns (now sheet)) × (t < types (now sheet)) ⌝ }
+    ensures { λ r. ⌜ r ≡ asked (now (sheet .entry)) p t (patternKindOf (patternKind (now (sheet .entry)) p)) ⌝ }
 {
-    let r = pattern_at(s, m, p);
-    let ty = type_at(s, m, t);
+    let r = pattern_at(sheet, map, p);
+    let ty = type_at(sheet, map, t);
     let kind = r.kind;
     match kind {
         pattern_kinds::DISCARD => Question::Settled(true),
         pattern_kinds::VARIABLE => Question::Settled(true),
-        pattern_kinds::ASSIGN => Question::Inside(child_at(s, m, r.first)),
+        pattern_kinds::ASSIGN => Question::Inside(child_at(sheet, map, r.first)),
         pattern_kinds::INTEGER => Question::Settled(ty.kind == type_kinds::INT),
         pattern_kinds::BYTE_STRING => Question::Settled(ty.kind == type_kinds::BYTES),
         pattern_kinds::LIST => asks_each(
@@ -107,7 +107,7 @@ fn asks(s: &[u8], m: SheetMap, p: usize, t: usize) -> Question
             ty.first,
             0,
         ),
-        pattern_kinds::CONSTRUCTOR => asks_fields(s, m, r, ty),
+        pattern_kinds::CONSTRUCTOR => asks_fields(sheet, map, r, ty),
         pattern_kinds::PAIR => asks_parts(r, ty, type_kinds::PAIR),
         pattern_kinds::TUPLE => asks_parts(r, ty, type_kinds::TUPLE),
         _ => Question::Settled(true),
@@ -115,53 +115,61 @@ fn asks(s: &[u8], m: SheetMap, p: usize, t: usize) -> Question
 }
 
 // Pattern p fits type t.
-fn fits(s: &[u8], m: SheetMap, p: usize, t: usize) -> bool
-    requires { ⌜ ReadySheet (now s) m × (p < patterns (now s)) × (t < types (now s)) ⌝ }
-    ensures { λ r. ⌜ r ≡ Fits (pattern (now (s .entry)) p t) (now (s .entry)) ⌝ }
+fn fits(sheet: &[u8], map: SheetMap, p: usize, t: usize) -> bool
+    requires { ⌜ ReadySheet (now sheet) map × (p < patterns (now sheet)) × (t < types (now sheet)) ⌝ }
+    ensures { λ r. ⌜ r ≡ Fits (pattern (now (sheet .entry)) p t) (now (sheet .entry)) ⌝ }
 {
-    let left = asks(s, m, p, t);
+    let left = asks(sheet, map, p, t);
     match left {
         Question::Settled(fit) => fit,
-        Question::Inside(q) => fits(s, m, q, t),
+        Question::Inside(q) => fits(sheet, map, q, t),
         Question::Each {
             first,
             count,
             entry,
             step,
-        } => fits_all(s, m, p, first, count, entry, step),
+        } => fits_all(sheet, map, p, first, count, entry, step),
     }
 }
 
 // Each of n children of `parent` from entry j on fits the type at its own type entry, the first at e.
-fn fits_all(s: &[u8], m: SheetMap, parent: usize, j: usize, n: usize, e: usize, step: usize) -> bool
-    requires { ⌜ ReadySheet (now s) m × Room (now s) parent j n e step ⌝ }
-    ensures { λ r. ⌜ r ≡ fitAll (along (pattern (now (s .entry))) (now (s .entry)) j n e step) (now (s .entry)) ⌝ }
+fn fits_all(
+    sheet: &[u8],
+    map: SheetMap,
+    parent: usize,
+    j: usize,
+    n: usize,
+    e: usize,
+    step: usize,
+) -> bool
+    requires { ⌜ ReadySheet (now sheet) map × Room (now sheet) parent j n e step ⌝ }
+    ensures { λ r. ⌜ r ≡ fitAll (along (pattern (now (sheet .entry))) (now (sheet .entry)) j n e step) (now (sheet .entry)) ⌝ }
 {
     if n == 0 {
         return true;
     }
-    if !fits(s, m, child_at(s, m, j), entry_at(s, m, e)) {
+    if !fits(sheet, map, child_at(sheet, map, j), entry_at(sheet, map, e)) {
         return false;
     }
-    fits_all(s, m, parent, j + 1, n - 1, e + step, step)
+    fits_all(sheet, map, parent, j + 1, n - 1, e + step, step)
 }
 
 // The pattern of clause c does not fit the subject's type.
-fn misfits(s: &[u8], m: SheetMap, c: usize) -> bool
-    requires { ⌜ ReadySheet (now s) m × (c < clauses (now s)) ⌝ }
-    ensures { λ r. ⌜ r ≡ misfit (now (s .entry)) c ⌝ }
+fn misfits(sheet: &[u8], map: SheetMap, c: usize) -> bool
+    requires { ⌜ ReadySheet (now sheet) map × (c < clauses (now sheet)) ⌝ }
+    ensures { λ r. ⌜ r ≡ misfit (now (sheet .entry)) c ⌝ }
 {
-    !fits(s, m, root_at(s, m, c), m.subject)
+    !fits(sheet, map, root_at(sheet, map, c), map.subject)
 }
 
 // 10.
-pub(crate) fn lowest_misfit(s: &[u8], m: SheetMap) -> Found
-    requires { ⌜ ReadySheet (now s) m ⌝ }
-    ensures { λ r. ⌜ r ≡ foundOf (lowestMisfit (now (s .entry))) ⌝ }
+pub(crate) fn lowest_misfit(sheet: &[u8], map: SheetMap) -> Found
+    requires { ⌜ ReadySheet (now sheet) map ⌝ }
+    ensures { λ r. ⌜ r ≡ foundOf (lowestMisfit (now (sheet .entry))) ⌝ }
 {
     let mut c: usize = 0;
-    while c < m.counts.clauses {
-        if misfits(s, m, c) {
+    while c < map.clauses.count {
+        if misfits(sheet, map, c) {
             return Found::At(c as u16);
         }
         c += 1;

@@ -13,17 +13,16 @@ mod names;
 pub mod records;
 mod shape;
 mod standing;
-pub mod texts;
+mod texts;
 mod types;
 
 use base_numbers::refusals;
 use fitting::lowest_misfit;
+use format_parts::sections::Section;
 use layout::counts_fit;
-use layout::counts_of;
 use layout::layout_fits;
 use layout::length_fits;
-use layout::starts_of;
-use layout::subject_of;
+use layout::map_of;
 use names::lowest_name_twice;
 use shape::shape_fits;
 use texts::lowest_bad_text;
@@ -35,32 +34,15 @@ ghost use Rattle.format_sheet.specs.Sections.{mapOf};
 ghost use Rattle.format_sheet.specs.Fitting.{ReadySheet};
 ghost use Rattle.format_sheet.specs.Check.{answer, checked, fromTypes, fromPatterns, fromClauses};
 
-// Where the sections start; the pool ends where the trailer begins.
-pub struct Starts {
-    pub types: usize,
-    pub constructors: usize,
-    pub entries: usize,
-    pub patterns: usize,
-    pub children: usize,
-    pub clauses: usize,
-    pub pool: usize,
-    pub end: usize,
-}
-
-// How many records each section has; of the pool, how many bytes.
-pub struct Counts {
-    pub types: usize,
-    pub constructors: usize,
-    pub entries: usize,
-    pub patterns: usize,
-    pub children: usize,
-    pub clauses: usize,
-    pub pool: usize,
-}
-
+// Where the sections of a sheet stand, and the subject's type number.
 pub struct SheetMap {
-    pub at: Starts,
-    pub counts: Counts,
+    pub types: Section,
+    pub constructors: Section,
+    pub entries: Section,
+    pub patterns: Section,
+    pub children: Section,
+    pub clauses: Section,
+    pub pool: Section,
     pub subject: usize,
 }
 
@@ -76,102 +58,93 @@ pub enum Found {
 }
 
 // 10 and 11.
-fn check_clauses(s: &[u8], m: SheetMap) -> CheckedSheet
-    requires { ⌜ ReadySheet (now s) m ⌝ }
-    ensures { λ r. ⌜ r ≡ answer (now (s .entry)) (fromClauses (now (s .entry))) ⌝ }
+fn check_clauses(sheet: &[u8], map: SheetMap) -> CheckedSheet
+    requires { ⌜ ReadySheet (now sheet) map ⌝ }
+    ensures { λ r. ⌜ r ≡ answer (now (sheet .entry)) (fromClauses (now (sheet .entry))) ⌝ }
 {
-    if let Found::At(c) = lowest_misfit(s, m) {
+    if let Found::At(c) = lowest_misfit(sheet, map) {
         return CheckedSheet::Refused {
             number: refusals::MISFIT,
             place: c,
         };
     }
-    if let Found::At(c) = lowest_name_twice(s, m) {
+    if let Found::At(c) = lowest_name_twice(sheet, map) {
         return CheckedSheet::Refused {
             number: refusals::NAME_TWICE,
             place: c,
         };
     }
-    CheckedSheet::Accepted(m)
+    CheckedSheet::Accepted(map)
 }
 
 // 8 to 11.
-fn check_patterns(s: &[u8], m: SheetMap) -> CheckedSheet
-    requires { ⌜ Laid (now s) × (m ≡ mapOf (now s)) × Counted (now s) × Typed (now s) ⌝ }
-    ensures { λ r. ⌜ r ≡ answer (now (s .entry)) (fromPatterns (now (s .entry))) ⌝ }
+fn check_patterns(sheet: &[u8], map: SheetMap) -> CheckedSheet
+    requires { ⌜ Laid (now sheet) × (map ≡ mapOf (now sheet)) × Counted (now sheet) × Typed (now sheet) ⌝ }
+    ensures { λ r. ⌜ r ≡ answer (now (sheet .entry)) (fromPatterns (now (sheet .entry))) ⌝ }
 {
-    if !shape_fits(s, m) {
+    if !shape_fits(sheet, map) {
         return CheckedSheet::Refused {
             number: refusals::SHAPE,
             place: 0,
         };
     }
-    if let Found::At(p) = lowest_bad_text(s, m) {
+    if let Found::At(p) = lowest_bad_text(sheet, map) {
         return CheckedSheet::Refused {
             number: refusals::TEXT,
             place: p,
         };
     }
-    check_clauses(s, m)
+    check_clauses(sheet, map)
 }
 
 // 6 to 11.
-fn check_types(s: &[u8], m: SheetMap) -> CheckedSheet
-    requires { ⌜ Laid (now s) × (m ≡ mapOf (now s)) × Counted (now s) ⌝ }
-    ensures { λ r. ⌜ r ≡ answer (now (s .entry)) (fromTypes (now (s .entry))) ⌝ }
+fn check_types(sheet: &[u8], map: SheetMap) -> CheckedSheet
+    requires { ⌜ Laid (now sheet) × (map ≡ mapOf (now sheet)) × Counted (now sheet) ⌝ }
+    ensures { λ r. ⌜ r ≡ answer (now (sheet .entry)) (fromTypes (now (sheet .entry))) ⌝ }
 {
-    if !types_fit(s, m) {
+    if !types_fit(sheet, map) {
         return CheckedSheet::Refused {
             number: refusals::TYPES,
             place: 0,
         };
     }
-    if let Found::At(t) = lowest_transparent(s, m) {
+    if let Found::At(t) = lowest_transparent(sheet, map) {
         return CheckedSheet::Refused {
             number: refusals::TRANSPARENT,
             place: t,
         };
     }
-    check_patterns(s, m)
+    check_patterns(sheet, map)
 }
 
 // 01's refusals 2 to 11, in their order. It asks nothing of its caller.
-pub fn check(s: &[u8]) -> CheckedSheet
-    ensures { λ r. ⌜ r ≡ checked (now (s .entry)) ⌝ }
+pub fn check(sheet: &[u8]) -> CheckedSheet
+    ensures { λ r. ⌜ r ≡ checked (now (sheet .entry)) ⌝ }
 {
-    if !length_fits(s) {
+    if !length_fits(sheet) {
         return CheckedSheet::Refused {
             number: refusals::LENGTH,
             place: 0,
         };
     }
-    let at = starts_of(s);
-    if !layout_fits(at) {
+    if !layout_fits(sheet) {
         return CheckedSheet::Refused {
             number: refusals::LAYOUT,
             place: 0,
         };
     }
-    let counts = counts_of(at);
-    if counts.clauses == 0 {
+    let m = map_of(sheet);
+    if m.clauses.count == 0 {
         return CheckedSheet::Refused {
             number: refusals::NO_CLAUSE,
             place: 0,
         };
     }
-    if !counts_fit(counts) {
+    if !counts_fit(m) {
         return CheckedSheet::Refused {
             number: refusals::COUNT,
             place: 0,
         };
     }
-    let subject = subject_of(s);
-    check_types(
-        s,
-        SheetMap {
-            at,
-            counts,
-            subject,
-        },
-    )
+    check_types(sheet, m)
 }

@@ -32,12 +32,12 @@ fn add(found: &mut [u16], count: usize, x: u16) -> usize
 }
 
 // The name of pattern p itself, if it has one.
-fn add_own(s: &[u8], records: usize, p: usize, found: &mut [u16], count: usize) -> usize
-    requires { ⌜ Laid (now s) × (records ≡ patternsAt (now s)) × (p < patterns (now s)) ⌝ }
-    requires { ⌜ (length (now found) ≡ patternsMost) × (count + length (ownName (now s) p) ≤ patternsMost) ⌝ }
-    ensures { λ r. ⌜ Adds (inBuffer (now (found .entry)) count) (ownName (now (s .entry)) p) (inBuffer (now (found .exit)) r) ⌝ }
+fn add_own(sheet: &[u8], records: usize, p: usize, found: &mut [u16], count: usize) -> usize
+    requires { ⌜ Laid (now sheet) × (records ≡ patternsAt (now sheet)) × (p < patterns (now sheet)) ⌝ }
+    requires { ⌜ (length (now found) ≡ patternsMost) × (count + length (ownName (now sheet) p) ≤ patternsMost) ⌝ }
+    ensures { λ r. ⌜ Adds (inBuffer (now (found .entry)) count) (ownName (now (sheet .entry)) p) (inBuffer (now (found .exit)) r) ⌝ }
 {
-    let r = pattern_in(s, records, p);
+    let r = pattern_in(sheet, records, p);
     let kind = r.kind;
     match kind {
         pattern_kinds::VARIABLE => add(found, count, r.a as u16),
@@ -48,26 +48,26 @@ fn add_own(s: &[u8], records: usize, p: usize, found: &mut [u16], count: usize) 
 
 // The names of pattern p and of what is inside it. Of the map it takes the starts of the patterns and of the child list.
 fn collect(
-    s: &[u8],
+    sheet: &[u8],
     records: usize,
     list: usize,
     p: usize,
     found: &mut [u16],
     count: usize,
 ) -> usize
-    requires { ⌜ ReadySheet (now s) (mapOf (now s)) × (records ≡ patternsAt (now s)) × (list ≡ childrenAt (now s)) × (p < patterns (now s)) ⌝ }
-    requires { ⌜ (length (now found) ≡ patternsMost) × (count + length (namesIn (now s) p) ≤ patternsMost) ⌝ }
-    ensures { λ r. ⌜ Adds (inBuffer (now (found .entry)) count) (namesIn (now (s .entry)) p) (inBuffer (now (found .exit)) r) ⌝ }
+    requires { ⌜ ReadySheet (now sheet) (mapOf (now sheet)) × (records ≡ patternsAt (now sheet)) × (list ≡ childrenAt (now sheet)) × (p < patterns (now sheet)) ⌝ }
+    requires { ⌜ (length (now found) ≡ patternsMost) × (count + length (namesIn (now sheet) p) ≤ patternsMost) ⌝ }
+    ensures { λ r. ⌜ Adds (inBuffer (now (found .entry)) count) (namesIn (now (sheet .entry)) p) (inBuffer (now (found .exit)) r) ⌝ }
 {
-    let mut next = add_own(s, records, p, found, count);
-    let run = children_in(s, records, p);
+    let mut next = add_own(sheet, records, p, found, count);
+    let run = children_in(sheet, records, p);
     let mut k: usize = 0;
     while k < run.count {
         next = collect(
-            s,
+            sheet,
             records,
             list,
-            child_in(s, list, run.first + k),
+            child_in(sheet, list, run.first + k),
             found,
             next,
         );
@@ -106,23 +106,30 @@ fn repeats(found: &[u16], count: usize) -> bool
 }
 
 // What the buffer holds before does not matter.
-fn name_twice(s: &[u8], m: SheetMap, c: usize, found: &mut [u16]) -> bool
-    requires { ⌜ ReadySheet (now s) m × (c < clauses (now s)) × (length (now found) ≡ patternsMost) ⌝ }
-    ensures { λ r. ⌜ r ≡ nameTwice (now (s .entry)) c ⌝ }
+fn name_twice(sheet: &[u8], map: SheetMap, c: usize, found: &mut [u16]) -> bool
+    requires { ⌜ ReadySheet (now sheet) map × (c < clauses (now sheet)) × (length (now found) ≡ patternsMost) ⌝ }
+    ensures { λ r. ⌜ r ≡ nameTwice (now (sheet .entry)) c ⌝ }
 {
-    let count = collect(s, m.at.patterns, m.at.children, root_at(s, m, c), found, 0);
+    let count = collect(
+        sheet,
+        map.patterns.start,
+        map.children.start,
+        root_at(sheet, map, c),
+        found,
+        0,
+    );
     repeats(found, count)
 }
 
 // 11.
-pub(crate) fn lowest_name_twice(s: &[u8], m: SheetMap) -> Found
-    requires { ⌜ ReadySheet (now s) m ⌝ }
-    ensures { λ r. ⌜ r ≡ foundOf (lowestNameTwice (now (s .entry))) ⌝ }
+pub(crate) fn lowest_name_twice(sheet: &[u8], map: SheetMap) -> Found
+    requires { ⌜ ReadySheet (now sheet) map ⌝ }
+    ensures { λ r. ⌜ r ≡ foundOf (lowestNameTwice (now (sheet .entry))) ⌝ }
 {
     let mut found = [0u16; PATTERNS_MOST];
     let mut c: usize = 0;
-    while c < m.counts.clauses {
-        if name_twice(s, m, c, &mut found) {
+    while c < map.clauses.count {
+        if name_twice(sheet, map, c, &mut found) {
             return Found::At(c as u16);
         }
         c += 1;

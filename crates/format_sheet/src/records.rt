@@ -45,14 +45,14 @@ pub struct PatternRecord {
     pub count: usize,
 }
 
-fn type_from(s: &[u8], at: usize) -> TypeRecord
-    requires { ⌜ at + typeSize ≤ length (now s) ⌝ }
-    ensures { λ r. ⌜ r ≡ typeFrom (now (s .entry)) at ⌝ }
+fn type_from(sheet: &[u8], at: usize) -> TypeRecord
+    requires { ⌜ at + typeSize ≤ length (now sheet) ⌝ }
+    ensures { λ r. ⌜ r ≡ typeFrom (now (sheet .entry)) at ⌝ }
 {
-    let kind = s[at];
-    let flag = s[at + type_fields::FLAG];
-    let first = word_at(s, at + type_fields::FIRST) as usize;
-    let count = word_at(s, at + type_fields::COUNT) as usize;
+    let kind = sheet[at];
+    let flag = sheet[at + type_fields::FLAG];
+    let first = word_at(sheet, at + type_fields::FIRST) as usize;
+    let count = word_at(sheet, at + type_fields::COUNT) as usize;
     TypeRecord {
         kind,
         flag,
@@ -61,24 +61,24 @@ fn type_from(s: &[u8], at: usize) -> TypeRecord
     }
 }
 
-fn run_from(s: &[u8], at: usize) -> Run
-    requires { ⌜ at + constructorSize ≤ length (now s) ⌝ }
-    ensures { λ r. ⌜ r ≡ runFrom (now (s .entry)) at ⌝ }
+fn run_from(sheet: &[u8], at: usize) -> Run
+    requires { ⌜ at + constructorSize ≤ length (now sheet) ⌝ }
+    ensures { λ r. ⌜ r ≡ runFrom (now (sheet .entry)) at ⌝ }
 {
-    let first = word_at(s, at) as usize;
-    let count = word_at(s, at + run_fields::COUNT) as usize;
+    let first = word_at(sheet, at) as usize;
+    let count = word_at(sheet, at + run_fields::COUNT) as usize;
     Run { first, count }
 }
 
 // The pattern whose record stands at a place of the slice.
-pub fn pattern_from(s: &[u8], at: usize) -> PatternRecord
-    requires { ⌜ at + patternSize ≤ length (now s) ⌝ }
-    ensures { λ r. ⌜ r ≡ patternFrom (now (s .entry)) at ⌝ }
+pub fn pattern_from(sheet: &[u8], at: usize) -> PatternRecord
+    requires { ⌜ at + patternSize ≤ length (now sheet) ⌝ }
+    ensures { λ r. ⌜ r ≡ patternFrom (now (sheet .entry)) at ⌝ }
 {
-    let kind = s[at];
-    let zero = s[at + record_fields::ZERO];
-    let a = word_at(s, at + record_fields::A) as usize;
-    let run = run_from(s, at + record_fields::RUN);
+    let kind = sheet[at];
+    let zero = sheet[at + record_fields::ZERO];
+    let a = word_at(sheet, at + record_fields::A) as usize;
+    let run = run_from(sheet, at + record_fields::RUN);
     PatternRecord {
         kind,
         zero,
@@ -88,62 +88,62 @@ pub fn pattern_from(s: &[u8], at: usize) -> PatternRecord
     }
 }
 
-pub fn type_at(s: &[u8], m: SheetMap, t: usize) -> TypeRecord
-    requires { ⌜ Laid (now s) × (m ≡ mapOf (now s)) × (t < types (now s)) ⌝ }
-    ensures { λ r. ⌜ r ≡ typeOf (now (s .entry)) t ⌝ }
+pub fn type_at(sheet: &[u8], map: SheetMap, t: usize) -> TypeRecord
+    requires { ⌜ Laid (now sheet) × (map ≡ mapOf (now sheet)) × (t < types (now sheet)) ⌝ }
+    ensures { λ r. ⌜ r ≡ typeOf (now (sheet .entry)) t ⌝ }
 {
-    type_from(s, m.at.types + TYPE_SIZE * t)
+    type_from(sheet, map.types.start + TYPE_SIZE * t)
 }
 
-pub fn constructor_at(s: &[u8], m: SheetMap, c: usize) -> Run
-    requires { ⌜ Laid (now s) × (m ≡ mapOf (now s)) × (c < constructors (now s)) ⌝ }
-    ensures { λ r. ⌜ r ≡ constructorOf (now (s .entry)) c ⌝ }
+pub fn constructor_at(sheet: &[u8], map: SheetMap, c: usize) -> Run
+    requires { ⌜ Laid (now sheet) × (map ≡ mapOf (now sheet)) × (c < constructors (now sheet)) ⌝ }
+    ensures { λ r. ⌜ r ≡ constructorOf (now (sheet .entry)) c ⌝ }
 {
-    run_from(s, m.at.constructors + CONSTRUCTOR_SIZE * c)
+    run_from(sheet, map.constructors.start + CONSTRUCTOR_SIZE * c)
 }
 
-pub fn entry_at(s: &[u8], m: SheetMap, e: usize) -> usize
-    requires { ⌜ Laid (now s) × (m ≡ mapOf (now s)) × (e < entries (now s)) ⌝ }
-    ensures { λ r. ⌜ r ≡ entry (now (s .entry)) e ⌝ }
+pub fn entry_at(sheet: &[u8], map: SheetMap, e: usize) -> usize
+    requires { ⌜ Laid (now sheet) × (map ≡ mapOf (now sheet)) × (e < entries (now sheet)) ⌝ }
+    ensures { λ r. ⌜ r ≡ entry (now (sheet .entry)) e ⌝ }
 {
-    word_at(s, m.at.entries + ENTRY_SIZE * e) as usize
+    word_at(sheet, map.entries.start + ENTRY_SIZE * e) as usize
 }
 
 // Pattern p, by the start of the patterns alone: a recursion that hands on no more of the map stores no more of it at each call.
-pub fn pattern_in(s: &[u8], start: usize, p: usize) -> PatternRecord
-    requires { ⌜ Laid (now s) × (start ≡ patternsAt (now s)) × (p < patterns (now s)) ⌝ }
-    ensures { λ r. ⌜ r ≡ patternOf (now (s .entry)) p ⌝ }
+pub fn pattern_in(sheet: &[u8], start: usize, p: usize) -> PatternRecord
+    requires { ⌜ Laid (now sheet) × (start ≡ patternsAt (now sheet)) × (p < patterns (now sheet)) ⌝ }
+    ensures { λ r. ⌜ r ≡ patternOf (now (sheet .entry)) p ⌝ }
 {
-    pattern_from(s, start + PATTERN_SIZE * p)
+    pattern_from(sheet, start + PATTERN_SIZE * p)
 }
 
-pub fn pattern_at(s: &[u8], m: SheetMap, p: usize) -> PatternRecord
-    requires { ⌜ Laid (now s) × (m ≡ mapOf (now s)) × (p < patterns (now s)) ⌝ }
-    ensures { λ r. ⌜ r ≡ patternOf (now (s .entry)) p ⌝ }
+pub fn pattern_at(sheet: &[u8], map: SheetMap, p: usize) -> PatternRecord
+    requires { ⌜ Laid (now sheet) × (map ≡ mapOf (now sheet)) × (p < patterns (now sheet)) ⌝ }
+    ensures { λ r. ⌜ r ≡ patternOf (now (sheet .entry)) p ⌝ }
 {
-    pattern_in(s, m.at.patterns, p)
+    pattern_in(sheet, map.patterns.start, p)
 }
 
 // Entry j of the child list, by its start alone.
-pub fn child_in(s: &[u8], start: usize, j: usize) -> usize
-    requires { ⌜ Laid (now s) × (start ≡ childrenAt (now s)) × (j < children (now s)) ⌝ }
-    ensures { λ r. ⌜ r ≡ child (now (s .entry)) j ⌝ }
+pub fn child_in(sheet: &[u8], start: usize, j: usize) -> usize
+    requires { ⌜ Laid (now sheet) × (start ≡ childrenAt (now sheet)) × (j < children (now sheet)) ⌝ }
+    ensures { λ r. ⌜ r ≡ child (now (sheet .entry)) j ⌝ }
 {
-    word_at(s, start + CHILD_SIZE * j) as usize
+    word_at(sheet, start + CHILD_SIZE * j) as usize
 }
 
-pub fn child_at(s: &[u8], m: SheetMap, j: usize) -> usize
-    requires { ⌜ Laid (now s) × (m ≡ mapOf (now s)) × (j < children (now s)) ⌝ }
-    ensures { λ r. ⌜ r ≡ child (now (s .entry)) j ⌝ }
+pub fn child_at(sheet: &[u8], map: SheetMap, j: usize) -> usize
+    requires { ⌜ Laid (now sheet) × (map ≡ mapOf (now sheet)) × (j < children (now sheet)) ⌝ }
+    ensures { λ r. ⌜ r ≡ child (now (sheet .entry)) j ⌝ }
 {
-    child_in(s, m.at.children, j)
+    child_in(sheet, map.children.start, j)
 }
 
-pub fn root_at(s: &[u8], m: SheetMap, c: usize) -> usize
-    requires { ⌜ Laid (now s) × (m ≡ mapOf (now s)) × (c < clauses (now s)) ⌝ }
-    ensures { λ r. ⌜ r ≡ root (now (s .entry)) c ⌝ }
+pub fn root_at(sheet: &[u8], map: SheetMap, c: usize) -> usize
+    requires { ⌜ Laid (now sheet) × (map ≡ mapOf (now sheet)) × (c < clauses (now sheet)) ⌝ }
+    ensures { λ r. ⌜ r ≡ root (now (sheet .entry)) c ⌝ }
 {
-    word_at(s, m.at.clauses + CLAUSE_SIZE * c) as usize
+    word_at(sheet, map.clauses.start + CLAUSE_SIZE * c) as usize
 }
 
 // Unused fields are 0.
@@ -169,11 +169,11 @@ fn has_children(kind: u8) -> bool
 }
 
 // The children of pattern p, by the start of the patterns alone: none where its kind has none.
-pub fn children_in(s: &[u8], start: usize, p: usize) -> Run
-    requires { ⌜ Laid (now s) × (start ≡ patternsAt (now s)) × (p < patterns (now s)) ⌝ }
-    ensures { λ r. ⌜ r ≡ childrenOf (now (s .entry)) p ⌝ }
+pub fn children_in(sheet: &[u8], start: usize, p: usize) -> Run
+    requires { ⌜ Laid (now sheet) × (start ≡ patternsAt (now sheet)) × (p < patterns (now sheet)) ⌝ }
+    ensures { λ r. ⌜ r ≡ childrenOf (now (sheet .entry)) p ⌝ }
 {
-    let r = pattern_in(s, start, p);
+    let r = pattern_in(sheet, start, p);
     if has_children(r.kind) {
         Run {
             first: r.first,
@@ -184,9 +184,9 @@ pub fn children_in(s: &[u8], start: usize, p: usize) -> Run
     }
 }
 
-pub fn children_of(s: &[u8], m: SheetMap, p: usize) -> Run
-    requires { ⌜ Laid (now s) × (m ≡ mapOf (now s)) × (p < patterns (now s)) ⌝ }
-    ensures { λ r. ⌜ r ≡ childrenOf (now (s .entry)) p ⌝ }
+pub fn children_of(sheet: &[u8], map: SheetMap, p: usize) -> Run
+    requires { ⌜ Laid (now sheet) × (map ≡ mapOf (now sheet)) × (p < patterns (now sheet)) ⌝ }
+    ensures { λ r. ⌜ r ≡ childrenOf (now (sheet .entry)) p ⌝ }
 {
-    children_in(s, m.at.patterns, p)
+    children_in(sheet, map.patterns.start, p)
 }

@@ -80,41 +80,41 @@ fn fields_fit(r: PatternRecord, children: usize, pool: usize) -> bool
 }
 
 // The last of `count` children from `first` on is a variable or discard.
-fn tail_fits(s: &[u8], m: SheetMap, first: usize, count: usize) -> bool
-    requires { ⌜ Laid (now s) × (m ≡ mapOf (now s)) × ChildrenKnown (now s) ⌝ }
-    requires { ⌜ (2 ≤ count) × (first + count ≤ children (now s)) ⌝ }
-    ensures { λ r. ⌜ r ≡ leb (patternKind (now (s .entry)) (child (now (s .entry)) (first + (count - 1)))) variablePattern ⌝ }
+fn tail_fits(sheet: &[u8], map: SheetMap, first: usize, count: usize) -> bool
+    requires { ⌜ Laid (now sheet) × (map ≡ mapOf (now sheet)) × ChildrenKnown (now sheet) ⌝ }
+    requires { ⌜ (2 ≤ count) × (first + count ≤ children (now sheet)) ⌝ }
+    ensures { λ r. ⌜ r ≡ leb (patternKind (now (sheet .entry)) (child (now (sheet .entry)) (first + (count - 1)))) variablePattern ⌝ }
 {
-    let last = child_at(s, m, first + (count - 1));
-    let tail = pattern_at(s, m, last);
+    let last = child_at(sheet, map, first + (count - 1));
+    let tail = pattern_at(sheet, map, last);
     tail.kind <= pattern_kinds::VARIABLE
 }
 
 // The record of pattern p, without what its children are.
-fn record_fits(s: &[u8], m: SheetMap, p: usize) -> bool
-    requires { ⌜ Laid (now s) × (m ≡ mapOf (now s)) × ChildrenKnown (now s) × (p < patterns (now s)) ⌝ }
-    ensures { λ r. ⌜ r ≡ recordFits (now (s .entry)) p ⌝ }
+fn record_fits(sheet: &[u8], map: SheetMap, p: usize) -> bool
+    requires { ⌜ Laid (now sheet) × (map ≡ mapOf (now sheet)) × ChildrenKnown (now sheet) × (p < patterns (now sheet)) ⌝ }
+    ensures { λ r. ⌜ r ≡ recordFits (now (sheet .entry)) p ⌝ }
 {
-    let r = pattern_at(s, m, p);
+    let r = pattern_at(sheet, map, p);
     if r.zero != 0 {
         return false;
     }
-    if !fields_fit(r, m.counts.children, m.counts.pool) {
+    if !fields_fit(r, map.children.count, map.pool.count) {
         return false;
     }
     if r.kind != pattern_kinds::LIST_WITH_TAIL {
         return true;
     }
-    tail_fits(s, m, r.first, r.count)
+    tail_fits(sheet, map, r.first, r.count)
 }
 
-fn records_fit(s: &[u8], m: SheetMap) -> bool
-    requires { ⌜ Laid (now s) × (m ≡ mapOf (now s)) × ChildrenKnown (now s) ⌝ }
-    ensures { λ r. ⌜ r ≡ every (recordFits (now (s .entry))) 0 (patterns (now (s .entry))) ⌝ }
+fn records_fit(sheet: &[u8], map: SheetMap) -> bool
+    requires { ⌜ Laid (now sheet) × (map ≡ mapOf (now sheet)) × ChildrenKnown (now sheet) ⌝ }
+    ensures { λ r. ⌜ r ≡ every (recordFits (now (sheet .entry))) 0 (patterns (now (sheet .entry))) ⌝ }
 {
     let mut p: usize = 0;
-    while p < m.counts.patterns {
-        if !record_fits(s, m, p) {
+    while p < map.patterns.count {
+        if !record_fits(sheet, map, p) {
             return false;
         }
         p += 1;
@@ -122,21 +122,21 @@ fn records_fit(s: &[u8], m: SheetMap) -> bool
     true
 }
 
-fn root_known(s: &[u8], m: SheetMap, c: usize) -> bool
-    requires { ⌜ Laid (now s) × (m ≡ mapOf (now s)) × (c < clauses (now s)) ⌝ }
-    ensures { λ r. ⌜ r ≡ rootKeepsRules (now (s .entry)) c ⌝ }
+fn root_known(sheet: &[u8], map: SheetMap, c: usize) -> bool
+    requires { ⌜ Laid (now sheet) × (map ≡ mapOf (now sheet)) × (c < clauses (now sheet)) ⌝ }
+    ensures { λ r. ⌜ r ≡ rootKeepsRules (now (sheet .entry)) c ⌝ }
 {
-    root_at(s, m, c) < m.counts.patterns
+    root_at(sheet, map, c) < map.patterns.count
 }
 
 // Each root is a pattern.
-fn roots_known(s: &[u8], m: SheetMap) -> bool
-    requires { ⌜ Laid (now s) × (m ≡ mapOf (now s)) ⌝ }
-    ensures { λ r. ⌜ r ≡ every (rootKeepsRules (now (s .entry))) 0 (clauses (now (s .entry))) ⌝ }
+fn roots_known(sheet: &[u8], map: SheetMap) -> bool
+    requires { ⌜ Laid (now sheet) × (map ≡ mapOf (now sheet)) ⌝ }
+    ensures { λ r. ⌜ r ≡ every (rootKeepsRules (now (sheet .entry))) 0 (clauses (now (sheet .entry))) ⌝ }
 {
     let mut c: usize = 0;
-    while c < m.counts.clauses {
-        if !root_known(s, m, c) {
+    while c < map.clauses.count {
+        if !root_known(sheet, map, c) {
             return false;
         }
         c += 1;
@@ -144,21 +144,21 @@ fn roots_known(s: &[u8], m: SheetMap) -> bool
     true
 }
 
-fn child_known(s: &[u8], m: SheetMap, j: usize) -> bool
-    requires { ⌜ Laid (now s) × (m ≡ mapOf (now s)) × (j < children (now s)) ⌝ }
-    ensures { λ r. ⌜ r ≡ childKnown (now (s .entry)) j ⌝ }
+fn child_known(sheet: &[u8], map: SheetMap, j: usize) -> bool
+    requires { ⌜ Laid (now sheet) × (map ≡ mapOf (now sheet)) × (j < children (now sheet)) ⌝ }
+    ensures { λ r. ⌜ r ≡ childKnown (now (sheet .entry)) j ⌝ }
 {
-    child_at(s, m, j) < m.counts.patterns
+    child_at(sheet, map, j) < map.patterns.count
 }
 
 // Each entry of the child list is a pattern.
-fn children_known(s: &[u8], m: SheetMap) -> bool
-    requires { ⌜ Laid (now s) × (m ≡ mapOf (now s)) ⌝ }
-    ensures { λ r. ⌜ r ≡ every (childKnown (now (s .entry))) 0 (children (now (s .entry))) ⌝ }
+fn children_known(sheet: &[u8], map: SheetMap) -> bool
+    requires { ⌜ Laid (now sheet) × (map ≡ mapOf (now sheet)) ⌝ }
+    ensures { λ r. ⌜ r ≡ every (childKnown (now (sheet .entry))) 0 (children (now (sheet .entry))) ⌝ }
 {
     let mut j: usize = 0;
-    while j < m.counts.children {
-        if !child_known(s, m, j) {
+    while j < map.children.count {
+        if !child_known(sheet, map, j) {
             return false;
         }
         j += 1;
@@ -166,22 +166,22 @@ fn children_known(s: &[u8], m: SheetMap) -> bool
     true
 }
 
-fn is_above(s: &[u8], m: SheetMap, p: usize, j: usize) -> bool
-    requires { ⌜ Laid (now s) × (m ≡ mapOf (now s)) × ChildrenKnown (now s) × (j < children (now s)) ⌝ }
-    ensures { λ r. ⌜ r ≡ isAbove (now (s .entry)) p j ⌝ }
+fn is_above(sheet: &[u8], map: SheetMap, p: usize, j: usize) -> bool
+    requires { ⌜ Laid (now sheet) × (map ≡ mapOf (now sheet)) × ChildrenKnown (now sheet) × (j < children (now sheet)) ⌝ }
+    ensures { λ r. ⌜ r ≡ isAbove (now (sheet .entry)) p j ⌝ }
 {
-    p < child_at(s, m, j)
+    p < child_at(sheet, map, j)
 }
 
 // Each child of pattern p has a larger number.
-fn children_above(s: &[u8], m: SheetMap, p: usize) -> bool
-    requires { ⌜ Laid (now s) × (m ≡ mapOf (now s)) × ChildrenKnown (now s) × RunsInside (now s) × (p < patterns (now s)) ⌝ }
-    ensures { λ r. ⌜ r ≡ allAbove (now (s .entry)) p ⌝ }
+fn children_above(sheet: &[u8], map: SheetMap, p: usize) -> bool
+    requires { ⌜ Laid (now sheet) × (map ≡ mapOf (now sheet)) × ChildrenKnown (now sheet) × RunsInside (now sheet) × (p < patterns (now sheet)) ⌝ }
+    ensures { λ r. ⌜ r ≡ allAbove (now (sheet .entry)) p ⌝ }
 {
-    let run = children_of(s, m, p);
+    let run = children_of(sheet, map, p);
     let mut k: usize = 0;
     while k < run.count {
-        if !is_above(s, m, p, run.first + k) {
+        if !is_above(sheet, map, p, run.first + k) {
             return false;
         }
         k += 1;
@@ -189,13 +189,13 @@ fn children_above(s: &[u8], m: SheetMap, p: usize) -> bool
     true
 }
 
-fn all_children_above(s: &[u8], m: SheetMap) -> bool
-    requires { ⌜ Laid (now s) × (m ≡ mapOf (now s)) × ChildrenKnown (now s) × RunsInside (now s) ⌝ }
-    ensures { λ r. ⌜ r ≡ every (allAbove (now (s .entry))) 0 (patterns (now (s .entry))) ⌝ }
+fn all_children_above(sheet: &[u8], map: SheetMap) -> bool
+    requires { ⌜ Laid (now sheet) × (map ≡ mapOf (now sheet)) × ChildrenKnown (now sheet) × RunsInside (now sheet) ⌝ }
+    ensures { λ r. ⌜ r ≡ every (allAbove (now (sheet .entry))) 0 (patterns (now (sheet .entry))) ⌝ }
 {
     let mut p: usize = 0;
-    while p < m.counts.patterns {
-        if !children_above(s, m, p) {
+    while p < map.patterns.count {
+        if !children_above(sheet, map, p) {
             return false;
         }
         p += 1;
@@ -204,17 +204,23 @@ fn all_children_above(s: &[u8], m: SheetMap) -> bool
 }
 
 // Pattern p and what is inside it reach no further than `deep` levels. Of the map it takes the starts of the patterns and of the child list.
-fn within(s: &[u8], records: usize, list: usize, p: usize, deep: usize) -> bool
-    requires { ⌜ Laid (now s) × (records ≡ patternsAt (now s)) × (list ≡ childrenAt (now s)) × ChildrenKnown (now s) × RunsInside (now s) × (p < patterns (now s)) ⌝ }
-    ensures { λ r. ⌜ r ≡ Within deep (now (s .entry)) p ⌝ }
+fn within(sheet: &[u8], records: usize, list: usize, p: usize, deep: usize) -> bool
+    requires { ⌜ Laid (now sheet) × (records ≡ patternsAt (now sheet)) × (list ≡ childrenAt (now sheet)) × ChildrenKnown (now sheet) × RunsInside (now sheet) × (p < patterns (now sheet)) ⌝ }
+    ensures { λ r. ⌜ r ≡ Within deep (now (sheet .entry)) p ⌝ }
 {
     if deep == 0 {
         return false;
     }
-    let run = children_in(s, records, p);
+    let run = children_in(sheet, records, p);
     let mut k: usize = 0;
     while k < run.count {
-        if !within(s, records, list, child_in(s, list, run.first + k), deep - 1) {
+        if !within(
+            sheet,
+            records,
+            list,
+            child_in(sheet, list, run.first + k),
+            deep - 1,
+        ) {
             return false;
         }
         k += 1;
@@ -222,28 +228,28 @@ fn within(s: &[u8], records: usize, list: usize, p: usize, deep: usize) -> bool
     true
 }
 
-fn depth_fits(s: &[u8], m: SheetMap, c: usize) -> bool
-    requires { ⌜ Laid (now s) × (m ≡ mapOf (now s)) × ChildrenKnown (now s) × RunsInside (now s) ⌝ }
-    requires { ⌜ RootsKnown (now s) × (c < clauses (now s)) ⌝ }
-    ensures { λ r. ⌜ r ≡ depthFits (now (s .entry)) c ⌝ }
+fn depth_fits(sheet: &[u8], map: SheetMap, c: usize) -> bool
+    requires { ⌜ Laid (now sheet) × (map ≡ mapOf (now sheet)) × ChildrenKnown (now sheet) × RunsInside (now sheet) ⌝ }
+    requires { ⌜ RootsKnown (now sheet) × (c < clauses (now sheet)) ⌝ }
+    ensures { λ r. ⌜ r ≡ depthFits (now (sheet .entry)) c ⌝ }
 {
     within(
-        s,
-        m.at.patterns,
-        m.at.children,
-        root_at(s, m, c),
+        sheet,
+        map.patterns.start,
+        map.children.start,
+        root_at(sheet, map, c),
         DEPTH_MOST,
     )
 }
 
-fn depths_fit(s: &[u8], m: SheetMap) -> bool
-    requires { ⌜ Laid (now s) × (m ≡ mapOf (now s)) × ChildrenKnown (now s) × RunsInside (now s) ⌝ }
-    requires { ⌜ RootsKnown (now s) ⌝ }
-    ensures { λ r. ⌜ r ≡ every (depthFits (now (s .entry))) 0 (clauses (now (s .entry))) ⌝ }
+fn depths_fit(sheet: &[u8], map: SheetMap) -> bool
+    requires { ⌜ Laid (now sheet) × (map ≡ mapOf (now sheet)) × ChildrenKnown (now sheet) × RunsInside (now sheet) ⌝ }
+    requires { ⌜ RootsKnown (now sheet) ⌝ }
+    ensures { λ r. ⌜ r ≡ every (depthFits (now (sheet .entry))) 0 (clauses (now (sheet .entry))) ⌝ }
 {
     let mut c: usize = 0;
-    while c < m.counts.clauses {
-        if !depth_fits(s, m, c) {
+    while c < map.clauses.count {
+        if !depth_fits(sheet, map, c) {
             return false;
         }
         c += 1;
@@ -252,27 +258,27 @@ fn depths_fit(s: &[u8], m: SheetMap) -> bool
 }
 
 // 8.
-pub(crate) fn shape_fits(s: &[u8], m: SheetMap) -> bool
-    requires { ⌜ Laid (now s) × (m ≡ mapOf (now s)) × Counted (now s) ⌝ }
-    ensures { λ r. ⌜ r ≡ shapeFits (now (s .entry)) ⌝ }
+pub(crate) fn shape_fits(sheet: &[u8], map: SheetMap) -> bool
+    requires { ⌜ Laid (now sheet) × (map ≡ mapOf (now sheet)) × Counted (now sheet) ⌝ }
+    ensures { λ r. ⌜ r ≡ shapeFits (now (sheet .entry)) ⌝ }
 {
-    if !roots_known(s, m) {
+    if !roots_known(sheet, map) {
         return false;
     }
-    if !children_known(s, m) {
+    if !children_known(sheet, map) {
         return false;
     }
-    if !records_fit(s, m) {
+    if !records_fit(sheet, map) {
         return false;
     }
-    if !entries_listed_once(s, m) {
+    if !entries_listed_once(sheet, map) {
         return false;
     }
-    if !all_children_above(s, m) {
+    if !all_children_above(sheet, map) {
         return false;
     }
-    if !patterns_stand_once(s, m) {
+    if !patterns_stand_once(sheet, map) {
         return false;
     }
-    depths_fit(s, m)
+    depths_fit(sheet, map)
 }

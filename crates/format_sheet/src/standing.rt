@@ -70,54 +70,54 @@ fn all_met_once(times: &[u8], n: usize) -> bool
 }
 
 // Each entry is in one pattern's list. A list that meets an entry again ends the search, so that no entry is met a third time.
-pub(crate) fn entries_listed_once(s: &[u8], m: SheetMap) -> bool
-    requires { ⌜ Laid (now s) × (m ≡ mapOf (now s)) × Counted (now s) × RunsInside (now s) ⌝ }
-    ensures { λ r. ⌜ r ≡ every (listedOnce (now (s .entry))) 0 (children (now (s .entry))) ⌝ }
+pub(crate) fn entries_listed_once(sheet: &[u8], map: SheetMap) -> bool
+    requires { ⌜ Laid (now sheet) × (map ≡ mapOf (now sheet)) × Counted (now sheet) × RunsInside (now sheet) ⌝ }
+    ensures { λ r. ⌜ r ≡ every (listedOnce (now (sheet .entry))) 0 (children (now (sheet .entry))) ⌝ }
 {
     let mut times = [0u8; CHILDREN_MOST];
     let mut p: usize = 0;
-    while p < m.counts.patterns {
-        let run = children_of(s, m, p);
+    while p < map.patterns.count {
+        let run = children_of(sheet, map, p);
         if !none_met(&times, run.first, run.count) {
             return false;
         }
         meet_all(&mut times, run.first, run.count);
         p += 1;
     }
-    all_met_once(&times, m.counts.children)
+    all_met_once(&times, map.children.count)
 }
 
 // Each root met.
-fn meet_roots(s: &[u8], m: SheetMap, times: &mut [u8])
-    requires { ⌜ Laid (now s) × (m ≡ mapOf (now s)) × Counted (now s) × RootsKnown (now s) × NoneMet (now times) ⌝ }
-    ensures { λ _. ⌜ RootsMet (now (s .entry)) (now (times .exit)) ⌝ }
+fn meet_roots(sheet: &[u8], map: SheetMap, times: &mut [u8])
+    requires { ⌜ Laid (now sheet) × (map ≡ mapOf (now sheet)) × Counted (now sheet) × RootsKnown (now sheet) × NoneMet (now times) ⌝ }
+    ensures { λ _. ⌜ RootsMet (now (sheet .entry)) (now (times .exit)) ⌝ }
 {
     let mut c: usize = 0;
-    while c < m.counts.clauses {
-        meet(times, root_at(s, m, c));
+    while c < map.clauses.count {
+        meet(times, root_at(sheet, map, c));
         c += 1;
     }
 }
 
 // Each entry of the child list met, after the roots.
-fn meet_children(s: &[u8], m: SheetMap, times: &mut [u8])
-    requires { ⌜ Laid (now s) × (m ≡ mapOf (now s)) × Counted (now s) × ChildrenKnown (now s) × RootsMet (now s) (now times) ⌝ }
-    ensures { λ _. ⌜ AllMet (now (s .entry)) (now (times .exit)) ⌝ }
+fn meet_children(sheet: &[u8], map: SheetMap, times: &mut [u8])
+    requires { ⌜ Laid (now sheet) × (map ≡ mapOf (now sheet)) × Counted (now sheet) × ChildrenKnown (now sheet) × RootsMet (now sheet) (now times) ⌝ }
+    ensures { λ _. ⌜ AllMet (now (sheet .entry)) (now (times .exit)) ⌝ }
 {
     let mut j: usize = 0;
-    while j < m.counts.children {
-        meet(times, child_at(s, m, j));
+    while j < map.children.count {
+        meet(times, child_at(sheet, map, j));
         j += 1;
     }
 }
 
 // Each pattern is one clause's root or one entry.
-pub(crate) fn patterns_stand_once(s: &[u8], m: SheetMap) -> bool
-    requires { ⌜ Laid (now s) × (m ≡ mapOf (now s)) × Counted (now s) × RootsKnown (now s) × ChildrenKnown (now s) ⌝ }
-    ensures { λ r. ⌜ r ≡ every (standsOnce (now (s .entry))) 0 (patterns (now (s .entry))) ⌝ }
+pub(crate) fn patterns_stand_once(sheet: &[u8], map: SheetMap) -> bool
+    requires { ⌜ Laid (now sheet) × (map ≡ mapOf (now sheet)) × Counted (now sheet) × RootsKnown (now sheet) × ChildrenKnown (now sheet) ⌝ }
+    ensures { λ r. ⌜ r ≡ every (standsOnce (now (sheet .entry))) 0 (patterns (now (sheet .entry))) ⌝ }
 {
     let mut times = [0u8; PATTERNS_MOST];
-    meet_roots(s, m, &mut times);
-    meet_children(s, m, &mut times);
-    all_met_once(&times, m.counts.patterns)
+    meet_roots(sheet, map, &mut times);
+    meet_children(sheet, map, &mut times);
+    all_met_once(&times, map.patterns.count)
 }

@@ -13,18 +13,18 @@ ghost use Rattle.spec_accepted.specs.SheetFacts.{Laid, Counted, Shaped};
 ghost use Rattle.format_sheet.specs.Sections.{mapOf};
 ghost use Rattle.format_sheet.specs.Found.{foundOf};
 
-fn bad_text(s: &[u8], m: SheetMap, p: usize) -> bool
-    requires { ⌜ Laid (now s) × (m ≡ mapOf (now s)) × Shaped (now s) × (p < patterns (now s)) ⌝ }
-    ensures { λ r. ⌜ r ≡ badText (now (s .entry)) p ⌝ }
+fn bad_text(sheet: &[u8], map: SheetMap, p: usize) -> bool
+    requires { ⌜ Laid (now sheet) × (map ≡ mapOf (now sheet)) × Shaped (now sheet) × (p < patterns (now sheet)) ⌝ }
+    ensures { λ r. ⌜ r ≡ badText (now (sheet .entry)) p ⌝ }
 {
-    let r = pattern_at(s, m, p);
+    let r = pattern_at(sheet, map, p);
     let kind = r.kind;
     match kind {
         pattern_kinds::INTEGER => {
             if TEXT_MOST < r.count {
                 return true;
             }
-            !canonical(s, m.at.pool + r.first, r.count)
+            !canonical(sheet, map.pool.start + r.first, r.count)
         }
         pattern_kinds::BYTE_STRING => TEXT_MOST < r.count,
         _ => false,
@@ -32,13 +32,13 @@ fn bad_text(s: &[u8], m: SheetMap, p: usize) -> bool
 }
 
 // 9.
-pub(crate) fn lowest_bad_text(s: &[u8], m: SheetMap) -> Found
-    requires { ⌜ Laid (now s) × (m ≡ mapOf (now s)) × Counted (now s) × Shaped (now s) ⌝ }
-    ensures { λ r. ⌜ r ≡ foundOf (lowestBadText (now (s .entry))) ⌝ }
+pub(crate) fn lowest_bad_text(sheet: &[u8], map: SheetMap) -> Found
+    requires { ⌜ Laid (now sheet) × (map ≡ mapOf (now sheet)) × Counted (now sheet) × Shaped (now sheet) ⌝ }
+    ensures { λ r. ⌜ r ≡ foundOf (lowestBadText (now (sheet .entry))) ⌝ }
 {
     let mut p: usize = 0;
-    while p < m.counts.patterns {
-        if bad_text(s, m, p) {
+    while p < map.patterns.count {
+        if bad_text(sheet, map, p) {
             return Found::At(p as u16);
         }
         p += 1;

@@ -71,39 +71,39 @@ fn flags_fit(kind: u8, flag: u8) -> bool
     flag <= type_flags::OPAQUE_DECORATED
 }
 
-fn type_keeps_rules(s: &[u8], m: SheetMap, t: usize) -> bool
-    requires { ⌜ Laid (now s) × (m ≡ mapOf (now s)) × (t < types (now s)) ⌝ }
-    ensures { λ r. ⌜ r ≡ typeKeepsRules (now (s .entry)) t ⌝ }
+fn type_keeps_rules(sheet: &[u8], map: SheetMap, t: usize) -> bool
+    requires { ⌜ Laid (now sheet) × (map ≡ mapOf (now sheet)) × (t < types (now sheet)) ⌝ }
+    ensures { λ r. ⌜ r ≡ typeKeepsRules (now (sheet .entry)) t ⌝ }
 {
-    let r = type_at(s, m, t);
-    if !parts_fit(r, m.counts.entries, m.counts.constructors) {
+    let r = type_at(sheet, map, t);
+    if !parts_fit(r, map.entries.count, map.constructors.count) {
         return false;
     }
     flags_fit(r.kind, r.flag)
 }
 
-fn constructor_keeps_rules(s: &[u8], m: SheetMap, c: usize) -> bool
-    requires { ⌜ Laid (now s) × (m ≡ mapOf (now s)) × (c < constructors (now s)) ⌝ }
-    ensures { λ r. ⌜ r ≡ constructorKeepsRules (now (s .entry)) c ⌝ }
+fn constructor_keeps_rules(sheet: &[u8], map: SheetMap, c: usize) -> bool
+    requires { ⌜ Laid (now sheet) × (map ≡ mapOf (now sheet)) × (c < constructors (now sheet)) ⌝ }
+    ensures { λ r. ⌜ r ≡ constructorKeepsRules (now (sheet .entry)) c ⌝ }
 {
-    let r = constructor_at(s, m, c);
-    run_in(r.first, r.count, m.counts.entries)
+    let r = constructor_at(sheet, map, c);
+    run_in(r.first, r.count, map.entries.count)
 }
 
-fn entry_keeps_rules(s: &[u8], m: SheetMap, e: usize) -> bool
-    requires { ⌜ Laid (now s) × (m ≡ mapOf (now s)) × (e < entries (now s)) ⌝ }
-    ensures { λ r. ⌜ r ≡ entryKeepsRules (now (s .entry)) e ⌝ }
+fn entry_keeps_rules(sheet: &[u8], map: SheetMap, e: usize) -> bool
+    requires { ⌜ Laid (now sheet) × (map ≡ mapOf (now sheet)) × (e < entries (now sheet)) ⌝ }
+    ensures { λ r. ⌜ r ≡ entryKeepsRules (now (sheet .entry)) e ⌝ }
 {
-    entry_at(s, m, e) < m.counts.types
+    entry_at(sheet, map, e) < map.types.count
 }
 
-fn types_keep_rules(s: &[u8], m: SheetMap) -> bool
-    requires { ⌜ Laid (now s) × (m ≡ mapOf (now s)) ⌝ }
-    ensures { λ r. ⌜ r ≡ every (typeKeepsRules (now (s .entry))) 0 (types (now (s .entry))) ⌝ }
+fn types_keep_rules(sheet: &[u8], map: SheetMap) -> bool
+    requires { ⌜ Laid (now sheet) × (map ≡ mapOf (now sheet)) ⌝ }
+    ensures { λ r. ⌜ r ≡ every (typeKeepsRules (now (sheet .entry))) 0 (types (now (sheet .entry))) ⌝ }
 {
     let mut t: usize = 0;
-    while t < m.counts.types {
-        if !type_keeps_rules(s, m, t) {
+    while t < map.types.count {
+        if !type_keeps_rules(sheet, map, t) {
             return false;
         }
         t += 1;
@@ -111,13 +111,13 @@ fn types_keep_rules(s: &[u8], m: SheetMap) -> bool
     true
 }
 
-fn constructors_keep_rules(s: &[u8], m: SheetMap) -> bool
-    requires { ⌜ Laid (now s) × (m ≡ mapOf (now s)) ⌝ }
-    ensures { λ r. ⌜ r ≡ every (constructorKeepsRules (now (s .entry))) 0 (constructors (now (s .entry))) ⌝ }
+fn constructors_keep_rules(sheet: &[u8], map: SheetMap) -> bool
+    requires { ⌜ Laid (now sheet) × (map ≡ mapOf (now sheet)) ⌝ }
+    ensures { λ r. ⌜ r ≡ every (constructorKeepsRules (now (sheet .entry))) 0 (constructors (now (sheet .entry))) ⌝ }
 {
     let mut c: usize = 0;
-    while c < m.counts.constructors {
-        if !constructor_keeps_rules(s, m, c) {
+    while c < map.constructors.count {
+        if !constructor_keeps_rules(sheet, map, c) {
             return false;
         }
         c += 1;
@@ -125,13 +125,13 @@ fn constructors_keep_rules(s: &[u8], m: SheetMap) -> bool
     true
 }
 
-fn entries_keep_rules(s: &[u8], m: SheetMap) -> bool
-    requires { ⌜ Laid (now s) × (m ≡ mapOf (now s)) ⌝ }
-    ensures { λ r. ⌜ r ≡ every (entryKeepsRules (now (s .entry))) 0 (entries (now (s .entry))) ⌝ }
+fn entries_keep_rules(sheet: &[u8], map: SheetMap) -> bool
+    requires { ⌜ Laid (now sheet) × (map ≡ mapOf (now sheet)) ⌝ }
+    ensures { λ r. ⌜ r ≡ every (entryKeepsRules (now (sheet .entry))) 0 (entries (now (sheet .entry))) ⌝ }
 {
     let mut e: usize = 0;
-    while e < m.counts.entries {
-        if !entry_keeps_rules(s, m, e) {
+    while e < map.entries.count {
+        if !entry_keeps_rules(sheet, map, e) {
             return false;
         }
         e += 1;
@@ -140,28 +140,28 @@ fn entries_keep_rules(s: &[u8], m: SheetMap) -> bool
 }
 
 // 6.
-pub(crate) fn types_fit(s: &[u8], m: SheetMap) -> bool
-    requires { ⌜ Laid (now s) × (m ≡ mapOf (now s)) ⌝ }
-    ensures { λ r. ⌜ r ≡ typesFit (now (s .entry)) ⌝ }
+pub(crate) fn types_fit(sheet: &[u8], map: SheetMap) -> bool
+    requires { ⌜ Laid (now sheet) × (map ≡ mapOf (now sheet)) ⌝ }
+    ensures { λ r. ⌜ r ≡ typesFit (now (sheet .entry)) ⌝ }
 {
-    if !types_keep_rules(s, m) {
+    if !types_keep_rules(sheet, map) {
         return false;
     }
-    if !constructors_keep_rules(s, m) {
+    if !constructors_keep_rules(sheet, map) {
         return false;
     }
-    if !entries_keep_rules(s, m) {
+    if !entries_keep_rules(sheet, map) {
         return false;
     }
-    m.subject < m.counts.types
+    map.subject < map.types.count
 }
 
 // Data, opaque flag 1 only, one constructor with one field.
-fn transparent(s: &[u8], m: SheetMap, t: usize) -> bool
-    requires { ⌜ Laid (now s) × Typed (now s) × (m ≡ mapOf (now s)) × (t < types (now s)) ⌝ }
-    ensures { λ r. ⌜ r ≡ Transparent (now (s .entry)) t ⌝ }
+fn transparent(sheet: &[u8], map: SheetMap, t: usize) -> bool
+    requires { ⌜ Laid (now sheet) × Typed (now sheet) × (map ≡ mapOf (now sheet)) × (t < types (now sheet)) ⌝ }
+    ensures { λ r. ⌜ r ≡ Transparent (now (sheet .entry)) t ⌝ }
 {
-    let r = type_at(s, m, t);
+    let r = type_at(sheet, map, t);
     if r.kind != type_kinds::DATA {
         return false;
     }
@@ -171,18 +171,18 @@ fn transparent(s: &[u8], m: SheetMap, t: usize) -> bool
     if r.count != 1 {
         return false;
     }
-    let only = constructor_at(s, m, r.first);
+    let only = constructor_at(sheet, map, r.first);
     only.count == 1
 }
 
 // 7.
-pub(crate) fn lowest_transparent(s: &[u8], m: SheetMap) -> Found
-    requires { ⌜ Laid (now s) × Counted (now s) × Typed (now s) × (m ≡ mapOf (now s)) ⌝ }
-    ensures { λ r. ⌜ r ≡ foundOf (lowestTransparent (now (s .entry))) ⌝ }
+pub(crate) fn lowest_transparent(sheet: &[u8], map: SheetMap) -> Found
+    requires { ⌜ Laid (now sheet) × Counted (now sheet) × Typed (now sheet) × (map ≡ mapOf (now sheet)) ⌝ }
+    ensures { λ r. ⌜ r ≡ foundOf (lowestTransparent (now (sheet .entry))) ⌝ }
 {
     let mut t: usize = 0;
-    while t < m.counts.types {
-        if transparent(s, m, t) {
+    while t < map.types.count {
+        if transparent(sheet, map, t) {
             return Found::At(t as u16);
         }
         t += 1;

@@ -9,30 +9,30 @@ use denote.Ref.{RefT, now}
 use Rattle.spec_rules.specs.SheetFile.{clauses, root}
 use Rattle.spec_rules.specs.SheetRefusals.{Verdict, accepted, refused, verdict}
 use Rattle.spec_accepted.specs.SheetFacts.{Laid}
-use Rattle.format_sheet.specs.declared.Starts.{Starts}
-use Rattle.format_sheet.specs.Sections.{startsOf}
+use Rattle.format_sheet.specs.declared.SheetMap.{SheetMap}
+use Rattle.format_sheet.specs.Sections.{mapOf}
 use Rattle.format_sheet.specs.Records.{patternOf}
 use Rattle.format_sheet_reader.specs.declared.Reader.{Reader}
 use Rattle.format_sheet_reader.specs.declared.Clause.{Clause}
 use Rattle.format_sheet_reader.specs.declared.Clause.the-variants.{At, NoClause, Refused}
 
--- the reader of a slice and of starts
-abbrev pub opened : RefT (List ℕ) → Starts → Reader
-opened sheet at = record {
+-- the reader of a slice, with the starts of a map
+abbrev pub opened : RefT (List ℕ) → SheetMap → Reader
+opened sheet m = record {
   sheet = sheet;
-  types = at .types;
-  constructors = at .constructors;
-  entries = at .entries;
-  patterns = at .patterns;
-  children = at .children;
-  clauses = at .clauses;
-  pool = at .pool;
+  types = m .types .start;
+  constructors = m .constructors .start;
+  entries = m .entries .start;
+  patterns = m .patterns .start;
+  children = m .children .start;
+  clauses = m .clauses .start;
+  pool = m .pool .start;
 }
 
 -- a reader of a laid-out sheet at that sheet's own starts
 pub record Opened (r : Reader) : Type 0 where
   pub is-laid : Laid (now (r .sheet))
-  pub is-open : r ≡ opened (r .sheet) (startsOf (now (r .sheet)))
+  pub is-open : r ≡ opened (r .sheet) (mapOf (now (r .sheet)))
 
 -- ---- a clause of any byte string
 abbrev pub ifThere : Bool → Clause → Clause

@@ -11,12 +11,11 @@ use Rattle.spec_rules.specs.Limits.{clauseSize}
 use Rattle.spec_rules.specs.SheetFile.{patternsAt, clausesAt, patterns, clauses, root}
 use Rattle.spec_rules.specs.SheetRefusals.{Verdict, accepted, refused, verdict}
 use Rattle.spec_accepted.specs.SheetFacts.{Accepted, accepted-sheet}
-use Rattle.format_sheet.specs.declared.Starts.{Starts}
 use Rattle.format_sheet.specs.declared.SheetMap.{SheetMap}
 use Rattle.format_sheet.specs.declared.CheckedSheet.{CheckedSheet}
 use Rattle.format_sheet.specs.declared.CheckedSheet.the-variants as checks
 use Rattle.format_sheet.specs.declared.records.PatternRecord.{PatternRecord}
-use Rattle.format_sheet.specs.Sections.{startsOf, mapOf}
+use Rattle.format_sheet.specs.Sections.{mapOf}
 use Rattle.format_sheet.specs.SectionsLaws.{mapped}
 use Rattle.format_sheet.specs.Records.{patternOf}
 use Rattle.format_sheet.specs.Check.{answer, checked}
@@ -39,7 +38,7 @@ unfolding root
 root-there s start c e = rw e
 
 -- ---- a reader that is open on an accepted sheet, and the root pattern of a clause read through it
-module _ (s : RefT (List ℕ)) (at : Starts) (c : ℕ) (fine : Accepted (now s) × (at ≡ startsOf (now s)) × (c < clauses (now s))) (r : Reader) (e : r ≡ opened s at) where
+module _ (s : RefT (List ℕ)) (m : SheetMap) (c : ℕ) (fine : Accepted (now s) × (m ≡ mapOf (now s)) × (c < clauses (now s))) (r : Reader) (e : r ≡ opened s m) where
   sheet-is : r .sheet ≡ s
   sheet-is = ap (λ (x : Reader). x .sheet) e
 
@@ -87,19 +86,19 @@ module _ (s : List ℕ) (c : ℕ) (m : SheetMap) (e : _≡_ {A = CheckedSheet} (
   is-map : m ≡ mapOf s
   is-map = answer-accepted s (verdict s) m (e ∙ checked-is s) .1
 
-  clauses-are : m .counts .clauses ≡ clauses s
+  clauses-are : m .clauses .count ≡ clauses s
   clauses-are = mapped s m is-map .of-clauses
 
-  pub root-pattern-asked : (c < m .counts .clauses) → Accepted s × (m .at ≡ startsOf s) × (c < clauses s)
-  root-pattern-asked h = (accepted-sheet s is-accepted, ap (λ (x : SheetMap). x .at) is-map, subst (λ (n : ℕ). c < n) clauses-are h)
+  pub root-pattern-asked : (c < m .clauses .count) → Accepted s × (m ≡ mapOf s) × (c < clauses s)
+  root-pattern-asked h = (accepted-sheet s is-accepted, is-map, subst (λ (n : ℕ). c < n) clauses-are h)
 
-  pub clause-missing : m .counts .clauses ≤ c → _≡_ {A = Clause} NoClause (clausePatternOf s c)
+  pub clause-missing : m .clauses .count ≤ c → _≡_ {A = Clause} NoClause (clausePatternOf s c)
   clause-missing h =
       ap (λ (b : Bool). ifThere b (At (patternOf s (root s c)))) (sym (le-ltb c (clauses s) (subst (λ (n : ℕ). n ≤ c) clauses-are h)))
       ∙ ap (clauseOf s c) (sym is-accepted)
       ∙ sym (clausePatternOf-is s c)
 
-  pub clause-there : c < m .counts .clauses → (t : PatternRecord) → t ≡ patternOf s (root s c) → _≡_ {A = Clause} (At t) (clausePatternOf s c)
+  pub clause-there : c < m .clauses .count → (t : PatternRecord) → t ≡ patternOf s (root s c) → _≡_ {A = Clause} (At t) (clausePatternOf s c)
   clause-there h t f =
       ap At f
       ∙ ap (λ (b : Bool). ifThere b (At (patternOf s (root s c)))) (sym (lt-ltb c (clauses s) (subst (λ (n : ℕ). c < n) clauses-are h)))

@@ -4,7 +4,7 @@
 mod places;
 
 use format_sheet::CheckedSheet;
-use format_sheet::Starts;
+use format_sheet::SheetMap;
 use format_sheet::check;
 use format_sheet::records::PatternRecord;
 use format_sheet::records::pattern_in;
@@ -13,7 +13,7 @@ ghost use mathlib.Core.Path.{_≡_};
 ghost use Prim.Native.Nat.{_<_};
 ghost use Rattle.spec_rules.specs.SheetFile.{patterns, clauses, root};
 ghost use Rattle.spec_accepted.specs.SheetFacts.{Accepted};
-ghost use Rattle.format_sheet.specs.Sections.{startsOf};
+ghost use Rattle.format_sheet.specs.Sections.{mapOf};
 ghost use Rattle.format_sheet.specs.Records.{patternOf};
 ghost use Rattle.format_sheet_reader.specs.Reading.{opened, Opened, clausePatternOf};
 
@@ -35,18 +35,18 @@ pub enum Clause {
     Refused { number: u16, place: u16 },
 }
 
-pub fn open<'a>(sheet: &'a [u8], at: Starts) -> Reader<'a>
-    ensures { λ r. ⌜ r ≡ opened (sheet .entry) at ⌝ }
+pub fn open<'a>(sheet: &'a [u8], map: SheetMap) -> Reader<'a>
+    ensures { λ r. ⌜ r ≡ opened (sheet .entry) map ⌝ }
 {
     Reader {
         sheet,
-        types: at.types,
-        constructors: at.constructors,
-        entries: at.entries,
-        patterns: at.patterns,
-        children: at.children,
-        clauses: at.clauses,
-        pool: at.pool,
+        types: map.types.start,
+        constructors: map.constructors.start,
+        entries: map.entries.start,
+        patterns: map.patterns.start,
+        children: map.children.start,
+        clauses: map.clauses.start,
+        pool: map.pool.start,
     }
 }
 
@@ -65,27 +65,27 @@ pub fn root<'a>(r: Reader<'a>, c: usize) -> usize
 }
 
 // The root pattern's record of a clause that is there, read through a reader that lives for this call.
-fn root_pattern(s: &[u8], at: Starts, c: usize) -> PatternRecord
-    requires { ⌜ Accepted (now s) × (at ≡ startsOf (now s)) × (c < clauses (now s)) ⌝ }
-    ensures { λ r. ⌜ r ≡ patternOf (now (s .entry)) (root (now (s .entry)) c) ⌝ }
+fn root_pattern(sheet: &[u8], map: SheetMap, c: usize) -> PatternRecord
+    requires { ⌜ Accepted (now sheet) × (map ≡ mapOf (now sheet)) × (c < clauses (now sheet)) ⌝ }
+    ensures { λ r. ⌜ r ≡ patternOf (now (sheet .entry)) (root (now (sheet .entry)) c) ⌝ }
 {
-    let r = open(s, at);
+    let r = open(sheet, map);
     let p = root(r, c);
     pattern(r, p)
 }
 
 // The root pattern's record of clause c of any byte string. It asks nothing of its caller.
-pub fn clause_pattern(s: &[u8], c: u16) -> Clause
-    ensures { λ r. ⌜ r ≡ clausePatternOf (now (s .entry)) c ⌝ }
+pub fn clause_pattern(sheet: &[u8], c: u16) -> Clause
+    ensures { λ r. ⌜ r ≡ clausePatternOf (now (sheet .entry)) c ⌝ }
 {
-    match check(s) {
+    match check(sheet) {
         CheckedSheet::Refused { number, place } => Clause::Refused { number, place },
-        CheckedSheet::Accepted(m) => {
+        CheckedSheet::Accepted(map) => {
             let n = c as usize;
-            if n >= m.counts.clauses {
+            if n >= map.clauses.count {
                 return Clause::NoClause;
             }
-            Clause::At(root_pattern(s, m.at, n))
+            Clause::At(root_pattern(sheet, map, n))
         }
     }
 }

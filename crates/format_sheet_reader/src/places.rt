@@ -7,9 +7,9 @@ ghost use Prim.Native.Nat.{_<_};
 ghost use Rattle.spec_rules.specs.SheetFile.{clausesAt, clauses, root};
 ghost use Rattle.spec_accepted.specs.SheetFacts.{Laid};
 
-pub fn root_in(s: &[u8], start: usize, c: usize) -> usize
-    requires { ⌜ Laid (now s) × (start ≡ clausesAt (now s)) × (c < clauses (now s)) ⌝ }
-    ensures { λ r. ⌜ r ≡ root (now (s .entry)) c ⌝ }
+pub fn root_in(sheet: &[u8], start: usize, c: usize) -> usize
+    requires { ⌜ Laid (now sheet) × (start ≡ clausesAt (now sheet)) × (c < clauses (now sheet)) ⌝ }
+    ensures { λ r. ⌜ r ≡ root (now (sheet .entry)) c ⌝ }
 {
-    word_at(s, start + CLAUSE_SIZE * c) as usize
+    word_at(sheet, start + CLAUSE_SIZE * c) as usize
 }

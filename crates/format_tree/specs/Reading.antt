@@ -31,6 +31,16 @@ mapOf t = record {
   pool = record { start = treePoolAt t; count = treePoolSize t };
 }
 
+-- a section lies in the file: what reading a record of it asks
+abbrev pub BindingsLie : List ℕ → Type 0
+BindingsLie t = bindingsAt t + bindingSize * bindings t ≤ length t
+
+abbrev pub PathsLie : List ℕ → Type 0
+PathsLie t = pathsAt t + pathSize * paths t ≤ length t
+
+abbrev pub StepsLie : List ℕ → Type 0
+StepsLie t = stepsAt t + stepSize * steps t ≤ length t
+
 -- m is the map of a file whose starts rise by whole records: the sections lie back to back, the first from 0 on
 pub record Mapped (t : List ℕ) (m : TreeMap) : Type 0 where
   pub is : m ≡ mapOf t

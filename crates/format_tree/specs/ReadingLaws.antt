@@ -1,6 +1,6 @@
 -- A map's starts and counts are the file's; and a file with a true length and rising starts is mapped.
 -- Rests on Reading and the rules' definitions of the tree file.
-use mathlib.Core.Path.{_≡_, refl, sym, ap, subst, _∙_}
+use mathlib.Core.Path.{_≡_, refl, sym, ap, _∙_}
 use mathlib.Core.Bool.{Bool}
 use mathlib.Core.List.{List, [], _∷_}
 use Prim.Native.Nat.{ℕ, _-_}
@@ -16,7 +16,7 @@ use Rattle.spec_accepted.specs.TreeFacts.{TreeLaid, tree-length-small}
 use Rattle.format_parts.specs.declared.sections.Section.{Section}
 use Rattle.format_parts.specs.Sections.{sectionOf}
 use Rattle.format_tree.specs.declared.layout.TreeMap.{TreeMap}
-use Rattle.format_tree.specs.Reading.{mapOf, Mapped}
+use Rattle.format_tree.specs.Reading.{mapOf, BindingsLie, PathsLie, StepsLie, Mapped}
 
 -- ---- starts and counts
 module _ {t : List ℕ} {m : TreeMap} (w : Mapped t m) where
@@ -57,8 +57,15 @@ module _ {t : List ℕ} {m : TreeMap} (w : Mapped t m) where
   pool-count = sym (ap (λ (n : TreeMap). n .pool .count) (w .is))
 
   -- the map that was given is the file's own
-  pub mapped-own : Mapped t (mapOf t)
-  mapped-own = subst (Mapped t) (w .is) w
+  -- each section lies in the file
+  pub bindings-lie : BindingsLie t
+  bindings-lie = rw (bindings-start, bindings-count) (omega (arith, w .bindings-end, w .paths-end, w .steps-end, w .pool-end))
+
+  pub paths-lie : PathsLie t
+  paths-lie = rw (paths-start, paths-count) (omega (arith, w .paths-end, w .steps-end, w .pool-end))
+
+  pub steps-lie : StepsLie t
+  steps-lie = rw (steps-start, steps-count) (omega (arith, w .steps-end, w .pool-end))
 
 -- ---- the layout, as functions read it
 -- the starts a to f and the end of the pool, as a function reads them one by one

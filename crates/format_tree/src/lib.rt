@@ -24,23 +24,23 @@ pub enum CheckedTree {
     Refused,
 }
 
-fn records_keep_rules(tree: &[u8], m: TreeMap) -> bool
-    requires { ⌜ Mapped (now tree) m ⌝ }
+fn records_keep_rules(tree: &[u8], map: TreeMap) -> bool
+    requires { ⌜ Mapped (now tree) map ⌝ }
     ensures { λ r. ⌜ r ≡ recordsKeepRules (now (tree .entry)) ⌝ }
 {
-    if !nodes_keep_rules(tree, m) {
+    if !nodes_keep_rules(tree, map) {
         return false;
     }
-    if !cases_keep_rules(tree, m) {
+    if !cases_keep_rules(tree, map) {
         return false;
     }
-    if !bindings_keep_rules(tree, m) {
+    if !bindings_keep_rules(tree, map) {
         return false;
     }
-    if !paths_keep_rules(tree, m) {
+    if !paths_keep_rules(tree, map) {
         return false;
     }
-    steps_keep_rules(tree, m)
+    steps_keep_rules(tree, map)
 }
 
 // The map of a file that keeps every rule.
@@ -53,12 +53,12 @@ pub fn check(tree: &[u8]) -> CheckedTree
     if !starts_rise(tree) {
         return CheckedTree::Refused;
     }
-    let m = sections(tree);
-    if !records_keep_rules(tree, m) {
+    let map = sections(tree);
+    if !records_keep_rules(tree, map) {
         return CheckedTree::Refused;
     }
-    if !nodes_in_pre_order(tree, m) {
+    if !nodes_in_pre_order(tree, map) {
         return CheckedTree::Refused;
     }
-    CheckedTree::Accepted(m)
+    CheckedTree::Accepted(map)
 }

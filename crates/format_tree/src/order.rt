@@ -27,21 +27,21 @@ enum Children {
     Nothing,
 }
 
-fn children_of(tree: &[u8], m: TreeMap, k: usize) -> Children
-    requires { ⌜ Ruled (now tree) m × (k < m .nodes .count) ⌝ }
-    ensures { λ r. ⌜ ChildrenAre (now (tree .entry)) m k r ⌝ }
+fn children_of(tree: &[u8], map: TreeMap, k: usize) -> Children
+    requires { ⌜ Ruled (now tree) map × (k < map .nodes .count) ⌝ }
+    ensures { λ r. ⌜ ChildrenAre (now (tree .entry)) map k r ⌝ }
 {
-    let kind = node_kind(tree, m, k);
+    let kind = node_kind(tree, map, k);
     if kind == node_kinds::LEAF {
         return Children::Nothing;
     }
     if kind == node_kinds::HOIST {
-        return Children::One(node_word(tree, m, k, node_words::CHILD) as usize);
+        return Children::One(node_word(tree, map, k, node_words::CHILD) as usize);
     }
-    let first = node_word(tree, m, k, node_words::FIRST_CASE) as usize;
-    let cases = node_word(tree, m, k, node_words::CASES) as usize;
-    let tails = node_word(tree, m, k, node_words::TAIL_CASES) as usize;
-    let default = node_word(tree, m, k, node_words::DEFAULT) as usize;
+    let first = node_word(tree, map, k, node_words::FIRST_CASE) as usize;
+    let cases = node_word(tree, map, k, node_words::CASES) as usize;
+    let tails = node_word(tree, map, k, node_words::TAIL_CASES) as usize;
+    let default = node_word(tree, map, k, node_words::DEFAULT) as usize;
     Children::Cases {
         first,
         count: cases + tails,
@@ -50,60 +50,60 @@ fn children_of(tree: &[u8], m: TreeMap, k: usize) -> Children
 }
 
 // The last child of a switch with n cases from i on and this default.
-fn last_of_switch(tree: &[u8], m: TreeMap, i: usize, n: usize, default: usize) -> usize
-    requires { ⌜ Mapped (now tree) m × (1 ≤ n) × (i + n ≤ m .cases .count) ⌝ }
+fn last_of_switch(tree: &[u8], map: TreeMap, i: usize, n: usize, default: usize) -> usize
+    requires { ⌜ Mapped (now tree) map × (1 ≤ n) × (i + n ≤ map .cases .count) ⌝ }
     ensures { λ r. ⌜ ((k : ℕ) → r ≡ lastFrom k (caseChildren (now (tree .entry)) i n ++ defaultChild default)) ⌝ }
 {
     if 0 < default {
         return default - 1;
     }
-    case_child(tree, m, i + n - 1) as usize
+    case_child(tree, map, i + n - 1) as usize
 }
 
 // The last child of node k; k itself where it has none.
-fn last_child(tree: &[u8], m: TreeMap, k: usize) -> usize
-    requires { ⌜ Ruled (now tree) m × (k < m .nodes .count) ⌝ }
+fn last_child(tree: &[u8], map: TreeMap, k: usize) -> usize
+    requires { ⌜ Ruled (now tree) map × (k < map .nodes .count) ⌝ }
     ensures { λ r. ⌜ r ≡ lastChild (now (tree .entry)) k ⌝ }
 {
-    let children = children_of(tree, m, k);
+    let children = children_of(tree, map, k);
     match children {
         Children::Cases {
             first,
             count,
             default,
-        } => last_of_switch(tree, m, first, count, default),
+        } => last_of_switch(tree, map, first, count, default),
         Children::One(child) => child,
         Children::Nothing => k,
     }
 }
 
 // The number after the last node of the subtree of k.
-fn end_of(tree: &[u8], m: TreeMap, k: usize) -> usize
-    requires { ⌜ Ruled (now tree) m × (k < m .nodes .count) ⌝ }
+fn end_of(tree: &[u8], map: TreeMap, k: usize) -> usize
+    requires { ⌜ Ruled (now tree) map × (k < map .nodes .count) ⌝ }
     ensures { λ r. ⌜ r ≡ endOf (now (tree .entry)) k ⌝ }
 {
     let mut at = k;
-    let mut last = last_child(tree, m, k);
+    let mut last = last_child(tree, map, k);
     while at < last {
         at = last;
-        last = last_child(tree, m, at);
+        last = last_child(tree, map, at);
     }
     at + 1
 }
 
 // The children of the n cases from i on: the first is node k + 1, each later one is where the one before it ends.
-fn cases_follow(tree: &[u8], m: TreeMap, k: usize, i: usize, n: usize) -> bool
-    requires { ⌜ Ruled (now tree) m × (k < m .nodes .count) × (1 ≤ n) × (i + n ≤ m .cases .count) ⌝ }
+fn cases_follow(tree: &[u8], map: TreeMap, k: usize, i: usize, n: usize) -> bool
+    requires { ⌜ Ruled (now tree) map × (k < map .nodes .count) × (1 ≤ n) × (i + n ≤ map .cases .count) ⌝ }
     ensures { λ r. ⌜ r ≡ chained (now (tree .entry)) (k + 1) (caseChildren (now (tree .entry)) i n) ⌝ }
 {
-    let mut before = case_child(tree, m, i) as usize;
+    let mut before = case_child(tree, map, i) as usize;
     if before != k + 1 {
         return false;
     }
     let mut j = 1;
     while j < n {
-        let child = case_child(tree, m, i + j) as usize;
-        if child != end_of(tree, m, before) {
+        let child = case_child(tree, map, i + j) as usize;
+        if child != end_of(tree, map, before) {
             return false;
         }
         before = child;
@@ -113,43 +113,43 @@ fn cases_follow(tree: &[u8], m: TreeMap, k: usize, i: usize, n: usize) -> bool
 }
 
 // The same with the default after the cases.
-fn switch_follows(tree: &[u8], m: TreeMap, k: usize, i: usize, n: usize, default: usize) -> bool
-    requires { ⌜ Ruled (now tree) m × (k < m .nodes .count) × (1 ≤ n) × (i + n ≤ m .cases .count) ⌝ }
+fn switch_follows(tree: &[u8], map: TreeMap, k: usize, i: usize, n: usize, default: usize) -> bool
+    requires { ⌜ Ruled (now tree) map × (k < map .nodes .count) × (1 ≤ n) × (i + n ≤ map .cases .count) ⌝ }
     ensures { λ r. ⌜ r ≡ chained (now (tree .entry)) (k + 1) (caseChildren (now (tree .entry)) i n ++ defaultChild default) ⌝ }
 {
-    if !cases_follow(tree, m, k, i, n) {
+    if !cases_follow(tree, map, k, i, n) {
         return false;
     }
     if default == 0 {
         return true;
     }
-    let before = case_child(tree, m, i + n - 1) as usize;
-    default - 1 == end_of(tree, m, before)
+    let before = case_child(tree, map, i + n - 1) as usize;
+    default - 1 == end_of(tree, map, before)
 }
 
-fn children_follow(tree: &[u8], m: TreeMap, k: usize) -> bool
-    requires { ⌜ Ruled (now tree) m × (k < m .nodes .count) ⌝ }
+fn children_follow(tree: &[u8], map: TreeMap, k: usize) -> bool
+    requires { ⌜ Ruled (now tree) map × (k < map .nodes .count) ⌝ }
     ensures { λ r. ⌜ r ≡ childrenFollow (now (tree .entry)) k ⌝ }
 {
-    let children = children_of(tree, m, k);
+    let children = children_of(tree, map, k);
     match children {
         Children::Cases {
             first,
             count,
             default,
-        } => switch_follows(tree, m, k, first, count, default),
+        } => switch_follows(tree, map, k, first, count, default),
         Children::One(child) => child == k + 1,
         Children::Nothing => true,
     }
 }
 
-fn all_follow(tree: &[u8], m: TreeMap) -> bool
-    requires { ⌜ Ruled (now tree) m ⌝ }
-    ensures { λ r. ⌜ r ≡ every (childrenFollow (now (tree .entry))) 0 (m .nodes .count) ⌝ }
+fn all_follow(tree: &[u8], map: TreeMap) -> bool
+    requires { ⌜ Ruled (now tree) map ⌝ }
+    ensures { λ r. ⌜ r ≡ every (childrenFollow (now (tree .entry))) 0 (map .nodes .count) ⌝ }
 {
     let mut k = 0;
-    while k < m.nodes.count {
-        if !children_follow(tree, m, k) {
+    while k < map.nodes.count {
+        if !children_follow(tree, map, k) {
             return false;
         }
         k += 1;
@@ -157,16 +157,16 @@ fn all_follow(tree: &[u8], m: TreeMap) -> bool
     true
 }
 
-pub fn nodes_in_pre_order(tree: &[u8], m: TreeMap) -> bool
-    requires { ⌜ Ruled (now tree) m ⌝ }
+pub fn nodes_in_pre_order(tree: &[u8], map: TreeMap) -> bool
+    requires { ⌜ Ruled (now tree) map ⌝ }
     ensures { λ r. ⌜ r ≡ nodesInPreOrder (now (tree .entry)) ⌝ }
 {
-    let count = m.nodes.count;
+    let count = map.nodes.count;
     if count == 0 {
         return false;
     }
-    if !all_follow(tree, m) {
+    if !all_follow(tree, map) {
         return false;
     }
-    end_of(tree, m, 0) == count
+    end_of(tree, map, 0) == count
 }

@@ -16,7 +16,7 @@ abbrev μ-loop : tie.MeasureT-loop
 loop-holds : tie.Need-loop-holds Inv-loop μ-loop
 loop-holds c =
     let a = c .args in
-    (omega arith, copied-none (a .sheet .now) (a .tree .now) (a .at) (a .map .at .pool) (a .map .counts .pool))
+    (omega arith, copied-none (a .sheet .now) (a .tree .now) (a .at) (a .map .pool .start) (a .map .pool .count))
 
 add-tree : tie.Need-add-tree Inv-loop μ-loop
 add-tree c = omega (arith, pool-room (c .before .before .pre .0), c .before .before .good)
@@ -42,7 +42,7 @@ loop-again c =
     let a = start .args in
     let l = c .before .before .loop in
     let taken = c .before .loop-test .taken in
-    (omega arith, copied-more (a .sheet .now) (a .tree .now) (a .at) (a .map .at .pool) (a .map .counts .pool) (l .i) (l .inv .1) (pool-room (start .pre .0)) taken)
+    (omega arith, copied-more (a .sheet .now) (a .tree .now) (a .at) (a .map .pool .start) (a .map .pool .count) (l .i) (l .inv .1) (pool-room (start .pre .0)) taken)
 
 add-result : tie.Need-add-result Inv-loop μ-loop
 add-result c = omega (arith, pool-size (c .before .before .pre .0))
@@ -55,7 +55,7 @@ returns c =
     let start = c .before .before in
     let a = start .args in
     let l = c .before .loop in
-    puts-as (copied-all (a .sheet .now) (a .tree .now) (a .at) (a .map .at .pool) (a .map .counts .pool) (l .i) (l .inv .1) (l .inv .0) (c .loop-test .left)) (pool-text (start .pre .0))
+    puts-as (copied-all (a .sheet .now) (a .tree .now) (a .at) (a .map .pool .start) (a .map .pool .count) (l .i) (l .inv .1) (l .inv .0) (c .loop-test .left)) (pool-text (start .pre .0))
 
 pub copy-pool-spec : {M : Type 1} → statement M
 copy-pool-spec =

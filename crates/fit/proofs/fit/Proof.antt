@@ -10,13 +10,13 @@ use Rattle.fit.proofs.fit.Tie as tie
 check-requires : tie.Need-check-requires
 check-requires c κs = search needs
 
-enum-known-sm : tie.Need-enum-known-sm
-enum-known-sm c = search needs
+enum-known-map : tie.Need-enum-known-map
+enum-known-map c = search needs
 
 fit-panel-requires : tie.Need-fit-panel-requires
 fit-panel-requires c κs =
-    let e : c .before .before .before .check .result ≡ Accepted (c .before .sm .given .0 .0) = search needs in
-    sheet-accepts (c .before .before .before .before .before .before .args .s .now) (c .before .sm .given .0 .0) (sym (c .before .before .before .check .ensures) ∙ e)
+    let e : c .before .before .before .check .result ≡ Accepted (c .before .map .given .0 .0) = search needs in
+    sheet-accepts (c .before .before .before .before .before .before .args .sheet .now) (c .before .map .given .0 .0) (sym (c .before .before .before .check .ensures) ∙ e)
 
 enum-known-number : tie.Need-enum-known-number
 enum-known-number c = search needs
@@ -30,9 +30,9 @@ returns-2 c =
     let number = c .before .number .given .0 .0 in
     let place = c .before .number .given .0 .1 .0 in
     let e : c .before .before .before .check .result ≡ Refused number place = search needs in
-    fit-sheet-refused (a .s .now) (a .v .now) number place (sheet-refuses (a .s .now) number place (sym (c .before .before .before .check .ensures) ∙ e))
+    fit-sheet-refused (a .sheet .now) (a .panel .now) number place (sheet-refuses (a .sheet .now) number place (sym (c .before .before .before .check .ensures) ∙ e))
 
 pub fit-spec : {M : Type 1} → statement M
 fit-spec =
     tie.close
-    (tie.spec check-requires enum-known-sm fit-panel-requires enum-known-number returns returns-2)
+    (tie.spec check-requires enum-known-map fit-panel-requires enum-known-number returns returns-2)

@@ -5,13 +5,13 @@ use Rattle.fit.proofs.fit_both.Statement.{statement}
 use Rattle.fit.proofs.fit_both.Tie as tie
 
 fits-requires : tie.Need-fits-requires
-fits-requires c κs = let a = c .before .before .args in fit-ready (a .s .now) (a .v .now) (a .sm) (c .before .before .pre .0) (a .vm) (c .before .before .pre .1)
+fits-requires c κs = let a = c .before .before .args in fit-ready (a .sheet .now) (a .panel .now) (a .map) (c .before .before .pre .0) (a .places) (c .before .before .pre .1)
 
 returns : tie.Need-returns
-returns c = let a = c .before .before .before .before .args in fit-yes (a .s .now) (a .v .now) (a .sm) (c .before .before .before .before .pre .0) (a .vm) (c .before .before .before .before .pre .1) (sym (c .before .fits2 .ensures) ∙ c .if1 .taken)
+returns c = let a = c .before .before .before .before .args in fit-yes (a .sheet .now) (a .panel .now) (a .map) (c .before .before .before .before .pre .0) (a .places) (c .before .before .before .before .pre .1) (sym (c .before .fits2 .ensures) ∙ c .if1 .taken)
 
 returns-2 : tie.Need-returns-2
-returns-2 c = let a = c .before .before .before .before .args in fit-no (a .s .now) (a .v .now) (a .sm) (c .before .before .before .before .pre .0) (a .vm) (c .before .before .before .before .pre .1) (sym (c .before .fits2 .ensures) ∙ c .if1 .left)
+returns-2 c = let a = c .before .before .before .before .args in fit-no (a .sheet .now) (a .panel .now) (a .map) (c .before .before .before .before .pre .0) (a .places) (c .before .before .before .before .pre .1) (sym (c .before .fits2 .ensures) ∙ c .if1 .left)
 
 pub fit-both-spec : {M : Type 1} → statement M
 fit-both-spec = tie.close (tie.spec fits-requires returns returns-2)

@@ -10,13 +10,13 @@ use Rattle.fit.proofs.fit_panel.Tie as tie
 check-requires : tie.Need-check-requires
 check-requires c κs = search needs
 
-enum-known-vm : tie.Need-enum-known-vm
-enum-known-vm c = search needs
+enum-known-places : tie.Need-enum-known-places
+enum-known-places c = search needs
 
 fit-both-requires : tie.Need-fit-both-requires
 fit-both-requires c κs =
-    let e : c .before .before .before .check .result ≡ Accepted (c .before .vm .given .0 .0) = search needs in
-    (c .before .before .before .before .before .before .pre, accepts (c .before .before .before .before .before .before .args .v .now) (c .before .vm .given .0 .0) (sym (c .before .before .before .check .ensures) ∙ e))
+    let e : c .before .before .before .check .result ≡ Accepted (c .before .places .given .0 .0) = search needs in
+    (c .before .before .before .before .before .before .pre, accepts (c .before .before .before .before .before .before .args .panel .now) (c .before .places .given .0 .0) (sym (c .before .before .before .check .ensures) ∙ e))
 
 enum-known-number : tie.Need-enum-known-number
 enum-known-number c = search needs
@@ -30,9 +30,9 @@ returns-2 c =
     let number = c .before .number .given .0 .0 in
     let place = c .before .number .given .0 .1 .0 in
     let e : c .before .before .before .check .result ≡ Refused number place = search needs in
-    fit-panel-refused (a .s .now) (a .v .now) (a .sm) (c .before .before .before .before .before .before .pre) number place (refuses-by (a .v .now) number place (sym (c .before .before .before .check .ensures) ∙ e))
+    fit-panel-refused (a .sheet .now) (a .panel .now) (a .map) (c .before .before .before .before .before .before .pre) number place (refuses-by (a .panel .now) number place (sym (c .before .before .before .check .ensures) ∙ e))
 
 pub fit-panel-spec : {M : Type 1} → statement M
 fit-panel-spec =
     tie.close
-    (tie.spec check-requires enum-known-vm fit-both-requires enum-known-number returns returns-2)
+    (tie.spec check-requires enum-known-places fit-both-requires enum-known-number returns returns-2)

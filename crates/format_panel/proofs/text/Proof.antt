@@ -9,13 +9,13 @@ use Rattle.format_panel.proofs.text.Tie as tie
 check-requires : tie.Need-check-requires
 check-requires c κs = search needs
 
-enum-known-m : tie.Need-enum-known-m
-enum-known-m c = search needs
+enum-known-map : tie.Need-enum-known-map
+enum-known-map c = search needs
 
 text-in-requires : tie.Need-text-in-requires
 text-in-requires c κs =
-    let e : c .before .before .before .check .result ≡ Accepted (c .before .m .given .0 .0) = search needs in
-    accepts (c .before .before .before .before .before .args .v .now) (c .before .m .given .0 .0) (sym (c .before .before .before .check .ensures) ∙ e)
+    let e : c .before .before .before .check .result ≡ Accepted (c .before .map .given .0 .0) = search needs in
+    accepts (c .before .before .before .before .before .args .panel .now) (c .before .map .given .0 .0) (sym (c .before .before .before .check .ensures) ∙ e)
 
 enum-known-number : tie.Need-enum-known-number
 enum-known-number c = search needs
@@ -29,9 +29,9 @@ returns-2 c =
     let number = c .before .number .given .0 .0 in
     let place = c .before .number .given .0 .1 .0 in
     let e : c .before .before .before .check .result ≡ Refused number place = search needs in
-    text-refused (a .v .now) (a .r) (a .dropped) number place (refuses-by (a .v .now) number place (sym (c .before .before .before .check .ensures) ∙ e))
+    text-refused (a .panel .now) (a .r) (a .dropped) number place (refuses-by (a .panel .now) number place (sym (c .before .before .before .check .ensures) ∙ e))
 
 pub text-spec : {M : Type 1} → statement M
 text-spec =
     tie.close
-    (tie.spec check-requires enum-known-m text-in-requires enum-known-number returns returns-2)
+    (tie.spec check-requires enum-known-map text-in-requires enum-known-number returns returns-2)

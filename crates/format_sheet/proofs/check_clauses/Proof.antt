@@ -15,7 +15,7 @@ enum-known-c c = search needs
 
 returns : tie.Need-returns
 unfolding fromClauses
-returns c = search-stops (c .before .before .before .before .before .args .s .now) 10 (requireNone (lowestNameTwice (c .before .before .before .before .before .args .s .now)) 11 accepted) (lowestMisfit (c .before .before .before .before .before .args .s .now)) (c .before .before .before .lowest-misfit .ensures) (c .before .c .given .0 .0) (search needs)
+returns c = search-stops (c .before .before .before .before .before .args .sheet .now) 10 (requireNone (lowestNameTwice (c .before .before .before .before .before .args .sheet .now)) 11 accepted) (lowestMisfit (c .before .before .before .before .before .args .sheet .now)) (c .before .before .before .lowest-misfit .ensures) (c .before .c .given .0 .0) (search needs)
 
 enum-told : tie.Need-enum-told
 enum-told c = search needs
@@ -29,8 +29,8 @@ enum-known-c-2 c = search needs
 returns-2 : tie.Need-returns-2
 unfolding fromClauses
 returns-2 c =
-    search-passes (c .before .before .before .before .before .before .before .before .args .s .now) 10 (requireNone (lowestNameTwice (c .before .before .before .before .before .before .before .before .args .s .now)) 11 accepted) (lowestMisfit (c .before .before .before .before .before .before .before .before .args .s .now)) (c .before .before .before .before .before .before .lowest-misfit .ensures) (c .before .before .before .before .enum-told .given .1)
-    (search-stops (c .before .before .before .before .before .before .before .before .args .s .now) 11 accepted (lowestNameTwice (c .before .before .before .before .before .before .before .before .args .s .now)) (c .before .before .before .lowest-name-twice .ensures) (c .before .c2 .given .0 .0) (search needs))
+    search-passes (c .before .before .before .before .before .before .before .before .args .sheet .now) 10 (requireNone (lowestNameTwice (c .before .before .before .before .before .before .before .before .args .sheet .now)) 11 accepted) (lowestMisfit (c .before .before .before .before .before .before .before .before .args .sheet .now)) (c .before .before .before .before .before .before .lowest-misfit .ensures) (c .before .before .before .before .enum-told .given .1)
+    (search-stops (c .before .before .before .before .before .before .before .before .args .sheet .now) 11 accepted (lowestNameTwice (c .before .before .before .before .before .before .before .before .args .sheet .now)) (c .before .before .before .lowest-name-twice .ensures) (c .before .c2 .given .0 .0) (search needs))
 
 enum-told-2 : tie.Need-enum-told-2
 enum-told-2 c = search needs
@@ -38,8 +38,8 @@ enum-told-2 c = search needs
 returns-3 : tie.Need-returns-3
 unfolding fromClauses
 returns-3 c =
-    search-passes (c .before .before .before .before .before .before .before .args .s .now) 10 (requireNone (lowestNameTwice (c .before .before .before .before .before .before .before .args .s .now)) 11 accepted) (lowestMisfit (c .before .before .before .before .before .before .before .args .s .now)) (c .before .before .before .before .before .lowest-misfit .ensures) (c .before .before .before .enum-told .given .1)
-    (search-passes (c .before .before .before .before .before .before .before .args .s .now) 11 accepted (lowestNameTwice (c .before .before .before .before .before .before .before .args .s .now)) (c .before .before .lowest-name-twice .ensures) (c .enum-told2 .given .1) (ap Accepted (c .before .before .before .before .before .before .before .pre .is-map)))
+    search-passes (c .before .before .before .before .before .before .before .args .sheet .now) 10 (requireNone (lowestNameTwice (c .before .before .before .before .before .before .before .args .sheet .now)) 11 accepted) (lowestMisfit (c .before .before .before .before .before .before .before .args .sheet .now)) (c .before .before .before .before .before .lowest-misfit .ensures) (c .before .before .before .enum-told .given .1)
+    (search-passes (c .before .before .before .before .before .before .before .args .sheet .now) 11 accepted (lowestNameTwice (c .before .before .before .before .before .before .before .args .sheet .now)) (c .before .before .lowest-name-twice .ensures) (c .enum-told2 .given .1) (ap Accepted (c .before .before .before .before .before .before .before .pre .is-map)))
 
 pub check-clauses-spec : {M : Type 1} → statement M
 check-clauses-spec =

@@ -12,10 +12,10 @@ types-fit-requires c κs = (c .before .pre .0, c .before .pre .1)
 
 returns : tie.Need-returns
 unfolding fromTypes
-returns c = test-stops (c .before .before .before .args .s .now) 6 (requireNone (lowestTransparent (c .before .before .before .args .s .now)) 7 (fromPatterns (c .before .before .before .args .s .now))) (typesFit (c .before .before .before .args .s .now)) (c .before .types-fit .ensures) (c .if1 .taken)
+returns c = test-stops (c .before .before .before .args .sheet .now) 6 (requireNone (lowestTransparent (c .before .before .before .args .sheet .now)) 7 (fromPatterns (c .before .before .before .args .sheet .now))) (typesFit (c .before .before .before .args .sheet .now)) (c .before .types-fit .ensures) (c .if1 .taken)
 
 lowest-transparent-requires : tie.Need-lowest-transparent-requires
-lowest-transparent-requires c κs = (c .before .before .before .pre .0, c .before .before .before .pre .2, typed (c .before .before .before .args .s .now) (passed (c .before .types-fit .ensures) (c .if1 .left)), c .before .before .before .pre .1)
+lowest-transparent-requires c κs = (c .before .before .before .pre .0, c .before .before .before .pre .2, typed (c .before .before .before .args .sheet .now) (passed (c .before .types-fit .ensures) (c .if1 .left)), c .before .before .before .pre .1)
 
 enum-known-t : tie.Need-enum-known-t
 enum-known-t c = search needs
@@ -23,20 +23,20 @@ enum-known-t c = search needs
 returns-2 : tie.Need-returns-2
 unfolding fromTypes
 returns-2 c =
-    test-passes (c .before .before .before .before .before .before .before .args .s .now) 6 (requireNone (lowestTransparent (c .before .before .before .before .before .before .before .args .s .now)) 7 (fromPatterns (c .before .before .before .before .before .before .before .args .s .now))) (typesFit (c .before .before .before .before .before .before .before .args .s .now)) (c .before .before .before .before .before .types-fit .ensures) (c .before .before .before .before .if1 .left)
-    (search-stops (c .before .before .before .before .before .before .before .args .s .now) 7 (fromPatterns (c .before .before .before .before .before .before .before .args .s .now)) (lowestTransparent (c .before .before .before .before .before .before .before .args .s .now)) (c .before .before .before .lowest-transparent .ensures) (c .before .t .given .0 .0) (search needs))
+    test-passes (c .before .before .before .before .before .before .before .args .sheet .now) 6 (requireNone (lowestTransparent (c .before .before .before .before .before .before .before .args .sheet .now)) 7 (fromPatterns (c .before .before .before .before .before .before .before .args .sheet .now))) (typesFit (c .before .before .before .before .before .before .before .args .sheet .now)) (c .before .before .before .before .before .types-fit .ensures) (c .before .before .before .before .if1 .left)
+    (search-stops (c .before .before .before .before .before .before .before .args .sheet .now) 7 (fromPatterns (c .before .before .before .before .before .before .before .args .sheet .now)) (lowestTransparent (c .before .before .before .before .before .before .before .args .sheet .now)) (c .before .before .before .lowest-transparent .ensures) (c .before .t .given .0 .0) (search needs))
 
 enum-told : tie.Need-enum-told
 enum-told c = search needs
 
 check-patterns-requires : tie.Need-check-patterns-requires
-check-patterns-requires c κs = (c .before .before .before .before .before .before .pre .0, c .before .before .before .before .before .before .pre .1, c .before .before .before .before .before .before .pre .2, typed (c .before .before .before .before .before .before .args .s .now) (passed (c .before .before .before .before .types-fit .ensures) (c .before .before .before .if1 .left)))
+check-patterns-requires c κs = (c .before .before .before .before .before .before .pre .0, c .before .before .before .before .before .before .pre .1, c .before .before .before .before .before .before .pre .2, typed (c .before .before .before .before .before .before .args .sheet .now) (passed (c .before .before .before .before .types-fit .ensures) (c .before .before .before .if1 .left)))
 
 returns-3 : tie.Need-returns-3
 unfolding fromTypes
 returns-3 c =
-    test-passes (c .before .before .before .before .before .before .before .args .s .now) 6 (requireNone (lowestTransparent (c .before .before .before .before .before .before .before .args .s .now)) 7 (fromPatterns (c .before .before .before .before .before .before .before .args .s .now))) (typesFit (c .before .before .before .before .before .before .before .args .s .now)) (c .before .before .before .before .before .types-fit .ensures) (c .before .before .before .before .if1 .left)
-    (search-passes (c .before .before .before .before .before .before .before .args .s .now) 7 (fromPatterns (c .before .before .before .before .before .before .before .args .s .now)) (lowestTransparent (c .before .before .before .before .before .before .before .args .s .now)) (c .before .before .before .lowest-transparent .ensures) (c .before .enum-told .given .1) (c .check-patterns .ensures))
+    test-passes (c .before .before .before .before .before .before .before .args .sheet .now) 6 (requireNone (lowestTransparent (c .before .before .before .before .before .before .before .args .sheet .now)) 7 (fromPatterns (c .before .before .before .before .before .before .before .args .sheet .now))) (typesFit (c .before .before .before .before .before .before .before .args .sheet .now)) (c .before .before .before .before .before .types-fit .ensures) (c .before .before .before .before .if1 .left)
+    (search-passes (c .before .before .before .before .before .before .before .args .sheet .now) 7 (fromPatterns (c .before .before .before .before .before .before .before .args .sheet .now)) (lowestTransparent (c .before .before .before .before .before .before .before .args .sheet .now)) (c .before .before .before .lowest-transparent .ensures) (c .before .enum-told .given .1) (c .check-patterns .ensures))
 
 pub check-types-spec : {M : Type 1} → statement M
 check-types-spec =

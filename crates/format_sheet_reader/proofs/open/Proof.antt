@@ -1,5 +1,5 @@
--- `format_sheet_reader::open` meets its contract: a walk of its MIR, by hand. A `Reader` is made of the slice passed and of seven fields of the starts passed, in the result's local.
--- A `&[u8]` is Copy, so what it owns is had twice: once for the slice at exit, and once inside the result, beside the facts of the seven numbers, which the typing of the starts has.
+-- `format_sheet_reader::open` meets its contract: a walk of its MIR, by hand. A `Reader` is made of the slice passed and of the starts of the seven sections in the map passed, in the result's local.
+-- A `&[u8]` is Copy, so what it owns is had twice: once for the slice at exit, and once inside the result, beside the facts of the seven numbers, which the typing of the map has.
 -- Assumes nothing.
 use mathlib.Core.Path.{refl}
 use Prim.Native.Nat.{ℕ}
@@ -36,9 +36,9 @@ use denote.Triple.Spec.{Meets, tripleOf}
 use denote.Triple.Table.{entered}
 use denote.Triple.Walked.{says, Stays, stay-none, stay-none-slice, walkOf, goes-none, goes-none-slice, Walks, ends-at, walked, walk-meets}
 use denote.Exit.{yes}
-use Rattle.format_sheet.specs.declared.Starts.{Starts}
-use Rattle.format_sheet.proofs.Starts as Q
-use Rattle.format_sheet.proofs.Starts.Laws as Q′
+use Rattle.format_sheet.specs.declared.SheetMap.{SheetMap}
+use Rattle.format_sheet.proofs.SheetMap as Q
+use Rattle.format_sheet.proofs.SheetMap.Laws as Q′
 use Rattle.format_sheet_reader.specs.declared.Reader.{Reader}
 use Rattle.format_sheet_reader.specs.Reading.{opened}
 use Rattle.format_sheet_reader.proofs.Reader as T
@@ -51,11 +51,11 @@ use Rattle.format_sheet_reader.proofs.open.Code as code
 abbrev stayed : Stays (opening.ended .signature .params) (opening.ended .kept)
 stayed = (stay-none-slice (0 ∷ []) tt (plain (λ _. u8)) yes, (stay-none (λ _. Q.the-row) yes, tt))
 
-module _ {M : Type 1} (𝓤 : URA M) (H : Heap 𝓤) (A : Atoms 𝓤) (W : Given 𝓤 H A) (mem : Memory → SProp 𝓤) (run : Routine → Fun 𝓤) (κ : Lft) (q : Share) (s : RefT (List ℕ)) (m : Starts) where
+module _ {M : Type 1} (𝓤 : URA M) (H : Heap 𝓤) (A : Atoms 𝓤) (W : Given 𝓤 H A) (mem : Memory → SProp 𝓤) (run : Routine → Fun 𝓤) (κ : Lft) (q : Share) (s : RefT (List ℕ)) (m : SheetMap) where
   abbrev α : NamedLft
   α = namedLft 1 0 tt (κ, tt)
 
-  -- the machine values that the slice and the starts have
+  -- the machine values that the slice and the map have
   abbrev v : Val
   v = sliceVal (s .ptr) (length (s .now))
 
@@ -79,19 +79,19 @@ module _ {M : Type 1} (𝓤 : URA M) (H : Heap 𝓤) (A : Atoms 𝓤) (W : Given
       qed W ((‵ (flft κ q) ⊛ ‵ ftrue) ∷ ‵ (owns (ShrSlice (named 0) κ u8 ∷ Q.the-row ∷ []) (s, (m, tt)) at) ∷ []) ∵
       suffices ! _ (ends-at 𝓤 H A opening.ended stayed (opening.clauses 𝓤 H A mem run) W (((κ, tt), (q, tt), tt, (s, (m, tt)), at), tt) (T′.lowered made) made (tt, (tt, tt)) (tt, (tt, tt))) $ says ! refl $
       frame ! $ fsplit ! $ use1 W (‵ Own ⊛ ‵ Own) (shr-slice-copy 𝓤 H A W (named 0) κ u8 .twice s (v ∷ [])) $ split ! $
-      -- [the slice's; the slice's; the starts']
+      -- [the slice's; the slice's; the map's]
       move ! (0 ∷ 2 ∷ []) $ fjoin ! $ frame ! $
       -- [the slice's], and the seven numbers in front of it, the last first
       nothing ! $
-      owned ! usize (Is usize) (uint-makes 𝓤 H A W w64) (m .pool) _ (refl, wt .1 .1 .1 .1 .1 .1 .1 .0 .fits) $ fjoin ! $
-      owned ! usize (Is usize) (uint-makes 𝓤 H A W w64) (m .clauses) _ (refl, wt .1 .1 .1 .1 .1 .1 .0 .fits) $ fjoin ! $
-      owned ! usize (Is usize) (uint-makes 𝓤 H A W w64) (m .children) _ (refl, wt .1 .1 .1 .1 .1 .0 .fits) $ fjoin ! $
-      owned ! usize (Is usize) (uint-makes 𝓤 H A W w64) (m .patterns) _ (refl, wt .1 .1 .1 .1 .0 .fits) $ fjoin ! $
-      owned ! usize (Is usize) (uint-makes 𝓤 H A W w64) (m .entries) _ (refl, wt .1 .1 .1 .0 .fits) $ fjoin ! $
-      owned ! usize (Is usize) (uint-makes 𝓤 H A W w64) (m .constructors) _ (refl, wt .1 .1 .0 .fits) $ fjoin ! $
-      owned ! usize (Is usize) (uint-makes 𝓤 H A W w64) (m .types) _ (refl, wt .1 .0 .fits) $ fjoin ! $
+      owned ! usize (Is usize) (uint-makes 𝓤 H A W w64) (m .pool .start) _ (refl, wt .1 .1 .1 .1 .1 .1 .1 .0 .0 .fits) $ fjoin ! $
+      owned ! usize (Is usize) (uint-makes 𝓤 H A W w64) (m .clauses .start) _ (refl, wt .1 .1 .1 .1 .1 .1 .0 .0 .fits) $ fjoin ! $
+      owned ! usize (Is usize) (uint-makes 𝓤 H A W w64) (m .children .start) _ (refl, wt .1 .1 .1 .1 .1 .0 .0 .fits) $ fjoin ! $
+      owned ! usize (Is usize) (uint-makes 𝓤 H A W w64) (m .patterns .start) _ (refl, wt .1 .1 .1 .1 .0 .0 .fits) $ fjoin ! $
+      owned ! usize (Is usize) (uint-makes 𝓤 H A W w64) (m .entries .start) _ (refl, wt .1 .1 .1 .0 .0 .fits) $ fjoin ! $
+      owned ! usize (Is usize) (uint-makes 𝓤 H A W w64) (m .constructors .start) _ (refl, wt .1 .1 .0 .0 .fits) $ fjoin ! $
+      owned ! usize (Is usize) (uint-makes 𝓤 H A W w64) (m .types .start) _ (refl, wt .1 .0 .0 .fits) $ fjoin ! $
       move ! (1 ∷ 0 ∷ []) $ fjoin ! $
-      by ! (own-shut 𝓤 H A W (T.the-type α) (T′.the-laws α) (s, (m .types, (m .constructors, (m .entries, (m .patterns, (m .children, (m .clauses, (m .pool, tt)))))))))
+      by ! (own-shut 𝓤 H A W (T.the-type α) (T′.the-laws α) (s, (m .types .start, (m .constructors .start, (m .entries .start, (m .patterns .start, (m .children .start, (m .clauses .start, (m .pool .start, tt)))))))))
 
   module _ (C : Calls 𝓤 H) (Λ : Loops 𝓤 H) where
     walk : Is (ShrSlice (named 0) κ u8) s (v ∷ []) → Holds (hasTy Q′.mir vm) × WT vm → ent 𝓤 (onEntry 𝓤 H A opening.signature (κ, tt) (q, tt) (s, (m, tt)) at) (WpFn 𝓤 H C Λ code.function (v ∷ vm ∷ []) Post)
@@ -101,15 +101,15 @@ module _ {M : Type 1} (𝓤 : URA M) (H : Heap 𝓤) (A : Atoms 𝓤) (W : Given
         pass1 ! (init ! 2 refl (shr-slice-lawful 𝓤 H A W (named 0) κ u8 .typed s (v ∷ []) p .0)) $ pass1 ! (init ! 0 refl wt) $ pass0 ! $
         assigns ! (agg !
         (and-then ! (load ! (from ! (stop !)) (look ! 2 refl))
-        (and-then ! (load ! (from ! (fld ! refl (stop !))) (look-in ! 0 (sub ! 0 refl (whole !))))
-        (and-then ! (load ! (from ! (fld ! refl (stop !))) (look-in ! 0 (sub ! 1 refl (whole !))))
-        (and-then ! (load ! (from ! (fld ! refl (stop !))) (look-in ! 0 (sub ! 2 refl (whole !))))
-        (and-then ! (load ! (from ! (fld ! refl (stop !))) (look-in ! 0 (sub ! 3 refl (whole !))))
-        (and-then ! (load ! (from ! (fld ! refl (stop !))) (look-in ! 0 (sub ! 4 refl (whole !))))
-        (and-then ! (load ! (from ! (fld ! refl (stop !))) (look-in ! 0 (sub ! 5 refl (whole !))))
-        (and-then ! (load ! (from ! (fld ! refl (stop !))) (look-in ! 0 (sub ! 6 refl (whole !))))
+        (and-then ! (load ! (from ! (fld ! refl (fld ! refl (stop !)))) (look-in ! 0 (sub ! 0 refl (sub ! 0 refl (whole !)))))
+        (and-then ! (load ! (from ! (fld ! refl (fld ! refl (stop !)))) (look-in ! 0 (sub ! 0 refl (sub ! 1 refl (whole !)))))
+        (and-then ! (load ! (from ! (fld ! refl (fld ! refl (stop !)))) (look-in ! 0 (sub ! 0 refl (sub ! 2 refl (whole !)))))
+        (and-then ! (load ! (from ! (fld ! refl (fld ! refl (stop !)))) (look-in ! 0 (sub ! 0 refl (sub ! 3 refl (whole !)))))
+        (and-then ! (load ! (from ! (fld ! refl (fld ! refl (stop !)))) (look-in ! 0 (sub ! 0 refl (sub ! 4 refl (whole !)))))
+        (and-then ! (load ! (from ! (fld ! refl (fld ! refl (stop !)))) (look-in ! 0 (sub ! 0 refl (sub ! 5 refl (whole !)))))
+        (and-then ! (load ! (from ! (fld ! refl (fld ! refl (stop !)))) (look-in ! 0 (sub ! 0 refl (sub ! 6 refl (whole !)))))
         (no-more !)))))))))) (from ! (stop !))
-        (init ! 4 refl (tt, (shr-slice-lawful 𝓤 H A W (named 0) κ u8 .typed s (v ∷ []) p .0 .1, (wt .1 .0, (wt .1 .1 .0, (wt .1 .1 .1 .0, (wt .1 .1 .1 .1 .0, (wt .1 .1 .1 .1 .1 .0, (wt .1 .1 .1 .1 .1 .1 .0, (wt .1 .1 .1 .1 .1 .1 .1 .0, tt)))))))))) $
+        (init ! 4 refl (tt, (shr-slice-lawful 𝓤 H A W (named 0) κ u8 .typed s (v ∷ []) p .0 .1, (wt .1 .0 .0, (wt .1 .1 .0 .0, (wt .1 .1 .1 .0 .0, (wt .1 .1 .1 .1 .0 .0, (wt .1 .1 .1 .1 .1 .0 .0, (wt .1 .1 .1 .1 .1 .1 .0 .0, (wt .1 .1 .1 .1 .1 .1 .1 .0 .0, tt)))))))))) $
         returns ! (look ! 4 refl) $ forget ! 0 refl $ forget ! 2 refl $ forget ! 4 refl $ move ! (4 ∷ 5 ∷ []) $ free1 ! $ move ! (2 ∷ 3 ∷ []) $ free1 ! $ free1 ! $ free0 ! $ by ! (exits wt))))
 
 module _ {M : Type 1} (𝓤 : URA M) (H : Heap 𝓤) (A : Atoms 𝓤) (W : Given 𝓤 H A) (mem : Memory → SProp 𝓤) (run : Routine → Fun 𝓤) where

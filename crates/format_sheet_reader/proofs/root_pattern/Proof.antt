@@ -39,12 +39,12 @@ use denote.Exit.{yes}
 use denote.Triple.Clauses.{ensured, lasts}
 use Rattle.spec_rules.specs.SheetFile.{patterns, clauses, root as rootOf}
 use Rattle.spec_accepted.specs.SheetFacts.{Accepted}
-use Rattle.format_sheet.specs.declared.Starts.{Starts}
+use Rattle.format_sheet.specs.declared.SheetMap.{SheetMap}
 use Rattle.format_sheet.specs.declared.records.PatternRecord.{PatternRecord}
-use Rattle.format_sheet.specs.Sections.{startsOf}
+use Rattle.format_sheet.specs.Sections.{mapOf}
 use Rattle.format_sheet.specs.Records.{patternOf}
-use Rattle.format_sheet.proofs.Starts as Q
-use Rattle.format_sheet.proofs.Starts.Laws as Q′
+use Rattle.format_sheet.proofs.SheetMap as Q
+use Rattle.format_sheet.proofs.SheetMap.Laws as Q′
 use Rattle.format_sheet.proofs.records.PatternRecord as S
 use Rattle.format_sheet.proofs.records.PatternRecord.Laws as S′
 use Rattle.format_sheet_reader.specs.declared.Reader.{Reader}
@@ -87,8 +87,8 @@ module _ {M : Type 1} (𝓤 : URA M) (H : Heap 𝓤) (A : Atoms 𝓤) (mem : Mem
   abbrev Pattern : Contract 𝓤
   Pattern = tripleOf 𝓤 H A pattern.signature (pattern.spec 𝓤 H A mem run)
 
-module _ {M : Type 1} (𝓤 : URA M) (H : Heap 𝓤) (A : Atoms 𝓤) (W : Given 𝓤 H A) (mem : Memory → SProp 𝓤) (run : Routine → Fun 𝓤) (κ : Lft) (q : Share) (s : RefT (List ℕ)) (m : Starts) (n : ℕ) (ok : n < 2 ^ 64) (fine : Accepted (now s) × (m ≡ startsOf (now s)) × (n < clauses (now s))) where
-  -- the machine values that the slice and the starts have
+module _ {M : Type 1} (𝓤 : URA M) (H : Heap 𝓤) (A : Atoms 𝓤) (W : Given 𝓤 H A) (mem : Memory → SProp 𝓤) (run : Routine → Fun 𝓤) (κ : Lft) (q : Share) (s : RefT (List ℕ)) (m : SheetMap) (n : ℕ) (ok : n < 2 ^ 64) (fine : Accepted (now s) × (m ≡ mapOf (now s)) × (n < clauses (now s))) where
+  -- the machine values that the slice and the map have
   abbrev v : Val
   v = sliceVal (s .ptr) (length (s .now))
 
@@ -129,9 +129,9 @@ module _ {M : Type 1} (𝓤 : URA M) (H : Heap 𝓤) (A : Atoms 𝓤) (W : Given
       qed W ((‵ (flft κ q) ⊛ ‵ ftrue) ∷ ‵ (owns (ShrSlice (named 0) κ u8 ∷ Q.the-row ∷ usize ∷ []) (s, (m, (n, tt))) at) ∷ []) ∵
       move ! (1 ∷ []) $ fsplit ! $ use1 W (‵ Own ⊛ ‵ Own) (shr-slice-copy 𝓤 H A W (named 0) κ u8 .twice s (v ∷ [])) $ split ! $
       move ! (2 ∷ []) $ fsplit ! $ use1 W (‵ OwnM ⊛ ‵ OwnM) (LL.copy Q.the-type Q′.the-copy 𝓤 H A W .twice m (vm ∷ [])) $ split ! $
-      -- [the starts'; the starts'; n's; the slice's; the slice's; the token]
+      -- [the map's; the map's; n's; the slice's; the slice's; the token]
       move ! (2 ∷ []) $ drop ! $ nothing ! $ move ! (1 ∷ 0 ∷ []) $ fjoin ! $ move ! (2 ∷ 0 ∷ []) $ fjoin ! $
-      -- [the slice's and the starts'; the starts'; the slice's; the token]
+      -- [the slice's and the map's; the map's; the slice's; the token]
       move ! (3 ∷ 0 ∷ []) $ use2 W (raw (Open 𝓤 H A mem run .pre to-open)) (qed W ((‵ (flft κ q) ⊛ ‵ ftrue) ∷ ‵ (owns (ShrSlice (named 0) κ u8 ∷ Q.the-row ∷ []) (s, (m, tt)) at-open) ∷ []) ∵ join ! $ frame ! $ done !) $ frame ! $
       move ! (1 ∷ 0 ∷ []) $ fjoin ! $ by ! (id⊢ 𝓤 _)
 
@@ -169,7 +169,7 @@ module _ {M : Type 1} (𝓤 : URA M) (H : Heap 𝓤) (A : Atoms 𝓤) (W : Given
       qed W (‵ (S.the-row .own t (u ∷ [])) ∷ (‵ (flft κ q) ⊛ ‵ ftrue) ∷ ‵ (fsep Own OwnM) ∷ []) ∵
       suffices ! _ (ends-at 𝓤 H A both.ended stayed (both.clauses 𝓤 H A mem run) W (((κ, tt), (q, tt), tt, (s, (m, (n, tt))), at), tt) u t (tt, (tt, (tt, tt))) (tt, (tt, (tt, tt)))) $ says ! e $
       move ! (1 ∷ []) $ frame ! $ nothing ! $ owned ! usize (Is usize) (uint-makes 𝓤 H A W w64) n _ (refl, ok) $ fjoin ! $ move ! (2 ∷ []) $ fsplit ! $
-      -- [the slice's; the starts'; n's; the result]
+      -- [the slice's; the map's; n's; the result]
       move ! (1 ∷ 2 ∷ []) $ fjoin ! $ move ! (1 ∷ 0 ∷ []) $ fjoin ! $ frame ! $ done !
 
   module _ (C : Calls 𝓤 H) (Λ : Loops 𝓤 H) (fm : FmC 𝓤 H (W .laws) C) (known-open : Triple 𝓤 (C #reader·open) (Open 𝓤 H A mem run)) (known-root : Triple 𝓤 (C #reader·root) (Root 𝓤 H A mem run)) (known-pattern : Triple 𝓤 (C #reader·pattern) (Pattern 𝓤 H A mem run)) where
@@ -182,17 +182,17 @@ module _ {M : Type 1} (𝓤 : URA M) (H : Heap 𝓤) (A : Atoms 𝓤) (W : Given
         calls-at ! fm (Open 𝓤 H A mem run) known-open to-open (and-then ! (load ! (from ! (stop !)) (look ! 14 refl)) (and-then ! (load ! (from ! (stop !)) (look ! 12 refl)) (no-more !))) (λ u.
         use1 W (later (some (λ (r : Reader). ((‵ (flft κ q) ⊛ ‵ ftrue) ⊛ ‵ (OwnR r u)) ⊛ raw (ensured 𝓤 H A opening.ended (opening.clauses 𝓤 H A mem run) (κ, tt) (s, (m, tt)) tt r)))) (id⊢ 𝓤 _) $ await ! tt $ pick ! (λ r.
         split ! $ move ! (1 ∷ []) $ use1 W (raw (fact 𝓤 (r ≡ opened s m))) (open-said r) $ heard ! (r ≡ opened s m) (λ e. split ! $ move ! (1 ∷ []) $
-        -- [the reader's; the token; the slice's and the starts'; room for _7; …; room for _6; …; room for _5; …; room for _4; …; _3; …; _2; …; _1; …; room for _0; …]
+        -- [the reader's; the token; the slice's and the map's; room for _7; …; room for _6; …; room for _5; …; room for _4; …; _3; …; _2; …; _1; …; room for _0; …]
         peeks ! (B (κ, tt)) (Is (B (κ, tt))) (shows 𝓤 H A (B (κ, tt))) r (u ∷ []) (λ is.
         land ! (from ! (stop !)) (init ! 9 refl (LL.lawful (T.the-type αᵉ) (T′.the-laws αᵉ) 𝓤 H A W .typed r _ is .0)) $
         assigns ! (of-opd ! (load ! (from ! (stop !)) (look ! 9 refl))) (from ! (stop !)) (init ! 5 refl (LL.lawful (T.the-type αᵉ) (T′.the-laws αᵉ) 𝓤 H A W .typed r _ is .0)) $
         use1 W (‵ (OwnR r u) ⊛ ‵ (OwnR r u)) (LL.copy (T.the-type (namedLft 1 0 tt (κ, tt))) (T′.the-copy (namedLft 1 0 tt (κ, tt))) 𝓤 H A W .twice r (u ∷ [])) $ split ! $
-        -- [the reader's; the reader's; the token; the slice's and the starts'; _7; …]
+        -- [the reader's; the reader's; the token; the slice's and the map's; _7; …]
         move ! (0 ∷ 2 ∷ []) $ use2 W (raw (Root 𝓤 H A mem run .pre (to-root r u))) (goes-root r u (root-asked s m n fine r e)) $
         calls-at ! fm (Root 𝓤 H A mem run) known-root (to-root r u) (and-then ! (load ! (from ! (stop !)) (look ! 5 refl)) (and-then ! (load ! (from ! (stop !)) (look ! 11 refl)) (no-more !))) (λ u′.
         use1 W (later (some (λ (p : ℕ). ((‵ (flft κ q) ⊛ ‵ ftrue) ⊛ ‵ (usize .own p (u′ ∷ []))) ⊛ raw (ensured 𝓤 H A root.ended (root.clauses 𝓤 H A mem run) (κ, tt) (r, (n, tt)) tt p)))) (id⊢ 𝓤 _) $ await ! tt $ pick ! (λ p.
         split ! $ move ! (1 ∷ []) $ use1 W (raw (fact 𝓤 (p ≡ rootOf (now (r .sheet)) n))) (root-said r p) $ heard ! (p ≡ rootOf (now (r .sheet)) n) (λ e′. split ! $ move ! (1 ∷ []) $
-        -- [p's; the token; the reader's; the slice's and the starts'; _7; …]
+        -- [p's; the token; the reader's; the slice's and the map's; _7; …]
         peeks ! usize (Is usize) (shows 𝓤 H A usize) p (u′ ∷ []) (λ is′.
         land ! (from ! (stop !)) (init ! 8 refl (uint-lawful 𝓤 H A W w64 .typed p (u′ ∷ []) is′ .0)) $
         assigns ! (of-opd ! (load ! (from ! (stop !)) (look ! 10 refl))) (from ! (stop !)) (init ! 4 refl (LL.lawful (T.the-type αᵉ) (T′.the-laws αᵉ) 𝓤 H A W .typed r _ is .0)) $
@@ -200,7 +200,7 @@ module _ {M : Type 1} (𝓤 : URA M) (H : Heap 𝓤) (A : Atoms 𝓤) (W : Given
         calls-at ! fm (Pattern 𝓤 H A mem run) known-pattern (to-pattern r u p u′) (and-then ! (load ! (from ! (stop !)) (look ! 2 refl)) (and-then ! (load ! (from ! (stop !)) (look ! 6 refl)) (no-more !))) (λ u″.
         use1 W (later (some (λ (t : PatternRecord). ((‵ (flft κ q) ⊛ ‵ ftrue) ⊛ ‵ (S.the-row .own t (u″ ∷ []))) ⊛ raw (ensured 𝓤 H A pattern.ended (pattern.clauses 𝓤 H A mem run) (κ, tt) (r, (p, tt)) tt t)))) (id⊢ 𝓤 _) $ await ! tt $ pick ! (λ t.
         split ! $ move ! (1 ∷ []) $ use1 W (raw (fact 𝓤 (t ≡ patternOf (now (r .sheet)) p))) (pattern-said r p t) $ heard ! (t ≡ patternOf (now (r .sheet)) p) (λ e″. split ! $ move ! (1 ∷ []) $
-        -- [the result; the token; the slice's and the starts'; _7; …; _6; …; _5; …; _4; …; _3; …; _2; …; _1; …; room for _0; …]
+        -- [the result; the token; the slice's and the map's; _7; …; _6; …; _5; …; _4; …; _3; …; _2; …; _1; …; room for _0; …]
         peeks ! S.the-row (Is S.the-row) (shows 𝓤 H A S.the-row) t (u″ ∷ []) (λ is″.
         land ! (from ! (stop !)) (init ! 17 refl (LL.lawful S.the-type S′.the-laws 𝓤 H A W .typed t _ is″ .0)) $
         returns ! (look ! 17 refl) $ forget ! 3 refl $ forget ! 5 refl $ forget ! 7 refl $ forget ! 9 refl $ forget ! 11 refl $ forget ! 13 refl $ forget ! 15 refl $ forget ! 17 refl $
@@ -211,7 +211,7 @@ module _ {M : Type 1} (𝓤 : URA M) (H : Heap 𝓤) (A : Atoms 𝓤) (W : Given
   root-pattern-walks : (C : Calls 𝓤 H) (Λ : Loops 𝓤 H) → FmC 𝓤 H (W .laws) C → Triple 𝓤 (C #reader·open) (Open 𝓤 H A mem run) → Triple 𝓤 (C #reader·root) (Root 𝓤 H A mem run) → Triple 𝓤 (C #reader·pattern) (Pattern 𝓤 H A mem run)
       → Walks 𝓤 H A both.ended stayed (WpFn 𝓤 H C Λ code.function) (both.clauses 𝓤 H A mem run)
   root-pattern-walks C Λ fm known-open known-root known-pattern = walked 𝓤 H A both.ended stayed (both.clauses 𝓤 H A mem run) (WpFn 𝓤 H C Λ code.function) (λ κs. (slice-vals, (LL.vals Q.the-type Q′.the-laws, (uint-vals w64, tt)))) (λ κs. (shr-slice-tells (named 0) (κs .0) u8, (LL.tells Q.the-type Q′.the-laws, (uint-tells w64, tt))))
-      (λ κs qs bounds a g are. needs 𝓤 (Accepted (now (a .0)) × (a .1 .0 ≡ startsOf (now (a .0))) × (a .1 .1 .0 < clauses (now (a .0)))) _ (λ fine. walk 𝓤 H A W mem run (κs .0) (qs .0) (a .0) (a .1 .0) (a .1 .1 .0) (are .1 .1 .0 .1) fine C Λ fm known-open known-root known-pattern (are .0) (are .1 .0)))
+      (λ κs qs bounds a g are. needs 𝓤 (Accepted (now (a .0)) × (a .1 .0 ≡ mapOf (now (a .0))) × (a .1 .1 .0 < clauses (now (a .0)))) _ (λ fine. walk 𝓤 H A W mem run (κs .0) (qs .0) (a .0) (a .1 .0) (a .1 .1 .0) (are .1 .1 .0 .1) fine C Λ fm known-open known-root known-pattern (are .0) (are .1 .0)))
 
 root-pattern-meets : {M : Type 1} (𝓤 : URA M) (H : Heap 𝓤) (A : Atoms 𝓤) (W : Given 𝓤 H A) (mem : Memory → SProp 𝓤) (run : Routine → Fun 𝓤) (𝓣 : Tables 𝓤 H)
     → Triple 𝓤 (𝓣 .C #reader·open) (Open 𝓤 H A mem run) → Triple 𝓤 (𝓣 .C #reader·root) (Root 𝓤 H A mem run) → Triple 𝓤 (𝓣 .C #reader·pattern) (Pattern 𝓤 H A mem run)

@@ -25,12 +25,12 @@ its : (c : tie.Start) → Mapped (c .args .sheet .now) (c .args .map)
 its c = mapped (c .args .sheet .now) (c .args .map) (c .pre .0 .0 .is-map)
 
 -- the hoists counted
-counted : (c : tie.Start) (more : ℕ) → more ≡ times (λ k. isMarked (getD (c .args .tops .leaves) k 0)) 0 (c .args .map .counts .clauses) → more ≡ hoistsOf (c .args .sheet .now)
+counted : (c : tie.Start) (more : ℕ) → more ≡ times (λ k. isMarked (getD (c .args .tops .leaves) k 0)) 0 (c .args .map .clauses .count) → more ≡ hoistsOf (c .args .sheet .now)
 counted c more e = hoists-counted (ok c) _ _ _ _ _ (c .pre .0 .2) _ more (its c .of-clauses) e
 
-more-few : (c : tie.Start) (more : ℕ) → more ≡ times (λ k. isMarked (getD (c .args .tops .leaves) k 0)) 0 (c .args .map .counts .clauses) → more ≤ clausesMost
+more-few : (c : tie.Start) (more : ℕ) → more ≡ times (λ k. isMarked (getD (c .args .tops .leaves) k 0)) 0 (c .args .map .clauses .count) → more ≤ clausesMost
 more-few c more e =
-    omega (arith, e, its c .of-clauses, ok c .is-counted .clauses-most, times-most (λ k. isMarked (getD (c .args .tops .leaves) k 0)) 0 (c .args .map .counts .clauses))
+    omega (arith, e, its c .of-clauses, ok c .is-counted .clauses-most, times-most (λ k. isMarked (getD (c .args .tops .leaves) k 0)) 0 (c .args .map .clauses .count))
 
 hoists-requires : tie.Need-hoists-requires
 hoists-requires c κs =

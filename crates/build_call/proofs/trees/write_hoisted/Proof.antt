@@ -26,7 +26,7 @@ its : (c : tie.Start) → Mapped (c .args .sheet .now) (c .args .map)
 its c = mapped (c .args .sheet .now) (c .args .map) (c .pre .0 .0 .is-map)
 
 -- all bindings
-all : (c : tie.Start) (more : ℕ) → more ≡ sum (λ k. leafBindings (c .args .work .now) (getD (c .args .scopes .leaf) k 0)) 0 (c .args .map .counts .clauses)
+all : (c : tie.Start) (more : ℕ) → more ≡ sum (λ k. leafBindings (c .args .work .now) (getD (c .args .scopes .leaf) k 0)) 0 (c .args .map .clauses .count)
     → c .args .tops .bindings + more ≡ length (bindingsIn (rawTree (c .args .sheet .now))) + hoistBindings (c .args .sheet .now)
 all c more e = all-bindings (ok c) _ _ _ _ _ (c .pre .0 .2) _ more (its c .of-clauses) e
 
@@ -40,7 +40,7 @@ add-if1 c =
     let s = c .before .before .before .before .before .before in
     let bytes = bytes-of-fits (s .args .work .now) (c .before .before .before .shared-slice-known3 .given) in
     let f : ℕ → ℕ = λ k. leafBindings (s .args .work .now) (getD (s .args .scopes .leaf) k 0) in
-    omega (arith, s .pre .0 .2 .fitting .bindings-are, s .pre .0 .2 .fitting .bindings-most, c .before .hoist-bindings .ensures, its s .of-clauses, ok s .is-counted .clauses-most, sum-most f 65535 0 (s .args .map .counts .clauses) (λ k. leaf-most (s .args .work .now) (getD (s .args .scopes .leaf) k 0) bytes))
+    omega (arith, s .pre .0 .2 .fitting .bindings-are, s .pre .0 .2 .fitting .bindings-most, c .before .hoist-bindings .ensures, its s .of-clauses, ok s .is-counted .clauses-most, sum-most f 65535 0 (s .args .map .clauses .count) (λ k. leaf-most (s .args .work .now) (getD (s .args .scopes .leaf) k 0) bytes))
 
 refused-requires : tie.Need-refused-requires
 refused-requires c κs = search needs

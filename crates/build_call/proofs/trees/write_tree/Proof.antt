@@ -26,7 +26,7 @@ its c = mapped (c .args .sheet .now) (c .args .map) (c .pre .0 .0 .is-map)
 
 -- what is written so far: the three sections of the sheet's tree
 told : (c : tie.Start) (middle classes : List ℕ) (r : Tops)
-    → ((a : WritingAsked (c .args .work .now) (c .args .tops .nodes) (c .args .tops .cases) (c .args .scopes) (c .args .map .counts .clauses)) → Written (a .ready .table) (hoistAll (c .args .map .counts .clauses) (a .tree)) (c .args .tree .now) middle classes r)
+    → ((a : WritingAsked (c .args .work .now) (c .args .tops .nodes) (c .args .tops .cases) (c .args .scopes) (c .args .map .clauses .count)) → Written (a .ready .table) (hoistAll (c .args .map .clauses .count) (a .tree)) (c .args .tree .now) middle classes r)
     → Written (sheetPaths (c .args .sheet .now)) (sheetTree (c .args .sheet .now)) (c .args .tree .now) middle classes r
 told c middle classes r e = written-at (ok c) _ _ _ _ (c .pre .0 .2) _ (its c .of-clauses) _ middle classes r e
 

@@ -18,7 +18,7 @@ fields-of-requires c κs = search needs
 same-case-requires : tie.Need-same-case-requires
 same-case-requires c κs =
     let a = c .before .before .before .before .before in (
-      (a .pre .0 .0, ap (λ (m : SheetMap). m .at .pool) (a .pre .0 .1), fields-fit (a .args .test) (c .fields-of .result) (c .fields-of .ensures) (a .pre .0 .2)),
+      (a .pre .0 .0, ap (λ (m : SheetMap). m .pool .start) (a .pre .0 .1), fields-fit (a .args .test) (c .fields-of .result) (c .fields-of .ensures) (a .pre .0 .2)),
       (begun-room (a .pre .1), begun-rises (a .pre .1), begun-most (a .pre .1), begun-readable (a .pre .1)),
     )
 

@@ -23,7 +23,7 @@ loop-holds : tie.Need-loop-holds Inv-loop μ-loop
 loop-holds c =
     let s = c .before .before in
     let h : Holds (asClasses (zeros 192) 0) [] = record { long = refl; most = omega arith; are = refl } in
-    let e : s .args .map .counts .clauses ≡ clauses (s .args .sheet .now) = ap (λ (m : SheetMap). m .counts .clauses) (s .pre .checked .is-map) in (
+    let e : s .args .map .clauses .count ≡ clauses (s .args .sheet .now) = ap (λ (m : SheetMap). m .clauses .count) (s .pre .checked .is-map) in (
       omega arith,
       record { whole = whole h; each = tt },
       holds-same h (sym (ap (columnsFrom (s .args .sheet .now)) e ∙ columns-none (s .args .sheet .now))),

@@ -15,7 +15,7 @@ use Rattle.build_matrix.proofs.splitting.first_matrix.Tie as tie
 all-rows-requires : tie.Need-all-rows-requires
 all-rows-requires c κs =
     let s = c .before .before in
-    let e : s .args .map .counts .clauses ≡ clauses (s .args .sheet .now) = ap (λ (m : SheetMap). m .counts .clauses) (s .pre .checked .is-map) in
+    let e : s .args .map .clauses .count ≡ clauses (s .args .sheet .now) = ap (λ (m : SheetMap). m .clauses .count) (s .pre .checked .is-map) in
     omega (arith, s .pre .checked .ok .is-counted .clauses-most)
 
 first-columns-requires : tie.Need-first-columns-requires
@@ -28,7 +28,7 @@ returns : tie.Need-returns
 unfolding firstNumbered
 returns c =
     let s = c .before .before .before .before .before in
-    let e : s .args .map .counts .clauses ≡ clauses (s .args .sheet .now) = ap (λ (m : SheetMap). m .counts .clauses) (s .pre .checked .is-map) in
+    let e : s .args .map .clauses .count ≡ clauses (s .args .sheet .now) = ap (λ (m : SheetMap). m .clauses .count) (s .pre .checked .is-map) in
     stands-for
     (record { rows = c .before .before .all-rows .result; columns = c .before .first-columns .result; tested = c .empty .result; opened = zeros patternsMost })
     (firstNumbered (s .args .sheet .now))

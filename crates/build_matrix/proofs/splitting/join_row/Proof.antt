@@ -11,6 +11,10 @@ use Rattle.build_matrix.specs.SplitLaws.{joined-not, joined-test, joined
 use Rattle.build_matrix.proofs.splitting.join_row.Statement.{statement}
 use Rattle.build_matrix.proofs.splitting.join_row.Tie as tie
 
+-- what the row has in the column, said where the arm begins: further on the search has too many fields before it
+is-test : (c : tie.After-known-told) → c .before .before .before .before .args .held ≡ HeldTest (c .before .held .given .0 .0)
+is-test c = search needs
+
 enum-known-held : tie.Need-enum-known-held
 enum-known-held c = search needs
 
@@ -53,7 +57,7 @@ returns-2 c =
     let s = c .before .before .before .before .before .before .before .before .before .before in
     let a = s .args in
     let p = c .before .before .before .before .before .before .before .held .given .0 .0 in
-    let e : a .held ≡ HeldTest p = search needs in
+    let e : a .held ≡ HeldTest p = is-test (c .before .before .before .before .before .before) in
     let row = c .before .before .put-row in
     let test = c .put-row2 in
     let covers = c .before .before .before .before .before .covers in

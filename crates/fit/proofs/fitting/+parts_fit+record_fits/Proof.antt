@@ -57,7 +57,7 @@ parts-fit-returns t c =
     let a = c .before .before .before .args in
     let ready = c .before .before .before .pre .1 .0 in
     let run = c .before .before .before .pre .1 .1 in
-    parts-done (a .s .now) (a .sm) (a .v .now) (a .vm) ready (a .j) (a .n) (a .e) (a .step) (c .if1 .taken)
+    parts-done (a .sheet .now) (a .map) (a .panel .now) (a .places) ready (a .j) (a .n) (a .e) (a .step) (c .if1 .taken)
 
 parts-fit-part-at-requires : (t : ℕ) → parts-fit-lts.Need-part-at-requires (
   part-at-reads.Asked,
@@ -73,7 +73,7 @@ parts-fit-part-at-requires t c κs =
     let a = c .before .before .before .args in
     let ready = c .before .before .before .pre .1 .0 in
     let run = c .before .before .before .pre .1 .1 in
-    (ready .is-open, next-entry (a .s .now) (a .sm) (a .v .now) (a .vm) ready (a .owner) (a .j) (a .n) (a .e) (a .step) run (c .if1 .left))
+    (ready .is-open, next-entry (a .sheet .now) (a .map) (a .panel .now) (a .places) ready (a .owner) (a .j) (a .n) (a .e) (a .step) run (c .if1 .left))
 
 parts-fit-entry-at-requires : (t : ℕ) → parts-fit-lts.Need-entry-at-requires (
   part-at-reads.Asked,
@@ -89,7 +89,7 @@ parts-fit-entry-at-requires t c κs =
     let a = c .before .before .before .before .args in
     let ready = c .before .before .before .before .pre .1 .0 in
     let run = c .before .before .before .before .pre .1 .1 in
-    (ready .sheet-laid, ready .sheet-map, next-type-entry (a .s .now) (a .sm) (a .v .now) (a .vm) ready (a .owner) (a .j) (a .n) (a .e) (a .step) run (c .before .if1 .left))
+    (ready .sheet-laid, ready .sheet-map, next-type-entry (a .sheet .now) (a .map) (a .panel .now) (a .places) ready (a .owner) (a .j) (a .n) (a .e) (a .step) run (c .before .if1 .left))
 
 parts-fit-record-fits-requires : (t : ℕ) → parts-fit-lts.Need-record-fits-requires (
   part-at-reads.Asked,
@@ -106,9 +106,9 @@ parts-fit-record-fits-requires t c κs =
     let ready = c .before .before .before .before .before .pre .1 .0 in
     let run = c .before .before .before .before .before .pre .1 .1 in
     let some = c .before .before .if1 .left in
-    let above = next-above (a .s .now) (a .sm) (a .v .now) (a .vm) ready (a .owner) (a .j) (a .n) (a .e) (a .step) run some in
-    let below = next-record (a .s .now) (a .sm) (a .v .now) (a .vm) ready (a .owner) (a .j) (a .n) (a .e) (a .step) run some in
-    let typed = next-type (a .s .now) (a .sm) (a .v .now) (a .vm) ready (a .owner) (a .j) (a .n) (a .e) (a .step) run some in
+    let above = next-above (a .sheet .now) (a .map) (a .panel .now) (a .places) ready (a .owner) (a .j) (a .n) (a .e) (a .step) run some in
+    let below = next-record (a .sheet .now) (a .map) (a .panel .now) (a .places) ready (a .owner) (a .j) (a .n) (a .e) (a .step) run some in
+    let typed = next-type (a .sheet .now) (a .map) (a .panel .now) (a .places) ready (a .owner) (a .j) (a .n) (a .e) (a .step) run some in
     (omega (arith, c .before .before .before .before .before .pre .0, c .before .part-at .ensures, ready .is-open .laid .records-most), (ready, omega (arith, c .before .part-at .ensures), omega (arith, c .entry-at .ensures)))
 
 parts-fit-returns-2 : (t : ℕ) → parts-fit-lts.Need-returns-2 (
@@ -125,7 +125,7 @@ parts-fit-returns-2 t c =
     let a = c .before .before .before .before .before .before .before .args in
     let ready = c .before .before .before .before .before .before .before .pre .1 .0 in
     let run = c .before .before .before .before .before .before .before .pre .1 .1 in
-    part-misfits (a .s .now) (a .sm) (a .v .now) (a .vm) ready (a .j) (a .n) (a .e) (a .step) (c .before .before .before .part-at .result) (c .before .before .entry-at .result) (c .before .before .before .before .if1 .left) (c .before .before .before .part-at .ensures) (c .before .before .entry-at .ensures)
+    part-misfits (a .sheet .now) (a .map) (a .panel .now) (a .places) ready (a .j) (a .n) (a .e) (a .step) (c .before .before .before .part-at .result) (c .before .before .entry-at .result) (c .before .before .before .before .if1 .left) (c .before .before .before .part-at .ensures) (c .before .before .entry-at .ensures)
     (c .before .record-fits .result) (c .before .record-fits .ensures) (not-true _ (c .if2 .taken))
 
 parts-fit-add-parts-fit : (t : ℕ) → parts-fit-lts.Need-add-parts-fit (
@@ -142,7 +142,7 @@ parts-fit-add-parts-fit t c =
     let a = c .before .before .before .before .before .before .before .args in
     let ready = c .before .before .before .before .before .before .before .pre .1 .0 in
     let run = c .before .before .before .before .before .before .before .pre .1 .1 in
-    omega (arith, next-entry (a .s .now) (a .sm) (a .v .now) (a .vm) ready (a .owner) (a .j) (a .n) (a .e) (a .step) run (c .before .before .before .before .if1 .left), ready .is-open .laid)
+    omega (arith, next-entry (a .sheet .now) (a .map) (a .panel .now) (a .places) ready (a .owner) (a .j) (a .n) (a .e) (a .step) run (c .before .before .before .before .if1 .left), ready .is-open .laid)
 
 parts-fit-sub-parts-fit : (t : ℕ) → parts-fit-lts.Need-sub-parts-fit (
   part-at-reads.Asked,
@@ -170,7 +170,7 @@ parts-fit-add-parts-fit-2 t c =
     let a = c .before .before .before .before .before .before .before .args in
     let ready = c .before .before .before .before .before .before .before .pre .1 .0 in
     let run = c .before .before .before .before .before .before .before .pre .1 .1 in
-    omega (arith, next-step (a .s .now) (a .sm) (a .v .now) (a .vm) ready (a .owner) (a .j) (a .n) (a .e) (a .step) run (c .before .before .before .before .if1 .left), ready .sheet-laid)
+    omega (arith, next-step (a .sheet .now) (a .map) (a .panel .now) (a .places) ready (a .owner) (a .j) (a .n) (a .e) (a .step) run (c .before .before .before .before .if1 .left), ready .sheet-laid)
 
 parts-fit-parts-fit-requires : (t : ℕ) → parts-fit-lts.Need-parts-fit-requires (
   part-at-reads.Asked,
@@ -186,7 +186,7 @@ parts-fit-parts-fit-requires t c κs =
     let a = c .before .before .before .before .before .before .before .args in
     let ready = c .before .before .before .before .before .before .before .pre .1 .0 in
     let run = c .before .before .before .before .before .before .before .pre .1 .1 in
-    (omega (arith, c .before .before .before .before .before .before .before .pre .0, c .before .before .before .before .if1 .left), (ready, run-next (a .s .now) (a .sm) (a .v .now) (a .vm) ready (a .owner) (a .j) (a .n) (a .e) (a .step) run (c .before .before .before .before .if1 .left)))
+    (omega (arith, c .before .before .before .before .before .before .before .pre .0, c .before .before .before .before .if1 .left), (ready, run-next (a .sheet .now) (a .map) (a .panel .now) (a .places) ready (a .owner) (a .j) (a .n) (a .e) (a .step) run (c .before .before .before .before .if1 .left)))
 
 parts-fit-returns-3 : (t : ℕ) → parts-fit-lts.Need-returns-3 (
   part-at-reads.Asked,
@@ -202,7 +202,7 @@ parts-fit-returns-3 t c =
     let a = c .before .before .before .before .before .before .before .before .args in
     let ready = c .before .before .before .before .before .before .before .before .pre .1 .0 in
     let run = c .before .before .before .before .before .before .before .before .pre .1 .1 in
-    part-fits (a .s .now) (a .sm) (a .v .now) (a .vm) ready (a .j) (a .n) (a .e) (a .step) (c .before .before .before .before .part-at .result) (c .before .before .before .entry-at .result) (c .before .before .before .before .before .if1 .left) (c .before .before .before .before .part-at .ensures) (c .before .before .before .entry-at .ensures)
+    part-fits (a .sheet .now) (a .map) (a .panel .now) (a .places) ready (a .j) (a .n) (a .e) (a .step) (c .before .before .before .before .part-at .result) (c .before .before .before .entry-at .result) (c .before .before .before .before .before .if1 .left) (c .before .before .before .before .part-at .ensures) (c .before .before .before .entry-at .ensures)
     (c .before .before .record-fits .result) (c .before .before .record-fits .ensures) (c .parts-fit .result) (not-false _ (c .before .if2 .left)) (c .parts-fit .ensures)
 
 record-fits-below-record-requires : (t : ℕ) → record-fits-lts.Need-below-record-requires (
@@ -241,10 +241,10 @@ record-fits-parts-fit-requires t c κs =
     let g = c .before .first .given .0 in
     let e : c .before .before .before .below-record .result ≡ Parts (g .0) (g .1 .0) (g .1 .1 .0) (g .1 .1 .1 .0) = search needs in
     let run =
-    run-below (a .s .now) (a .sm) (a .v .now) (a .vm) ready (a .r) (a .t) (c .before .before .before .before .before .before .pre .1 .1) (c .before .before .before .before .before .before .pre .1 .2) (g .0) (g .1 .0) (g .1 .1 .0) (g .1 .1 .1 .0)
+    run-below (a .sheet .now) (a .map) (a .panel .now) (a .places) ready (a .r) (a .t) (c .before .before .before .before .before .before .pre .1 .1) (c .before .before .before .before .before .before .pre .1 .2) (g .0) (g .1 .0) (g .1 .1 .0) (g .1 .1 .1 .0)
     (sym (c .before .before .before .below-record .ensures) ∙ e)
     in
-    let short = run-short (a .s .now) (a .sm) (a .v .now) (a .vm) ready (a .r) (g .0) (g .1 .0) (g .1 .1 .0) (g .1 .1 .1 .0) run in
+    let short = run-short (a .sheet .now) (a .map) (a .panel .now) (a .places) ready (a .r) (g .0) (g .1 .0) (g .1 .1 .0) (g .1 .1 .1 .0) run in
     (omega (arith, c .before .before .before .before .before .before .pre .0, c .before .before .before .before .before .before .pre .1 .1, short, ready .is-open .laid), (ready, run))
 
 record-fits-returns : (t : ℕ) → record-fits-lts.Need-returns (
@@ -256,7 +256,7 @@ record-fits-returns : (t : ℕ) → record-fits-lts.Need-returns (
 record-fits-returns t c =
     let a = c .before .before .before .before .before .before .args in
     let e : c .before .before .before .below-record .result ≡ Alone (c .before .fits2 .given .0 .0) = search needs in
-    fits-alone (a .s .now) (a .sm) (a .v .now) (a .vm) (c .before .before .before .before .before .before .pre .1 .0) (a .r) (a .t) (c .before .before .before .before .before .before .pre .1 .1) (c .before .fits2 .given .0 .0) (sym (c .before .before .before .below-record .ensures) ∙ e)
+    fits-alone (a .sheet .now) (a .map) (a .panel .now) (a .places) (c .before .before .before .before .before .before .pre .1 .0) (a .r) (a .t) (c .before .before .before .before .before .before .pre .1 .1) (c .before .fits2 .given .0 .0) (sym (c .before .before .before .below-record .ensures) ∙ e)
 
 record-fits-returns-2 : (t : ℕ) → record-fits-lts.Need-returns-2 (
   below-record-reads.Asked,
@@ -268,7 +268,7 @@ record-fits-returns-2 t c =
     let a = c .before .before .before .before .before .before .before .args in
     let g = c .before .before .first .given .0 in
     let e : c .before .before .before .before .below-record .result ≡ Parts (g .0) (g .1 .0) (g .1 .1 .0) (g .1 .1 .1 .0) = search needs in
-    fits-parts (a .s .now) (a .sm) (a .v .now) (a .vm) (c .before .before .before .before .before .before .before .pre .1 .0) (a .r) (a .t) (c .before .before .before .before .before .before .before .pre .1 .1) (c .parts-fit .result) (g .0) (g .1 .0) (g .1 .1 .0) (g .1 .1 .1 .0)
+    fits-parts (a .sheet .now) (a .map) (a .panel .now) (a .places) (c .before .before .before .before .before .before .before .pre .1 .0) (a .r) (a .t) (c .before .before .before .before .before .before .before .pre .1 .1) (c .parts-fit .result) (g .0) (g .1 .0) (g .1 .1 .0) (g .1 .1 .1 .0)
     (sym (c .before .before .before .before .below-record .ensures) ∙ e) (c .parts-fit .ensures)
 
 pub +parts-fit+record-fits-spec : {M : Type 1} → statement M

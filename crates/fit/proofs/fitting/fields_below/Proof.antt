@@ -8,7 +8,7 @@ use Rattle.fit.proofs.fitting.fields_below.Statement.{statement}
 use Rattle.fit.proofs.fitting.fields_below.Tie as tie
 
 -- the constructor is one of the sheet's
-inside : (c : tie.After-struct-known5) → c .before .before .before .before .before .before .before .before .args .y .first + c .before .before .before .before .before .before .before .before .args .x .a < constructors (c .before .before .before .before .before .before .before .before .args .s .now)
+inside : (c : tie.After-struct-known5) → c .before .before .before .before .before .before .before .before .args .y .first + c .before .before .before .before .before .before .before .before .args .x .a < constructors (c .before .before .before .before .before .before .before .before .args .sheet .now)
 inside c = omega (arith, c .before .before .before .before .before .before .before .before .pre .own (c .before .before .before .before .before .if1 .left), c .before .before .if2 .left)
 
 returns : tie.Need-returns
@@ -29,7 +29,7 @@ returns-3 c = let a = c .before .before .before .before .before .before .before 
 returns-4 : tie.Need-returns-4
 returns-4 c =
     let a = c .before .before .before .before .before .before .before .before .before .before .before .before .args in
-    fields-left (a .s .now) (a .x) (a .y) (c .before .before .before .constructor-at .result) (c .before .before .before .before .before .before .before .before .before .if1 .left) (c .before .before .before .before .before .before .if2 .left) (c .before .before .before .constructor-at .ensures) (c .if3 .left)
+    fields-left (a .sheet .now) (a .x) (a .y) (c .before .before .before .constructor-at .result) (c .before .before .before .before .before .before .before .before .before .if1 .left) (c .before .before .before .before .before .before .if2 .left) (c .before .before .before .constructor-at .ensures) (c .if3 .left)
 
 pub fields-below-spec : {M : Type 1} → statement M
 fields-below-spec =

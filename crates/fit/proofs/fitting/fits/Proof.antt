@@ -8,10 +8,10 @@ record-fits-requires : tie.Need-record-fits-requires
 record-fits-requires c κs =
     let a = c .before .before .args in
     let ready = c .before .before .pre in
-    (ready, omega (arith, ready .is-open .laid .some-record), omega (arith, subject-read (a .s .now) (a .sm) (a .v .now) (a .vm) ready, ready .is-typed .subject-type))
+    (ready, omega (arith, ready .is-open .laid .some-record), omega (arith, subject-read (a .sheet .now) (a .map) (a .panel .now) (a .places) ready, ready .is-typed .subject-type))
 
 returns : tie.Need-returns
-returns c = let a = c .before .before .before .args in root-fits (a .s .now) (a .sm) (a .v .now) (a .vm) (c .before .before .before .pre) (c .record-fits .result) (c .record-fits .ensures)
+returns c = let a = c .before .before .before .args in root-fits (a .sheet .now) (a .map) (a .panel .now) (a .places) (c .before .before .before .pre) (c .record-fits .result) (c .record-fits .ensures)
 
 pub fits-spec : {M : Type 1} → statement M
 fits-spec = tie.close (tie.spec record-fits-requires returns)

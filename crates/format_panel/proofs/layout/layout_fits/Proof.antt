@@ -15,10 +15,10 @@ use Rattle.format_panel.proofs.layout.layout_fits.Tie as tie
 
 -- the definition at the starts that were read
 read : (c : tie.After-start3)
-    → panelLayoutFits (c .before .before .before .before .args .v .now)
-    ≡ startsFit (c .before .before .start .result) (c .before .start2 .result) (c .start3 .result) (length (c .before .before .before .before .args .v .now) - panelTrailer)
+    → panelLayoutFits (c .before .before .before .before .args .panel .now)
+    ≡ startsFit (c .before .before .start .result) (c .before .start2 .result) (c .start3 .result) (length (c .before .before .before .before .args .panel .now) - panelTrailer)
 read c =
-    layout-read (c .before .before .before .before .args .v .now) (c .before .before .start .result) (c .before .start2 .result) (c .start3 .result) (c .before .before .start .ensures) (c .before .start2 .ensures)
+    layout-read (c .before .before .before .before .args .panel .now) (c .before .before .start .result) (c .before .start2 .result) (c .start3 .result) (c .before .before .start .ensures) (c .before .start2 .ensures)
     (c .start3 .ensures)
 
 whole-first : (c : tie.Else2) → wholeRecords recordSize (c .before .before .before .before .before .start .result) (c .before .before .before .before .start2 .result) ≡ true
@@ -27,7 +27,7 @@ whole-first c = sym (c .before .whole-records .ensures) ∙ not-false _ (c .if2 
 whole-second : (c : tie.Else3) → wholeRecords partSize (c .before .before .before .before .before .before .start2 .result) (c .before .before .before .before .before .start3 .result) ≡ true
 whole-second c = sym (c .before .whole-records2 .ensures) ∙ not-false _ (c .if3 .left)
 
-whole-third : (c : tie.Else4) → wholeRecords 1 (c .before .before .before .before .before .before .before .start3 .result) (length (c .before .before .before .before .before .before .before .before .before .before .before .args .v .now) - panelTrailer) ≡ true
+whole-third : (c : tie.Else4) → wholeRecords 1 (c .before .before .before .before .before .before .before .start3 .result) (length (c .before .before .before .before .before .before .before .before .before .before .before .args .panel .now) - panelTrailer) ≡ true
 whole-third c = sym (c .before .whole-records3 .ensures) ∙ not-false _ (c .if4 .left)
 
 -- the records start at 0

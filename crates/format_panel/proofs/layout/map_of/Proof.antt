@@ -1,7 +1,8 @@
--- `format_panel::layout::map_of` meets its contract: the sections of a laid panel rise, and its records start at 0.
+-- `format_panel::layout::map_of` meets its contract: each section reaches from its start to the next, and a laid panel has none that ends before it starts.
+-- Rests on the law that makes the map of such sections.
 use native.Mathlib.Omega.{arith}
 use borrow.Author.Needs.{needs}
-use Rattle.spec_rules.specs.PanelFile.{partsAt, panelPoolAt}
+use Rattle.spec_rules.specs.PanelFile.{recordsAt, partsAt, panelPoolAt, panelPoolEnd}
 use Rattle.format_panel.specs.LayoutLaws.{map-read}
 use Rattle.format_panel.proofs.layout.map_of.Statement.{statement}
 use Rattle.format_panel.proofs.layout.map_of.Tie as tie
@@ -12,15 +13,43 @@ start-requires c κs = search needs
 start-requires-2 : tie.Need-start-requires-2
 start-requires-2 c κs = search needs
 
-sub-t5 : tie.Need-sub-t5
-sub-t5 c = search needs
+start-requires-3 : tie.Need-start-requires-3
+start-requires-3 c κs = search needs
 
-sub-t7 : tie.Need-sub-t7
+section-of-requires : tie.Need-section-of-requires
+unfolding recordsAt partsAt
+section-of-requires c κs = (omega (arith, c .before .before .before .before .pre .records-end), omega arith)
+
+section-of-requires-2 : tie.Need-section-of-requires-2
 unfolding partsAt panelPoolAt
-sub-t7 c = omega (arith, c .before .before .before .pre .parts-end, c .before .start .ensures, c .start2 .ensures)
+section-of-requires-2 c κs = (omega (arith, c .before .before .before .before .before .pre .parts-end), omega arith)
+
+sub-section-of : tie.Need-sub-section-of
+sub-section-of c = search needs
+
+section-of-requires-3 : tie.Need-section-of-requires-3
+unfolding panelPoolAt panelPoolEnd
+section-of-requires-3 c κs = (omega (arith, c .before .before .before .before .before .before .pre .pool-end), omega arith)
 
 returns : tie.Need-returns
-returns c = map-read (c .before .before .before .args .v .now) (c .before .start .result) (c .start2 .result) (c .before .before .before .pre) (c .before .start .ensures) (c .start2 .ensures)
+returns c =
+    let third = c .before .before .before in
+    let second = third .before in
+    let first = second .before in
+    map-read (first .before .before .args .panel .now) (first .start .result) (second .start2 .result) (third .start3 .result)
+    (first .start .ensures) (second .start2 .ensures) (third .start3 .ensures)
+    (c .before .before .section-of .result) (c .before .section-of2 .result) (c .section-of3 .result)
+    (c .before .before .section-of .ensures) (c .before .section-of2 .ensures) (c .section-of3 .ensures)
 
 pub map-of-spec : {M : Type 1} → statement M
-map-of-spec = tie.close (tie.spec start-requires start-requires-2 sub-t5 sub-t7 returns)
+map-of-spec =
+    tie.close
+    (tie.spec
+    start-requires
+    start-requires-2
+    start-requires-3
+    section-of-requires
+    section-of-requires-2
+    sub-section-of
+    section-of-requires-3
+    returns)

@@ -17,7 +17,7 @@ cast-result : tie.Need-cast-result
 cast-result c = search needs
 
 returns : tie.Need-returns
-returns c = let a = c .before .before .before .args in part-read (a .v .now) (a .m) (c .before .before .before .pre .0) (a .j) (c .word-at .result) (c .word-at .ensures)
+returns c = let a = c .before .before .before .args in part-read (a .panel .now) (a .map) (c .before .before .before .pre .0) (a .j) (c .word-at .result) (c .word-at .ensures)
 
 pub part-at-spec : {M : Type 1} → statement M
 part-at-spec = tie.close (tie.spec mul-word-at add-word-at word-at-requires cast-result returns)

@@ -46,7 +46,7 @@ cast-t17 c = search needs
 returns : tie.Need-returns
 returns c =
     let a = c .before .before .before .before .before .before .args in
-    record-read (a .v .now) (a .r) (c .before .before .word-at .result) (c .before .word-at2 .result) (c .word-at3 .result) (c .before .before .before .before .before .before .pre .0) (c .before .before .word-at .ensures)
+    record-read (a .panel .now) (a .r) (c .before .before .word-at .result) (c .before .word-at2 .result) (c .word-at3 .result) (c .before .before .before .before .before .before .pre .0) (c .before .before .word-at .ensures)
     (c .before .word-at2 .ensures) (c .word-at3 .ensures)
 
 pub record-at-spec : {M : Type 1} → statement M

@@ -13,13 +13,13 @@ returns : tie.Need-returns
 returns c =
     let a = c .before .before .before .before in
     let p = c .before .part-at in
-    part-low (a .args .v .now) (met (a .args .depths .now)) (a .args .r) (a .args .j) (p .result) (p .ensures) (omega (arith, c .if1 .taken))
+    part-low (a .args .panel .now) (met (a .args .depths .now)) (a .args .r) (a .args .j) (p .result) (p .ensures) (omega (arith, c .if1 .taken))
 
 returns-2 : tie.Need-returns-2
 returns-2 c =
     let a = c .before .before .before .before .before .before in
     let p = c .before .before .before .part-at in
-    part-high (a .args .v .now) (met (a .args .depths .now)) (a .args .r) (a .args .j) (p .result) (p .ensures) (omega (arith, c .if2 .taken, a .pre .0 .records-are))
+    part-high (a .args .panel .now) (met (a .args .depths .now)) (a .args .r) (a .args .j) (p .result) (p .ensures) (omega (arith, c .if2 .taken, a .pre .0 .records-are))
 
 slice-read-if3 : tie.Need-slice-read-if3
 slice-read-if3 c = search needs
@@ -28,7 +28,7 @@ returns-3 : tie.Need-returns-3
 returns-3 c =
     let a = c .before .before .before .before .before .before .before .before in
     let p = c .before .before .before .before .before .part-at in
-    part-again (a .args .v .now) (met (a .args .depths .now)) (a .args .r) (a .args .j) (p .result) (p .ensures) (c .if3 .taken)
+    part-again (a .args .panel .now) (met (a .args .depths .now)) (a .args .r) (a .args .j) (p .result) (p .ensures) (c .if3 .taken)
 
 slice-read-depth : tie.Need-slice-read-depth
 slice-read-depth c = search needs
@@ -37,7 +37,7 @@ returns-4 : tie.Need-returns-4
 returns-4 c =
     let a = c .before .before .before .before .before .before .before .before .before .before in
     let p = c .before .before .before .before .before .before .before .part-at in
-    part-deep (a .args .v .now) (met (a .args .depths .now)) (a .args .r) (a .args .j) (p .result) (p .ensures) (omega (arith, c .if4 .taken))
+    part-deep (a .args .panel .now) (met (a .args .depths .now)) (a .args .r) (a .args .j) (p .result) (p .ensures) (omega (arith, c .if4 .taken))
 
 add-depths : tie.Need-add-depths
 add-depths c = search needs
@@ -52,7 +52,7 @@ returns-5 : tie.Need-returns-5
 returns-5 c =
     let a = c .before .before .before .before .before .before .before .before .before .before in
     let p = c .before .before .before .before .before .before .before .part-at in
-    part-enters (a .args .v .now) (met (a .args .depths .now)) (a .args .r) (a .args .j) (p .result) (p .ensures) (omega (arith, c .before .before .before .before .before .before .if1 .left)) (omega (arith, c .before .before .before .before .if2 .left, a .pre .0 .records-are)) (c .before .before .if3 .left) (omega (arith, c .if4 .left))
+    part-enters (a .args .panel .now) (met (a .args .depths .now)) (a .args .r) (a .args .j) (p .result) (p .ensures) (omega (arith, c .before .before .before .before .before .before .if1 .left)) (omega (arith, c .before .before .before .before .if2 .left, a .pre .0 .records-are)) (c .before .before .if3 .left) (omega (arith, c .if4 .left))
 
 pub enter-part-spec : {M : Type 1} → statement M
 enter-part-spec =

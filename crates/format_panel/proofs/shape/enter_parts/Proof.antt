@@ -36,7 +36,7 @@ returns c =
     let a = c .before .before .before .before .before .before .before .before .before .args in
     let l = c .before .before .before .before .before .before .loop in
     let step = c .before .before .before .enter-part in
-    parts-broke (a .v .now) (met (l .depths)) (a .r) (a .j) (a .n) (l .k) (step .last .1 .1 .0) (step .result) (c .before .before .before .before .before .loop-test .taken) (step .ensures) (not-true _ (c .if1 .taken))
+    parts-broke (a .panel .now) (met (l .depths)) (a .r) (a .j) (a .n) (l .k) (step .last .1 .1 .0) (step .result) (c .before .before .before .before .before .loop-test .taken) (step .ensures) (not-true _ (c .if1 .taken))
     ∙ l .inv .2
 
 add-k : tie.Need-add-k Inv-loop μ-loop
@@ -52,7 +52,7 @@ loop-again c =
     let step = c .before .before .before .enter-part in (
       omega (arith, c .before .before .before .before .before .loop-test .taken),
       omega (arith, step .kept .1 .1 .0, l .inv .1),
-      parts-go (a .v .now) (met (l .depths)) (a .r) (a .j) (a .n) (l .k) (step .last .1 .1 .0) (step .result) (c .before .before .before .before .before .loop-test .taken) (step .ensures) (not-false _ (c .if1 .left))
+      parts-go (a .panel .now) (met (l .depths)) (a .r) (a .j) (a .n) (l .k) (step .last .1 .1 .0) (step .result) (c .before .before .before .before .before .loop-test .taken) (step .ensures) (not-false _ (c .if1 .left))
           ∙ l .inv .2,
     )
 
@@ -63,7 +63,7 @@ returns-2 : tie.Need-returns-2 Inv-loop μ-loop
 returns-2 c =
     let a = c .before .before .before .before .args in
     let l = c .before .loop in
-    sym (parts-end (a .v .now) (met (l .depths)) (a .r) (a .j) (a .n) (l .k) (c .loop-test .left)) ∙ l .inv .2
+    sym (parts-end (a .panel .now) (met (l .depths)) (a .r) (a .j) (a .n) (l .k) (c .loop-test .left)) ∙ l .inv .2
 
 pub enter-parts-spec : {M : Type 1} → statement M
 enter-parts-spec =

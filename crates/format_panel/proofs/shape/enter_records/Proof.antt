@@ -33,7 +33,7 @@ returns c =
     let a = c .before .before .before .before .before .before .before .before .before .before in
     let l = c .before .before .before .before .before .before .before .loop in
     let step = c .before .before .before .enter-record in
-    records-broke (a .args .v .now) (met (l .depths)) (l .r) (records (a .args .v .now)) (step .last .1 .1 .0) (step .result) (omega (arith, c .before .before .before .before .before .if1 .taken, a .pre .0 .records-are)) (step .ensures) (not-true _ (c .if2 .taken))
+    records-broke (a .args .panel .now) (met (l .depths)) (l .r) (records (a .args .panel .now)) (step .last .1 .1 .0) (step .result) (omega (arith, c .before .before .before .before .before .if1 .taken, a .pre .0 .records-are)) (step .ensures) (not-true _ (c .if2 .taken))
     ∙ l .inv .2
 
 add-r : tie.Need-add-r Inv-loop μ-loop
@@ -49,7 +49,7 @@ loop-again c =
     let step = c .before .before .before .enter-record in (
       omega (arith, c .before .before .before .before .before .if1 .taken, a .pre .0 .records-are),
       omega (arith, step .kept .1 .1 .0, l .inv .1),
-      records-go (a .args .v .now) (met (l .depths)) (l .r) (records (a .args .v .now)) (step .last .1 .1 .0) (step .result) (omega (arith, c .before .before .before .before .before .if1 .taken, a .pre .0 .records-are)) (step .ensures) (not-false _ (c .if2 .left))
+      records-go (a .args .panel .now) (met (l .depths)) (l .r) (records (a .args .panel .now)) (step .last .1 .1 .0) (step .result) (omega (arith, c .before .before .before .before .before .if1 .taken, a .pre .0 .records-are)) (step .ensures) (not-false _ (c .if2 .left))
           ∙ l .inv .2,
     )
 
@@ -60,7 +60,7 @@ returns-2 : tie.Need-returns-2 Inv-loop μ-loop
 returns-2 c =
     let a = c .before .before .before .before .before in
     let l = c .before .before .loop in
-    sym (records-end (a .args .v .now) (met (l .depths)) (l .r) (records (a .args .v .now)) (omega (arith, c .if1 .left, a .pre .0 .records-are))) ∙ l .inv .2
+    sym (records-end (a .args .panel .now) (met (l .depths)) (l .r) (records (a .args .panel .now)) (omega (arith, c .if1 .left, a .pre .0 .records-are))) ∙ l .inv .2
 
 pub enter-records-spec : {M : Type 1} → statement M
 enter-records-spec =

@@ -13,7 +13,7 @@ returns : tie.Need-returns
 returns c =
     let o = c .before .before .before .before .pre in
     let wrong = c .if1 .taken in
-    count-wrong (c .before .before .before .before .args .v .now) (o .laid .some-record) (o .laid .records-most) (λ e. wrong (omega (arith, o .parts-are, o .records-are)))
+    count-wrong (c .before .before .before .before .args .panel .now) (o .laid .some-record) (o .laid .records-most) (λ e. wrong (omega (arith, o .parts-are, o .records-are)))
 
 array-write-depths : tie.Need-array-write-depths
 array-write-depths c = search needs
@@ -29,7 +29,7 @@ unfolding atRoot
 returns-2 c =
     let o = c .before .before .before .before .before .before .before .pre in
     let pass = c .before .enter-records in
-    count-right (c .before .before .before .before .before .before .before .args .v .now) (o .laid .some-record) (o .laid .records-most) (omega (arith, o .parts-are, o .records-are, c .before .before .before .if1 .left)) (seen (pass .last .1 .1 .0) (pass .result)) (pass .ensures)
+    count-right (c .before .before .before .before .before .before .before .args .panel .now) (o .laid .some-record) (o .laid .records-most) (omega (arith, o .parts-are, o .records-are, c .before .before .before .if1 .left)) (seen (pass .last .1 .1 .0) (pass .result)) (pass .ensures)
 
 pub shape-fits-spec : {M : Type 1} → statement M
 shape-fits-spec =

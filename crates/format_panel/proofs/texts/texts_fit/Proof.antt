@@ -25,7 +25,7 @@ text-fits-requires c κs = (c .before .before .before .before .pre .0, c .before
 
 returns : tie.Need-returns Inv-loop μ-loop
 returns c =
-    let v = c .before .before .before .before .before .before .args .v .now in
+    let v = c .before .before .before .before .before .before .args .panel .now in
     let l = c .before .before .before .before .loop in
     sym (every-stop (recordTextFits v) (l .r) (records v) (omega (arith, c .before .before .before .before .before .before .pre .0 .records-are)) (sym (c .before .text-fits .ensures) ∙ not-true _ (c .if2 .taken)))
     ∙ l .inv .1
@@ -38,7 +38,7 @@ loop-less c = omega (arith, c .before .before .before .before .before .before .p
 
 loop-again : tie.Need-loop-again Inv-loop μ-loop
 loop-again c =
-    let v = c .before .before .before .before .before .before .args .v .now in
+    let v = c .before .before .before .before .before .before .args .panel .now in
     let l = c .before .before .before .before .loop in (
       omega (arith, c .before .before .before .before .before .before .pre .0 .records-are),
       every-on (recordTextFits v) (l .r) (records v) (omega (arith, c .before .before .before .before .before .before .pre .0 .records-are)) (sym (c .before .text-fits .ensures) ∙ not-false _ (c .if2 .left))
@@ -47,7 +47,7 @@ loop-again c =
 
 returns-2 : tie.Need-returns-2 Inv-loop μ-loop
 returns-2 c =
-    let v = c .before .before .before .before .args .v .now in
+    let v = c .before .before .before .before .args .panel .now in
     let l = c .before .before .loop in
     sym (every-end (recordTextFits v) (l .r) (records v) (omega (arith, c .before .before .before .before .pre .0 .records-are))) ∙ l .inv .1
 

@@ -74,7 +74,7 @@ fits-fits-requires : (t : ℕ) → fits-lts.Need-fits-requires (
   fits-all.Post,
 ) (fits-at t) fits.Post
 fits-fits-requires t c κs =
-    let w = inside-there (c .before .before .before .before .before .args .s .now) (c .before .before .before .before .before .args .m) (c .before .before .before .before .before .pre .1 .0) (c .before .before .before .before .before .args .p) (c .before .before .before .before .before .args .t) (c .before .before .before .before .before .pre .1 .1) (c .before .before .before .before .before .pre .1 .2) (c .before .before .before .asks .result) (c .before .before .before .asks .ensures) {q = c .before .left2 .given .0 .0} (search needs) in
+    let w = inside-there (c .before .before .before .before .before .args .sheet .now) (c .before .before .before .before .before .args .map) (c .before .before .before .before .before .pre .1 .0) (c .before .before .before .before .before .args .p) (c .before .before .before .before .before .args .t) (c .before .before .before .before .before .pre .1 .1) (c .before .before .before .before .before .pre .1 .2) (c .before .before .before .asks .result) (c .before .before .before .asks .ensures) {q = c .before .left2 .given .0 .0} (search needs) in
     (omega (arith, c .before .before .before .before .before .pre .0, w, c .before .before .before .before .before .pre .1 .0 .is-counted .patterns-most), (c .before .before .before .before .before .pre .1 .0, w .1, c .before .before .before .before .before .pre .1 .2))
 
 fits-enum-known-left-3 : (t : ℕ) → fits-lts.Need-enum-known-left-3 (
@@ -96,8 +96,8 @@ fits-fits-all-requires : (t : ℕ) → fits-lts.Need-fits-all-requires (
   fits-all.Post,
 ) (fits-at t) fits.Post
 fits-fits-all-requires t c κs =
-    let r = each-room (c .before .before .before .before .before .args .s .now) (c .before .before .before .before .before .args .m) (c .before .before .before .before .before .pre .1 .0) (c .before .before .before .before .before .args .p) (c .before .before .before .before .before .args .t) (c .before .before .before .before .before .pre .1 .1) (c .before .before .before .before .before .pre .1 .2) (c .before .before .before .asks .result) (c .before .before .before .asks .ensures) {j = c .before .left3 .given .0 .0} {n = c .before .left3 .given .0 .1 .0} {e = c .before .left3 .given .0 .1 .1 .0} {step = c .before .left3 .given .0 .1 .1 .1 .0} (search needs) in
-    let few = room-few (c .before .before .before .before .before .args .s .now) (c .before .before .before .before .before .args .m) (c .before .before .before .before .before .pre .1 .0) (c .before .before .before .before .before .args .p) (c .before .left3 .given .0 .0) (c .before .left3 .given .0 .1 .0) (c .before .left3 .given .0 .1 .1 .0) (c .before .left3 .given .0 .1 .1 .1 .0) r in
+    let r = each-room (c .before .before .before .before .before .args .sheet .now) (c .before .before .before .before .before .args .map) (c .before .before .before .before .before .pre .1 .0) (c .before .before .before .before .before .args .p) (c .before .before .before .before .before .args .t) (c .before .before .before .before .before .pre .1 .1) (c .before .before .before .before .before .pre .1 .2) (c .before .before .before .asks .result) (c .before .before .before .asks .ensures) {j = c .before .left3 .given .0 .0} {n = c .before .left3 .given .0 .1 .0} {e = c .before .left3 .given .0 .1 .1 .0} {step = c .before .left3 .given .0 .1 .1 .1 .0} (search needs) in
+    let few = room-few (c .before .before .before .before .before .args .sheet .now) (c .before .before .before .before .before .args .map) (c .before .before .before .before .before .pre .1 .0) (c .before .before .before .before .before .args .p) (c .before .left3 .given .0 .0) (c .before .left3 .given .0 .1 .0) (c .before .left3 .given .0 .1 .1 .0) (c .before .left3 .given .0 .1 .1 .1 .0) r in
     (omega (arith, c .before .before .before .before .before .pre .0, few, c .before .before .before .before .before .pre .1 .1, c .before .before .before .before .before .pre .1 .0 .is-counted .patterns-most), (c .before .before .before .before .before .pre .1 .0, r))
 
 fits-returns : (t : ℕ) → fits-lts.Need-returns (
@@ -108,7 +108,7 @@ fits-returns : (t : ℕ) → fits-lts.Need-returns (
   fits-all-below t,
   fits-all.Post,
 ) (fits-at t) fits.Post
-fits-returns t c = settled-is (c .before .before .before .before .before .args .s .now) (c .before .before .before .before .before .args .m) (c .before .before .before .before .before .pre .1 .0) (c .before .before .before .before .before .args .p) (c .before .before .before .before .before .args .t) (c .before .before .before .before .before .pre .1 .1) (c .before .before .before .before .before .pre .1 .2) (c .before .before .before .asks .result) (c .before .before .before .asks .ensures) (search needs)
+fits-returns t c = settled-is (c .before .before .before .before .before .args .sheet .now) (c .before .before .before .before .before .args .map) (c .before .before .before .before .before .pre .1 .0) (c .before .before .before .before .before .args .p) (c .before .before .before .before .before .args .t) (c .before .before .before .before .before .pre .1 .1) (c .before .before .before .before .before .pre .1 .2) (c .before .before .before .asks .result) (c .before .before .before .asks .ensures) (search needs)
 
 fits-returns-2 : (t : ℕ) → fits-lts.Need-returns-2 (
   asks-reads.Asked,
@@ -118,7 +118,7 @@ fits-returns-2 : (t : ℕ) → fits-lts.Need-returns-2 (
   fits-all-below t,
   fits-all.Post,
 ) (fits-at t) fits.Post
-fits-returns-2 t c = inside-is (c .before .before .before .before .before .before .args .s .now) (c .before .before .before .before .before .before .args .m) (c .before .before .before .before .before .before .pre .1 .0) (c .before .before .before .before .before .before .args .p) (c .before .before .before .before .before .before .args .t) (c .before .before .before .before .before .before .pre .1 .1) (c .before .before .before .before .before .before .pre .1 .2) (c .before .before .before .before .asks .result) (c .before .before .before .before .asks .ensures) {q = c .before .before .left2 .given .0 .0} (search needs) (c .fits2 .ensures)
+fits-returns-2 t c = inside-is (c .before .before .before .before .before .before .args .sheet .now) (c .before .before .before .before .before .before .args .map) (c .before .before .before .before .before .before .pre .1 .0) (c .before .before .before .before .before .before .args .p) (c .before .before .before .before .before .before .args .t) (c .before .before .before .before .before .before .pre .1 .1) (c .before .before .before .before .before .before .pre .1 .2) (c .before .before .before .before .asks .result) (c .before .before .before .before .asks .ensures) {q = c .before .before .left2 .given .0 .0} (search needs) (c .fits2 .ensures)
 
 fits-returns-3 : (t : ℕ) → fits-lts.Need-returns-3 (
   asks-reads.Asked,
@@ -128,7 +128,7 @@ fits-returns-3 : (t : ℕ) → fits-lts.Need-returns-3 (
   fits-all-below t,
   fits-all.Post,
 ) (fits-at t) fits.Post
-fits-returns-3 t c = each-is (c .before .before .before .before .before .before .args .s .now) (c .before .before .before .before .before .before .args .m) (c .before .before .before .before .before .before .pre .1 .0) (c .before .before .before .before .before .before .args .p) (c .before .before .before .before .before .before .args .t) (c .before .before .before .before .before .before .pre .1 .1) (c .before .before .before .before .before .before .pre .1 .2) (c .before .before .before .before .asks .result) (c .before .before .before .before .asks .ensures) {j = c .before .before .left3 .given .0 .0} {n = c .before .before .left3 .given .0 .1 .0} {e = c .before .before .left3 .given .0 .1 .1 .0} {step = c .before .before .left3 .given .0 .1 .1 .1 .0} (search needs) (c .fits-all .ensures)
+fits-returns-3 t c = each-is (c .before .before .before .before .before .before .args .sheet .now) (c .before .before .before .before .before .before .args .map) (c .before .before .before .before .before .before .pre .1 .0) (c .before .before .before .before .before .before .args .p) (c .before .before .before .before .before .before .args .t) (c .before .before .before .before .before .before .pre .1 .1) (c .before .before .before .before .before .before .pre .1 .2) (c .before .before .before .before .asks .result) (c .before .before .before .before .asks .ensures) {j = c .before .before .left3 .given .0 .0} {n = c .before .before .left3 .given .0 .1 .0} {e = c .before .before .left3 .given .0 .1 .1 .0} {step = c .before .before .left3 .given .0 .1 .1 .1 .0} (search needs) (c .fits-all .ensures)
 
 fits-all-returns : (t : ℕ) → fits-all-lts.Need-returns (
   child-at-reads.Asked,
@@ -140,7 +140,7 @@ fits-all-returns : (t : ℕ) → fits-all-lts.Need-returns (
   fits-all-below t,
   fits-all.Post,
 ) (fits-all-at t) fits-all.Post
-fits-all-returns t c = all-none (c .before .before .args .s .now) (c .before .before .args .j) (c .before .before .args .n) (c .before .before .args .e) (c .before .before .args .step) (c .if1 .taken)
+fits-all-returns t c = all-none (c .before .before .args .sheet .now) (c .before .before .args .j) (c .before .before .args .n) (c .before .before .args .e) (c .before .before .args .step) (c .if1 .taken)
 
 fits-all-child-at-requires : (t : ℕ) → fits-all-lts.Need-child-at-requires (
   child-at-reads.Asked,
@@ -152,7 +152,7 @@ fits-all-child-at-requires : (t : ℕ) → fits-all-lts.Need-child-at-requires (
   fits-all-below t,
   fits-all.Post,
 ) (fits-all-at t) fits-all.Post
-fits-all-child-at-requires t c κs = (c .before .before .pre .1 .0 .is-laid, c .before .before .pre .1 .0 .is-map, here (c .before .before .args .s .now) (c .before .before .args .m) (c .before .before .pre .1 .0) (c .before .before .args .parent) (c .before .before .args .j) (c .before .before .args .n) (c .before .before .args .e) (c .before .before .args .step) (c .before .before .pre .1 .1) (c .if1 .left) .entry-there)
+fits-all-child-at-requires t c κs = (c .before .before .pre .1 .0 .is-laid, c .before .before .pre .1 .0 .is-map, here (c .before .before .args .sheet .now) (c .before .before .args .map) (c .before .before .pre .1 .0) (c .before .before .args .parent) (c .before .before .args .j) (c .before .before .args .n) (c .before .before .args .e) (c .before .before .args .step) (c .before .before .pre .1 .1) (c .if1 .left) .entry-there)
 
 fits-all-entry-at-requires : (t : ℕ) → fits-all-lts.Need-entry-at-requires (
   child-at-reads.Asked,
@@ -164,7 +164,7 @@ fits-all-entry-at-requires : (t : ℕ) → fits-all-lts.Need-entry-at-requires (
   fits-all-below t,
   fits-all.Post,
 ) (fits-all-at t) fits-all.Post
-fits-all-entry-at-requires t c κs = (c .before .before .before .pre .1 .0 .is-laid, c .before .before .before .pre .1 .0 .is-map, here (c .before .before .before .args .s .now) (c .before .before .before .args .m) (c .before .before .before .pre .1 .0) (c .before .before .before .args .parent) (c .before .before .before .args .j) (c .before .before .before .args .n) (c .before .before .before .args .e) (c .before .before .before .args .step) (c .before .before .before .pre .1 .1) (c .before .if1 .left) .type-there)
+fits-all-entry-at-requires t c κs = (c .before .before .before .pre .1 .0 .is-laid, c .before .before .before .pre .1 .0 .is-map, here (c .before .before .before .args .sheet .now) (c .before .before .before .args .map) (c .before .before .before .pre .1 .0) (c .before .before .before .args .parent) (c .before .before .before .args .j) (c .before .before .before .args .n) (c .before .before .before .args .e) (c .before .before .before .args .step) (c .before .before .before .pre .1 .1) (c .before .if1 .left) .type-there)
 
 fits-all-fits-requires : (t : ℕ) → fits-all-lts.Need-fits-requires (
   child-at-reads.Asked,
@@ -177,7 +177,7 @@ fits-all-fits-requires : (t : ℕ) → fits-all-lts.Need-fits-requires (
   fits-all.Post,
 ) (fits-all-at t) fits-all.Post
 fits-all-fits-requires t c κs =
-    let h = here (c .before .before .before .before .args .s .now) (c .before .before .before .before .args .m) (c .before .before .before .before .pre .1 .0) (c .before .before .before .before .args .parent) (c .before .before .before .before .args .j) (c .before .before .before .before .args .n) (c .before .before .before .before .args .e) (c .before .before .before .before .args .step) (c .before .before .before .before .pre .1 .1) (c .before .before .if1 .left) in
+    let h = here (c .before .before .before .before .args .sheet .now) (c .before .before .before .before .args .map) (c .before .before .before .before .pre .1 .0) (c .before .before .before .before .args .parent) (c .before .before .before .before .args .j) (c .before .before .before .before .args .n) (c .before .before .before .before .args .e) (c .before .before .before .before .args .step) (c .before .before .before .before .pre .1 .1) (c .before .before .if1 .left) in
     let x = c .before .child-at .ensures in
     let y = c .entry-at .ensures in
     (omega (arith, c .before .before .before .before .pre .0, h, c .before .before .before .before .pre .1 .0 .is-counted .patterns-most), (c .before .before .before .before .pre .1 .0, omega (arith, h, x), omega (arith, h, y)))
@@ -192,7 +192,7 @@ fits-all-returns-2 : (t : ℕ) → fits-all-lts.Need-returns-2 (
   fits-all-below t,
   fits-all.Post,
 ) (fits-all-at t) fits-all.Post
-fits-all-returns-2 t c = all-stop (c .before .before .before .before .before .before .args .s .now) (c .before .before .before .before .before .before .args .j) (c .before .before .before .before .before .before .args .n) (c .before .before .before .before .before .before .args .e) (c .before .before .before .before .before .before .args .step) (c .before .before .before .before .if1 .left) (c .before .before .before .child-at .result) (c .before .before .entry-at .result) (c .before .before .before .child-at .ensures) (c .before .before .entry-at .ensures) (c .before .fits2 .ensures) (c .if2 .taken)
+fits-all-returns-2 t c = all-stop (c .before .before .before .before .before .before .args .sheet .now) (c .before .before .before .before .before .before .args .j) (c .before .before .before .before .before .before .args .n) (c .before .before .before .before .before .before .args .e) (c .before .before .before .before .before .before .args .step) (c .before .before .before .before .if1 .left) (c .before .before .before .child-at .result) (c .before .before .entry-at .result) (c .before .before .before .child-at .ensures) (c .before .before .entry-at .ensures) (c .before .fits2 .ensures) (c .if2 .taken)
 
 fits-all-add-fits-all : (t : ℕ) → fits-all-lts.Need-add-fits-all (
   child-at-reads.Asked,
@@ -204,7 +204,7 @@ fits-all-add-fits-all : (t : ℕ) → fits-all-lts.Need-add-fits-all (
   fits-all-below t,
   fits-all.Post,
 ) (fits-all-at t) fits-all.Post
-fits-all-add-fits-all t c = let h = here (c .before .before .before .before .before .before .args .s .now) (c .before .before .before .before .before .before .args .m) (c .before .before .before .before .before .before .pre .1 .0) (c .before .before .before .before .before .before .args .parent) (c .before .before .before .before .before .before .args .j) (c .before .before .before .before .before .before .args .n) (c .before .before .before .before .before .before .args .e) (c .before .before .before .before .before .before .args .step) (c .before .before .before .before .before .before .pre .1 .1) (c .before .before .before .before .if1 .left) in omega (arith, h .few-children)
+fits-all-add-fits-all t c = let h = here (c .before .before .before .before .before .before .args .sheet .now) (c .before .before .before .before .before .before .args .map) (c .before .before .before .before .before .before .pre .1 .0) (c .before .before .before .before .before .before .args .parent) (c .before .before .before .before .before .before .args .j) (c .before .before .before .before .before .before .args .n) (c .before .before .before .before .before .before .args .e) (c .before .before .before .before .before .before .args .step) (c .before .before .before .before .before .before .pre .1 .1) (c .before .before .before .before .if1 .left) in omega (arith, h .few-children)
 
 fits-all-sub-fits-all : (t : ℕ) → fits-all-lts.Need-sub-fits-all (
   child-at-reads.Asked,
@@ -228,7 +228,7 @@ fits-all-add-fits-all-2 : (t : ℕ) → fits-all-lts.Need-add-fits-all-2 (
   fits-all-below t,
   fits-all.Post,
 ) (fits-all-at t) fits-all.Post
-fits-all-add-fits-all-2 t c = let h = here (c .before .before .before .before .before .before .args .s .now) (c .before .before .before .before .before .before .args .m) (c .before .before .before .before .before .before .pre .1 .0) (c .before .before .before .before .before .before .args .parent) (c .before .before .before .before .before .before .args .j) (c .before .before .before .before .before .before .args .n) (c .before .before .before .before .before .before .args .e) (c .before .before .before .before .before .before .args .step) (c .before .before .before .before .before .before .pre .1 .1) (c .before .before .before .before .if1 .left) in omega (arith, h .few-entries)
+fits-all-add-fits-all-2 t c = let h = here (c .before .before .before .before .before .before .args .sheet .now) (c .before .before .before .before .before .before .args .map) (c .before .before .before .before .before .before .pre .1 .0) (c .before .before .before .before .before .before .args .parent) (c .before .before .before .before .before .before .args .j) (c .before .before .before .before .before .before .args .n) (c .before .before .before .before .before .before .args .e) (c .before .before .before .before .before .before .args .step) (c .before .before .before .before .before .before .pre .1 .1) (c .before .before .before .before .if1 .left) in omega (arith, h .few-entries)
 
 fits-all-fits-all-requires : (t : ℕ) → fits-all-lts.Need-fits-all-requires (
   child-at-reads.Asked,
@@ -240,7 +240,7 @@ fits-all-fits-all-requires : (t : ℕ) → fits-all-lts.Need-fits-all-requires (
   fits-all-below t,
   fits-all.Post,
 ) (fits-all-at t) fits-all.Post
-fits-all-fits-all-requires t c κs = (omega (arith, c .before .before .before .before .before .before .pre .0, c .before .before .before .before .if1 .left), (c .before .before .before .before .before .before .pre .1 .0, here (c .before .before .before .before .before .before .args .s .now) (c .before .before .before .before .before .before .args .m) (c .before .before .before .before .before .before .pre .1 .0) (c .before .before .before .before .before .before .args .parent) (c .before .before .before .before .before .before .args .j) (c .before .before .before .before .before .before .args .n) (c .before .before .before .before .before .before .args .e) (c .before .before .before .before .before .before .args .step) (c .before .before .before .before .before .before .pre .1 .1) (c .before .before .before .before .if1 .left) .next))
+fits-all-fits-all-requires t c κs = (omega (arith, c .before .before .before .before .before .before .pre .0, c .before .before .before .before .if1 .left), (c .before .before .before .before .before .before .pre .1 .0, here (c .before .before .before .before .before .before .args .sheet .now) (c .before .before .before .before .before .before .args .map) (c .before .before .before .before .before .before .pre .1 .0) (c .before .before .before .before .before .before .args .parent) (c .before .before .before .before .before .before .args .j) (c .before .before .before .before .before .before .args .n) (c .before .before .before .before .before .before .args .e) (c .before .before .before .before .before .before .args .step) (c .before .before .before .before .before .before .pre .1 .1) (c .before .before .before .before .if1 .left) .next))
 
 fits-all-returns-3 : (t : ℕ) → fits-all-lts.Need-returns-3 (
   child-at-reads.Asked,
@@ -252,7 +252,7 @@ fits-all-returns-3 : (t : ℕ) → fits-all-lts.Need-returns-3 (
   fits-all-below t,
   fits-all.Post,
 ) (fits-all-at t) fits-all.Post
-fits-all-returns-3 t c = all-go-on (c .before .before .before .before .before .before .before .args .s .now) (c .before .before .before .before .before .before .before .args .j) (c .before .before .before .before .before .before .before .args .n) (c .before .before .before .before .before .before .before .args .e) (c .before .before .before .before .before .before .before .args .step) (c .before .before .before .before .before .if1 .left) (c .before .before .before .before .child-at .result) (c .before .before .before .entry-at .result) (c .before .before .before .before .child-at .ensures) (c .before .before .before .entry-at .ensures) (c .before .before .fits2 .ensures) (c .before .if2 .left) (c .fits-all .ensures)
+fits-all-returns-3 t c = all-go-on (c .before .before .before .before .before .before .before .args .sheet .now) (c .before .before .before .before .before .before .before .args .j) (c .before .before .before .before .before .before .before .args .n) (c .before .before .before .before .before .before .before .args .e) (c .before .before .before .before .before .before .before .args .step) (c .before .before .before .before .before .if1 .left) (c .before .before .before .before .child-at .result) (c .before .before .before .entry-at .result) (c .before .before .before .before .child-at .ensures) (c .before .before .before .entry-at .ensures) (c .before .before .fits2 .ensures) (c .before .if2 .left) (c .fits-all .ensures)
 
 pub +fits+fits-all-spec : {M : Type 1} → statement M
 +fits+fits-all-spec = close μ-fits μ-fits-all (λ t. fits-lts.spec (

@@ -43,7 +43,7 @@ collect-add-own-requires : (t : ℕ) → collect-lts.Need-add-own-requires (
   collect-below t,
   collect.Post,
 ) (collect-at t) collect.Post collect-Inv-loop collect-μ-loop
-collect-add-own-requires t c κs = let a = c .before .before .before in ((a .pre .1 .0 .0 .is-laid, a .pre .1 .0 .1, a .pre .1 .0 .3), (a .pre .1 .1 .0, own-room (a .args .s .now) (mapOf (a .args .s .now)) (a .pre .1 .0 .0) (a .args .p) (a .pre .1 .0 .3) (a .args .count) (a .pre .1 .1 .1)))
+collect-add-own-requires t c κs = let a = c .before .before .before in ((a .pre .1 .0 .0 .is-laid, a .pre .1 .0 .1, a .pre .1 .0 .3), (a .pre .1 .1 .0, own-room (a .args .sheet .now) (mapOf (a .args .sheet .now)) (a .pre .1 .0 .0) (a .args .p) (a .pre .1 .0 .3) (a .args .count) (a .pre .1 .1 .1)))
 
 collect-children-in-requires : (t : ℕ) → collect-lts.Need-children-in-requires (
   add-own-reads.Asked,
@@ -69,7 +69,7 @@ collect-loop-holds : (t : ℕ) → collect-lts.Need-loop-holds (
 ) (collect-at t) collect.Post collect-Inv-loop collect-μ-loop
 collect-loop-holds t c =
     let a = c .before .before .before .before .before .before .before in
-    (omega arith, collect-begins (a .args .s .now) (mapOf (a .args .s .now)) (a .pre .1 .0 .0) (a .args .p) (a .pre .1 .0 .3) (c .children-in .result) (c .children-in .ensures) (inBuffer (c .before .before .before .add-own .last .1 .1 .1 .0) (c .before .before .before .add-own .result)))
+    (omega arith, collect-begins (a .args .sheet .now) (mapOf (a .args .sheet .now)) (a .pre .1 .0 .0) (a .args .p) (a .pre .1 .0 .3) (c .children-in .result) (c .children-in .ensures) (inBuffer (c .before .before .before .add-own .last .1 .1 .1 .0) (c .before .before .before .add-own .result)))
 
 collect-add-child-in : (t : ℕ) → collect-lts.Need-add-child-in (
   add-own-reads.Asked,
@@ -84,7 +84,7 @@ collect-add-child-in : (t : ℕ) → collect-lts.Need-add-child-in (
 collect-add-child-in t c =
     let a = c .before .before .before .before .before .before .before .before .before .before .before in
     let r = c .before .before .before .before .children-in in
-    let known = owned-entry (a .pre .1 .0 .0 .is-shaped) (a .args .p) (r .result .first + c .before .before .before .loop .k) (a .pre .1 .0 .3) (run-owned (a .args .s .now) (a .args .p) (r .result) (r .ensures) (c .before .before .before .loop .k) (c .before .if1 .taken)) in
+    let known = owned-entry (a .pre .1 .0 .0 .is-shaped) (a .args .p) (r .result .first + c .before .before .before .loop .k) (a .pre .1 .0 .3) (run-owned (a .args .sheet .now) (a .args .p) (r .result) (r .ensures) (c .before .before .before .loop .k) (c .before .if1 .taken)) in
     omega (arith, known, a .pre .1 .0 .0 .is-counted .children-most)
 
 collect-child-in-requires : (t : ℕ) → collect-lts.Need-child-in-requires (
@@ -100,7 +100,7 @@ collect-child-in-requires : (t : ℕ) → collect-lts.Need-child-in-requires (
 collect-child-in-requires t c κs =
     let a = c .before .before .before .before .before .before .before .before .before .before .before in
     let r = c .before .before .before .before .children-in in
-    (a .pre .1 .0 .0 .is-laid, a .pre .1 .0 .2, owned-entry (a .pre .1 .0 .0 .is-shaped) (a .args .p) (r .result .first + c .before .before .before .loop .k) (a .pre .1 .0 .3) (run-owned (a .args .s .now) (a .args .p) (r .result) (r .ensures) (c .before .before .before .loop .k) (c .before .if1 .taken)))
+    (a .pre .1 .0 .0 .is-laid, a .pre .1 .0 .2, owned-entry (a .pre .1 .0 .0 .is-shaped) (a .args .p) (r .result .first + c .before .before .before .loop .k) (a .pre .1 .0 .3) (run-owned (a .args .sheet .now) (a .args .p) (r .result) (r .ensures) (c .before .before .before .loop .k) (c .before .if1 .taken)))
 
 collect-collect-requires : (t : ℕ) → collect-lts.Need-collect-requires (
   add-own-reads.Asked,
@@ -122,11 +122,11 @@ collect-collect-requires t c κs =
     let names = inBuffer (a .args .found .now) (a .args .count) in
     let start = inBuffer (own .last .1 .1 .1 .0) (own .result) in
     let next = inBuffer (l .found) (l .next) in
-    let known = child-known (a .args .s .now) (mapOf (a .args .s .now)) ok (a .args .p) (a .pre .1 .0 .3) (r .result) (r .ensures) names start next (l .k) (q .result) (c .before .before .before .if1 .taken) (q .ensures) (l .inv .1) in (
+    let known = child-known (a .args .sheet .now) (mapOf (a .args .sheet .now)) ok (a .args .p) (a .pre .1 .0 .3) (r .result) (r .ensures) names start next (l .k) (q .result) (c .before .before .before .if1 .taken) (q .ensures) (l .inv .1) in (
       omega (arith, a .pre .0, known, ok .is-counted .patterns-most),
       (
         (ok, a .pre .1 .0 .1, a .pre .1 .0 .2, known .1),
-        collect-room (a .args .s .now) (mapOf (a .args .s .now)) ok (a .args .p) (a .pre .1 .0 .3) (r .result) (r .ensures) names start next (l .k) (q .result) (c .before .before .before .if1 .taken) (q .ensures) (l .inv .1) (a .pre .1 .1 .0) (a .pre .1 .1 .1) (own .ensures),
+        collect-room (a .args .sheet .now) (mapOf (a .args .sheet .now)) ok (a .args .p) (a .pre .1 .0 .3) (r .result) (r .ensures) names start next (l .k) (q .result) (c .before .before .before .if1 .taken) (q .ensures) (l .inv .1) (a .pre .1 .1 .0) (a .pre .1 .1 .1) (own .ensures),
       ),
     )
 
@@ -171,7 +171,7 @@ collect-loop-again t c =
     let l = c .before .before .before .before .before .before .before .before .loop in
     let q = c .before .before .before .before .child-in in
     let more = c .before .before .collect in
-    (omega (arith, c .before .before .before .before .before .before .if1 .taken), collect-goes-on (a .args .s .now) (mapOf (a .args .s .now)) (a .pre .1 .0 .0) (a .args .p) (a .pre .1 .0 .3) (r .result) (r .ensures) (inBuffer (a .args .found .now) (a .args .count)) (inBuffer (own .last .1 .1 .1 .0) (own .result)) (inBuffer (l .found) (l .next)) (l .k) (q .result) (c .before .before .before .before .before .before .if1 .taken) (q .ensures) (l .inv .1) (inBuffer (more .last .1 .1 .1 .1 .0) (more .result)) (more .ensures))
+    (omega (arith, c .before .before .before .before .before .before .if1 .taken), collect-goes-on (a .args .sheet .now) (mapOf (a .args .sheet .now)) (a .pre .1 .0 .0) (a .args .p) (a .pre .1 .0 .3) (r .result) (r .ensures) (inBuffer (a .args .found .now) (a .args .count)) (inBuffer (own .last .1 .1 .1 .0) (own .result)) (inBuffer (l .found) (l .next)) (l .k) (q .result) (c .before .before .before .before .before .before .if1 .taken) (q .ensures) (l .inv .1) (inBuffer (more .last .1 .1 .1 .1 .0) (more .result)) (more .ensures))
 
 collect-same-length : (t : ℕ) → collect-lts.Need-same-length (
   add-own-reads.Asked,
@@ -200,7 +200,7 @@ collect-returns t c =
     let r = c .before .before .before .children-in in
     let own = c .before .before .before .before .before .before .add-own in
     let l = c .before .before .loop in
-    collect-ends (a .args .s .now) (mapOf (a .args .s .now)) (a .pre .1 .0 .0) (a .args .p) (a .pre .1 .0 .3) (r .result) (r .ensures) (inBuffer (a .args .found .now) (a .args .count)) (inBuffer (own .last .1 .1 .1 .0) (own .result)) (inBuffer (l .found) (l .next)) (l .k) (c .if1 .left) (own .ensures) (l .inv .1)
+    collect-ends (a .args .sheet .now) (mapOf (a .args .sheet .now)) (a .pre .1 .0 .0) (a .args .p) (a .pre .1 .0 .3) (r .result) (r .ensures) (inBuffer (a .args .found .now) (a .args .count)) (inBuffer (own .last .1 .1 .1 .0) (own .result)) (inBuffer (l .found) (l .next)) (l .k) (c .if1 .left) (own .ensures) (l .inv .1)
 
 pub +collect-spec : {M : Type 1} → statement M
 +collect-spec = close μ-collect λ t. collect-lts.spec (

@@ -22,13 +22,13 @@ collect-requires : tie.Need-collect-requires
 collect-requires c κs =
     let a = c .before .before .before .before in
     let r = c .before .root-at in
-    ((of-map (a .pre .0), ap (λ (m : SheetMap). m .at .patterns) (a .pre .0 .is-map), ap (λ (m : SheetMap). m .at .children) (a .pre .0 .is-map), omega (arith, r .ensures, a .pre .0 .is-shaped .root-pattern (a .args .c) (a .pre .1))), (a .pre .2, clause-room (a .args .s .now) (a .args .m) (a .pre .0) (a .args .c) (r .result) (a .pre .1) (r .ensures)))
+    ((of-map (a .pre .0), ap (λ (m : SheetMap). m .patterns .start) (a .pre .0 .is-map), ap (λ (m : SheetMap). m .children .start) (a .pre .0 .is-map), omega (arith, r .ensures, a .pre .0 .is-shaped .root-pattern (a .args .c) (a .pre .1))), (a .pre .2, clause-room (a .args .sheet .now) (a .args .map) (a .pre .0) (a .args .c) (r .result) (a .pre .1) (r .ensures)))
 
 repeats-requires : tie.Need-repeats-requires
 repeats-requires c κs =
     let a = c .before .before .before .before .before .before .before .before in
     let r = c .before .before .before .before .before .root-at in
-    let w = clause-held (a .args .s .now) (a .args .m) (a .pre .0) (a .args .c) (r .result) (a .pre .1) (r .ensures) (a .args .found .now) (a .pre .2) (inBuffer (c .before .before .before .collect .last .1 .1 .1 .1 .0) (c .before .before .before .collect .result)) (c .before .before .before .collect .ensures) in
+    let w = clause-held (a .args .sheet .now) (a .args .map) (a .pre .0) (a .args .c) (r .result) (a .pre .1) (r .ensures) (a .args .found .now) (a .pre .2) (inBuffer (c .before .before .before .collect .last .1 .1 .1 .1 .0) (c .before .before .before .collect .result)) (c .before .before .before .collect .ensures) in
     (w .0, w .1)
 
 same-length : tie.Need-same-length
@@ -39,7 +39,7 @@ returns c =
     let a = c .before .before .before .before .before .before .before .before .before in
     let r = c .before .before .before .before .before .before .root-at in
     c .repeats .ensures
-    ∙ clause-held (a .args .s .now) (a .args .m) (a .pre .0) (a .args .c) (r .result) (a .pre .1) (r .ensures) (a .args .found .now) (a .pre .2) (inBuffer (c .before .before .before .before .collect .last .1 .1 .1 .1 .0) (c .before .before .before .before .collect .result)) (c .before .before .before .before .collect .ensures) .2
+    ∙ clause-held (a .args .sheet .now) (a .args .map) (a .pre .0) (a .args .c) (r .result) (a .pre .1) (r .ensures) (a .args .found .now) (a .pre .2) (inBuffer (c .before .before .before .before .collect .last .1 .1 .1 .1 .0) (c .before .before .before .before .collect .result)) (c .before .before .before .before .collect .ensures) .2
 
 pub name-twice-spec : {M : Type 1} → statement M
 name-twice-spec =

@@ -4,7 +4,7 @@ use Rattle.format_sheet.proofs.records.child_at.Statement.{statement}
 use Rattle.format_sheet.proofs.records.child_at.Tie as tie
 
 child-in-requires : tie.Need-child-in-requires
-child-in-requires c κs = let a = c .before in (a .pre .0, ap (λ (m : SheetMap). m .at .children) (a .pre .1), a .pre .2)
+child-in-requires c κs = let a = c .before in (a .pre .0, ap (λ (m : SheetMap). m .children .start) (a .pre .1), a .pre .2)
 
 returns : tie.Need-returns
 returns c = c .child-in .ensures

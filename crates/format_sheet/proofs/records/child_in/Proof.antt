@@ -23,7 +23,7 @@ cast-result c = search needs
 returns : tie.Need-returns
 returns c =
     let a = c .before .before in
-    let s = a .args .s .now in
+    let s = a .args .sheet .now in
     c .word-at .ensures ∙ ap (λ (k : ℕ). wordAt s (k + childSize * a .args .j)) (a .pre .1) ∙ child-is s {m = mapOf s} refl (a .args .j)
 
 pub child-in-spec : {M : Type 1} → statement M

@@ -15,7 +15,7 @@ run-from-requires : tie.Need-run-from-requires
 run-from-requires c κs = omega (arith, constructor-room (c .before .before .pre .0) (c .before .before .pre .1) (c .before .before .args .c) (c .before .before .pre .2))
 
 returns : tie.Need-returns
-returns c = c .run-from .ensures ∙ constructor-is (c .before .before .before .args .s .now) (c .before .before .before .pre .1) (c .before .before .before .args .c)
+returns c = c .run-from .ensures ∙ constructor-is (c .before .before .before .args .sheet .now) (c .before .before .before .pre .1) (c .before .before .before .args .c)
 
 pub constructor-at-spec : {M : Type 1} → statement M
 constructor-at-spec = tie.close (tie.spec mul-run-from add-run-from run-from-requires returns)

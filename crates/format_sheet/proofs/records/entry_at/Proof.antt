@@ -18,7 +18,7 @@ cast-result : tie.Need-cast-result
 cast-result c = search needs
 
 returns : tie.Need-returns
-returns c = c .word-at .ensures ∙ entry-is (c .before .before .before .args .s .now) (c .before .before .before .pre .1) (c .before .before .before .args .e)
+returns c = c .word-at .ensures ∙ entry-is (c .before .before .before .args .sheet .now) (c .before .before .before .pre .1) (c .before .before .before .args .e)
 
 pub entry-at-spec : {M : Type 1} → statement M
 entry-at-spec = tie.close (tie.spec mul-word-at add-word-at word-at-requires cast-result returns)

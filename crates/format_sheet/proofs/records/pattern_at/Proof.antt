@@ -4,7 +4,7 @@ use Rattle.format_sheet.proofs.records.pattern_at.Statement.{statement}
 use Rattle.format_sheet.proofs.records.pattern_at.Tie as tie
 
 pattern-in-requires : tie.Need-pattern-in-requires
-pattern-in-requires c κs = let a = c .before in (a .pre .0, ap (λ (m : SheetMap). m .at .patterns) (a .pre .1), a .pre .2)
+pattern-in-requires c κs = let a = c .before in (a .pre .0, ap (λ (m : SheetMap). m .patterns .start) (a .pre .1), a .pre .2)
 
 returns : tie.Need-returns
 returns c = c .pattern-in .ensures

@@ -28,7 +28,7 @@ run-from-requires : tie.Need-run-from-requires
 run-from-requires c κs = search needs
 
 returns : tie.Need-returns
-returns c = pattern-parts (c .before .before .before .before .before .args .s .now) (c .before .before .before .before .before .args .at) (c .before .word-at .result) (c .run-from .result) (c .before .word-at .ensures) (c .run-from .ensures)
+returns c = pattern-parts (c .before .before .before .before .before .args .sheet .now) (c .before .before .before .before .before .args .at) (c .before .word-at .result) (c .run-from .result) (c .before .word-at .ensures) (c .run-from .ensures)
 
 pub pattern-from-spec : {M : Type 1} → statement M
 pattern-from-spec =

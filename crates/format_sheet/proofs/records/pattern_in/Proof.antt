@@ -20,7 +20,7 @@ pattern-from-requires c κs = search needs
 returns : tie.Need-returns
 returns c =
     let a = c .before .before in
-    let s = a .args .s .now in
+    let s = a .args .sheet .now in
     c .pattern-from .ensures ∙ ap (λ (k : ℕ). patternFrom s (k + patternSize * a .args .p)) (a .pre .1) ∙ pattern-is s {m = mapOf s} refl (a .args .p)
 
 pub pattern-in-spec : {M : Type 1} → statement M

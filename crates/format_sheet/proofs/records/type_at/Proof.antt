@@ -15,7 +15,7 @@ type-from-requires : tie.Need-type-from-requires
 type-from-requires c κs = omega (arith, type-room (c .before .before .pre .0) (c .before .before .pre .1) (c .before .before .args .t) (c .before .before .pre .2))
 
 returns : tie.Need-returns
-returns c = c .type-from .ensures ∙ type-is (c .before .before .before .args .s .now) (c .before .before .before .pre .1) (c .before .before .before .args .t)
+returns c = c .type-from .ensures ∙ type-is (c .before .before .before .args .sheet .now) (c .before .before .before .pre .1) (c .before .before .before .args .t)
 
 pub type-at-spec : {M : Type 1} → statement M
 type-at-spec = tie.close (tie.spec mul-type-from add-type-from type-from-requires returns)

@@ -40,7 +40,7 @@ within-returns : (t : ℕ) → within-lts.Need-returns (
   within-below t,
   within.Post,
 ) (within-at t) within.Post within-Inv-loop within-μ-loop
-within-returns t c = sym (ap (λ (d : ℕ). Within d (c .before .before .args .s .now) (c .before .before .args .p)) (c .if1 .taken) ∙ within-none (c .before .before .args .s .now) (c .before .before .args .p))
+within-returns t c = sym (ap (λ (d : ℕ). Within d (c .before .before .args .sheet .now) (c .before .before .args .p)) (c .if1 .taken) ∙ within-none (c .before .before .args .sheet .now) (c .before .before .args .p))
 
 within-children-in-requires : (t : ℕ) → within-lts.Need-children-in-requires (
   children-in-reads.Asked,
@@ -60,7 +60,7 @@ within-loop-holds : (t : ℕ) → within-lts.Need-loop-holds (
   within-below t,
   within.Post,
 ) (within-at t) within.Post within-Inv-loop within-μ-loop
-within-loop-holds t c = (omega arith, from-begins (λ j. Within (c .before .before .before .args .deep - 1) (c .before .before .before .args .s .now) (child (c .before .before .before .args .s .now) j)) (c .children-in .result .count) (c .children-in .result .first))
+within-loop-holds t c = (omega arith, from-begins (λ j. Within (c .before .before .before .args .deep - 1) (c .before .before .before .args .sheet .now) (child (c .before .before .before .args .sheet .now) j)) (c .children-in .result .count) (c .children-in .result .first))
 
 within-add-child-in : (t : ℕ) → within-lts.Need-add-child-in (
   children-in-reads.Asked,
@@ -70,7 +70,7 @@ within-add-child-in : (t : ℕ) → within-lts.Need-add-child-in (
   within-below t,
   within.Post,
 ) (within-at t) within.Post within-Inv-loop within-μ-loop
-within-add-child-in t c = omega (arith, run-entry (c .before .before .before .before .before .before .before .args .s .now) (c .before .before .before .before .before .before .before .pre .1 .4) (c .before .before .before .before .before .before .before .args .p) (c .before .before .before .before .before .before .before .pre .1 .5) (c .before .before .before .before .children-in .result) (c .before .before .before .before .children-in .ensures) (c .before .before .before .loop .k) (c .before .if2 .taken), c .before .before .before .before .before .before .before .pre .1 .0)
+within-add-child-in t c = omega (arith, run-entry (c .before .before .before .before .before .before .before .args .sheet .now) (c .before .before .before .before .before .before .before .pre .1 .4) (c .before .before .before .before .before .before .before .args .p) (c .before .before .before .before .before .before .before .pre .1 .5) (c .before .before .before .before .children-in .result) (c .before .before .before .before .children-in .ensures) (c .before .before .before .loop .k) (c .before .if2 .taken), c .before .before .before .before .before .before .before .pre .1 .0)
 
 within-child-in-requires : (t : ℕ) → within-lts.Need-child-in-requires (
   children-in-reads.Asked,
@@ -80,7 +80,7 @@ within-child-in-requires : (t : ℕ) → within-lts.Need-child-in-requires (
   within-below t,
   within.Post,
 ) (within-at t) within.Post within-Inv-loop within-μ-loop
-within-child-in-requires t c κs = (c .before .before .before .before .before .before .before .pre .1 .0, c .before .before .before .before .before .before .before .pre .1 .2, run-entry (c .before .before .before .before .before .before .before .args .s .now) (c .before .before .before .before .before .before .before .pre .1 .4) (c .before .before .before .before .before .before .before .args .p) (c .before .before .before .before .before .before .before .pre .1 .5) (c .before .before .before .before .children-in .result) (c .before .before .before .before .children-in .ensures) (c .before .before .before .loop .k) (c .before .if2 .taken))
+within-child-in-requires t c κs = (c .before .before .before .before .before .before .before .pre .1 .0, c .before .before .before .before .before .before .before .pre .1 .2, run-entry (c .before .before .before .before .before .before .before .args .sheet .now) (c .before .before .before .before .before .before .before .pre .1 .4) (c .before .before .before .before .before .before .before .args .p) (c .before .before .before .before .before .before .before .pre .1 .5) (c .before .before .before .before .children-in .result) (c .before .before .before .before .children-in .ensures) (c .before .before .before .loop .k) (c .before .if2 .taken))
 
 within-sub-within : (t : ℕ) → within-lts.Need-sub-within (
   children-in-reads.Asked,
@@ -101,7 +101,7 @@ within-within-requires : (t : ℕ) → within-lts.Need-within-requires (
   within.Post,
 ) (within-at t) within.Post within-Inv-loop within-μ-loop
 within-within-requires t c κs =
-    let there = run-entry (c .before .before .before .before .before .before .before .before .args .s .now) (c .before .before .before .before .before .before .before .before .pre .1 .4) (c .before .before .before .before .before .before .before .before .args .p) (c .before .before .before .before .before .before .before .before .pre .1 .5) (c .before .before .before .before .before .children-in .result) (c .before .before .before .before .before .children-in .ensures) (c .before .before .before .before .loop .k) (c .before .before .if2 .taken) in
+    let there = run-entry (c .before .before .before .before .before .before .before .before .args .sheet .now) (c .before .before .before .before .before .before .before .before .pre .1 .4) (c .before .before .before .before .before .before .before .before .args .p) (c .before .before .before .before .before .before .before .before .pre .1 .5) (c .before .before .before .before .before .children-in .result) (c .before .before .before .before .before .children-in .ensures) (c .before .before .before .before .loop .k) (c .before .before .if2 .taken) in
     (omega (arith, c .before .before .before .before .before .before .before .before .pre .0, c .before .before .before .before .before .before .if1 .left), (c .before .before .before .before .before .before .before .before .pre .1 .0, c .before .before .before .before .before .before .before .before .pre .1 .1, c .before .before .before .before .before .before .before .before .pre .1 .2, c .before .before .before .before .before .before .before .before .pre .1 .3, c .before .before .before .before .before .before .before .before .pre .1 .4, omega (arith, c .child-in .ensures, c .before .before .before .before .before .before .before .before .pre .1 .3 .child-known (c .before .before .before .before .before .children-in .result .first + c .before .before .before .before .loop .k) there)))
 
 within-returns-2 : (t : ℕ) → within-lts.Need-returns-2 (
@@ -113,10 +113,10 @@ within-returns-2 : (t : ℕ) → within-lts.Need-returns-2 (
   within.Post,
 ) (within-at t) within.Post within-Inv-loop within-μ-loop
 within-returns-2 t c =
-    from-stops (λ j. Within (c .before .before .before .before .before .before .before .before .before .before .args .deep - 1) (c .before .before .before .before .before .before .before .before .before .before .args .s .now) (child (c .before .before .before .before .before .before .before .before .before .before .args .s .now) j)) (c .before .before .before .before .before .before .before .children-in .result .count) (c .before .before .before .before .before .before .before .children-in .result .first) (c .before .before .before .before .before .before .loop .k) (c .before .before .before .before .if2 .taken) (c .before .before .before .before .before .before .loop .inv .1)
-    (stopped (c .before .within .ensures ∙ ap (Within (c .before .before .before .before .before .before .before .before .before .before .args .deep - 1) (c .before .before .before .before .before .before .before .before .before .before .args .s .now)) (c .before .before .child-in .ensures)) (c .if3 .taken))
-    ∙ every-of-children (c .before .before .before .before .before .before .before .before .before .before .args .s .now) (c .before .before .before .before .before .before .before .before .before .before .args .p) (c .before .before .before .before .before .before .before .children-in .result) (c .before .before .before .before .before .before .before .children-in .ensures) (λ j. Within (c .before .before .before .before .before .before .before .before .before .before .args .deep - 1) (c .before .before .before .before .before .before .before .before .before .before .args .s .now) (child (c .before .before .before .before .before .before .before .before .before .before .args .s .now) j))
-    ∙ sym (within-some (c .before .before .before .before .before .before .before .before .before .before .args .deep) (c .before .before .before .before .before .before .before .before .before .before .args .s .now) (c .before .before .before .before .before .before .before .before .before .before .args .p) (c .before .before .before .before .before .before .before .before .if1 .left))
+    from-stops (λ j. Within (c .before .before .before .before .before .before .before .before .before .before .args .deep - 1) (c .before .before .before .before .before .before .before .before .before .before .args .sheet .now) (child (c .before .before .before .before .before .before .before .before .before .before .args .sheet .now) j)) (c .before .before .before .before .before .before .before .children-in .result .count) (c .before .before .before .before .before .before .before .children-in .result .first) (c .before .before .before .before .before .before .loop .k) (c .before .before .before .before .if2 .taken) (c .before .before .before .before .before .before .loop .inv .1)
+    (stopped (c .before .within .ensures ∙ ap (Within (c .before .before .before .before .before .before .before .before .before .before .args .deep - 1) (c .before .before .before .before .before .before .before .before .before .before .args .sheet .now)) (c .before .before .child-in .ensures)) (c .if3 .taken))
+    ∙ every-of-children (c .before .before .before .before .before .before .before .before .before .before .args .sheet .now) (c .before .before .before .before .before .before .before .before .before .before .args .p) (c .before .before .before .before .before .before .before .children-in .result) (c .before .before .before .before .before .before .before .children-in .ensures) (λ j. Within (c .before .before .before .before .before .before .before .before .before .before .args .deep - 1) (c .before .before .before .before .before .before .before .before .before .before .args .sheet .now) (child (c .before .before .before .before .before .before .before .before .before .before .args .sheet .now) j))
+    ∙ sym (within-some (c .before .before .before .before .before .before .before .before .before .before .args .deep) (c .before .before .before .before .before .before .before .before .before .before .args .sheet .now) (c .before .before .before .before .before .before .before .before .before .before .args .p) (c .before .before .before .before .before .before .before .before .if1 .left))
 
 within-add-k : (t : ℕ) → within-lts.Need-add-k (
   children-in-reads.Asked,
@@ -148,8 +148,8 @@ within-loop-again : (t : ℕ) → within-lts.Need-loop-again (
 ) (within-at t) within.Post within-Inv-loop within-μ-loop
 within-loop-again t c = (
   omega (arith, c .before .before .before .before .if2 .taken),
-  from-goes-on (λ j. Within (c .before .before .before .before .before .before .before .before .before .before .args .deep - 1) (c .before .before .before .before .before .before .before .before .before .before .args .s .now) (child (c .before .before .before .before .before .before .before .before .before .before .args .s .now) j)) (c .before .before .before .before .before .before .before .children-in .result .count) (c .before .before .before .before .before .before .before .children-in .result .first) (c .before .before .before .before .before .before .loop .k) (c .before .before .before .before .if2 .taken) (c .before .before .before .before .before .before .loop .inv .1)
-      (passed (c .before .within .ensures ∙ ap (Within (c .before .before .before .before .before .before .before .before .before .before .args .deep - 1) (c .before .before .before .before .before .before .before .before .before .before .args .s .now)) (c .before .before .child-in .ensures)) (c .if3 .left)),
+  from-goes-on (λ j. Within (c .before .before .before .before .before .before .before .before .before .before .args .deep - 1) (c .before .before .before .before .before .before .before .before .before .before .args .sheet .now) (child (c .before .before .before .before .before .before .before .before .before .before .args .sheet .now) j)) (c .before .before .before .before .before .before .before .children-in .result .count) (c .before .before .before .before .before .before .before .children-in .result .first) (c .before .before .before .before .before .before .loop .k) (c .before .before .before .before .if2 .taken) (c .before .before .before .before .before .before .loop .inv .1)
+      (passed (c .before .within .ensures ∙ ap (Within (c .before .before .before .before .before .before .before .before .before .before .args .deep - 1) (c .before .before .before .before .before .before .before .before .before .before .args .sheet .now)) (c .before .before .child-in .ensures)) (c .if3 .left)),
 )
 
 within-returns-3 : (t : ℕ) → within-lts.Need-returns-3 (
@@ -161,9 +161,9 @@ within-returns-3 : (t : ℕ) → within-lts.Need-returns-3 (
   within.Post,
 ) (within-at t) within.Post within-Inv-loop within-μ-loop
 within-returns-3 t c =
-    from-ends (λ j. Within (c .before .before .before .before .before .before .args .deep - 1) (c .before .before .before .before .before .before .args .s .now) (child (c .before .before .before .before .before .before .args .s .now) j)) (c .before .before .before .children-in .result .count) (c .before .before .before .children-in .result .first) (c .before .before .loop .k) (c .if2 .left) (c .before .before .loop .inv .1)
-    ∙ every-of-children (c .before .before .before .before .before .before .args .s .now) (c .before .before .before .before .before .before .args .p) (c .before .before .before .children-in .result) (c .before .before .before .children-in .ensures) (λ j. Within (c .before .before .before .before .before .before .args .deep - 1) (c .before .before .before .before .before .before .args .s .now) (child (c .before .before .before .before .before .before .args .s .now) j))
-    ∙ sym (within-some (c .before .before .before .before .before .before .args .deep) (c .before .before .before .before .before .before .args .s .now) (c .before .before .before .before .before .before .args .p) (c .before .before .before .before .if1 .left))
+    from-ends (λ j. Within (c .before .before .before .before .before .before .args .deep - 1) (c .before .before .before .before .before .before .args .sheet .now) (child (c .before .before .before .before .before .before .args .sheet .now) j)) (c .before .before .before .children-in .result .count) (c .before .before .before .children-in .result .first) (c .before .before .loop .k) (c .if2 .left) (c .before .before .loop .inv .1)
+    ∙ every-of-children (c .before .before .before .before .before .before .args .sheet .now) (c .before .before .before .before .before .before .args .p) (c .before .before .before .children-in .result) (c .before .before .before .children-in .ensures) (λ j. Within (c .before .before .before .before .before .before .args .deep - 1) (c .before .before .before .before .before .before .args .sheet .now) (child (c .before .before .before .before .before .before .args .sheet .now) j))
+    ∙ sym (within-some (c .before .before .before .before .before .before .args .deep) (c .before .before .before .before .before .before .args .sheet .now) (c .before .before .before .before .before .before .args .p) (c .before .before .before .before .if1 .left))
 
 pub +within-spec : {M : Type 1} → statement M
 +within-spec = close μ-within λ t. within-lts.spec (

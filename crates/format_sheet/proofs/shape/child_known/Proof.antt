@@ -11,7 +11,7 @@ child-at-requires c κs = search needs
 
 returns : tie.Need-returns
 unfolding childKnown
-returns c = ap₂ ltb (c .before .child-at .ensures) (mapped (c .before .before .before .args .s .now) (c .before .before .before .args .m) (c .before .before .before .pre .1) .of-patterns)
+returns c = ap₂ ltb (c .before .child-at .ensures) (mapped (c .before .before .before .args .sheet .now) (c .before .before .before .args .map) (c .before .before .before .pre .1) .of-patterns)
 
 pub child-known-spec : {M : Type 1} → statement M
 child-known-spec = tie.close (tie.spec child-at-requires returns)

@@ -16,25 +16,25 @@ abbrev μ-loop : tie.MeasureT-loop
 μ-loop s m j₀ j = children s - j
 
 loop-holds : tie.Need-loop-holds Inv-loop μ-loop
-loop-holds c = (omega arith, every-begins (childKnown (c .before .args .s .now)) (children (c .before .args .s .now)))
+loop-holds c = (omega arith, every-begins (childKnown (c .before .args .sheet .now)) (children (c .before .args .sheet .now)))
 
 child-known-requires : tie.Need-child-known-requires Inv-loop μ-loop
-child-known-requires c κs = (c .before .before .before .before .pre .0, c .before .before .before .before .pre .1, omega (arith, mapped (c .before .before .before .before .args .s .now) (c .before .before .before .before .args .m) (c .before .before .before .before .pre .1) .of-children))
+child-known-requires c κs = (c .before .before .before .before .pre .0, c .before .before .before .before .pre .1, omega (arith, mapped (c .before .before .before .before .args .sheet .now) (c .before .before .before .before .args .map) (c .before .before .before .before .pre .1) .of-children))
 
 returns : tie.Need-returns Inv-loop μ-loop
-returns c = every-stops (childKnown (c .before .before .before .before .before .before .args .s .now)) (children (c .before .before .before .before .before .before .args .s .now)) (c .before .before .before .before .loop .j) (omega (arith, mapped (c .before .before .before .before .before .before .args .s .now) (c .before .before .before .before .before .before .args .m) (c .before .before .before .before .before .before .pre .1) .of-children)) (c .before .before .before .before .loop .inv .1) (stopped (c .before .child-known .ensures) (c .if2 .taken))
+returns c = every-stops (childKnown (c .before .before .before .before .before .before .args .sheet .now)) (children (c .before .before .before .before .before .before .args .sheet .now)) (c .before .before .before .before .loop .j) (omega (arith, mapped (c .before .before .before .before .before .before .args .sheet .now) (c .before .before .before .before .before .before .args .map) (c .before .before .before .before .before .before .pre .1) .of-children)) (c .before .before .before .before .loop .inv .1) (stopped (c .before .child-known .ensures) (c .if2 .taken))
 
 add-j : tie.Need-add-j Inv-loop μ-loop
 add-j c = search needs
 
 loop-less : tie.Need-loop-less Inv-loop μ-loop
-loop-less c = omega (arith, mapped (c .before .before .before .before .before .before .args .s .now) (c .before .before .before .before .before .before .args .m) (c .before .before .before .before .before .before .pre .1) .of-children)
+loop-less c = omega (arith, mapped (c .before .before .before .before .before .before .args .sheet .now) (c .before .before .before .before .before .before .args .map) (c .before .before .before .before .before .before .pre .1) .of-children)
 
 loop-again : tie.Need-loop-again Inv-loop μ-loop
-loop-again c = (omega (arith, mapped (c .before .before .before .before .before .before .args .s .now) (c .before .before .before .before .before .before .args .m) (c .before .before .before .before .before .before .pre .1) .of-children), every-goes-on (childKnown (c .before .before .before .before .before .before .args .s .now)) (children (c .before .before .before .before .before .before .args .s .now)) (c .before .before .before .before .loop .j) (omega (arith, mapped (c .before .before .before .before .before .before .args .s .now) (c .before .before .before .before .before .before .args .m) (c .before .before .before .before .before .before .pre .1) .of-children)) (c .before .before .before .before .loop .inv .1) (passed (c .before .child-known .ensures) (c .if2 .left)))
+loop-again c = (omega (arith, mapped (c .before .before .before .before .before .before .args .sheet .now) (c .before .before .before .before .before .before .args .map) (c .before .before .before .before .before .before .pre .1) .of-children), every-goes-on (childKnown (c .before .before .before .before .before .before .args .sheet .now)) (children (c .before .before .before .before .before .before .args .sheet .now)) (c .before .before .before .before .loop .j) (omega (arith, mapped (c .before .before .before .before .before .before .args .sheet .now) (c .before .before .before .before .before .before .args .map) (c .before .before .before .before .before .before .pre .1) .of-children)) (c .before .before .before .before .loop .inv .1) (passed (c .before .child-known .ensures) (c .if2 .left)))
 
 returns-2 : tie.Need-returns-2 Inv-loop μ-loop
-returns-2 c = every-ends (childKnown (c .before .before .before .before .args .s .now)) (children (c .before .before .before .before .args .s .now)) (c .before .before .loop .j) (omega (arith, mapped (c .before .before .before .before .args .s .now) (c .before .before .before .before .args .m) (c .before .before .before .before .pre .1) .of-children)) (c .before .before .loop .inv .1)
+returns-2 c = every-ends (childKnown (c .before .before .before .before .args .sheet .now)) (children (c .before .before .before .before .args .sheet .now)) (c .before .before .loop .j) (omega (arith, mapped (c .before .before .before .before .args .sheet .now) (c .before .before .before .before .args .map) (c .before .before .before .before .pre .1) .of-children)) (c .before .before .loop .inv .1)
 
 pub children-known-spec : {M : Type 1} → statement M
 children-known-spec =

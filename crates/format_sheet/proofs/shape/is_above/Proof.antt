@@ -7,7 +7,7 @@ child-at-requires : tie.Need-child-at-requires
 child-at-requires c κs = search needs
 
 returns : tie.Need-returns
-returns c = above-known (c .before .before .args .s .now) (c .before .before .pre .2) (c .before .before .args .p) (c .before .before .args .j) (c .before .before .pre .3) (c .child-at .ensures)
+returns c = above-known (c .before .before .args .sheet .now) (c .before .before .pre .2) (c .before .before .args .p) (c .before .before .args .j) (c .before .before .pre .3) (c .child-at .ensures)
 
 pub is-above-spec : {M : Type 1} → statement M
 is-above-spec = tie.close (tie.spec child-at-requires returns)

@@ -16,25 +16,25 @@ abbrev μ-loop : tie.MeasureT-loop
 μ-loop s m p₀ p = patterns s - p
 
 loop-holds : tie.Need-loop-holds Inv-loop μ-loop
-loop-holds c = (omega arith, every-begins (recordFits (c .before .args .s .now)) (patterns (c .before .args .s .now)))
+loop-holds c = (omega arith, every-begins (recordFits (c .before .args .sheet .now)) (patterns (c .before .args .sheet .now)))
 
 record-fits-requires : tie.Need-record-fits-requires Inv-loop μ-loop
-record-fits-requires c κs = (c .before .before .before .before .pre .0, c .before .before .before .before .pre .1, c .before .before .before .before .pre .2, omega (arith, mapped (c .before .before .before .before .args .s .now) (c .before .before .before .before .args .m) (c .before .before .before .before .pre .1) .of-patterns))
+record-fits-requires c κs = (c .before .before .before .before .pre .0, c .before .before .before .before .pre .1, c .before .before .before .before .pre .2, omega (arith, mapped (c .before .before .before .before .args .sheet .now) (c .before .before .before .before .args .map) (c .before .before .before .before .pre .1) .of-patterns))
 
 returns : tie.Need-returns Inv-loop μ-loop
-returns c = every-stops (recordFits (c .before .before .before .before .before .before .args .s .now)) (patterns (c .before .before .before .before .before .before .args .s .now)) (c .before .before .before .before .loop .p) (omega (arith, mapped (c .before .before .before .before .before .before .args .s .now) (c .before .before .before .before .before .before .args .m) (c .before .before .before .before .before .before .pre .1) .of-patterns)) (c .before .before .before .before .loop .inv .1) (stopped (c .before .record-fits .ensures) (c .if2 .taken))
+returns c = every-stops (recordFits (c .before .before .before .before .before .before .args .sheet .now)) (patterns (c .before .before .before .before .before .before .args .sheet .now)) (c .before .before .before .before .loop .p) (omega (arith, mapped (c .before .before .before .before .before .before .args .sheet .now) (c .before .before .before .before .before .before .args .map) (c .before .before .before .before .before .before .pre .1) .of-patterns)) (c .before .before .before .before .loop .inv .1) (stopped (c .before .record-fits .ensures) (c .if2 .taken))
 
 add-p : tie.Need-add-p Inv-loop μ-loop
 add-p c = search needs
 
 loop-less : tie.Need-loop-less Inv-loop μ-loop
-loop-less c = omega (arith, mapped (c .before .before .before .before .before .before .args .s .now) (c .before .before .before .before .before .before .args .m) (c .before .before .before .before .before .before .pre .1) .of-patterns)
+loop-less c = omega (arith, mapped (c .before .before .before .before .before .before .args .sheet .now) (c .before .before .before .before .before .before .args .map) (c .before .before .before .before .before .before .pre .1) .of-patterns)
 
 loop-again : tie.Need-loop-again Inv-loop μ-loop
-loop-again c = (omega (arith, mapped (c .before .before .before .before .before .before .args .s .now) (c .before .before .before .before .before .before .args .m) (c .before .before .before .before .before .before .pre .1) .of-patterns), every-goes-on (recordFits (c .before .before .before .before .before .before .args .s .now)) (patterns (c .before .before .before .before .before .before .args .s .now)) (c .before .before .before .before .loop .p) (omega (arith, mapped (c .before .before .before .before .before .before .args .s .now) (c .before .before .before .before .before .before .args .m) (c .before .before .before .before .before .before .pre .1) .of-patterns)) (c .before .before .before .before .loop .inv .1) (passed (c .before .record-fits .ensures) (c .if2 .left)))
+loop-again c = (omega (arith, mapped (c .before .before .before .before .before .before .args .sheet .now) (c .before .before .before .before .before .before .args .map) (c .before .before .before .before .before .before .pre .1) .of-patterns), every-goes-on (recordFits (c .before .before .before .before .before .before .args .sheet .now)) (patterns (c .before .before .before .before .before .before .args .sheet .now)) (c .before .before .before .before .loop .p) (omega (arith, mapped (c .before .before .before .before .before .before .args .sheet .now) (c .before .before .before .before .before .before .args .map) (c .before .before .before .before .before .before .pre .1) .of-patterns)) (c .before .before .before .before .loop .inv .1) (passed (c .before .record-fits .ensures) (c .if2 .left)))
 
 returns-2 : tie.Need-returns-2 Inv-loop μ-loop
-returns-2 c = every-ends (recordFits (c .before .before .before .before .args .s .now)) (patterns (c .before .before .before .before .args .s .now)) (c .before .before .loop .p) (omega (arith, mapped (c .before .before .before .before .args .s .now) (c .before .before .before .before .args .m) (c .before .before .before .before .pre .1) .of-patterns)) (c .before .before .loop .inv .1)
+returns-2 c = every-ends (recordFits (c .before .before .before .before .args .sheet .now)) (patterns (c .before .before .before .before .args .sheet .now)) (c .before .before .loop .p) (omega (arith, mapped (c .before .before .before .before .args .sheet .now) (c .before .before .before .before .args .map) (c .before .before .before .before .pre .1) .of-patterns)) (c .before .before .loop .inv .1)
 
 pub records-fit-spec : {M : Type 1} → statement M
 records-fit-spec =

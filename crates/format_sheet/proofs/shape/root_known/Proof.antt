@@ -11,7 +11,7 @@ root-at-requires c κs = search needs
 
 returns : tie.Need-returns
 unfolding rootKeepsRules
-returns c = ap₂ ltb (c .before .root-at .ensures) (mapped (c .before .before .before .args .s .now) (c .before .before .before .args .m) (c .before .before .before .pre .1) .of-patterns)
+returns c = ap₂ ltb (c .before .root-at .ensures) (mapped (c .before .before .before .args .sheet .now) (c .before .before .before .args .map) (c .before .before .before .pre .1) .of-patterns)
 
 pub root-known-spec : {M : Type 1} → statement M
 root-known-spec = tie.close (tie.spec root-at-requires returns)

@@ -16,25 +16,25 @@ abbrev μ-loop : tie.MeasureT-loop
 μ-loop s m c₀ c = clauses s - c
 
 loop-holds : tie.Need-loop-holds Inv-loop μ-loop
-loop-holds c = (omega arith, every-begins (rootKeepsRules (c .before .args .s .now)) (clauses (c .before .args .s .now)))
+loop-holds c = (omega arith, every-begins (rootKeepsRules (c .before .args .sheet .now)) (clauses (c .before .args .sheet .now)))
 
 root-known-requires : tie.Need-root-known-requires Inv-loop μ-loop
-root-known-requires c κs = (c .before .before .before .before .pre .0, c .before .before .before .before .pre .1, omega (arith, mapped (c .before .before .before .before .args .s .now) (c .before .before .before .before .args .m) (c .before .before .before .before .pre .1) .of-clauses))
+root-known-requires c κs = (c .before .before .before .before .pre .0, c .before .before .before .before .pre .1, omega (arith, mapped (c .before .before .before .before .args .sheet .now) (c .before .before .before .before .args .map) (c .before .before .before .before .pre .1) .of-clauses))
 
 returns : tie.Need-returns Inv-loop μ-loop
-returns c = every-stops (rootKeepsRules (c .before .before .before .before .before .before .args .s .now)) (clauses (c .before .before .before .before .before .before .args .s .now)) (c .before .before .before .before .loop .c) (omega (arith, mapped (c .before .before .before .before .before .before .args .s .now) (c .before .before .before .before .before .before .args .m) (c .before .before .before .before .before .before .pre .1) .of-clauses)) (c .before .before .before .before .loop .inv .1) (stopped (c .before .root-known .ensures) (c .if2 .taken))
+returns c = every-stops (rootKeepsRules (c .before .before .before .before .before .before .args .sheet .now)) (clauses (c .before .before .before .before .before .before .args .sheet .now)) (c .before .before .before .before .loop .c) (omega (arith, mapped (c .before .before .before .before .before .before .args .sheet .now) (c .before .before .before .before .before .before .args .map) (c .before .before .before .before .before .before .pre .1) .of-clauses)) (c .before .before .before .before .loop .inv .1) (stopped (c .before .root-known .ensures) (c .if2 .taken))
 
 add-c : tie.Need-add-c Inv-loop μ-loop
 add-c c = search needs
 
 loop-less : tie.Need-loop-less Inv-loop μ-loop
-loop-less c = omega (arith, mapped (c .before .before .before .before .before .before .args .s .now) (c .before .before .before .before .before .before .args .m) (c .before .before .before .before .before .before .pre .1) .of-clauses)
+loop-less c = omega (arith, mapped (c .before .before .before .before .before .before .args .sheet .now) (c .before .before .before .before .before .before .args .map) (c .before .before .before .before .before .before .pre .1) .of-clauses)
 
 loop-again : tie.Need-loop-again Inv-loop μ-loop
-loop-again c = (omega (arith, mapped (c .before .before .before .before .before .before .args .s .now) (c .before .before .before .before .before .before .args .m) (c .before .before .before .before .before .before .pre .1) .of-clauses), every-goes-on (rootKeepsRules (c .before .before .before .before .before .before .args .s .now)) (clauses (c .before .before .before .before .before .before .args .s .now)) (c .before .before .before .before .loop .c) (omega (arith, mapped (c .before .before .before .before .before .before .args .s .now) (c .before .before .before .before .before .before .args .m) (c .before .before .before .before .before .before .pre .1) .of-clauses)) (c .before .before .before .before .loop .inv .1) (passed (c .before .root-known .ensures) (c .if2 .left)))
+loop-again c = (omega (arith, mapped (c .before .before .before .before .before .before .args .sheet .now) (c .before .before .before .before .before .before .args .map) (c .before .before .before .before .before .before .pre .1) .of-clauses), every-goes-on (rootKeepsRules (c .before .before .before .before .before .before .args .sheet .now)) (clauses (c .before .before .before .before .before .before .args .sheet .now)) (c .before .before .before .before .loop .c) (omega (arith, mapped (c .before .before .before .before .before .before .args .sheet .now) (c .before .before .before .before .before .before .args .map) (c .before .before .before .before .before .before .pre .1) .of-clauses)) (c .before .before .before .before .loop .inv .1) (passed (c .before .root-known .ensures) (c .if2 .left)))
 
 returns-2 : tie.Need-returns-2 Inv-loop μ-loop
-returns-2 c = every-ends (rootKeepsRules (c .before .before .before .before .args .s .now)) (clauses (c .before .before .before .before .args .s .now)) (c .before .before .loop .c) (omega (arith, mapped (c .before .before .before .before .args .s .now) (c .before .before .before .before .args .m) (c .before .before .before .before .pre .1) .of-clauses)) (c .before .before .loop .inv .1)
+returns-2 c = every-ends (rootKeepsRules (c .before .before .before .before .args .sheet .now)) (clauses (c .before .before .before .before .args .sheet .now)) (c .before .before .loop .c) (omega (arith, mapped (c .before .before .before .before .args .sheet .now) (c .before .before .before .before .args .map) (c .before .before .before .before .pre .1) .of-clauses)) (c .before .before .loop .inv .1)
 
 pub roots-known-spec : {M : Type 1} → statement M
 roots-known-spec =

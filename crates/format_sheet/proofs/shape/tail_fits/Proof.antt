@@ -14,10 +14,10 @@ child-at-requires : tie.Need-child-at-requires
 child-at-requires c κs = search needs
 
 pattern-at-requires : tie.Need-pattern-at-requires
-pattern-at-requires c κs = (c .before .before .pre .0 .0, c .before .before .pre .0 .1, tail-known (c .before .before .args .s .now) (c .before .before .pre .0 .2) (c .before .before .args .first) (c .before .before .args .count) (c .before .before .pre .1 .0) (c .before .before .pre .1 .1) (c .child-at .ensures))
+pattern-at-requires c κs = (c .before .before .pre .0 .0, c .before .before .pre .0 .1, tail-known (c .before .before .args .sheet .now) (c .before .before .pre .0 .2) (c .before .before .args .first) (c .before .before .args .count) (c .before .before .pre .1 .0) (c .before .before .pre .1 .1) (c .child-at .ensures))
 
 returns : tie.Need-returns
-returns c = tail-kind (c .before .before .before .before .args .s .now) (c .before .before .before .before .args .first + (c .before .before .before .before .args .count - 1)) (c .before .before .child-at .result) (c .before .pattern-at .result) (c .before .before .child-at .ensures) (c .before .pattern-at .ensures)
+returns c = tail-kind (c .before .before .before .before .args .sheet .now) (c .before .before .before .before .args .first + (c .before .before .before .before .args .count - 1)) (c .before .before .child-at .result) (c .before .pattern-at .result) (c .before .before .child-at .ensures) (c .before .pattern-at .ensures)
 
 pub tail-fits-spec : {M : Type 1} → statement M
 tail-fits-spec =

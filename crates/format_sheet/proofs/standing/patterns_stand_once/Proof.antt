@@ -23,10 +23,10 @@ slice-aggregate-all-met-once : tie.Need-slice-aggregate-all-met-once
 slice-aggregate-all-met-once c = search needs
 
 all-met-once-requires : tie.Need-all-met-once-requires
-all-met-once-requires c κs = let a = c .before .before .before .before .before .before .before .before in omega (arith, mapped (a .args .s .now) (a .args .m) (a .pre .1) .of-patterns, a .pre .2 .patterns-most, c .before .before .meet-children .ensures .long)
+all-met-once-requires c κs = let a = c .before .before .before .before .before .before .before .before in omega (arith, mapped (a .args .sheet .now) (a .args .map) (a .pre .1) .of-patterns, a .pre .2 .patterns-most, c .before .before .meet-children .ensures .long)
 
 returns : tie.Need-returns
-returns c = let a = c .before .before .before .before .before .before .before .before .before in c .all-met-once .ensures ∙ stand-once (a .args .s .now) (a .args .m) (a .pre .1) (c .before .before .before .meet-children .ensures)
+returns c = let a = c .before .before .before .before .before .before .before .before .before in c .all-met-once .ensures ∙ stand-once (a .args .sheet .now) (a .args .map) (a .pre .1) (c .before .before .before .meet-children .ensures)
 
 pub patterns-stand-once-spec : {M : Type 1} → statement M
 patterns-stand-once-spec =

@@ -16,30 +16,30 @@ abbrev μ-loop : tie.MeasureT-loop
 μ-loop s m p₀ p = patterns s - p
 
 loop-holds : tie.Need-loop-holds Inv-loop μ-loop
-loop-holds c = (omega arith, lowest-begins (badText (c .before .args .s .now)) (patterns (c .before .args .s .now)))
+loop-holds c = (omega arith, lowest-begins (badText (c .before .args .sheet .now)) (patterns (c .before .args .sheet .now)))
 
 bad-text-requires : tie.Need-bad-text-requires Inv-loop μ-loop
-bad-text-requires c κs = (c .before .before .before .before .pre .0, c .before .before .before .before .pre .1, c .before .before .before .before .pre .3, omega (arith, mapped (c .before .before .before .before .args .s .now) (c .before .before .before .before .args .m) (c .before .before .before .before .pre .1) .of-patterns))
+bad-text-requires c κs = (c .before .before .before .before .pre .0, c .before .before .before .before .pre .1, c .before .before .before .before .pre .3, omega (arith, mapped (c .before .before .before .before .args .sheet .now) (c .before .before .before .before .args .map) (c .before .before .before .before .pre .1) .of-patterns))
 
 cast-t6 : tie.Need-cast-t6 Inv-loop μ-loop
-cast-t6 c = omega (arith, mapped (c .before .before .before .before .before .before .args .s .now) (c .before .before .before .before .before .before .args .m) (c .before .before .before .before .before .before .pre .1) .of-patterns, c .before .before .before .before .before .before .pre .2 .patterns-most)
+cast-t6 c = omega (arith, mapped (c .before .before .before .before .before .before .args .sheet .now) (c .before .before .before .before .before .before .args .map) (c .before .before .before .before .before .before .pre .1) .of-patterns, c .before .before .before .before .before .before .pre .2 .patterns-most)
 
 returns : tie.Need-returns Inv-loop μ-loop
 unfolding lowestBadText
-returns c = lowest-stops (badText (c .before .before .before .before .before .before .args .s .now)) (patterns (c .before .before .before .before .before .before .args .s .now)) (c .before .before .before .before .loop .p) (omega (arith, mapped (c .before .before .before .before .before .before .args .s .now) (c .before .before .before .before .before .before .args .m) (c .before .before .before .before .before .before .pre .1) .of-patterns)) (c .before .before .before .before .loop .inv .1) (sym (c .before .bad-text .ensures) ∙ c .if2 .taken)
+returns c = lowest-stops (badText (c .before .before .before .before .before .before .args .sheet .now)) (patterns (c .before .before .before .before .before .before .args .sheet .now)) (c .before .before .before .before .loop .p) (omega (arith, mapped (c .before .before .before .before .before .before .args .sheet .now) (c .before .before .before .before .before .before .args .map) (c .before .before .before .before .before .before .pre .1) .of-patterns)) (c .before .before .before .before .loop .inv .1) (sym (c .before .bad-text .ensures) ∙ c .if2 .taken)
 
 add-p : tie.Need-add-p Inv-loop μ-loop
 add-p c = search needs
 
 loop-less : tie.Need-loop-less Inv-loop μ-loop
-loop-less c = omega (arith, mapped (c .before .before .before .before .before .before .args .s .now) (c .before .before .before .before .before .before .args .m) (c .before .before .before .before .before .before .pre .1) .of-patterns)
+loop-less c = omega (arith, mapped (c .before .before .before .before .before .before .args .sheet .now) (c .before .before .before .before .before .before .args .map) (c .before .before .before .before .before .before .pre .1) .of-patterns)
 
 loop-again : tie.Need-loop-again Inv-loop μ-loop
-loop-again c = (omega (arith, mapped (c .before .before .before .before .before .before .args .s .now) (c .before .before .before .before .before .before .args .m) (c .before .before .before .before .before .before .pre .1) .of-patterns), lowest-goes-on (badText (c .before .before .before .before .before .before .args .s .now)) (patterns (c .before .before .before .before .before .before .args .s .now)) (c .before .before .before .before .loop .p) (omega (arith, mapped (c .before .before .before .before .before .before .args .s .now) (c .before .before .before .before .before .before .args .m) (c .before .before .before .before .before .before .pre .1) .of-patterns)) (c .before .before .before .before .loop .inv .1) (sym (c .before .bad-text .ensures) ∙ c .if2 .left))
+loop-again c = (omega (arith, mapped (c .before .before .before .before .before .before .args .sheet .now) (c .before .before .before .before .before .before .args .map) (c .before .before .before .before .before .before .pre .1) .of-patterns), lowest-goes-on (badText (c .before .before .before .before .before .before .args .sheet .now)) (patterns (c .before .before .before .before .before .before .args .sheet .now)) (c .before .before .before .before .loop .p) (omega (arith, mapped (c .before .before .before .before .before .before .args .sheet .now) (c .before .before .before .before .before .before .args .map) (c .before .before .before .before .before .before .pre .1) .of-patterns)) (c .before .before .before .before .loop .inv .1) (sym (c .before .bad-text .ensures) ∙ c .if2 .left))
 
 returns-2 : tie.Need-returns-2 Inv-loop μ-loop
 unfolding lowestBadText
-returns-2 c = lowest-ends (badText (c .before .before .before .before .args .s .now)) (patterns (c .before .before .before .before .args .s .now)) (c .before .before .loop .p) (omega (arith, mapped (c .before .before .before .before .args .s .now) (c .before .before .before .before .args .m) (c .before .before .before .before .pre .1) .of-patterns)) (c .before .before .loop .inv .1)
+returns-2 c = lowest-ends (badText (c .before .before .before .before .args .sheet .now)) (patterns (c .before .before .before .before .args .sheet .now)) (c .before .before .loop .p) (omega (arith, mapped (c .before .before .before .before .args .sheet .now) (c .before .before .before .before .args .map) (c .before .before .before .before .pre .1) .of-patterns)) (c .before .before .loop .inv .1)
 
 pub lowest-bad-text-spec : {M : Type 1} → statement M
 lowest-bad-text-spec =

@@ -10,7 +10,7 @@ run-in-requires : tie.Need-run-in-requires
 run-in-requires c κs = search needs
 
 returns : tie.Need-returns
-returns c = constructor-keeps (c .before .before .before .args .s .now) (c .before .before .before .args .m) (c .before .before .before .pre .1) (c .before .before .before .args .c) (c .before .constructor-at .result) (c .before .constructor-at .ensures) (c .run-in .ensures)
+returns c = constructor-keeps (c .before .before .before .args .sheet .now) (c .before .before .before .args .map) (c .before .before .before .pre .1) (c .before .before .before .args .c) (c .before .constructor-at .result) (c .before .constructor-at .ensures) (c .run-in .ensures)
 
 pub constructor-keeps-rules-spec : {M : Type 1} → statement M
 constructor-keeps-rules-spec = tie.close (tie.spec constructor-at-requires run-in-requires returns)

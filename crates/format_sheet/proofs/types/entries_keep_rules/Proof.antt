@@ -16,25 +16,25 @@ abbrev μ-loop : tie.MeasureT-loop
 μ-loop s m e₀ e = entries s - e
 
 loop-holds : tie.Need-loop-holds Inv-loop μ-loop
-loop-holds c = (omega arith, every-begins (entryKeepsRules (c .before .args .s .now)) (entries (c .before .args .s .now)))
+loop-holds c = (omega arith, every-begins (entryKeepsRules (c .before .args .sheet .now)) (entries (c .before .args .sheet .now)))
 
 entry-keeps-rules-requires : tie.Need-entry-keeps-rules-requires Inv-loop μ-loop
-entry-keeps-rules-requires c κs = (c .before .before .before .before .pre .0, c .before .before .before .before .pre .1, omega (arith, mapped (c .before .before .before .before .args .s .now) (c .before .before .before .before .args .m) (c .before .before .before .before .pre .1) .of-entries))
+entry-keeps-rules-requires c κs = (c .before .before .before .before .pre .0, c .before .before .before .before .pre .1, omega (arith, mapped (c .before .before .before .before .args .sheet .now) (c .before .before .before .before .args .map) (c .before .before .before .before .pre .1) .of-entries))
 
 returns : tie.Need-returns Inv-loop μ-loop
-returns c = every-stops (entryKeepsRules (c .before .before .before .before .before .before .args .s .now)) (entries (c .before .before .before .before .before .before .args .s .now)) (c .before .before .before .before .loop .e) (omega (arith, mapped (c .before .before .before .before .before .before .args .s .now) (c .before .before .before .before .before .before .args .m) (c .before .before .before .before .before .before .pre .1) .of-entries)) (c .before .before .before .before .loop .inv .1) (stopped (c .before .entry-keeps-rules .ensures) (c .if2 .taken))
+returns c = every-stops (entryKeepsRules (c .before .before .before .before .before .before .args .sheet .now)) (entries (c .before .before .before .before .before .before .args .sheet .now)) (c .before .before .before .before .loop .e) (omega (arith, mapped (c .before .before .before .before .before .before .args .sheet .now) (c .before .before .before .before .before .before .args .map) (c .before .before .before .before .before .before .pre .1) .of-entries)) (c .before .before .before .before .loop .inv .1) (stopped (c .before .entry-keeps-rules .ensures) (c .if2 .taken))
 
 add-e : tie.Need-add-e Inv-loop μ-loop
 add-e c = search needs
 
 loop-less : tie.Need-loop-less Inv-loop μ-loop
-loop-less c = omega (arith, mapped (c .before .before .before .before .before .before .args .s .now) (c .before .before .before .before .before .before .args .m) (c .before .before .before .before .before .before .pre .1) .of-entries)
+loop-less c = omega (arith, mapped (c .before .before .before .before .before .before .args .sheet .now) (c .before .before .before .before .before .before .args .map) (c .before .before .before .before .before .before .pre .1) .of-entries)
 
 loop-again : tie.Need-loop-again Inv-loop μ-loop
-loop-again c = (omega (arith, mapped (c .before .before .before .before .before .before .args .s .now) (c .before .before .before .before .before .before .args .m) (c .before .before .before .before .before .before .pre .1) .of-entries), every-goes-on (entryKeepsRules (c .before .before .before .before .before .before .args .s .now)) (entries (c .before .before .before .before .before .before .args .s .now)) (c .before .before .before .before .loop .e) (omega (arith, mapped (c .before .before .before .before .before .before .args .s .now) (c .before .before .before .before .before .before .args .m) (c .before .before .before .before .before .before .pre .1) .of-entries)) (c .before .before .before .before .loop .inv .1) (passed (c .before .entry-keeps-rules .ensures) (c .if2 .left)))
+loop-again c = (omega (arith, mapped (c .before .before .before .before .before .before .args .sheet .now) (c .before .before .before .before .before .before .args .map) (c .before .before .before .before .before .before .pre .1) .of-entries), every-goes-on (entryKeepsRules (c .before .before .before .before .before .before .args .sheet .now)) (entries (c .before .before .before .before .before .before .args .sheet .now)) (c .before .before .before .before .loop .e) (omega (arith, mapped (c .before .before .before .before .before .before .args .sheet .now) (c .before .before .before .before .before .before .args .map) (c .before .before .before .before .before .before .pre .1) .of-entries)) (c .before .before .before .before .loop .inv .1) (passed (c .before .entry-keeps-rules .ensures) (c .if2 .left)))
 
 returns-2 : tie.Need-returns-2 Inv-loop μ-loop
-returns-2 c = every-ends (entryKeepsRules (c .before .before .before .before .args .s .now)) (entries (c .before .before .before .before .args .s .now)) (c .before .before .loop .e) (omega (arith, mapped (c .before .before .before .before .args .s .now) (c .before .before .before .before .args .m) (c .before .before .before .before .pre .1) .of-entries)) (c .before .before .loop .inv .1)
+returns-2 c = every-ends (entryKeepsRules (c .before .before .before .before .args .sheet .now)) (entries (c .before .before .before .before .args .sheet .now)) (c .before .before .loop .e) (omega (arith, mapped (c .before .before .before .before .args .sheet .now) (c .before .before .before .before .args .map) (c .before .before .before .before .pre .1) .of-entries)) (c .before .before .loop .inv .1)
 
 pub entries-keep-rules-spec : {M : Type 1} → statement M
 entries-keep-rules-spec =

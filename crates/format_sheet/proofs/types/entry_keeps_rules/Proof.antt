@@ -7,7 +7,7 @@ entry-at-requires : tie.Need-entry-at-requires
 entry-at-requires c κs = search needs
 
 returns : tie.Need-returns
-returns c = entry-keeps (c .before .before .before .args .s .now) (c .before .before .before .args .m) (c .before .before .before .pre .1) (c .before .before .before .args .e) (c .before .entry-at .result) (c .before .entry-at .ensures)
+returns c = entry-keeps (c .before .before .before .args .sheet .now) (c .before .before .before .args .map) (c .before .before .before .pre .1) (c .before .before .before .args .e) (c .before .entry-at .result) (c .before .entry-at .ensures)
 
 pub entry-keeps-rules-spec : {M : Type 1} → statement M
 entry-keeps-rules-spec = tie.close (tie.spec entry-at-requires returns)

@@ -10,13 +10,13 @@ parts-fit-requires : tie.Need-parts-fit-requires
 parts-fit-requires c κs = search needs
 
 returns : tie.Need-returns
-returns c = type-stops (c .before .before .before .before .args .s .now) (c .before .before .before .before .args .m) (c .before .before .before .before .pre .1) (c .before .before .before .before .args .t) (c .before .before .type-at .result) (c .before .before .type-at .ensures) (c .before .parts-fit .ensures) (c .if1 .taken)
+returns c = type-stops (c .before .before .before .before .args .sheet .now) (c .before .before .before .before .args .map) (c .before .before .before .before .pre .1) (c .before .before .before .before .args .t) (c .before .before .type-at .result) (c .before .before .type-at .ensures) (c .before .parts-fit .ensures) (c .if1 .taken)
 
 flags-fit-requires : tie.Need-flags-fit-requires
 flags-fit-requires c κs = search needs
 
 returns-2 : tie.Need-returns-2
-returns-2 c = type-goes-on (c .before .before .before .before .before .args .s .now) (c .before .before .before .before .before .args .m) (c .before .before .before .before .before .pre .1) (c .before .before .before .before .before .args .t) (c .before .before .before .type-at .result) (c .before .before .before .type-at .ensures) (c .before .before .parts-fit .ensures) (c .before .if1 .left) (c .flags-fit .ensures)
+returns-2 c = type-goes-on (c .before .before .before .before .before .args .sheet .now) (c .before .before .before .before .before .args .map) (c .before .before .before .before .before .pre .1) (c .before .before .before .before .before .args .t) (c .before .before .before .type-at .result) (c .before .before .before .type-at .ensures) (c .before .before .parts-fit .ensures) (c .before .if1 .left) (c .flags-fit .ensures)
 
 pub type-keeps-rules-spec : {M : Type 1} → statement M
 type-keeps-rules-spec =

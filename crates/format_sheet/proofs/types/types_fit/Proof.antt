@@ -28,7 +28,7 @@ returns-3 c = rw (passed (c .before .before .before .before .before .types-keep-
 
 returns-4 : tie.Need-returns-4
 unfolding typesFit
-returns-4 c = rw (passed (c .before .before .before .before .before .before .types-keep-rules .ensures) (c .before .before .before .before .before .if1 .left), passed (c .before .before .before .before .constructors-keep-rules .ensures) (c .before .before .before .if2 .left), passed (c .before .before .entries-keep-rules .ensures) (c .before .if3 .left)) (subject-known (c .before .before .before .before .before .before .before .before .args .s .now) (c .before .before .before .before .before .before .before .before .args .m) (c .before .before .before .before .before .before .before .before .pre .1))
+returns-4 c = rw (passed (c .before .before .before .before .before .before .types-keep-rules .ensures) (c .before .before .before .before .before .if1 .left), passed (c .before .before .before .before .constructors-keep-rules .ensures) (c .before .before .before .if2 .left), passed (c .before .before .entries-keep-rules .ensures) (c .before .if3 .left)) (subject-known (c .before .before .before .before .before .before .before .before .args .sheet .now) (c .before .before .before .before .before .before .before .before .args .map) (c .before .before .before .before .before .before .before .before .pre .1))
 
 pub types-fit-spec : {M : Type 1} → statement M
 types-fit-spec =

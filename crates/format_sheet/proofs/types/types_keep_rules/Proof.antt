@@ -16,25 +16,25 @@ abbrev μ-loop : tie.MeasureT-loop
 μ-loop s m t₀ t = types s - t
 
 loop-holds : tie.Need-loop-holds Inv-loop μ-loop
-loop-holds c = (omega arith, every-begins (typeKeepsRules (c .before .args .s .now)) (types (c .before .args .s .now)))
+loop-holds c = (omega arith, every-begins (typeKeepsRules (c .before .args .sheet .now)) (types (c .before .args .sheet .now)))
 
 type-keeps-rules-requires : tie.Need-type-keeps-rules-requires Inv-loop μ-loop
-type-keeps-rules-requires c κs = (c .before .before .before .before .pre .0, c .before .before .before .before .pre .1, omega (arith, mapped (c .before .before .before .before .args .s .now) (c .before .before .before .before .args .m) (c .before .before .before .before .pre .1) .of-types))
+type-keeps-rules-requires c κs = (c .before .before .before .before .pre .0, c .before .before .before .before .pre .1, omega (arith, mapped (c .before .before .before .before .args .sheet .now) (c .before .before .before .before .args .map) (c .before .before .before .before .pre .1) .of-types))
 
 returns : tie.Need-returns Inv-loop μ-loop
-returns c = every-stops (typeKeepsRules (c .before .before .before .before .before .before .args .s .now)) (types (c .before .before .before .before .before .before .args .s .now)) (c .before .before .before .before .loop .t) (omega (arith, mapped (c .before .before .before .before .before .before .args .s .now) (c .before .before .before .before .before .before .args .m) (c .before .before .before .before .before .before .pre .1) .of-types)) (c .before .before .before .before .loop .inv .1) (stopped (c .before .type-keeps-rules .ensures) (c .if2 .taken))
+returns c = every-stops (typeKeepsRules (c .before .before .before .before .before .before .args .sheet .now)) (types (c .before .before .before .before .before .before .args .sheet .now)) (c .before .before .before .before .loop .t) (omega (arith, mapped (c .before .before .before .before .before .before .args .sheet .now) (c .before .before .before .before .before .before .args .map) (c .before .before .before .before .before .before .pre .1) .of-types)) (c .before .before .before .before .loop .inv .1) (stopped (c .before .type-keeps-rules .ensures) (c .if2 .taken))
 
 add-t : tie.Need-add-t Inv-loop μ-loop
 add-t c = search needs
 
 loop-less : tie.Need-loop-less Inv-loop μ-loop
-loop-less c = omega (arith, mapped (c .before .before .before .before .before .before .args .s .now) (c .before .before .before .before .before .before .args .m) (c .before .before .before .before .before .before .pre .1) .of-types)
+loop-less c = omega (arith, mapped (c .before .before .before .before .before .before .args .sheet .now) (c .before .before .before .before .before .before .args .map) (c .before .before .before .before .before .before .pre .1) .of-types)
 
 loop-again : tie.Need-loop-again Inv-loop μ-loop
-loop-again c = (omega (arith, mapped (c .before .before .before .before .before .before .args .s .now) (c .before .before .before .before .before .before .args .m) (c .before .before .before .before .before .before .pre .1) .of-types), every-goes-on (typeKeepsRules (c .before .before .before .before .before .before .args .s .now)) (types (c .before .before .before .before .before .before .args .s .now)) (c .before .before .before .before .loop .t) (omega (arith, mapped (c .before .before .before .before .before .before .args .s .now) (c .before .before .before .before .before .before .args .m) (c .before .before .before .before .before .before .pre .1) .of-types)) (c .before .before .before .before .loop .inv .1) (passed (c .before .type-keeps-rules .ensures) (c .if2 .left)))
+loop-again c = (omega (arith, mapped (c .before .before .before .before .before .before .args .sheet .now) (c .before .before .before .before .before .before .args .map) (c .before .before .before .before .before .before .pre .1) .of-types), every-goes-on (typeKeepsRules (c .before .before .before .before .before .before .args .sheet .now)) (types (c .before .before .before .before .before .before .args .sheet .now)) (c .before .before .before .before .loop .t) (omega (arith, mapped (c .before .before .before .before .before .before .args .sheet .now) (c .before .before .before .before .before .before .args .map) (c .before .before .before .before .before .before .pre .1) .of-types)) (c .before .before .before .before .loop .inv .1) (passed (c .before .type-keeps-rules .ensures) (c .if2 .left)))
 
 returns-2 : tie.Need-returns-2 Inv-loop μ-loop
-returns-2 c = every-ends (typeKeepsRules (c .before .before .before .before .args .s .now)) (types (c .before .before .before .before .args .s .now)) (c .before .before .loop .t) (omega (arith, mapped (c .before .before .before .before .args .s .now) (c .before .before .before .before .args .m) (c .before .before .before .before .pre .1) .of-types)) (c .before .before .loop .inv .1)
+returns-2 c = every-ends (typeKeepsRules (c .before .before .before .before .args .sheet .now)) (types (c .before .before .before .before .args .sheet .now)) (c .before .before .loop .t) (omega (arith, mapped (c .before .before .before .before .args .sheet .now) (c .before .before .before .before .args .map) (c .before .before .before .before .pre .1) .of-types)) (c .before .before .loop .inv .1)
 
 pub types-keep-rules-spec : {M : Type 1} → statement M
 types-keep-rules-spec =

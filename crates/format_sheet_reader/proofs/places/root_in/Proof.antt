@@ -17,7 +17,7 @@ cast-result : tie.Need-cast-result
 cast-result c = search needs
 
 returns : tie.Need-returns
-returns c = c .word-at .ensures ∙ root-there (c .before .before .args .s .now) (c .before .before .args .start) (c .before .before .args .c) (c .before .before .pre .1)
+returns c = c .word-at .ensures ∙ root-there (c .before .before .args .sheet .now) (c .before .before .args .start) (c .before .before .args .c) (c .before .before .pre .1)
 
 pub root-in-spec : {M : Type 1} → statement M
 root-in-spec = tie.close (tie.spec mul-word-at add-word-at word-at-requires cast-result returns)

@@ -17,7 +17,7 @@ abbrev μ-loop : tie.MeasureT-loop
 μ-loop t m k₀ k = m .nodes .count - k
 
 loop-holds : tie.Need-loop-holds Inv-loop μ-loop
-loop-holds c = let a = c .before .args in let f = childrenFollow (a .tree .now) in let n = a .m .nodes .count in (search needs, rw sub-zero)
+loop-holds c = let a = c .before .args in let f = childrenFollow (a .tree .now) in let n = a .map .nodes .count in (search needs, rw sub-zero)
 
 children-follow-requires : tie.Need-children-follow-requires Inv-loop μ-loop
 children-follow-requires c κs = search needs
@@ -28,7 +28,7 @@ returns c =
     let back6 = back4 .before .before in
     let a = back6 .args in
     let f = childrenFollow (a .tree .now) in
-    let n = a .m .nodes .count in
+    let n = a .map .nodes .count in
     let l = back4 .loop in
     sym (every-stop f (l .k) n (c .before .before .if1 .taken) (sym (c .before .children-follow .ensures) ∙ not-true _ (c .if2 .taken))) ∙ l .inv .1
 
@@ -44,7 +44,7 @@ loop-again c =
     let back6 = back4 .before .before in
     let a = back6 .args in
     let f = childrenFollow (a .tree .now) in
-    let n = a .m .nodes .count in
+    let n = a .map .nodes .count in
     let l = back4 .loop in
     (search needs, every-on f (l .k) n (c .before .before .if1 .taken) (sym (c .before .children-follow .ensures) ∙ not-false _ (c .if2 .left)) ∙ l .inv .1)
 
@@ -53,7 +53,7 @@ returns-2 c =
     let back4 = c .before .before .before .before in
     let a = back4 .args in
     let f = childrenFollow (a .tree .now) in
-    let n = a .m .nodes .count in
+    let n = a .map .nodes .count in
     let l = c .before .before .loop in
     sym (every-end f (l .k) n (c .if1 .left)) ∙ l .inv .1
 

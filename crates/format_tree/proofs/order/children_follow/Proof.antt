@@ -19,7 +19,7 @@ switch-follows-requires c κs =
     let back5 = back3 .before .before in
     let g = c .before .children .given .0 in
     let e : back3 .children-of .result ≡ Children.Cases (g .0) (g .1 .0) (g .1 .1 .0) = c .before .children .given .1 in
-    let r = subst (ChildrenAre (back5 .args .tree .now) (back5 .args .m) (back5 .args .k)) e (back3 .children-of .ensures) in
+    let r = subst (ChildrenAre (back5 .args .tree .now) (back5 .args .map) (back5 .args .k)) e (back3 .children-of .ensures) in
     (back5 .pre .0, back5 .pre .1, r .1, r .2)
 
 enum-known-children-2 : tie.Need-enum-known-children-2
@@ -37,7 +37,7 @@ returns c =
     let back6 = back4 .before .before in
     let g = c .before .before .children .given .0 in
     let e : back4 .children-of .result ≡ Children.Cases (g .0) (g .1 .0) (g .1 .1 .0) = c .before .before .children .given .1 in
-    let r = subst (ChildrenAre (back6 .args .tree .now) (back6 .args .m) (back6 .args .k)) e (back4 .children-of .ensures) in
+    let r = subst (ChildrenAre (back6 .args .tree .now) (back6 .args .map) (back6 .args .k)) e (back4 .children-of .ensures) in
     c .switch-follows .ensures ∙ childrenFollow-is (back6 .args .tree .now) (back6 .args .k) _ (r .0)
 
 returns-2 : tie.Need-returns-2
@@ -47,14 +47,14 @@ returns-2 c =
     let child = c .before .children2 .given .0 .0 in
     let e : back3 .children-of .result ≡ Children.One child = c .before .children2 .given .1 in
     childrenFollow-hoist (back5 .args .tree .now) (back5 .args .k) child
-    (subst (ChildrenAre (back5 .args .tree .now) (back5 .args .m) (back5 .args .k)) e (back3 .children-of .ensures))
+    (subst (ChildrenAre (back5 .args .tree .now) (back5 .args .map) (back5 .args .k)) e (back3 .children-of .ensures))
 
 returns-3 : tie.Need-returns-3
 returns-3 c =
     let back4 = c .before .before .before .before in
     let e : c .before .before .children-of .result ≡ Children.Nothing = c .enum-told .given .1 in
     childrenFollow-leaf (back4 .args .tree .now) (back4 .args .k)
-    (subst (ChildrenAre (back4 .args .tree .now) (back4 .args .m) (back4 .args .k)) e (c .before .before .children-of .ensures))
+    (subst (ChildrenAre (back4 .args .tree .now) (back4 .args .map) (back4 .args .k)) e (c .before .before .children-of .ensures))
 
 pub children-follow-spec : {M : Type 1} → statement M
 children-follow-spec =

@@ -30,7 +30,7 @@ returns-3 : tie.Need-returns-3
 returns-3 c =
     let back3 = c .before .before .before in
     let back5 = back3 .before .before in
-    ap (λ (x : ℕ). eqb x (back5 .args .m .nodes .count)) (c .end-of .ensures) ∙ ends-decide (back5 .pre) (back3 .if1 .left)
+    ap (λ (x : ℕ). eqb x (back5 .args .map .nodes .count)) (c .end-of .ensures) ∙ ends-decide (back5 .pre) (back3 .if1 .left)
     (sym (c .before .before .all-follow .ensures) ∙ not-false _ (c .before .if2 .left))
 
 pub nodes-in-pre-order-spec : {M : Type 1} → statement M

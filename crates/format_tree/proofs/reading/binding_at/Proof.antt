@@ -1,22 +1,18 @@
--- `format_tree::reading::binding_at` meets its contract: the map's start of the section is the file's, so that the record read is the rules'.
-use borrow.Author.Needs.{needs}
-use Rattle.spec_rules.specs.TreeReader.{bindingName, bindingPath}
-use Rattle.format_tree.specs.ReadingLaws.{bindings-start}
+-- `format_tree::reading::binding_at` meets its contract: the map's start of the bindings is the file's.
+use native.Mathlib.Omega.{arith}
+use mathlib.Core.Path.{sym}
+use Rattle.format_tree.specs.ReadingLaws.{bindings-lie, bindings-start, bindings-count}
 use Rattle.format_tree.proofs.reading.binding_at.Statement.{statement}
 use Rattle.format_tree.proofs.reading.binding_at.Tie as tie
 
-mul-binding-in : tie.Need-mul-binding-in
-mul-binding-in c = search needs
-
-add-binding-in : tie.Need-add-binding-in
-add-binding-in c = search needs
-
-binding-in-requires : tie.Need-binding-in-requires
-binding-in-requires c κs = search needs
+binding-from-requires : tie.Need-binding-from-requires
+binding-from-requires c κs =
+    let w = c .before .pre .0 in
+    let h = c .before .pre .1 in
+    (bindings-lie w, sym (bindings-start w), omega (arith, h, bindings-count w))
 
 returns : tie.Need-returns
-unfolding bindingName bindingPath
-returns c = rw (bindings-start (c .before .before .before .pre .0)) (c .binding-in .ensures)
+returns c = c .binding-from .ensures
 
 pub binding-at-spec : {M : Type 1} → statement M
-binding-at-spec = tie.close (tie.spec mul-binding-in add-binding-in binding-in-requires returns)
+binding-at-spec = tie.close (tie.spec binding-from-requires returns)

@@ -1,7 +1,7 @@
 -- `format_tree::reading::path_at` meets its contract: the map's start of the paths is the file's.
 use native.Mathlib.Omega.{arith}
 use mathlib.Core.Path.{sym}
-use Rattle.format_tree.specs.ReadingLaws.{mapped-own, paths-start, paths-count}
+use Rattle.format_tree.specs.ReadingLaws.{paths-lie, paths-start, paths-count}
 use Rattle.format_tree.proofs.reading.path_at.Statement.{statement}
 use Rattle.format_tree.proofs.reading.path_at.Tie as tie
 
@@ -9,7 +9,7 @@ path-from-requires : tie.Need-path-from-requires
 path-from-requires c κs =
     let w = c .before .pre .0 in
     let h = c .before .pre .1 in
-    (mapped-own w, sym (paths-start w), omega (arith, h, paths-count w))
+    (paths-lie w, sym (paths-start w), omega (arith, h, paths-count w))
 
 returns : tie.Need-returns
 returns c = c .path-from .ensures

@@ -1,4 +1,4 @@
--- `format_tree::reading::step_from` meets its contract: the map's start of the section is the file's, so that the record read is the rules'.
+-- `format_tree::reading::step_from` meets its contract: the start that is handed in is the file's, so that the record read is the rules'.
 use borrow.Author.Needs.{needs}
 use Rattle.spec_rules.specs.TreeReader.{stepKind, stepFlag, stepIndexAt, stepType}
 use Rattle.format_tree.proofs.reading.step_from.Statement.{statement}

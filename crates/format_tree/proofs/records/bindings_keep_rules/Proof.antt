@@ -20,7 +20,7 @@ loop-holds : tie.Need-loop-holds Inv-loop μ-loop
 loop-holds c =
     let a = c .before .args in
     let f = bindingKeepsRules (a .tree .now) in
-    let n = a .m .bindings .count in
+    let n = a .map .bindings .count in
     (search needs, rw sub-zero)
 
 binding-keeps-rules-requires : tie.Need-binding-keeps-rules-requires Inv-loop μ-loop
@@ -32,7 +32,7 @@ returns c =
     let back6 = back4 .before .before in
     let a = back6 .args in
     let f = bindingKeepsRules (a .tree .now) in
-    let n = a .m .bindings .count in
+    let n = a .map .bindings .count in
     let l = back4 .loop in
     sym (every-stop f (l .b) n (c .before .before .if1 .taken) (sym (c .before .binding-keeps-rules .ensures) ∙ not-true _ (c .if2 .taken)))
     ∙ l .inv .1
@@ -49,7 +49,7 @@ loop-again c =
     let back6 = back4 .before .before in
     let a = back6 .args in
     let f = bindingKeepsRules (a .tree .now) in
-    let n = a .m .bindings .count in
+    let n = a .map .bindings .count in
     let l = back4 .loop in
     (search needs, every-on f (l .b) n (c .before .before .if1 .taken) (sym (c .before .binding-keeps-rules .ensures) ∙ not-false _ (c .if2 .left)) ∙ l .inv .1)
 
@@ -58,7 +58,7 @@ returns-2 c =
     let back4 = c .before .before .before .before in
     let a = back4 .args in
     let f = bindingKeepsRules (a .tree .now) in
-    let n = a .m .bindings .count in
+    let n = a .map .bindings .count in
     let l = c .before .before .loop in
     sym (every-end f (l .b) n (c .if1 .left)) ∙ l .inv .1
 

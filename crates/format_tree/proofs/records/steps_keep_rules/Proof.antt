@@ -17,7 +17,7 @@ abbrev μ-loop : tie.MeasureT-loop
 μ-loop t m i₀ i = m .steps .count - i
 
 loop-holds : tie.Need-loop-holds Inv-loop μ-loop
-loop-holds c = let a = c .before .args in let f = stepKeepsRules (a .tree .now) in let n = a .m .steps .count in (search needs, rw sub-zero)
+loop-holds c = let a = c .before .args in let f = stepKeepsRules (a .tree .now) in let n = a .map .steps .count in (search needs, rw sub-zero)
 
 step-keeps-rules-requires : tie.Need-step-keeps-rules-requires Inv-loop μ-loop
 step-keeps-rules-requires c κs = search needs
@@ -28,7 +28,7 @@ returns c =
     let back6 = back4 .before .before in
     let a = back6 .args in
     let f = stepKeepsRules (a .tree .now) in
-    let n = a .m .steps .count in
+    let n = a .map .steps .count in
     let l = back4 .loop in
     sym (every-stop f (l .i) n (c .before .before .if1 .taken) (sym (c .before .step-keeps-rules .ensures) ∙ not-true _ (c .if2 .taken))) ∙ l .inv .1
 
@@ -44,7 +44,7 @@ loop-again c =
     let back6 = back4 .before .before in
     let a = back6 .args in
     let f = stepKeepsRules (a .tree .now) in
-    let n = a .m .steps .count in
+    let n = a .map .steps .count in
     let l = back4 .loop in
     (search needs, every-on f (l .i) n (c .before .before .if1 .taken) (sym (c .before .step-keeps-rules .ensures) ∙ not-false _ (c .if2 .left)) ∙ l .inv .1)
 
@@ -53,7 +53,7 @@ returns-2 c =
     let back4 = c .before .before .before .before in
     let a = back4 .args in
     let f = stepKeepsRules (a .tree .now) in
-    let n = a .m .steps .count in
+    let n = a .map .steps .count in
     let l = c .before .before .loop in
     sym (every-end f (l .i) n (c .if1 .left)) ∙ l .inv .1
 
