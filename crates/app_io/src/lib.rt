@@ -106,10 +106,10 @@ pub fn read_argument(i: usize, buf: &mut [u8]) -> Input
 }
 
 // The listing of a tree file; 0 bytes where it has no room or is no tree.
-fn list_tree(t: &[u8], out: &mut [u8]) -> usize
-    ensures { λ r. ⌜ ShowsTree (now (t .entry)) (now (out .entry)) r (now (out .exit)) ⌝ }
+fn list_tree(tree: &[u8], out: &mut [u8]) -> usize
+    ensures { λ r. ⌜ ShowsTree (now (tree .entry)) (now (out .entry)) r (now (out .exit)) ⌝ }
 {
-    match app_listing::listing(t, out) {
+    match app_listing::listing(tree, out) {
         Listed::Written(n) => n,
         Listed::Full => 0,
         Listed::Refused => 0,
@@ -124,12 +124,12 @@ fn refuse(number: u16, place: u16, out: &mut [u8]) -> usize
 }
 
 // The listing of a sheet's tree, or the line of its refusal; 0 bytes where it has no room.
-pub fn list(s: &[u8], out: &mut [u8]) -> usize
-    ensures { λ r. ⌜ ShowsSheet (now (s .entry)) (now (out .entry)) r (now (out .exit)) ⌝ }
+pub fn list(sheet: &[u8], out: &mut [u8]) -> usize
+    ensures { λ r. ⌜ ShowsSheet (now (sheet .entry)) (now (out .entry)) r (now (out .exit)) ⌝ }
 {
     let mut tree = io::large_buffer();
     let mut work = io::large_buffer();
-    match dewmycel::build(s, &mut tree, &mut work) {
+    match dewmycel::build(sheet, &mut tree, &mut work) {
         Built::Tree {
             length,
             nodes,

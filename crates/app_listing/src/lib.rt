@@ -24,10 +24,10 @@ pub fn listing(tree: &[u8], out: &mut [u8]) -> Listed
     ensures { λ r. ⌜ callOf r (now (out .exit)) ≡ listingCall (now (tree .entry)) (length (now (out .entry))) ⌝ }
 {
     zero_all(out);
-    let CheckedTree::Accepted(m) = check(tree) else {
+    let CheckedTree::Accepted(map) = check(tree) else {
         return Listed::Refused;
     };
-    let end = put_listing(out, tree, m);
+    let end = put_listing(out, tree, map);
     if out.len() < end {
         zero_all(out);
         return Listed::Full;

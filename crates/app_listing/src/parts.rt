@@ -34,11 +34,11 @@ fn put_constr_step(out: &mut [u8], at: usize, index: u16, flag: u8) -> usize
     put_text(out, end, b"_false")
 }
 
-fn put_step(out: &mut [u8], at: usize, tree: &[u8], m: TreeMap, i: usize) -> usize
-    requires { ⌜ Ruled (now tree) m × (i < m .steps .count) ⌝ }
+fn put_step(out: &mut [u8], at: usize, tree: &[u8], map: TreeMap, i: usize) -> usize
+    requires { ⌜ Ruled (now tree) map × (i < map .steps .count) ⌝ }
     ensures { λ r. ⌜ Writes (now (out .entry)) (now (out .exit)) at r (stepText (stepAt (now (tree .entry)) i)) ⌝ }
 {
-    let step = step_at(tree, m, i);
+    let step = step_at(tree, map, i);
     let kind = step.kind;
     match kind {
         step_kinds::PAIR => put_numbered(out, at, b"pair_", step.index),
@@ -50,32 +50,32 @@ fn put_step(out: &mut [u8], at: usize, tree: &[u8], m: TreeMap, i: usize) -> usi
 }
 
 // The n steps from i on, each behind its `.`.
-fn put_more_steps(out: &mut [u8], at: usize, tree: &[u8], m: TreeMap, i: usize, n: usize) -> usize
-    requires { ⌜ Ruled (now tree) m × (i + n ≤ m .steps .count) ⌝ }
+fn put_more_steps(out: &mut [u8], at: usize, tree: &[u8], map: TreeMap, i: usize, n: usize) -> usize
+    requires { ⌜ Ruled (now tree) map × (i + n ≤ map .steps .count) ⌝ }
     ensures { λ r. ⌜ Writes (now (out .entry)) (now (out .exit)) at r (moreSteps (stepsFrom (now (tree .entry)) i n)) ⌝ }
 {
     let mut end = at;
     let mut j = 0;
     while j < n {
         let dot = put(out, end, b'.');
-        end = put_step(out, dot, tree, m, i + j);
+        end = put_step(out, dot, tree, map, i + j);
         j += 1;
     }
     end
 }
 
-pub fn put_path(out: &mut [u8], at: usize, tree: &[u8], m: TreeMap, p: usize) -> usize
-    requires { ⌜ Ruled (now tree) m × (p < m .paths .count) ⌝ }
+pub fn put_path(out: &mut [u8], at: usize, tree: &[u8], map: TreeMap, p: usize) -> usize
+    requires { ⌜ Ruled (now tree) map × (p < map .paths .count) ⌝ }
     ensures { λ r. ⌜ Writes (now (out .entry)) (now (out .exit)) at r (pathText (pathAt (now (tree .entry)) p)) ⌝ }
 {
-    let path = path_at(tree, m, p);
+    let path = path_at(tree, map, p);
     let first = path.first as usize;
     let count = path.count as usize;
     if count == 0 {
         return put(out, at, b'.');
     }
-    let end = put_step(out, at, tree, m, first);
-    put_more_steps(out, end, tree, m, first + 1, count - 1)
+    let end = put_step(out, at, tree, map, first);
+    put_more_steps(out, end, tree, map, first + 1, count - 1)
 }
 
 // ---- cases
@@ -101,14 +101,14 @@ fn put_text_test(out: &mut [u8], at: usize, integer: bool, text: &[u8]) -> usize
     put(out, end, b')')
 }
 
-fn put_test(out: &mut [u8], at: usize, tree: &[u8], m: TreeMap, test: Test) -> usize
-    requires { ⌜ Mapped (now tree) m × TestInside m test ⌝ }
+fn put_test(out: &mut [u8], at: usize, tree: &[u8], map: TreeMap, test: Test) -> usize
+    requires { ⌜ Mapped (now tree) map × TestInside map test ⌝ }
     ensures { λ r. ⌜ Writes (now (out .entry)) (now (out .exit)) at r (testRead (now (tree .entry)) test) ⌝ }
 {
     match test {
         Test::Constr(number) => put_number_test(out, at, b"Constr(", number),
         Test::Text { kind, start, count } => {
-            let from = m.pool.start + start as usize;
+            let from = map.pool.start + start as usize;
             let to = from + count as usize;
             put_text_test(out, at, kind == case_kinds::INT, &tree[from..to])
         }
@@ -117,26 +117,26 @@ fn put_test(out: &mut [u8], at: usize, tree: &[u8], m: TreeMap, test: Test) -> u
     }
 }
 
-fn put_case(out: &mut [u8], at: usize, tree: &[u8], m: TreeMap, i: usize) -> usize
-    requires { ⌜ Ruled (now tree) m × (i < m .cases .count) ⌝ }
+fn put_case(out: &mut [u8], at: usize, tree: &[u8], map: TreeMap, i: usize) -> usize
+    requires { ⌜ Ruled (now tree) map × (i < map .cases .count) ⌝ }
     ensures { λ r. ⌜ Writes (now (out .entry)) (now (out .exit)) at r (caseLine (now (tree .entry)) i) ⌝ }
 {
-    let case = case_at(tree, m, i);
+    let case = case_at(tree, map, i);
     let test = case.test;
     let space = put(out, at, b' ');
-    let end = put_test(out, space, tree, m, test);
+    let end = put_test(out, space, tree, map, test);
     let colon = put(out, end, b':');
     put_decimal(out, colon, case.child)
 }
 
-pub fn put_cases(out: &mut [u8], at: usize, tree: &[u8], m: TreeMap, i: usize, n: usize) -> usize
-    requires { ⌜ Ruled (now tree) m × (i + n ≤ m .cases .count) ⌝ }
+pub fn put_cases(out: &mut [u8], at: usize, tree: &[u8], map: TreeMap, i: usize, n: usize) -> usize
+    requires { ⌜ Ruled (now tree) map × (i + n ≤ map .cases .count) ⌝ }
     ensures { λ r. ⌜ Writes (now (out .entry)) (now (out .exit)) at r (casesText (now (tree .entry)) i n) ⌝ }
 {
     let mut end = at;
     let mut j = 0;
     while j < n {
-        end = put_case(out, end, tree, m, i + j);
+        end = put_case(out, end, tree, map, i + j);
         j += 1;
     }
     end
@@ -154,24 +154,31 @@ pub fn put_default(out: &mut [u8], at: usize, default: u16) -> usize
 
 // ---- bindings
 
-fn put_binding(out: &mut [u8], at: usize, tree: &[u8], m: TreeMap, b: usize) -> usize
-    requires { ⌜ Ruled (now tree) m × (b < m .bindings .count) ⌝ }
+fn put_binding(out: &mut [u8], at: usize, tree: &[u8], map: TreeMap, b: usize) -> usize
+    requires { ⌜ Ruled (now tree) map × (b < map .bindings .count) ⌝ }
     ensures { λ r. ⌜ Writes (now (out .entry)) (now (out .exit)) at r (bindingLine (now (tree .entry)) b) ⌝ }
 {
-    let binding = binding_at(tree, m, b);
+    let binding = binding_at(tree, map, b);
     let name = put_numbered(out, at, b" n", binding.name);
     let equals = put(out, name, b'=');
-    put_path(out, equals, tree, m, binding.path as usize)
+    put_path(out, equals, tree, map, binding.path as usize)
 }
 
-pub fn put_bindings(out: &mut [u8], at: usize, tree: &[u8], m: TreeMap, b: usize, n: usize) -> usize
-    requires { ⌜ Ruled (now tree) m × (b + n ≤ m .bindings .count) ⌝ }
+pub fn put_bindings(
+    out: &mut [u8],
+    at: usize,
+    tree: &[u8],
+    map: TreeMap,
+    b: usize,
+    n: usize,
+) -> usize
+    requires { ⌜ Ruled (now tree) map × (b + n ≤ map .bindings .count) ⌝ }
     ensures { λ r. ⌜ Writes (now (out .entry)) (now (out .exit)) at r (bindingsText (now (tree .entry)) b n) ⌝ }
 {
     let mut end = at;
     let mut j = 0;
     while j < n {
-        end = put_binding(out, end, tree, m, b + j);
+        end = put_binding(out, end, tree, map, b + j);
         j += 1;
     }
     end

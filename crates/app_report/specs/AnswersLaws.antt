@@ -9,12 +9,12 @@ use lib.Dec.{leb}
 use lib.ListN.{length, take}
 use Rattle.base_words.specs.Words.{pick, zeros}
 use Rattle.spec_rules.specs.Limits.{treeRoom, workRoom, boundRoom, nodeBindingsMost}
-use Rattle.spec_rules.specs.RefusalNumbers.{stuckRefusal}
 use Rattle.spec_rules.specs.SheetRefusals.{accepted}
 use Rattle.spec_rules.specs.TreeReader.{treeFits, treeOf}
 use Rattle.spec_rules.specs.PanelFile.{panelVerdict}
 use Rattle.spec_rules.specs.Walking.{Bound, reached, stuck, walk}
-use Rattle.spec_rules.specs.Calls.{answers, refuses, Built as BuiltTree, BuildCall, buildAnswer, buildCall, sheetTreeFile, fitCall, leafOf, withoutLeaf, boundWords, WalkCall, walkAnswer, walkCall}
+use Rattle.spec_rules.specs.WalkPlaces.{lastNode, stuckStep}
+use Rattle.spec_rules.specs.Calls.{answers, refuses, Built as BuiltTree, BuildCall, buildAnswer, buildCall, sheetTreeFile, fitCall, leafOf, withoutLeaf, stuckAt, boundWords, WalkCall, walkAnswer, walkCall}
 use Rattle.spec_rules.specs.Listing.{refusedLine}
 use Rattle.spec_theorems.specs.Said.{WalkEnds, at-a-leaf, without-leaf, with-32}
 use Rattle.spec_theorems.specs.CallsLaws.{build-answers-only, fit-accepts-only}
@@ -29,7 +29,7 @@ use Rattle.dewmycel.specs.Answers.{verdictOf}
 use Rattle.app_listing.specs.Answers.{textIn, lineOf}
 use Rattle.app_io.specs.Shown.{shown, Shows}
 use Rattle.app_io.specs.ShownLaws.{shows}
-use Rattle.app_report.specs.Telling.{noLeafLine, leafLine, walkedText, builtText, telling}
+use Rattle.app_report.specs.Telling.{noLeafLine, leafLine, stuckLine, walkedText, builtText, telling}
 use Rattle.app_report.specs.Lines.{wordLines}
 use Rattle.app_report.specs.LinesLaws.{lines-bound}
 
@@ -49,7 +49,7 @@ module _ (t v : List ℕ) (n : ℕ) (r : Walked) (bound : List ℕ) (fits : tree
   -- the buffer has room for its bindings, and their lines are those of what the walk bound
   pub record AtLeaf (clause count : ℕ) : Type 0 where
     pub few : count ≤ nodeBindingsMost
-    pub text : leafLine clause ++ wordLines v bound 0 count ≡ walkedText v (walk (treeOf t) v)
+    pub text : leafLine clause ++ wordLines v bound 0 count ≡ walkedText t v (walk (treeOf t) v)
 
   at-leaf : (clause count c : ℕ) (xs : List Bound) → clause ≡ c → count ≡ length xs → bound ≡ boundWords xs ++ zeros (n - 3 * length xs)
       → walk (treeOf t) v ≡ reached c xs → AtLeaf clause count
@@ -71,31 +71,43 @@ module _ (t v : List ℕ) (n : ℕ) (r : Walked) (bound : List ℕ) (fits : tree
       go (without-leaf w a b) = let z : _≡_ {A = ℕ} 0 1 = cc (told, a) in absurd (omega arith)
       go (with-32 w a b) = let z : _≡_ {A = ℕ} 0 1 = cc (told, a) in absurd (omega arith)
 
-  pub walked-without : r ≡ Walked.NoLeaf → noLeafLine ≡ walkedText v (walk (treeOf t) v)
+  pub walked-without : r ≡ Walked.NoLeaf → noLeafLine ≡ walkedText t v (walk (treeOf t) v)
   walked-without e = go ends
     where
       told : answers withoutLeaf ≡ walkAnswer t v n
       told = sym (ap answerOf e) ∙ the-answer
 
-      go : WalkEnds t v n → noLeafLine ≡ walkedText v (walk (treeOf t) v)
+      go : WalkEnds t v n → noLeafLine ≡ walkedText t v (walk (treeOf t) v)
       go (at-a-leaf c xs w a b) = let z : _≡_ {A = ℕ} 0 1 = cc (told, a) in absurd (omega arith)
       go (without-leaf w a b) = unfold walkedText in rw w
       go (with-32 w a b) = let z : _≡_ {A = ℕ} 0 1 = cc (told, a) in absurd (omega arith)
 
-  with-refusal : (number place : ℕ) → walk (treeOf t) v ≡ stuck → number ≡ stuckRefusal → place ≡ 0 → refusedLine number place ≡ walkedText v (walk (treeOf t) v)
+  stuck-there : (node step : ℕ) → walk (treeOf t) v ≡ stuck → node ≡ lastNode t v → step ≡ stuckStep t v (lastNode t v)
+      → stuckLine node step ≡ walkedText t v (walk (treeOf t) v)
   unfolding walkedText
-  with-refusal number place w e f = rw (w, e, f)
+  stuck-there node step w e f = rw (w, e, f)
 
-  pub walked-refused : (number place : ℕ) → r ≡ Walked.Refused number place → refusedLine number place ≡ walkedText v (walk (treeOf t) v)
+  pub walked-stuck : (node step : ℕ) → r ≡ Walked.Stuck node step → stuckLine node step ≡ walkedText t v (walk (treeOf t) v)
+  walked-stuck node step e = go ends
+    where
+      told : answers (stuckAt node step) ≡ walkAnswer t v n
+      told = sym (ap answerOf e) ∙ the-answer
+
+      go : WalkEnds t v n → stuckLine node step ≡ walkedText t v (walk (treeOf t) v)
+      go (at-a-leaf c xs w a b) = let z : _≡_ {A = ℕ} 0 1 = cc (told, a) in absurd (omega arith)
+      go (without-leaf w a b) = let z : _≡_ {A = ℕ} 0 1 = cc (told, a) in absurd (omega arith)
+      go (with-32 w a b) = stuck-there node step w (cc (told, a)) (cc (told, a))
+
+  pub walked-refused : (number place : ℕ) → r ≡ Walked.Refused number place → refusedLine number place ≡ walkedText t v (walk (treeOf t) v)
   walked-refused number place e = go ends
     where
       told : refuses number place ≡ walkAnswer t v n
       told = sym (ap answerOf e) ∙ the-answer
 
-      go : WalkEnds t v n → refusedLine number place ≡ walkedText v (walk (treeOf t) v)
+      go : WalkEnds t v n → refusedLine number place ≡ walkedText t v (walk (treeOf t) v)
       go (at-a-leaf c xs w a b) = let z : _≡_ {A = ℕ} 0 1 = cc (told, a) in absurd (omega arith)
       go (without-leaf w a b) = let z : _≡_ {A = ℕ} 0 1 = cc (told, a) in absurd (omega arith)
-      go (with-32 w a b) = with-refusal number place w (cc (told, a)) (cc (told, a))
+      go (with-32 w a b) = let z : _≡_ {A = ℕ} 0 1 = cc (told, a) in absurd (omega arith)
 
 -- ---- the build, in buffers of the least room, of a sheet that the panel fits
 module _ (s v : List ℕ) (n m : ℕ) (b : Built) (tree work : List ℕ) (is : BuildFits s n m b tree work) (tree-room : treeRoom ≡ n) (work-room : workRoom ≡ m)
@@ -115,7 +127,7 @@ module _ (s v : List ℕ) (n m : ℕ) (b : Built) (tree work : List ℕ) (is : B
   pub record OfTree (t : List ℕ) : Type 0 where
     pub tree-fits : treeFits t ≡ true
     pub panel-fits : panelVerdict v ≡ accepted
-    pub text : walkedText v (walk (treeOf t) v) ≡ builtText s v
+    pub text : walkedText t v (walk (treeOf t) v) ≡ builtText s v
 
   pub built-tree : (bytes nodes bindings : ℕ) → b ≡ Built.Tree bytes nodes bindings → OfTree (take bytes tree)
   unfolding builtText

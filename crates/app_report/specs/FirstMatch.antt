@@ -14,7 +14,7 @@ use Rattle.spec_theorems.specs.Theorems.{the-walk-ends-at-the-first-match, the-
 use Rattle.app_report.specs.Telling.{noLeafLine, leafLine, bindingLines, walkedText, builtText, telling}
 
 module _ (s v : List ℕ) (b : Builds s) (f : Fits s v) where
-  says-the-walk : telling s v ≡ walkedText v (walk (treeOf (sheetTreeFile s)) v)
+  says-the-walk : telling s v ≡ walkedText (sheetTreeFile s) v (walk (treeOf (sheetTreeFile s)) v)
   unfolding telling builtText
   says-the-walk = rw (fit-accepts s v (b .sheet) f, build-answers s treeRoom workRoom (omega arith) (omega arith) b)
 

@@ -7,8 +7,9 @@ use native.Mathlib.Omega.{arith}
 use lib.ListN.{length, getD}
 use Rattle.spec_rules.specs.Walking.{Bound}
 use Rattle.spec_rules.specs.Calls.{boundWords}
-use Rattle.spec_rules.specs.Listing.{leafWord, decimal}
-use Rattle.app_report.specs.Telling.{recordWord, droppedWord, placeText, bindingLine, bindingLines, leafLine}
+use Rattle.spec_rules.specs.RefusalNumbers.{stuckRefusal}
+use Rattle.spec_rules.specs.Listing.{leafWord, refusedWord, decimal}
+use Rattle.app_report.specs.Telling.{recordWord, droppedWord, placeText, bindingLine, bindingLines, leafLine, stuckLine}
 use Rattle.app_report.specs.Lines.{wordLines}
 
 -- ---- one line as it is written, part by part
@@ -20,6 +21,10 @@ binding-is v name r d = refl
 pub leaf-is : (clause : ℕ) (others : List ℕ) → leafWord ++ (32 ∷ (decimal clause ++ (10 ∷ others))) ≡ leafLine clause ++ others
 unfolding leafLine
 leaf-is clause others = ap (λ (l : List ℕ). leafWord ++ (32 ∷ l)) (sym (append-assoc (decimal clause) (10 ∷ []) others))
+
+pub stuck-is : (node step : ℕ) → refusedWord ++ (32 ∷ (decimal stuckRefusal ++ (32 ∷ (decimal node ++ (32 ∷ (decimal step ++ 10 ∷ [])))))) ≡ stuckLine node step
+unfolding stuckLine
+stuck-is node step = refl
 
 -- ---- n bindings, of which k are written
 module _ (v words : List ℕ) (n : ℕ) where

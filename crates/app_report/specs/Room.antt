@@ -18,12 +18,13 @@ use Rattle.spec_rules.specs.PanelFile.{records, recordKind, recordA, recordCoun
 use Rattle.spec_rules.specs.TreeReader.{treeFits, treeOf}
 use Rattle.spec_rules.specs.Walking.{Bound, Walked, reached, noLeaf, stuck, walk}
 use Rattle.spec_rules.specs.Calls.{Answer, answers, refuses, Built, buildAnswer, sheetTreeFile, fitCall, Span, hasText, textCall, partOfSpan, textPart}
+use Rattle.spec_rules.specs.WalkPlaces.{lastNode, stuckStep}
 use Rattle.spec_rules.specs.Listing.{decimalTo, decimal, hex, refusedLine}
 use Rattle.spec_accepted.specs.PanelFacts.{accepted-panel}
 use Rattle.spec_theorems.specs.CallsLaws.{build-answers-only, fit-accepts-only, text-none, text-answers}
 use Rattle.spec_theorems.specs.Theorems.{the-file-fits, few-are-bound}
 use Rattle.app_listing.specs.RecordsLaws.{refused-line-is}
-use Rattle.app_report.specs.Telling.{listWord, kindText, recordText, placeText, bindingLine, bindingLines, leafLine, walkedText, whereFits, whereBuilt, builtText, telling}
+use Rattle.app_report.specs.Telling.{listWord, kindText, recordText, placeText, bindingLine, bindingLines, leafLine, stuckLine, walkedText, whereFits, whereBuilt, builtText, telling}
 use Rattle.app_report.specs.LinesLaws.{binding-is, leaf-is}
 
 -- ---- numbers and texts
@@ -98,6 +99,10 @@ refused-short : (number place : ℕ) → length (refusedLine number place) ≤ 3
 refused-short number place =
     short (sym (refused-line-is number place)) (simp length-append (omega (arith, decimal-short number, decimal-short place)))
 
+stuck-short : (node step : ℕ) → length (stuckLine node step) ≤ 32459
+unfolding stuckLine
+stuck-short node step = simp length-append (omega (arith, decimal-short stuckRefusal, decimal-short node, decimal-short step))
+
 module _ (v : List ℕ) (ok : panelVerdict v ≡ accepted) where
   line-short : (name r d : ℕ) → length (bindingLine v name r d) ≤ 169
   line-short name r d =
@@ -115,15 +120,15 @@ module _ (v : List ℕ) (ok : panelVerdict v ≡ accepted) where
   leaf-short : (clause : ℕ) (others : List ℕ) → length (leafLine clause ++ others) ≤ 11 + length others
   leaf-short clause others = short (sym (leaf-is clause others)) (simp length-append (omega (arith, decimal-short clause)))
 
-  walked-short : (t : List ℕ) → treeFits t ≡ true → length (walkedText v (walk (treeOf t) v)) ≤ 32459
+  walked-short : (t : List ℕ) → treeFits t ≡ true → length (walkedText t v (walk (treeOf t) v)) ≤ 32459
   walked-short t fits = go (walk (treeOf t) v) refl
     where
-      go : (w : Walked) → walk (treeOf t) v ≡ w → length (walkedText v (walk (treeOf t) v)) ≤ 32459
+      go : (w : Walked) → walk (treeOf t) v ≡ w → length (walkedText t v (walk (treeOf t) v)) ≤ 32459
       go (reached c xs) e =
-          short (ap (walkedText v) e)
+          short (ap (walkedText t v) e)
           (unfold walkedText in omega (arith, leaf-short c (bindingLines v xs), lines-short xs, few-are-bound t v ok fits c xs e))
-      go noLeaf e = short (ap (walkedText v) e) (unfold walkedText in omega arith)
-      go stuck e = short (ap (walkedText v) e) (unfold walkedText in refused-short stuckRefusal 0)
+      go noLeaf e = short (ap (walkedText t v) e) (unfold walkedText in omega arith)
+      go stuck e = short (ap (walkedText t v) e) (unfold walkedText in stuck-short (lastNode t v) (stuckStep t v (lastNode t v)))
 
 -- ---- the whole text
 module _ (s v : List ℕ) where
@@ -131,7 +136,7 @@ module _ (s v : List ℕ) where
   unfolding builtText
   built-short fit = go (buildAnswer s treeRoom workRoom) refl
     where
-      go : (a : Answer Built) → buildAnswer s treeRoom workRoom ≡ a → length (whereBuilt a (walkedText v (walk (treeOf (sheetTreeFile s)) v))) ≤ 32459
+      go : (a : Answer Built) → buildAnswer s treeRoom workRoom ≡ a → length (whereBuilt a (walkedText (sheetTreeFile s) v (walk (treeOf (sheetTreeFile s)) v))) ≤ 32459
       go (answers x) e =
           walked-short v (fit-accepts-only s v fit .1 .panel) (sheetTreeFile s) (the-file-fits s (build-answers-only s treeRoom workRoom x e .builds .sheet))
       go (refuses number place) e = refused-short number place

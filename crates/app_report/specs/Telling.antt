@@ -11,7 +11,8 @@ use Rattle.spec_rules.specs.PanelFile.{records, recordKind, recordA, recordCoun
 use Rattle.spec_rules.specs.TreeReader.{treeOf}
 use Rattle.spec_rules.specs.Walking.{Bound, Walked, reached, noLeaf, stuck, walk}
 use Rattle.spec_rules.specs.Calls.{Answer, answers, refuses, Built, buildAnswer, fitCall, sheetTreeFile, textPart}
-use Rattle.spec_rules.specs.Listing.{leafWord, decimal, hex, refusedLine}
+use Rattle.spec_rules.specs.WalkPlaces.{lastNode, stuckStep}
+use Rattle.spec_rules.specs.Listing.{leafWord, refusedWord, decimal, hex, refusedLine}
 
 -- ---- the words, each behind its blank; a number or a text follows all but ` pair`
 -- ` record `
@@ -94,12 +95,17 @@ unfoldable pub leafLine : ℕ → List ℕ
 unfolding decimal
 leafLine clause = leafWord ++ (32 ∷ (decimal clause ++ 10 ∷ []))
 
--- ---- the whole text
-unfoldable pub walkedText : List ℕ → Walked → List ℕ
-unfolding leafLine bindingLines refusedLine
-walkedText v (reached clause bs) = leafLine clause ++ bindingLines v bs
-walkedText v noLeaf = noLeafLine
-walkedText v stuck = refusedLine stuckRefusal 0
+-- `refused 32 NODE STEP`
+unfoldable pub stuckLine : ℕ → ℕ → List ℕ
+unfolding decimal
+stuckLine node step = refusedWord ++ (32 ∷ (decimal stuckRefusal ++ (32 ∷ (decimal node ++ (32 ∷ (decimal step ++ 10 ∷ []))))))
+
+-- ---- the whole text: of the walk of the tree file t on the panel v
+unfoldable pub walkedText : List ℕ → List ℕ → Walked → List ℕ
+unfolding leafLine bindingLines stuckLine lastNode stuckStep
+walkedText t v (reached clause bs) = leafLine clause ++ bindingLines v bs
+walkedText t v noLeaf = noLeafLine
+walkedText t v stuck = stuckLine (lastNode t v) (stuckStep t v (lastNode t v))
 
 -- a text where the panel fits the sheet, or where the sheet's tree was built, and else the line of the refusal
 abbrev pub whereFits : Verdict → List ℕ → List ℕ
@@ -113,7 +119,7 @@ whereBuilt (refuses number place) text = refusedLine number place
 -- of a panel that fits the sheet
 unfoldable pub builtText : List ℕ → List ℕ → List ℕ
 unfolding buildAnswer sheetTreeFile treeOf walk walkedText refusedLine
-builtText s v = whereBuilt (buildAnswer s treeRoom workRoom) (walkedText v (walk (treeOf (sheetTreeFile s)) v))
+builtText s v = whereBuilt (buildAnswer s treeRoom workRoom) (walkedText (sheetTreeFile s) v (walk (treeOf (sheetTreeFile s)) v))
 
 unfoldable pub telling : List ℕ → List ℕ → List ℕ
 unfolding fitCall builtText refusedLine

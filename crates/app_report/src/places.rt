@@ -15,18 +15,18 @@ ghost use Rattle.format_panel.specs.Opened.{recordOf};
 ghost use Rattle.app_listing.specs.Writing.{Writes};
 ghost use Rattle.app_report.specs.Telling.{intWord, bytesWord, listText, recordText, placeText};
 
-fn put_int(out: &mut [u8], at: usize, v: &[u8], r: u16, dropped: u16) -> usize
-    ensures { λ res. ⌜ Writes (now (out .entry)) (now (out .exit)) at res (intWord ++ textPart (now (v .entry)) r dropped) ⌝ }
+fn put_int(out: &mut [u8], at: usize, panel: &[u8], r: u16, dropped: u16) -> usize
+    ensures { λ res. ⌜ Writes (now (out .entry)) (now (out .exit)) at res (intWord ++ textPart (now (panel .entry)) r dropped) ⌝ }
 {
     let end = put_text(out, at, b" int ");
-    put_text(out, end, dewmycel::text_part(v, r, dropped))
+    put_text(out, end, dewmycel::text_part(panel, r, dropped))
 }
 
-fn put_bytes(out: &mut [u8], at: usize, v: &[u8], r: u16, dropped: u16) -> usize
-    ensures { λ res. ⌜ Writes (now (out .entry)) (now (out .exit)) at res (bytesWord ++ hex (textPart (now (v .entry)) r dropped)) ⌝ }
+fn put_bytes(out: &mut [u8], at: usize, panel: &[u8], r: u16, dropped: u16) -> usize
+    ensures { λ res. ⌜ Writes (now (out .entry)) (now (out .exit)) at res (bytesWord ++ hex (textPart (now (panel .entry)) r dropped)) ⌝ }
 {
     let end = put_text(out, at, b" bytes ");
-    put_hex(out, end, dewmycel::text_part(v, r, dropped))
+    put_hex(out, end, dewmycel::text_part(panel, r, dropped))
 }
 
 // A list's length is what is left of it.
@@ -40,14 +40,14 @@ fn put_list(out: &mut [u8], at: usize, count: u16, dropped: u16) -> usize
 }
 
 // Record x, which is record r of the panel.
-fn put_record(out: &mut [u8], at: usize, v: &[u8], x: Record, r: u16, dropped: u16) -> usize
-    requires { ⌜ x ≡ recordOf (now v) r ⌝ }
-    ensures { λ res. ⌜ Writes (now (out .entry)) (now (out .exit)) at res (recordText (now (v .entry)) r dropped) ⌝ }
+fn put_record(out: &mut [u8], at: usize, panel: &[u8], x: Record, r: u16, dropped: u16) -> usize
+    requires { ⌜ x ≡ recordOf (now panel) r ⌝ }
+    ensures { λ res. ⌜ Writes (now (out .entry)) (now (out .exit)) at res (recordText (now (panel .entry)) r dropped) ⌝ }
 {
     let kind = x.kind;
     match kind {
-        record_kinds::INTEGER => put_int(out, at, v, r, dropped),
-        record_kinds::BYTES => put_bytes(out, at, v, r, dropped),
+        record_kinds::INTEGER => put_int(out, at, panel, r, dropped),
+        record_kinds::BYTES => put_bytes(out, at, panel, r, dropped),
         record_kinds::LIST => put_list(out, at, x.count as u16, dropped),
         record_kinds::PAIR => put_text(out, at, b" pair"),
         record_kinds::TUPLE => put_numbered(out, at, b" tuple ", x.count as u16),
@@ -56,16 +56,16 @@ fn put_record(out: &mut [u8], at: usize, v: &[u8], x: Record, r: u16, dropped: u
     }
 }
 
-pub fn put_place(out: &mut [u8], at: usize, v: &[u8], r: u16, dropped: u16) -> usize
-    ensures { λ res. ⌜ Writes (now (out .entry)) (now (out .exit)) at res (placeText (now (v .entry)) r dropped) ⌝ }
+pub fn put_place(out: &mut [u8], at: usize, panel: &[u8], r: u16, dropped: u16) -> usize
+    ensures { λ res. ⌜ Writes (now (out .entry)) (now (out .exit)) at res (placeText (now (panel .entry)) r dropped) ⌝ }
 {
-    let CheckedPanel::Accepted(m) = format_panel::check(v) else {
+    let CheckedPanel::Accepted(map) = format_panel::check(panel) else {
         return at;
     };
     let i = r as usize;
-    if m.records <= i {
+    if map.records.count <= i {
         return at;
     }
-    let x = record_at(v, i);
-    put_record(out, at, v, x, r, dropped)
+    let x = record_at(panel, i);
+    put_record(out, at, panel, x, r, dropped)
 }

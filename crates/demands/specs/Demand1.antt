@@ -3,7 +3,8 @@
 --
 -- That a call ends and answers is what it is to be proved: no call of crate dewmycel asks anything of its bytes or of its buffers. Here is
 -- what it answers. An answer that fits a call's contract is a refusal with a number and a place exactly if there is that reason for it
--- (Reasons has 01's order for each call), and the tests behind the numbers are 01's, tried in 01's order.
+-- (Reasons has 01's order for each call), and the tests behind the numbers are 01's, tried in 01's order. 32 has two numbers for its place,
+-- the node and the step at which the walk is stuck: an answer of the walk is that exactly if the walk is stuck there.
 use mathlib.Core.Path.{_≡_, sym, ap, _∙_}
 use mathlib.Core.Bool.{false, not}
 use mathlib.Core.Logic.{_↔_}
@@ -19,16 +20,16 @@ use Rattle.spec_rules.specs.PanelFile.{panelVerdict, panelLengthFits, panelLayo
 use Rattle.spec_rules.specs.Building.{Tree}
 use Rattle.spec_rules.specs.Hoisting.{hasLeaf, nodesIn, bindingsIn}
 use Rattle.spec_rules.specs.Calls.{treeVerdict, BuildCall, buildAnswer, buildCall, WalkCall, walkAnswer, walkCall, textPart, partOfSpan}
-use Rattle.spec_theorems.specs.Said.{Passes2, Passes3, Passes4, Passes5, Passes6, Passes7, Passes8, Passes9, Passes10, Passes11, Passes12, Passes13, Passes14, Passes21, Passes22, Passes23, Passes24}
-use Rattle.spec_theorems.specs.CallsLaws.{build-refused-writes, walk-refused-writes}
-use Rattle.spec_theorems.specs.Theorems.{accepted-exactly, tree-accepted-exactly, panel-accepted-exactly, refused-2-exactly, refused-3-exactly, refused-4-exactly, refused-5-exactly, refused-6-exactly, refused-7-exactly, refused-8-exactly, refused-9-exactly, refused-10-exactly, refused-11-exactly, refused-12-exactly, refused-13-exactly, refused-21-exactly, refused-22-exactly, refused-23-exactly, refused-24-exactly}
+use Rattle.spec_theorems.specs.Said.{StuckThere, Passes2, Passes3, Passes4, Passes5, Passes6, Passes7, Passes8, Passes9, Passes10, Passes11, Passes12, Passes13, Passes14, Passes21, Passes22, Passes23, Passes24}
+use Rattle.spec_theorems.specs.CallsLaws.{build-refused-writes, walk-refused-writes, walk-stuck-writes}
+use Rattle.spec_theorems.specs.Theorems.{the-place-is-there, accepted-exactly, tree-accepted-exactly, panel-accepted-exactly, refused-2-exactly, refused-3-exactly, refused-4-exactly, refused-5-exactly, refused-6-exactly, refused-7-exactly, refused-8-exactly, refused-9-exactly, refused-10-exactly, refused-11-exactly, refused-12-exactly, refused-13-exactly, refused-21-exactly, refused-22-exactly, refused-23-exactly, refused-24-exactly}
 use Rattle.spec_theorems.specs.Refusals.{refusal-14}
 use Rattle.fit.specs.declared.Fitted.{Fitted}
 use Rattle.fit.specs.declared.Fitted.the-variants.{Refused as NotFitted}
 use Rattle.format_panel.specs.declared.Located.{Located}
 use Rattle.format_panel.specs.declared.Located.the-variants.{At as LocatedAt, Refused as NotLocated}
 use Rattle.walk.specs.declared.Walked.{Walked}
-use Rattle.walk.specs.declared.Walked.the-variants.{Refused as NotWalked}
+use Rattle.walk.specs.declared.Walked.the-variants.{Stuck, Refused as NotWalked}
 use Rattle.walk.specs.Answers.{answerOf as walkAnswerOf}
 use Rattle.build_call.specs.declared.Built.{Built}
 use Rattle.build_call.specs.declared.Built.the-variants.{Refused as NotBuilt}
@@ -36,8 +37,8 @@ use Rattle.build_call.specs.Answers.{answerOf as buildAnswerOf}
 use Rattle.dewmycel.specs.Answers.{verdictOf, spanOf}
 use Rattle.dewmycel.specs.Contracts.{BuildFits, FitFits, WalkFits, TextFits, PartFits}
 use Rattle.demands.specs.OneAnswer.{build-known, fit-known, walk-known, text-known}
-use Rattle.demands.specs.Reasons.{BuildRefuses, FitRefuses, WalkRefuses, TextRefuses}
-use Rattle.demands.specs.ReasonsLaws.{build-reason, reason-build, fit-reason, reason-fit, walk-reason, reason-walk, text-reason, reason-text}
+use Rattle.demands.specs.Reasons.{BuildRefuses, FitRefuses, WalkRefuses, WalkSticks, TextRefuses}
+use Rattle.demands.specs.ReasonsLaws.{build-reason, reason-build, fit-reason, reason-fit, walk-reason, reason-walk, stuck-reason, reason-stuck, text-reason, reason-text}
 
 -- ======== the calls
 module _ (s : List ℕ) (n m : ℕ) (r : Built) (tree work : List ℕ) (fits : BuildFits s n m r tree work) where
@@ -76,9 +77,28 @@ module _ (t v : List ℕ) (n : ℕ) (r : Walked) (bound : List ℕ) (fits : Walk
     λ o. walk-known r (NotWalked number place) (the-walk-answer ∙ reason-walk t v n number place o),
   )
 
+  -- 32 with its place; and that node sticks at that step
+  pub walk-is-stuck-exactly : (node step : ℕ) → (r ≡ Stuck node step) ↔ WalkSticks t v n node step
+  walk-is-stuck-exactly node step = (
+    λ e. stuck-reason t v n node step (sym the-walk-answer ∙ ap walkAnswerOf e),
+    λ o. walk-known r (Stuck node step) (the-walk-answer ∙ reason-stuck t v n node step o),
+  )
+
+  pub walk-is-stuck-there : (node step : ℕ) → r ≡ Stuck node step → StuckThere t v node step
+  walk-is-stuck-there node step e =
+      let o = stuck-reason t v n node step (sym the-walk-answer ∙ ap walkAnswerOf e) in
+      let k = o .node-is in
+      let s = o .step-is in
+      rw (s, k) (the-place-is-there t v (o .tree-fits) (o .is-stuck))
+
   pub walk-refused-is-zero : (number place : ℕ) → r ≡ NotWalked number place → bound ≡ zeros n
   walk-refused-is-zero number place e =
       ap (λ (x : WalkCall). x .bound) fits ∙ walk-refused-writes t v n number place (sym the-walk-answer ∙ ap walkAnswerOf e)
+
+  pub walk-stuck-is-zero : (node step : ℕ) → r ≡ Stuck node step → bound ≡ zeros n
+  walk-stuck-is-zero node step e =
+      let o = stuck-reason t v n node step (sym the-walk-answer ∙ ap walkAnswerOf e) in
+      ap (λ (x : WalkCall). x .bound) fits ∙ walk-stuck-writes t v n (o .room) (o .tree-fits) (o .panel-fits) (o .is-stuck)
 
 module _ (v : List ℕ) (at dropped : ℕ) (r : Located) (fits : TextFits v at dropped r) where
   pub text-is-refused-exactly : (number place : ℕ) → (r ≡ NotLocated number place) ↔ TextRefuses v at dropped number place

@@ -3,6 +3,7 @@ pub mod OneAnswer
 pub mod Reasons
 pub mod ReasonsLaws
 pub mod Demand1
+pub mod FaceWalk
 pub mod Demand2
 pub mod Demand3
 pub mod ShutOut

@@ -3,13 +3,13 @@ use mathlib.Core.Path.{_≡_, refl, sym, ap, _∙_}
 use mathlib.Core.List.{List}
 use Prim.Native.Nat.{ℕ}
 use native.Mathlib.Omega.{arith}
-use Rattle.spec_rules.specs.Calls.{Built as BuiltTree, BuildCall, leafOf, withoutLeaf, WalkCall, Span}
+use Rattle.spec_rules.specs.Calls.{Built as BuiltTree, BuildCall, leafOf, withoutLeaf, stuckAt, WalkCall, Span}
 use Rattle.fit.specs.declared.Fitted.{Fitted}
 use Rattle.fit.specs.declared.Fitted.the-variants.{Fits, Refused as NotFitted}
 use Rattle.format_panel.specs.declared.Located.{Located}
 use Rattle.format_panel.specs.declared.Located.the-variants.{At, Refused as NotLocated}
 use Rattle.walk.specs.declared.Walked.{Walked}
-use Rattle.walk.specs.declared.Walked.the-variants.{Leaf, NoLeaf, Refused as NotWalked}
+use Rattle.walk.specs.declared.Walked.the-variants.{Leaf, NoLeaf, Stuck, Refused as NotWalked}
 use Rattle.walk.specs.Answers.{answerOf as walkAnswerOf}
 use Rattle.build_call.specs.declared.Built.{Built}
 use Rattle.build_call.specs.declared.Built.the-variants.{Tree, Refused as NotBuilt}
@@ -35,12 +35,19 @@ fit-known (NotFitted number place) (NotFitted number' place') e = cc
 pub walk-known : (r q : Walked) → walkAnswerOf r ≡ walkAnswerOf q → r ≡ q
 walk-known (Leaf clause count) (Leaf clause' count') e = let x : leafOf clause count ≡ leafOf clause' count' = cc in cc
 walk-known (Leaf clause count) NoLeaf e = let x : leafOf clause count ≡ withoutLeaf = cc in let z : _≡_ {A = ℕ} 0 1 = cc in absurd (omega arith)
+walk-known (Leaf clause count) (Stuck node step) e = let x : leafOf clause count ≡ stuckAt node step = cc in let z : _≡_ {A = ℕ} 0 1 = cc in absurd (omega arith)
 walk-known (Leaf clause count) (NotWalked number place) e = let z : _≡_ {A = ℕ} 0 1 = cc in absurd (omega arith)
 walk-known NoLeaf (Leaf clause count) e = let x : withoutLeaf ≡ leafOf clause count = cc in let z : _≡_ {A = ℕ} 0 1 = cc in absurd (omega arith)
 walk-known NoLeaf NoLeaf e = refl
+walk-known NoLeaf (Stuck node step) e = let x : withoutLeaf ≡ stuckAt node step = cc in let z : _≡_ {A = ℕ} 0 1 = cc in absurd (omega arith)
 walk-known NoLeaf (NotWalked number place) e = let z : _≡_ {A = ℕ} 0 1 = cc in absurd (omega arith)
+walk-known (Stuck node step) (Leaf clause count) e = let x : stuckAt node step ≡ leafOf clause count = cc in let z : _≡_ {A = ℕ} 0 1 = cc in absurd (omega arith)
+walk-known (Stuck node step) NoLeaf e = let x : stuckAt node step ≡ withoutLeaf = cc in let z : _≡_ {A = ℕ} 0 1 = cc in absurd (omega arith)
+walk-known (Stuck node step) (Stuck node' step') e = let x : stuckAt node step ≡ stuckAt node' step' = cc in cc
+walk-known (Stuck node step) (NotWalked number place) e = let z : _≡_ {A = ℕ} 0 1 = cc in absurd (omega arith)
 walk-known (NotWalked number place) (Leaf clause count) e = let z : _≡_ {A = ℕ} 0 1 = cc in absurd (omega arith)
 walk-known (NotWalked number place) NoLeaf e = let z : _≡_ {A = ℕ} 0 1 = cc in absurd (omega arith)
+walk-known (NotWalked number place) (Stuck node step) e = let z : _≡_ {A = ℕ} 0 1 = cc in absurd (omega arith)
 walk-known (NotWalked number place) (NotWalked number' place') e = cc
 
 pub text-known : (r q : Located) → spanOf r ≡ spanOf q → r ≡ q

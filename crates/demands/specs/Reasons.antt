@@ -12,6 +12,7 @@ use Rattle.spec_rules.specs.PanelFile.{panelVerdict}
 use Rattle.spec_rules.specs.TreeReader.{treeFits, treeOf}
 use Rattle.spec_rules.specs.Fitting.{panelFits}
 use Rattle.spec_rules.specs.Walking.{stuck, walk}
+use Rattle.spec_rules.specs.WalkPlaces.{lastNode, stuckStep}
 use Rattle.spec_rules.specs.Calls.{sheetTree, treeVerdict, hasText}
 
 -- ---- the build: 1, then 2 to 11, then 12 to 14
@@ -26,12 +27,20 @@ pub data FitRefuses (s v : List ℕ) (number place : ℕ) : Type 0 where
   for-panel : verdict s ≡ accepted → panelVerdict v ≡ refused number place → FitRefuses s v number place
   for-type : verdict s ≡ accepted → panelVerdict v ≡ accepted → panelFits s v ≡ false → number ≡ 25 → place ≡ 0 → FitRefuses s v number place
 
--- ---- the walk: 1, then 31, then 21 to 24, then 32
+-- ---- the walk: 1, then 31, then 21 to 24
 pub data WalkRefuses (t v : List ℕ) (n number place : ℕ) : Type 0 where
   for-room : n < boundRoom → number ≡ 1 → place ≡ 0 → WalkRefuses t v n number place
   for-tree : boundRoom ≤ n → treeFits t ≡ false → number ≡ 31 → place ≡ 0 → WalkRefuses t v n number place
   for-panel : boundRoom ≤ n → treeFits t ≡ true → panelVerdict v ≡ refused number place → WalkRefuses t v n number place
-  for-stuck : boundRoom ≤ n → treeFits t ≡ true → panelVerdict v ≡ accepted → walk (treeOf t) v ≡ stuck → number ≡ 32 → place ≡ 0 → WalkRefuses t v n number place
+
+-- then 32, whose place is the last node that the walk comes to and the step at which that node sticks
+pub record WalkSticks (t v : List ℕ) (n node step : ℕ) : Type 0 where
+  pub room : boundRoom ≤ n
+  pub tree-fits : treeFits t ≡ true
+  pub panel-fits : panelVerdict v ≡ accepted
+  pub is-stuck : walk (treeOf t) v ≡ stuck
+  pub node-is : node ≡ lastNode t v
+  pub step-is : step ≡ stuckStep t v node
 
 -- ---- the text call: 21 to 24, then 33
 pub data TextRefuses (v : List ℕ) (at dropped number place : ℕ) : Type 0 where

@@ -1,6 +1,6 @@
 -- The reasons are the calls' own: a call's definition refuses with a number and a place exactly if there is such a reason.
 -- Rests on the laws of the calls in crate spec_theorems.
-use mathlib.Core.Path.{_≡_, refl, sym, _∙_}
+use mathlib.Core.Path.{_≡_, refl, sym, ap, _∙_}
 use mathlib.Core.Bool.{Bool, true, false}
 use mathlib.Core.Logic.{inl, inr}
 use mathlib.Core.List.{List}
@@ -10,15 +10,17 @@ use borrow.Author.Tests.{leb-true, leb-false}
 use lib.Dec.{leb}
 use Rattle.base_words.specs.Words.{both}
 use Rattle.spec_rules.specs.Limits.{treeRoom, workRoom, boundRoom}
+use Rattle.spec_rules.specs.RefusalNumbers.{roomRefusal, treeRefusal}
 use Rattle.spec_rules.specs.SheetFile.{clauses}
 use Rattle.spec_rules.specs.SheetRefusals.{Verdict, accepted, refused, require, andThen, verdict}
 use Rattle.spec_rules.specs.PanelFile.{panelVerdict}
 use Rattle.spec_rules.specs.TreeReader.{treeFits, treeOf}
 use Rattle.spec_rules.specs.Fitting.{panelFits}
 use Rattle.spec_rules.specs.Walking.{Walked, reached, noLeaf, stuck, walk}
-use Rattle.spec_rules.specs.Calls.{Answer, answers, refuses, unless, sheetTree, sheetTreeFile, treeVerdict, Built, builtOf, buildRoom, buildAnswer, fitCall, walkRoom, treeFileVerdict, WalkEnd, walkEnd, walkAnswer, Span, hasText, textCall}
+use Rattle.spec_rules.specs.WalkPlaces.{lastNode, stuckStep}
+use Rattle.spec_rules.specs.Calls.{Answer, answers, refuses, unless, sheetTree, sheetTreeFile, treeVerdict, Built, builtOf, buildRoom, buildAnswer, fitCall, walkRoom, treeFileVerdict, WalkEnd, stuckAt, walkEnd, walkAnswer, Span, hasText, textCall}
 use Rattle.spec_theorems.specs.CallsLaws.{build-room, build-sheet, build-tree, fit-sheet, fit-panel, fit-type, walk-room, walk-tree, walk-panel, walk-stuck, text-panel, text-none}
-use Rattle.demands.specs.Reasons.{BuildRefuses, FitRefuses, WalkRefuses, TextRefuses}
+use Rattle.demands.specs.Reasons.{BuildRefuses, FitRefuses, WalkRefuses, WalkSticks, TextRefuses}
 
 -- ---- a refusal's number and place
 module _ {A : Type 0} (k p number place : ℕ) (e : _≡_ {A = Answer A} (refuses k p) (refuses number place)) where
@@ -95,17 +97,10 @@ module _ (t v : List ℕ) (n number place : ℕ) where
   walk-reason e = room (leb boundRoom n) refl e
     where
       end : Answer WalkEnd
-      end = walkEnd (walk (treeOf t) v)
-
-      ended : boundRoom ≤ n → treeFits t ≡ true → panelVerdict v ≡ accepted → (w : Walked) → walk (treeOf t) v ≡ w → walkEnd w ≡ refuses number place → WalkRefuses t v n number place
-      ended a b h (reached c xs) g d = absurd (no-refusal _ number place (unfold walkEnd in d))
-      ended a b h noLeaf g d = absurd (no-refusal _ number place (unfold walkEnd in d))
-      ended a b h stuck g d =
-          let f : _≡_ {A = Answer WalkEnd} (refuses 32 0) (refuses number place) = unfold walkEnd in d in
-          WalkRefuses.for-stuck a b h g (sym (same-number 32 0 number place f)) (sym (same-place 32 0 number place f))
+      end = answers (walkEnd t v (walk (treeOf t) v))
 
       panel : boundRoom ≤ n → treeFits t ≡ true → (w : Verdict) → panelVerdict v ≡ w → unless w end ≡ refuses number place → WalkRefuses t v n number place
-      panel a b accepted h d = ended a b h (walk (treeOf t) v) refl d
+      panel a b accepted h d = absurd (no-refusal _ number place d)
       panel a b (refused k p) h d = WalkRefuses.for-panel a b (h ∙ same-refusal k p number place d)
 
       tree : boundRoom ≤ n → (b : Bool) → treeFits t ≡ b → unless (require b 31 accepted) (unless (panelVerdict v) end) ≡ refuses number place → WalkRefuses t v n number place
@@ -121,7 +116,46 @@ module _ (t v : List ℕ) (n number place : ℕ) where
   reason-walk (WalkRefuses.for-room l a b) = walk-room t v n l ∙ rw (a, b)
   reason-walk (WalkRefuses.for-tree l x a b) = walk-tree t v n l x ∙ rw (a, b)
   reason-walk (WalkRefuses.for-panel l x h) = walk-panel t v n l x number place h
-  reason-walk (WalkRefuses.for-stuck l x h g a b) = walk-stuck t v n l x h g ∙ rw (a, b)
+
+-- ---- the walk that is stuck
+module _ (t v : List ℕ) (n node step : ℕ) where
+  no-answer : (number place : ℕ) → _≡_ {A = Answer WalkEnd} (refuses number place) (answers (stuckAt node step)) → ⊥
+  no-answer number place e = let z : _≡_ {A = ℕ} 0 1 = cc in absurd (omega arith)
+
+  pub stuck-reason : walkAnswer t v n ≡ answers (stuckAt node step) → WalkSticks t v n node step
+  unfolding walkAnswer walkRoom treeFileVerdict walkEnd
+  stuck-reason e = room (leb boundRoom n) refl e
+    where
+      end : Answer WalkEnd
+      end = answers (walkEnd t v (walk (treeOf t) v))
+
+      ended : boundRoom ≤ n → treeFits t ≡ true → panelVerdict v ≡ accepted → (w : Walked) → walk (treeOf t) v ≡ w → walkEnd t v w ≡ stuckAt node step → WalkSticks t v n node step
+      ended a b h (reached c xs) g d = let z : _≡_ {A = ℕ} 0 1 = cc in absurd (omega arith)
+      ended a b h noLeaf g d = let z : _≡_ {A = ℕ} 0 1 = cc in absurd (omega arith)
+      ended a b h stuck g d =
+          let at : lastNode t v ≡ node = cc in
+          let step-there : stuckStep t v (lastNode t v) ≡ step = cc in
+          record { room = a; tree-fits = b; panel-fits = h; is-stuck = g; node-is = sym at; step-is = sym step-there ∙ ap (stuckStep t v) at }
+
+      panel : boundRoom ≤ n → treeFits t ≡ true → (w : Verdict) → panelVerdict v ≡ w → unless w end ≡ answers (stuckAt node step) → WalkSticks t v n node step
+      panel a b accepted h d = let x : walkEnd t v (walk (treeOf t) v) ≡ stuckAt node step = cc in ended a b h (walk (treeOf t) v) refl x
+      panel a b (refused k p) h d = absurd (no-answer k p d)
+
+      tree : boundRoom ≤ n → (b : Bool) → treeFits t ≡ b → unless (require b treeRefusal accepted) (unless (panelVerdict v) end) ≡ answers (stuckAt node step) → WalkSticks t v n node step
+      tree a true x d = panel a x (panelVerdict v) refl d
+      tree a false x d = absurd (no-answer treeRefusal 0 d)
+
+      room : (b : Bool) → leb boundRoom n ≡ b
+          → unless (require b roomRefusal accepted) (unless (require (treeFits t) treeRefusal accepted) (unless (panelVerdict v) end)) ≡ answers (stuckAt node step)
+          → WalkSticks t v n node step
+      room true x d = tree (leb-true boundRoom n x) (treeFits t) refl d
+      room false x d = absurd (no-answer roomRefusal 0 d)
+
+  pub reason-stuck : WalkSticks t v n node step → walkAnswer t v n ≡ answers (stuckAt node step)
+  reason-stuck o =
+      let e = o .node-is in
+      let f = o .step-is in
+      walk-stuck t v n (o .room) (o .tree-fits) (o .panel-fits) (o .is-stuck) ∙ rw (f, e)
 
 -- ---- the text call
 module _ (v : List ℕ) (at dropped number place : ℕ) where

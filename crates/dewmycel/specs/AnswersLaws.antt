@@ -7,7 +7,7 @@ use Prim.Native.Nat.{ℕ, _+_, _<_}
 use native.Mathlib.Omega.{arith}
 use borrow.Author.Tests.{ltb-true, leb-true}
 use Rattle.base_words.specs.WordsLaws.{both-true}
-use Rattle.spec_rules.specs.RefusalNumbers.{noTextRefusal}
+use Rattle.spec_rules.specs.RefusalNumbers.{stuckRefusal, noTextRefusal}
 use Rattle.spec_rules.specs.PanelFile.{recordFirst, recordCount, panelPoolAt}
 use Rattle.spec_rules.specs.SheetRefusals.{Verdict, accepted, refused, require}
 use Rattle.spec_rules.specs.PanelFile.{panelVerdict}
@@ -20,7 +20,7 @@ use Rattle.format_panel.specs.declared.Located.the-variants.{At, Refused as Not
 use Rattle.format_panel.specs.Answers.{located, locatedBy}
 use Rattle.fit.specs.Answers.{fitted, fittedBy}
 use Rattle.walk.specs.declared.Walked.{Walked}
-use Rattle.walk.specs.declared.Walked.the-variants.{Leaf, NoLeaf, Refused as NotWalked}
+use Rattle.walk.specs.declared.Walked.the-variants.{Leaf, NoLeaf, Stuck, Refused as NotWalked}
 use Rattle.walk.specs.Answers.{answerOf, callOf}
 use Rattle.build_call.specs.declared.Built.{Built}
 use Rattle.build_call.specs.declared.Built.the-variants.{Tree as BuiltTree, Refused as NotBuilt}
@@ -92,6 +92,10 @@ module _ (r : Walked) (l : List ℕ) (call : WalkCall) (is : callOf r l ≡ call
   pub no-leaf-packed : r ≡ NoLeaf → WalkFace 0 l call
   unfolding packedWalk
   no-leaf-packed e = face 0 (ap (λ x. packedWalk (answerOf x)) (sym e))
+
+  pub stuck-packed : (node step y : ℕ) → r ≡ Stuck node step → y ≡ packed stuckRefusal node step 0 → WalkFace y l call
+  unfolding packedWalk
+  stuck-packed node step y e p = face y (p ∙ ap (λ x. packedWalk (answerOf x)) (sym e))
 
   pub unwalked-packed : (number place y : ℕ) → r ≡ NotWalked number place → y ≡ packed number place 0 0 → WalkFace y l call
   unfolding packedWalk

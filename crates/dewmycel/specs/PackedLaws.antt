@@ -6,8 +6,9 @@ use native.Mathlib.Omega.{arith}
 use borrow.Author.Tests.{ne-eqb}
 use lib.Dec.{eqb}
 use Rattle.base_words.specs.Words.{pick}
+use Rattle.spec_rules.specs.RefusalNumbers.{stuckRefusal}
 use Rattle.spec_rules.specs.SheetRefusals.{Verdict, accepted, refused}
-use Rattle.spec_rules.specs.Calls.{Answer, answers, refuses, Built, WalkEnd, leafOf, withoutLeaf, Span}
+use Rattle.spec_rules.specs.Calls.{Answer, answers, refuses, Built, WalkEnd, leafOf, withoutLeaf, stuckAt, Span}
 use Rattle.dewmycel.specs.Packed.{packed, packedFit, packedBuild, packedWalk, packedText}
 
 -- four words
@@ -68,6 +69,10 @@ readBuilt y = record { bytes = (y / 65536) % 65536; nodes = (y / 4294967296) % 6
 abbrev pub readEnd : ℕ → WalkEnd
 readEnd y = pick (eqb ((y / 281474976710656) % 65536) 1) (leafOf ((y / 65536) % 65536) ((y / 4294967296) % 65536)) withoutLeaf
 
+-- of 32 bits 16 to 31 are the node and 32 to 47 the step
+abbrev pub readWalk : ℕ → Answer WalkEnd
+readWalk y = pick (eqb (y % 65536) stuckRefusal) (answers (stuckAt ((y / 65536) % 65536) ((y / 4294967296) % 65536))) (readAnswer readEnd y)
+
 -- a text: bits 16 to 31 are where it starts in the panel, 32 to 47 its length
 abbrev pub readSpan : ℕ → Span
 readSpan y = record { start = (y / 65536) % 65536; count = (y / 4294967296) % 65536 }
@@ -99,6 +104,10 @@ verdict-read number place w =
 answer-read : {A : Type 0} (f : ℕ → A) (b c d : ℕ) → Words 0 b c d → readAnswer f (packed 0 b c d) ≡ answers (f (packed 0 b c d))
 answer-read f b c d w = let r = packed-reads-back 0 b c d w in rw (r .bits-0-to-15) refl
 
+-- a word that is not 32's
+not-stuck-read : (y : ℕ) → (y % 65536 ≡ stuckRefusal → ⊥) → readWalk y ≡ readAnswer readEnd y
+not-stuck-read y other = rw (ne-eqb (y % 65536) stuckRefusal other)
+
 -- what each answer packs
 packed-tree : (x : Built) → packedBuild (answers x) ≡ packed 0 (x .bytes) (x .nodes) (x .bindings)
 unfolding packedBuild
@@ -115,6 +124,10 @@ packed-unfit number place = refl
 packed-leaf : (clause count : ℕ) → packedWalk (answers (leafOf clause count)) ≡ packed 0 clause count 1
 unfolding packedWalk
 packed-leaf clause count = refl
+
+packed-stuck : (node step : ℕ) → packedWalk (answers (stuckAt node step)) ≡ packed stuckRefusal node step 0
+unfolding packedWalk
+packed-stuck node step = refl
 
 packed-unwalked : (number place : ℕ) → packedWalk (refuses number place) ≡ packed number place 0 0
 unfolding packedWalk
@@ -148,17 +161,29 @@ pub unfit-reads-back : (number place : ℕ) → Refusal number place → readVer
 unfit-reads-back number place w = ap readVerdict (packed-unfit number place) ∙ verdict-read number place w
 
 -- THEOREM: what a walk answered is read in its number
-pub leaf-reads-back : (clause count : ℕ) → Words 0 clause count 1 → readAnswer readEnd (packedWalk (answers (leafOf clause count))) ≡ answers (leafOf clause count)
+pub leaf-reads-back : (clause count : ℕ) → Words 0 clause count 1 → readWalk (packedWalk (answers (leafOf clause count))) ≡ answers (leafOf clause count)
 leaf-reads-back clause count w =
     let r = packed-reads-back 0 clause count 1 w in
-    ap (readAnswer readEnd) (packed-leaf clause count) ∙ answer-read readEnd clause count 1 w ∙ rw (r .bits-48-to-63, r .bits-16-to-31, r .bits-32-to-47) refl
+    ap readWalk (packed-leaf clause count)
+    ∙ not-stuck-read (packed 0 clause count 1) (λ e. omega (arith, e, r .bits-0-to-15))
+    ∙ answer-read readEnd clause count 1 w
+    ∙ rw (r .bits-48-to-63, r .bits-16-to-31, r .bits-32-to-47) refl
 
-pub no-leaf-reads-back : readAnswer readEnd (packedWalk (answers withoutLeaf)) ≡ answers withoutLeaf
+pub no-leaf-reads-back : readWalk (packedWalk (answers withoutLeaf)) ≡ answers withoutLeaf
 unfolding packedWalk
 no-leaf-reads-back = refl
 
-pub unwalked-reads-back : (number place : ℕ) → Refusal number place → readAnswer readEnd (packedWalk (refuses number place)) ≡ refuses number place
-unwalked-reads-back number place w = ap (readAnswer readEnd) (packed-unwalked number place) ∙ refusal-read readEnd number place w
+pub stuck-reads-back : (node step : ℕ) → Words stuckRefusal node step 0 → readWalk (packedWalk (answers (stuckAt node step))) ≡ answers (stuckAt node step)
+stuck-reads-back node step w =
+    let r = packed-reads-back stuckRefusal node step 0 w in
+    ap readWalk (packed-stuck node step) ∙ rw (r .bits-0-to-15, r .bits-16-to-31, r .bits-32-to-47) refl
+
+pub unwalked-reads-back : (number place : ℕ) → Refusal number place → (number ≡ stuckRefusal → ⊥) → readWalk (packedWalk (refuses number place)) ≡ refuses number place
+unwalked-reads-back number place w other =
+    let r = refusal-bits number place w in
+    ap readWalk (packed-unwalked number place)
+    ∙ not-stuck-read (packed number place 0 0) (λ e. other (sym (r .bits-0-to-15) ∙ e))
+    ∙ refusal-read readEnd number place w
 
 -- THEOREM: where a text stands is read in its number
 pub span-reads-back : (x : Span) → Words 0 (x .start) (x .count) 0 → readAnswer readSpan (packedText (answers x)) ≡ answers x

@@ -1,5 +1,7 @@
-// The calls for C: each answer in one u64. Bits 0 to 15 are the refusal number, 0 for none; of a refusal bits 16 to 31 are its place.
+// The calls for C: each answer in one u64. Bits 0 to 15 are the refusal number, 0 for none; of a refusal bits 16 to 31 are its place, and
+// the rest is 0 but of 32, which has two numbers for its place.
 // A slice is a pointer and a length; what a caller in C owes is in include/dewmycel.h.
+use base_numbers::refusals;
 use build_call::Built;
 use fit::Fitted;
 use format_panel::Located;
@@ -43,7 +45,8 @@ pub extern "C" fn dewmycel_fit(sheet: &[u8], panel: &[u8]) -> u64
     }
 }
 
-// At a leaf bit 48 is 1, bits 16 to 31 are the clause, 32 to 47 the number of bindings; No leaf: all 0.
+// At a leaf bit 48 is 1, bits 16 to 31 are the clause, 32 to 47 the number of bindings; No leaf: all 0. Of 32, bits 16 to 31 are
+// the node and 32 to 47 the step.
 #[no_mangle]
 pub extern "C" fn dewmycel_walk(tree: &[u8], panel: &[u8], bound: &mut [u16]) -> u64
     ensures { λ r. ⌜ WalkFace r (now (bound .exit)) (walkCall (now (tree .entry)) (now (panel .entry)) (length (now (bound .entry)))) ⌝ }
@@ -51,6 +54,7 @@ pub extern "C" fn dewmycel_walk(tree: &[u8], panel: &[u8], bound: &mut [u16]) ->
     match crate::walk(tree, panel, bound) {
         Walked::Leaf { clause, count } => pack(0, clause, count, 1),
         Walked::NoLeaf => 0,
+        Walked::Stuck { node, step } => pack(refusals::STUCK, node, step, 0),
         Walked::Refused { number, place } => pack(number, place, 0, 0),
     }
 }

@@ -23,7 +23,8 @@ pub fn fit(sheet: &[u8], panel: &[u8]) -> Fitted
     fit::fit(sheet, panel)
 }
 
-// The walk of a tree on a panel: refusals 1, 31, 21 to 24, 32; at a leaf its clause, and (name, record, dropped) for each binding.
+// The walk of a tree on a panel: refusals 1, 31, 21 to 24, 32 with its node and step; at a leaf its clause, and (name, record, dropped)
+// for each binding.
 pub fn walk(tree: &[u8], panel: &[u8], bound: &mut [u16]) -> Walked
     ensures { λ r. ⌜ WalkFits (now (tree .entry)) (now (panel .entry)) (length (now (bound .entry))) r (now (bound .exit)) ⌝ }
 {

@@ -4,9 +4,9 @@ use libc::STDERR_FILENO;
 use libc::STDIN_FILENO;
 use libc::STDOUT_FILENO;
 
-fn list(s: &[u8]) {
+fn list(sheet: &[u8]) {
     let mut out = app_io::huge_buffer();
-    let n = app_io::list(s, &mut out);
+    let n = app_io::list(sheet, &mut out);
     if n == 0 {
         io::write_all(STDERR_FILENO, b"lister: the listing has no room\n");
         return;

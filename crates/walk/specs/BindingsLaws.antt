@@ -1,7 +1,6 @@
 -- Laws of a leaf's bindings after some of them are written.
 -- Rests on Bindings and the laws of stores.
 use mathlib.Core.Path.{_≡_, refl, sym, ap, _∙_}
-use mathlib.Core.Bool.{true}
 use mathlib.Core.List.{List, [], _∷_}
 use mathlib.Core.Option.{Option, none, some}
 use Prim.Native.Nat.{ℕ, suc, _+_, _-_, _*_, _≤_, _<_}
@@ -13,9 +12,11 @@ use Rattle.base_words.specs.StoredLaws.{set-stored, stored-append, stored-nil, 
 use Rattle.spec_rules.specs.Rows.{Binding}
 use Rattle.spec_rules.specs.TreeReader.{bindingName, bindingPath, pathAt, bindingsFrom}
 use Rattle.spec_rules.specs.Walking.{Position as Place, panelRoot, follow, Bound, bound}
+use Rattle.spec_rules.specs.WalkPlaces.{stepsTaken, firstStuck}
 use Rattle.spec_rules.specs.Calls.{boundWords}
 use Rattle.spec_accepted.specs.TreeFacts.{bindingsFrom-some}
-use Rattle.walk.specs.Bindings.{isThere, wordsAfter}
+use Rattle.walk.specs.declared.bind.Given.{Given}
+use Rattle.walk.specs.Bindings.{givenOf, givenBy, wordsAfter}
 
 -- three stores next to each other
 pub three-stores : (l : List ℕ) (i a b c : ℕ) → set (set (set l i a) (i + 1) b) (i + 2) c ≡ stored l i (a ∷ b ∷ c ∷ [])
@@ -42,10 +43,20 @@ bound-none : (v : List ℕ) (b : Binding) (bs : List Binding) → follow v (b .p
 unfolding bound
 bound-none v b bs e = rw (e, bound)
 
-there-cons : (b : Bound) (o : Option (List Bound)) → isThere (consBound b o) ≡ isThere o
+given-cons : (b : Bound) (o : Option (List Bound)) (k : ℕ) → givenOf (consBound b o) k ≡ givenOf o k
 unfolding consBound
-there-cons b none = refl
-there-cons b (some xs) = refl
+given-cons b none k = refl
+given-cons b (some xs) k = refl
+
+given-some : (v : List ℕ) (b : Binding) (bs : List Binding) (x : Place) → follow v (b .path) panelRoot ≡ some x → givenBy v (b ∷ bs) ≡ givenBy v bs
+given-some v b bs x e =
+    let later : firstStuck v (b ∷ bs) ≡ firstStuck v bs = unfold firstStuck in rw (e, firstStuck) in
+    rw (bound-some v b bs x e, later) (given-cons (record { name = b .name; position = x }) (bound v bs) (firstStuck v bs))
+
+given-none : (v : List ℕ) (b : Binding) (bs : List Binding) → follow v (b .path) panelRoot ≡ none → givenBy v (b ∷ bs) ≡ Given.Stuck (stepsTaken v (b .path) panelRoot)
+given-none v b bs e =
+    let here : firstStuck v (b ∷ bs) ≡ stepsTaken v (b .path) panelRoot = unfold firstStuck in rw (e, firstStuck) in
+    rw (bound-none v b bs e, here)
 
 words-cons : (l : List ℕ) (at next : ℕ) (b : Bound) (o : Option (List Bound)) → at + 3 ≡ next
     → wordsAfter (stored l at (b .name ∷ b .position .place ∷ b .position .dropped ∷ [])) next o ≡ wordsAfter l at (consBound b o)
@@ -73,10 +84,13 @@ length-bound v (b ∷ bs) xs e = go (follow v (b .path) panelRoot) refl (length-
 
 -- ---- after i of n bindings
 module _ (t v : List ℕ) (first n : ℕ) where
-  abbrev pub left : ℕ → Option (List Bound)
-  left i = bound v (bindingsFrom t (first + i) (n - i))
+  abbrev pub remaining : ℕ → List Binding
+  remaining i = bindingsFrom t (first + i) (n - i)
 
-  pub bindings-start : left 0 ≡ bound v (bindingsFrom t first n)
+  abbrev pub left : ℕ → Option (List Bound)
+  left i = bound v (remaining i)
+
+  pub bindings-start : remaining 0 ≡ bindingsFrom t first n
   bindings-start = let a : first + 0 ≡ first = omega arith in let b : n - 0 ≡ n = omega arith in rw (a, b)
 
   bindings-next : (i : ℕ) → i < n
@@ -93,8 +107,12 @@ module _ (t v : List ℕ) (first n : ℕ) where
       → left i ≡ consBound (record { name = bindingName t (first + i); position = x }) (left (i + 1))
   binding-on i x h e = ap (bound v) (bindings-next i h) ∙ bound-some v _ _ x e
 
-  pub there-on : (i : ℕ) (x : Place) → i < n → follow v (pathAt t (bindingPath t (first + i))) panelRoot ≡ some x → isThere (left (i + 1)) ≡ isThere (left i)
-  there-on i x h e = sym (ap isThere (binding-on i x h e) ∙ there-cons (record { name = bindingName t (first + i); position = x }) (left (i + 1)))
+  pub given-stuck : (i : ℕ) → i < n → follow v (pathAt t (bindingPath t (first + i))) panelRoot ≡ none
+      → givenBy v (remaining i) ≡ Given.Stuck (stepsTaken v (pathAt t (bindingPath t (first + i))) panelRoot)
+  given-stuck i h e = ap (givenBy v) (bindings-next i h) ∙ given-none v _ _ e
+
+  pub given-on : (i : ℕ) (x : Place) → i < n → follow v (pathAt t (bindingPath t (first + i))) panelRoot ≡ some x → givenBy v (remaining (i + 1)) ≡ givenBy v (remaining i)
+  given-on i x h e = sym (ap (givenBy v) (bindings-next i h) ∙ given-some v _ _ x e)
 
   pub words-on : (l : List ℕ) (i name : ℕ) (x : Place) → i < n → follow v (pathAt t (bindingPath t (first + i))) panelRoot ≡ some x → name ≡ bindingName t (first + i)
       → wordsAfter (stored l (3 * i) (name ∷ x .place ∷ x .dropped ∷ [])) (3 * (i + 1)) (left (i + 1)) ≡ wordsAfter l (3 * i) (left i)
@@ -104,9 +122,9 @@ module _ (t v : List ℕ) (first n : ℕ) where
       ∙ words-cons l (3 * i) (3 * (i + 1)) (record { name = bindingName t (first + i); position = x }) (left (i + 1)) three
       ∙ ap (wordsAfter l (3 * i)) (sym (binding-on i x h e))
 
-  pub there-end : (i : ℕ) → n ≤ i → true ≡ isThere (left i)
+  pub given-end : (i : ℕ) → n ≤ i → Given.All ≡ givenBy v (remaining i)
   unfolding bindingsFrom bound
-  there-end i h = let a : n - i ≡ 0 = omega arith in rw a
+  given-end i h = let a : n - i ≡ 0 = omega arith in rw a
 
   pub words-end : (l : List ℕ) (i : ℕ) → n ≤ i → l ≡ wordsAfter l (3 * i) (left i)
   unfolding bindingsFrom bound boundWords

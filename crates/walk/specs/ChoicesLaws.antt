@@ -100,7 +100,7 @@ module _ (v : List ℕ) (p : Place) (x : Record) (is : x ≡ recordOf v (p .plac
       go Unknown-record e = rw e
 
   module _ (n : PanelMap) (opened : Opened v n) where
-    text-is : recordText v (p .place) ≡ textAt v (n .«pool_at» + x .first) (x .count)
+    text-is : recordText v (p .place) ≡ textAt v (n .pool .start + x .first) (x .count)
     unfolding recordText
     text-is =
         let f = ap (λ (y : Record). y .first) is in
@@ -108,12 +108,12 @@ module _ (v : List ℕ) (p : Place) (x : Record) (is : x ≡ recordOf v (p .plac
         let a = opened .pool-at in
         rw (a, f, c)
 
-    pub shown-text : (integer : Bool) → x .kind ≡ pick integer integerRecord bytesRecord → shownAt v p ≡ some (textTest integer (textAt v (n .«pool_at» + x .first) (x .count)))
+    pub shown-text : (integer : Bool) → x .kind ≡ pick integer integerRecord bytesRecord → shownAt v p ≡ some (textTest integer (textAt v (n .pool .start + x .first) (x .count)))
     unfolding shownAt shown recordKindOf
     shown-text true k = rw (kind-is, k, text-is)
     shown-text false k = rw (kind-is, k, text-is)
 
-    pub text-inside : PanelShaped v → p .place < records v → x .kind ≤ bytesRecord → n .«pool_at» + x .first + x .count ≤ length v
+    pub text-inside : PanelShaped v → p .place < records v → x .kind ≤ bytesRecord → n .pool .start + x .first + x .count ≤ length v
     text-inside shaped h k =
         let q = kind-is in
         let f = ap (λ (y : Record). y .first) is in
@@ -121,18 +121,6 @@ module _ (v : List ℕ) (p : Place) (x : Record) (is : x ≡ recordOf v (p .plac
         omega (arith, shaped .text-run (p .place) h (omega arith) .inside, opened .pool-at, opened .laid .pool-end, opened .laid .trailer-end)
 
 -- ---- the test of a case of a known kind
-pub test-kind : (t : List ℕ) (i : ℕ) → caseKind t i ≤ listWithTailCase → testKind (caseTest t i) ≡ caseKind t i
-unfolding caseTest testOfKind testKind
-test-kind t i h = go (caseKindOf (caseKind t i)) refl
-  where
-    go : (kind : CaseKind) → caseKindOf (caseKind t i) ≡ kind → testKind (testOfKind t i (caseKindOf (caseKind t i))) ≡ caseKind t i
-    go Constr-case e = rw e (sym (case-byte (caseKind t i) Constr-case e (omega arith)))
-    go Int-case e = rw e (sym (case-byte (caseKind t i) Int-case e (omega arith)))
-    go Bytes-case e = rw e (sym (case-byte (caseKind t i) Bytes-case e (omega arith)))
-    go List-case e = rw e (sym (case-byte (caseKind t i) List-case e (omega arith)))
-    go List-with-tail-case e = rw e (sym (case-byte (caseKind t i) List-with-tail-case e (omega arith)))
-    go Unknown-case e = absurd (omega (arith, unknown-case (caseKind t i) e))
-
 test-of : (t : List ℕ) (i : ℕ) (kind : CaseKind) → caseKind t i ≡ caseKindNumber kind → testOfKind t i kind ≡ caseTest t i
 unfolding caseTest
 test-of t i kind e = ap (testOfKind t i) (sym (byte-case (caseKind t i) kind e))

@@ -9,15 +9,18 @@ use Prim.Native.Nat.{ℕ, zero, suc, _+_, _-_, _≤_, _<_}
 use native.Mathlib.Omega.{arith}
 use borrow.Author.Tests.{eq-eqb, ne-eqb, lt-ltb, le-ltb, le-leb, lt-leb, eqb-true, ltb-true, leb-true}
 use lib.Dec.{eqb, ltb, leb}
+use lib.ListN.{length}
 use Rattle.base_words.specs.Words.{both}
 use Rattle.base_words.specs.WordsLaws.{both-true}
 use Rattle.spec_rules.specs.Limits.{panelMost}
 use Rattle.spec_rules.specs.Kinds.{bytesRecord, listRecord, pairRecord, tupleRecord, constructorRecord, pairStep, tupleStep, constrStep, listStep}
 use Rattle.spec_rules.specs.PanelFile.{records, parts, recordKind, recordFirst, recordCount, part}
 use Rattle.spec_rules.specs.Rows.{Step, pair, tuple, constr, list, listtail, Path}
-use Rattle.spec_rules.specs.TreeReader.{pathsAt, stepsAt, paths, steps, stepAt, stepsFrom, stepOfFields, pathFirst, pathCount, pathAt}
+use Rattle.spec_rules.specs.TreeReader.{pathsAt, stepsAt, bindings, paths, steps, stepAt, stepsFrom, stepOfFields, pathFirst, pathCount, pathAt}
 use Rattle.spec_rules.specs.Walking.{Position as Place, panelRoot, partOf, tailOf, takeStep, follow}
+use Rattle.spec_rules.specs.WalkPlaces.{stepsTaken}
 use Rattle.spec_accepted.specs.PanelFacts.{PanelLaid, PanelShaped}
+use Rattle.spec_accepted.specs.WalkRunsLaws.{length-stepsFrom}
 use Rattle.format_panel.specs.declared.PanelMap.{PanelMap}
 use Rattle.format_panel.specs.declared.records.Record.{Record}
 use Rattle.format_panel.specs.Opened.{recordOf}
@@ -26,21 +29,42 @@ use Rattle.format_records.specs.declared.reading.Path.{Path as PathRead}
 use Rattle.format_records.specs.declared.reading.Binding.{Binding as BindingRead}
 use Rattle.format_tree.specs.declared.layout.TreeMap.{TreeMap}
 use Rattle.format_tree.specs.Reading.{Ruled, stepOf, pathOf, bindingOf}
-use Rattle.format_tree.specs.ReadingLaws.{mapped-own, paths-start, steps-start, paths-count, bindings-count}
+use Rattle.format_tree.specs.ReadingLaws.{bindings-lie, paths-lie, steps-lie, bindings-start, paths-start, steps-start, paths-count}
 use Rattle.walk.specs.declared.follow.Position.{Position}
+use Rattle.walk.specs.declared.follow.Taken.the-variants.{To, Nowhere}
+use Rattle.walk.specs.declared.follow.Found.{Found}
 use Rattle.walk.specs.declared.follow.Found.the-variants.{At, Stuck}
-use Rattle.walk.specs.Positions.{placed, foundOf, leftBy, partIn, tailIn, Within, Followable, Bindable, ReadyToWalk}
+use Rattle.walk.specs.Positions.{placed, takenOf, foundOf, foundFrom, foundBy, stuckStepOf, leftBy, partIn, tailIn, Within, Followable, Bindable, ReadyToWalk}
 
--- ---- what was found
-pub found-some : (o : Option Place) (p : Position) → foundOf o ≡ At p → o ≡ some (placed p)
-found-some none p e = let z : _≡_ {A = ℕ} 0 1 = cc in absurd (omega arith)
-found-some (some x) p e =
+-- ---- where a step led
+pub taken-some : (o : Option Place) (p : Position) → takenOf o ≡ To p → o ≡ some (placed p)
+taken-some none p e = let z : _≡_ {A = ℕ} 0 1 = cc in absurd (omega arith)
+taken-some (some x) p e =
     let a : record { «record» = x .place; dropped = x .dropped } ≡ p = cc in
     ap (λ (q : Position). some (placed q)) a
 
-pub found-none : (o : Option Place) → foundOf o ≡ Stuck → o ≡ none
-found-none none e = refl
-found-none (some x) e = let z : _≡_ {A = ℕ} 0 1 = cc in absurd (omega arith)
+pub taken-none : (o : Option Place) → takenOf o ≡ Nowhere → o ≡ none
+taken-none none e = refl
+taken-none (some x) e = let z : _≡_ {A = ℕ} 0 1 = cc in absurd (omega arith)
+
+-- ---- where a path led
+pub found-some : (v : List ℕ) (q : Path) (p : Position) → foundBy v q ≡ At p → follow v q panelRoot ≡ some (placed p)
+found-some v q p e = go (follow v q panelRoot) e
+  where
+    go : (o : Option Place) → foundOf o (stepsTaken v q panelRoot) ≡ At p → o ≡ some (placed p)
+    go none f = let z : _≡_ {A = ℕ} 0 1 = cc in absurd (omega arith)
+    go (some x) f =
+        let a : record { «record» = x .place; dropped = x .dropped } ≡ p = cc in
+        ap (λ (y : Position). some (placed y)) a
+
+-- stuck at step y, which the code asked for as `step`
+pub found-none : (v : List ℕ) (q : Path) (found : Found) (y step : ℕ) → found ≡ foundBy v q → found ≡ Stuck y → step ≡ stuckStepOf found
+    → (follow v q panelRoot ≡ none) × (step ≡ stepsTaken v q panelRoot)
+found-none v q found y step is told asked = go (follow v q panelRoot) (sym is ∙ told)
+  where
+    go : (o : Option Place) → foundOf o (stepsTaken v q panelRoot) ≡ Stuck y → (o ≡ none) × (step ≡ stepsTaken v q panelRoot)
+    go none f = let a : stepsTaken v q panelRoot ≡ y = cc in (refl, asked ∙ ap stuckStepOf told ∙ sym a)
+    go (some x) f = let z : _≡_ {A = ℕ} 0 1 = cc in absurd (omega arith)
 
 -- ---- a record that was read as x
 module _ (v : List ℕ) (r : ℕ) (x : Record) (is : x ≡ recordOf v r) where
@@ -77,17 +101,17 @@ module _ (v : List ℕ) (r : ℕ) (x : Record) (is : x ≡ recordOf v r) where
       let f = first-is in
       omega (arith, shaped .parts-run r h (omega arith) .inside)
 
-pub part-missing : (v : List ℕ) (x : Record) (i : ℕ) → x .count ≤ i → Stuck ≡ foundOf (partIn v x i)
+pub part-missing : (v : List ℕ) (x : Record) (i : ℕ) → x .count ≤ i → Nowhere ≡ takenOf (partIn v x i)
 part-missing v x i l = rw (le-ltb i (x .count) l)
 
 pub part-there : (v : List ℕ) (x : Record) (i p : ℕ) → i < x .count → p ≡ part v (x .first + i)
-    → At (record { «record» = p; dropped = 0 }) ≡ foundOf (partIn v x i)
+    → To (record { «record» = p; dropped = 0 }) ≡ takenOf (partIn v x i)
 part-there v x i p l e = rw (lt-ltb i (x .count) l, e)
 
-pub tail-missing : (x : Record) (r i : ℕ) → x .count < i → Stuck ≡ foundOf (tailIn x r i)
+pub tail-missing : (x : Record) (r i : ℕ) → x .count < i → Nowhere ≡ takenOf (tailIn x r i)
 tail-missing x r i l = rw (lt-leb i (x .count) l)
 
-pub tail-there : (x : Record) (r i : ℕ) → i ≤ x .count → At (record { «record» = r; dropped = i }) ≡ foundOf (tailIn x r i)
+pub tail-there : (x : Record) (r i : ℕ) → i ≤ x .count → To (record { «record» = r; dropped = i }) ≡ takenOf (tailIn x r i)
 tail-there x r i l = rw (le-leb i (x .count) l)
 
 -- ---- positions stay within the panel
@@ -250,9 +274,14 @@ path-run w p x h e =
 
 -- ---- a path after k of its steps
 module _ (v t : List ℕ) (first count : ℕ) where
-  pub path-start : (p : ℕ) (x : Place) → first ≡ pathFirst t p → count ≡ pathCount t p → follow v (stepsFrom t (first + 0) (count - 0)) x ≡ follow v (pathAt t p) x
+  pub path-start : (p : ℕ) → first ≡ pathFirst t p → count ≡ pathCount t p → foundFrom v (stepsFrom t (first + 0) (count - 0)) panelRoot 0 ≡ foundBy v (pathAt t p)
   unfolding pathAt
-  path-start p x a b = let e : first + 0 ≡ first = omega arith in let f : count - 0 ≡ count = omega arith in rw (e, f, a, b)
+  path-start p a b =
+      let e : first + 0 ≡ first = omega arith in
+      let f : count - 0 ≡ count = omega arith in
+      let q = stepsFrom t (pathFirst t p) (pathCount t p) in
+      let g : 0 + stepsTaken v q panelRoot ≡ stepsTaken v q panelRoot = omega arith in
+      rw (e, f, a, b) (ap (foundOf (follow v q panelRoot)) g)
 
   steps-next : (k : ℕ) → k < count → stepsFrom t (first + k) (count - k) ≡ stepAt t (first + k) ∷ stepsFrom t (first + (k + 1)) (count - (k + 1))
   unfolding stepsFrom
@@ -261,21 +290,30 @@ module _ (v t : List ℕ) (first count : ℕ) where
       let f : first + (k + 1) ≡ first + k + 1 = omega arith in
       rw (e, f)
 
-  path-next : (k : ℕ) (x : Place) → k < count → follow v (stepsFrom t (first + k) (count - k)) x ≡ follow v (stepAt t (first + k) ∷ stepsFrom t (first + (k + 1)) (count - (k + 1))) x
-  path-next k x h = ap (λ (q : Path). follow v q x) (steps-next k h)
+  path-next : (k : ℕ) (x : Place) → k < count
+      → foundFrom v (stepsFrom t (first + k) (count - k)) x k ≡ foundFrom v (stepAt t (first + k) ∷ stepsFrom t (first + (k + 1)) (count - (k + 1))) x k
+  path-next k x h = ap (λ (q : Path). foundFrom v q x k) (steps-next k h)
 
   pub path-on : (k : ℕ) (x y : Place) → k < count → takeStep v (stepAt t (first + k)) x ≡ some y
-      → follow v (stepsFrom t (first + (k + 1)) (count - (k + 1))) y ≡ follow v (stepsFrom t (first + k) (count - k)) x
-  unfolding follow
-  path-on k x y h e = sym (path-next k x h ∙ rw (e, follow))
+      → foundFrom v (stepsFrom t (first + (k + 1)) (count - (k + 1))) y (k + 1) ≡ foundFrom v (stepsFrom t (first + k) (count - k)) x k
+  unfolding follow stepsTaken
+  path-on k x y h e =
+      let q = stepsFrom t (first + (k + 1)) (count - (k + 1)) in
+      let more : k + suc (stepsTaken v q y) ≡ k + 1 + stepsTaken v q y = omega arith in
+      sym (path-next k x h ∙ rw (e, follow, stepsTaken) (ap (foundOf (follow v q y)) more))
 
-  pub path-stuck : (k : ℕ) (x : Place) → k < count → takeStep v (stepAt t (first + k)) x ≡ none → none ≡ follow v (stepsFrom t (first + k) (count - k)) x
-  unfolding follow
-  path-stuck k x h e = sym (path-next k x h ∙ rw (e, follow))
+  pub path-stuck : (k : ℕ) (x : Place) → k < count → takeStep v (stepAt t (first + k)) x ≡ none → Stuck k ≡ foundFrom v (stepsFrom t (first + k) (count - k)) x k
+  unfolding follow stepsTaken
+  path-stuck k x h e = let none-more : k + 0 ≡ k = omega arith in sym (path-next k x h ∙ rw (e, follow, stepsTaken) (ap Stuck none-more))
 
-  pub path-end : (k : ℕ) (x : Place) → count ≤ k → some x ≡ follow v (stepsFrom t (first + k) (count - k)) x
+  pub path-end : (k : ℕ) (x : Position) → count ≤ k → At x ≡ foundFrom v (stepsFrom t (first + k) (count - k)) (placed x) k
   unfolding follow stepsFrom
   path-end k x h = let e : count - k ≡ 0 = omega arith in rw e
+
+-- how long a path is that was read
+pub path-long : (t : List ℕ) (p : ℕ) (x : PathRead) → x ≡ pathOf t p → x .count ≡ length (pathAt t p)
+unfolding pathAt
+path-long t p x e = ap (λ (y : PathRead). y .count) e ∙ sym (length-stepsFrom t (pathFirst t p) (pathCount t p))
 
 -- ---- where a path was followed to
 pub found-within : {t v : List ℕ} {n : PanelMap} → Followable t v n → (p : ℕ) (x : Position) → follow v (pathAt t p) panelRoot ≡ some (placed x) → Within v (placed x)
@@ -287,12 +325,11 @@ found-within {t} w p x e =
 -- ---- what a path is followed with
 module _ {t : List ℕ} {m : TreeMap} {v : List ℕ} {n : PanelMap} where
   -- the path of a binding that was read
-  pub binding-followed : Bindable t m v n → (b : ℕ) (x : BindingRead) → b < m .bindings .count → x ≡ bindingOf t b
+  pub binding-followed : Bindable t m v n → (b : ℕ) (x : BindingRead) → b < bindings t → x ≡ bindingOf t b
       → Followable t v n × (m .paths .start ≡ pathsAt t) × (m .steps .start ≡ stepsAt t) × (x .path < paths t)
   binding-followed w b x h e =
-      let k = bindings-count (w .mapped) in
       let p = ap (λ (y : BindingRead). y .path) e in
-      (w .followable, sym (paths-start (w .mapped)), sym (steps-start (w .mapped)), omega (arith, w .binding-path b (omega arith)))
+      (w .followable, w .paths-start, w .steps-start, omega (arith, w .binding-path b h))
 
   module _ (ready : ReadyToWalk t m v n) where
     pub ready-ruled : Ruled t m
@@ -300,14 +337,22 @@ module _ {t : List ℕ} {m : TreeMap} {v : List ℕ} {n : PanelMap} where
 
     pub followable : Followable t v n
     followable = record {
-      mapped = mapped-own (ready .mapped);
+      paths-lie = paths-lie (ready .mapped);
+      steps-lie = steps-lie (ready .mapped);
       path-steps = λ p h. ready .sound .is-ruled .path-steps p h .inside;
       opened = ready .opened;
       shaped = ready .panel .is-shaped;
     }
 
     pub bindable : Bindable t m v n
-    bindable = record { followable = followable; mapped = ready .mapped; binding-path = ready .sound .is-ruled .binding-path }
+    bindable = record {
+      followable = followable;
+      bindings-lie = bindings-lie (ready .mapped);
+      bindings-start = sym (bindings-start (ready .mapped));
+      paths-start = sym (paths-start (ready .mapped));
+      steps-start = sym (steps-start (ready .mapped));
+      binding-path = ready .sound .is-ruled .binding-path;
+    }
 
     pub ready-path : (p : ℕ) → p < m .paths .count → Followable t v n × (m .paths .start ≡ pathsAt t) × (m .steps .start ≡ stepsAt t) × (p < paths t)
     ready-path p h = (followable, sym (paths-start (ready .mapped)), sym (steps-start (ready .mapped)), omega (arith, h, paths-count (ready .mapped)))

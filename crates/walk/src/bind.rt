@@ -2,17 +2,18 @@
 // Rests on following a path and on stores of words.
 use crate::follow::Found;
 use crate::follow::follow;
+use crate::follow::stuck_step;
 use base_numbers::tree::BOUND_WORDS;
 use base_words::zero_words;
 use format_panel::PanelMap;
 use format_tree::layout::TreeMap;
-use format_tree::reading::binding_at;
+use format_tree::reading::binding_from;
 ghost use mathlib.Core.Path.{_≡_};
 ghost use mathlib.Core.List.{[], _∷_};
 ghost use Prim.Native.Nat.{_+_, _*_, _<_, _≤_};
 ghost use lib.ListN.{length};
 ghost use Rattle.base_words.specs.Stored.{stored};
-ghost use Rattle.spec_rules.specs.TreeReader.{bindingsFrom};
+ghost use Rattle.spec_rules.specs.TreeReader.{bindings, bindingsFrom};
 ghost use Rattle.walk.specs.Positions.{Bindable};
 ghost use Rattle.walk.specs.Bindings.{Binds};
 
@@ -25,25 +26,39 @@ fn put_bound(bound: &mut [u16], at: usize, name: u16, record: u16, dropped: u16)
     bound[at + 2] = dropped;
 }
 
+// Whether every binding's path leads somewhere; stuck, the step of the first one that does not.
+pub enum Given {
+    All,
+    Stuck(usize),
+}
+
 // The `count` bindings from `first` on, written to the front of the buffer; all zero where one is stuck.
 pub fn bind(
     tree: &[u8],
-    m: TreeMap,
-    v: &[u8],
-    n: PanelMap,
+    map: TreeMap,
+    panel: &[u8],
+    places: PanelMap,
     first: usize,
     count: usize,
     bound: &mut [u16],
-) -> bool
-    requires { ⌜ Bindable (now tree) m (now v) n × (first + count ≤ m .bindings .count) × (3 * count ≤ length (now bound)) ⌝ }
-    ensures { λ r. ⌜ Binds (now (v .entry)) (bindingsFrom (now (tree .entry)) first count) (now (bound .entry)) (now (bound .exit)) r ⌝ }
+) -> Given
+    requires { ⌜ Bindable (now tree) map (now panel) places × (first + count ≤ bindings (now tree)) × (3 * count ≤ length (now bound)) ⌝ }
+    ensures { λ r. ⌜ Binds (now (panel .entry)) (bindingsFrom (now (tree .entry)) first count) (now (bound .entry)) (now (bound .exit)) r ⌝ }
 {
     let mut i: usize = 0;
     while i < count {
-        let b = binding_at(tree, m, first + i);
-        let Found::At(p) = follow(tree, m.paths.start, m.steps.start, v, n, b.path as usize) else {
+        let b = binding_from(tree, map.bindings.start, first + i);
+        let found = follow(
+            tree,
+            map.paths.start,
+            map.steps.start,
+            panel,
+            places,
+            b.path as usize,
+        );
+        let Found::At(p) = found else {
             zero_words(bound);
-            return false;
+            return Given::Stuck(stuck_step(found));
         };
         put_bound(
             bound,
@@ -54,5 +69,5 @@ pub fn bind(
         );
         i += 1;
     }
-    true
+    Given::All
 }

@@ -58,14 +58,14 @@ pub fn asked_by(test: Test) -> u8
 }
 
 // The first of the n cases from i on that has this number.
-pub fn numbered_case(tree: &[u8], m: TreeMap, i: usize, n: usize, number: usize) -> Chosen
-    requires { ⌜ Mapped (now tree) m × (i + n ≤ m .cases .count) ⌝ }
+pub fn numbered_case(tree: &[u8], map: TreeMap, i: usize, n: usize, number: usize) -> Chosen
+    requires { ⌜ Mapped (now tree) map × (i + n ≤ map .cases .count) ⌝ }
     ensures { λ r. ⌜ r ≡ chosenOf (firstNumbered (now (tree .entry)) number i n) ⌝ }
 {
     let end = i + n;
     let mut j = i;
     while j < end {
-        if number == case_number(tree, m, j) as usize {
+        if number == case_number(tree, map, j) as usize {
             return Chosen::At(j);
         }
         j += 1;
@@ -74,43 +74,43 @@ pub fn numbered_case(tree: &[u8], m: TreeMap, i: usize, n: usize, number: usize)
 }
 
 // The count bytes of v from i on are a text of the tree's pool, the j-th and following, len of them.
-fn texts_same(tree: &[u8], v: &[u8], i: usize, count: usize, j: usize, len: usize) -> bool
-    requires { ⌜ (i + count ≤ length (now v)) × (j + len ≤ length (now tree)) ⌝ }
-    ensures { λ r. ⌜ r ≡ sameText (textAt (now (v .entry)) i count) (textAt (now (tree .entry)) j len) ⌝ }
+fn texts_same(tree: &[u8], panel: &[u8], i: usize, count: usize, j: usize, len: usize) -> bool
+    requires { ⌜ (i + count ≤ length (now panel)) × (j + len ≤ length (now tree)) ⌝ }
+    ensures { λ r. ⌜ r ≡ sameText (textAt (now (panel .entry)) i count) (textAt (now (tree .entry)) j len) ⌝ }
 {
     if count != len {
         return false;
     }
-    same_text(v, i, tree, j, count)
+    same_text(panel, i, tree, j, count)
 }
 
 // The count bytes of v from i on are the text of case j.
-fn is_text(tree: &[u8], m: TreeMap, v: &[u8], j: usize, i: usize, count: usize) -> bool
-    requires { ⌜ Ruled (now tree) m × (j < m .cases .count) × (intCase ≤ caseKind (now tree) j) × (caseKind (now tree) j ≤ bytesCase) × (i + count ≤ length (now v)) ⌝ }
-    ensures { λ r. ⌜ r ≡ sameText (textAt (now (v .entry)) i count) (caseText (now (tree .entry)) j) ⌝ }
+fn is_text(tree: &[u8], map: TreeMap, panel: &[u8], j: usize, i: usize, count: usize) -> bool
+    requires { ⌜ Ruled (now tree) map × (j < map .cases .count) × (intCase ≤ caseKind (now tree) j) × (caseKind (now tree) j ≤ bytesCase) × (i + count ≤ length (now panel)) ⌝ }
+    ensures { λ r. ⌜ r ≡ sameText (textAt (now (panel .entry)) i count) (caseText (now (tree .entry)) j) ⌝ }
 {
-    let start = case_number(tree, m, j) as usize;
-    let len = case_length(tree, m, j) as usize;
-    texts_same(tree, v, i, count, m.pool.start + start, len)
+    let start = case_number(tree, map, j) as usize;
+    let len = case_length(tree, map, j) as usize;
+    texts_same(tree, panel, i, count, map.pool.start + start, len)
 }
 
 // The first of the n cases from i on whose text is the count bytes of v from `start` on.
 pub fn text_case(
     tree: &[u8],
-    m: TreeMap,
-    v: &[u8],
+    map: TreeMap,
+    panel: &[u8],
     i: usize,
     n: usize,
     start: usize,
     count: usize,
 ) -> Chosen
-    requires { ⌜ Ruled (now tree) m × (i + n ≤ m .cases .count) × AllText (now tree) i n × (start + count ≤ length (now v)) ⌝ }
-    ensures { λ r. ⌜ r ≡ chosenOf (firstText (now (tree .entry)) (textAt (now (v .entry)) start count) i n) ⌝ }
+    requires { ⌜ Ruled (now tree) map × (i + n ≤ map .cases .count) × AllText (now tree) i n × (start + count ≤ length (now panel)) ⌝ }
+    ensures { λ r. ⌜ r ≡ chosenOf (firstText (now (tree .entry)) (textAt (now (panel .entry)) start count) i n) ⌝ }
 {
     let end = i + n;
     let mut j = i;
     while j < end {
-        if is_text(tree, m, v, j, start, count) {
+        if is_text(tree, map, panel, j, start, count) {
             return Chosen::At(j);
         }
         j += 1;
@@ -133,14 +133,14 @@ fn larger(a: usize, b: usize) -> usize
 }
 
 // One more than the largest tail number not above n of the `tails` cases from i on; 0 where there is none.
-pub fn largest_tail(tree: &[u8], m: TreeMap, i: usize, tails: usize, n: usize) -> usize
-    requires { ⌜ Mapped (now tree) m × (i + tails ≤ m .cases .count) × AllKind (now tree) listWithTailCase i tails ⌝ }
+pub fn largest_tail(tree: &[u8], map: TreeMap, i: usize, tails: usize, n: usize) -> usize
+    requires { ⌜ Mapped (now tree) map × (i + tails ≤ map .cases .count) × AllKind (now tree) listWithTailCase i tails ⌝ }
     ensures { λ r. ⌜ ((f : ℕ → Tree) → r ≡ largestTail n (casesFor f (now (tree .entry)) i tails)) ⌝ }
 {
     let mut best: usize = 0;
     let mut j: usize = 0;
     while j < tails {
-        let k = case_number(tree, m, i + j) as usize;
+        let k = case_number(tree, map, i + j) as usize;
         best = larger(best, tail_number(k, n));
         j += 1;
     }

@@ -5,6 +5,7 @@
 use base_numbers::refusals;
 use base_numbers::tree::BOUND_ROOM;
 use base_words::zero_words;
+use bind::Given;
 use bind::bind;
 use format_panel::PanelMap;
 use format_tree::layout::TreeMap;
@@ -20,60 +21,70 @@ ghost use Rattle.format_tree.specs.CheckLaws.{Accept};
 ghost use Rattle.walk.specs.Positions.{ReadyToWalk};
 ghost use Rattle.walk.specs.Answers.{callOf, Gives, panelEnd, treeEnd};
 
-pub mod bind;
-pub mod choose;
-pub mod follow;
-pub mod nodes;
+mod bind;
+mod choose;
+mod follow;
+mod nodes;
 
 pub enum Walked {
     Leaf { clause: u16, count: u16 },
     NoLeaf,
+    Stuck { node: u16, step: u16 },
     Refused { number: u16, place: u16 },
 }
 
 // On a buffer that is all zero.
-fn walk_panel(tree: &[u8], m: TreeMap, v: &[u8], n: PanelMap, bound: &mut [u16]) -> Walked
-    requires { ⌜ ReadyToWalk (now tree) m (now v) n × (boundRoom ≤ length (now bound)) × (now bound ≡ zeros (length (now bound))) ⌝ }
-    ensures { λ r. ⌜ Gives (now (tree .entry)) (now (v .entry)) (panelEnd (now (tree .entry)) (now (v .entry))) (now (bound .entry)) (now (bound .exit)) r ⌝ }
+fn walk_panel(
+    tree: &[u8],
+    map: TreeMap,
+    panel: &[u8],
+    places: PanelMap,
+    bound: &mut [u16],
+) -> Walked
+    requires { ⌜ ReadyToWalk (now tree) map (now panel) places × (boundRoom ≤ length (now bound)) × (now bound ≡ zeros (length (now bound))) ⌝ }
+    ensures { λ r. ⌜ Gives (now (tree .entry)) (now (panel .entry)) (panelEnd (now (tree .entry)) (now (panel .entry))) (now (bound .entry)) (now (bound .exit)) r ⌝ }
 {
-    match reach(tree, m, v, n) {
+    let ended = reach(tree, map, panel, places);
+    let node = ended.node as u16;
+    let end = ended.end;
+    match end {
         Reached::Leaf {
             clause,
             first,
             count,
         } => {
-            if bind(tree, m, v, n, first, count, bound) {
+            let Given::Stuck(step) = bind(tree, map, panel, places, first, count, bound) else {
                 return Walked::Leaf {
                     clause: clause as u16,
                     count: count as u16,
                 };
-            }
-            Walked::Refused {
-                number: refusals::STUCK,
-                place: 0,
+            };
+            Walked::Stuck {
+                node,
+                step: step as u16,
             }
         }
         Reached::NoLeaf => Walked::NoLeaf,
-        Reached::Stuck => Walked::Refused {
-            number: refusals::STUCK,
-            place: 0,
+        Reached::Stuck(step) => Walked::Stuck {
+            node,
+            step: step as u16,
         },
     }
 }
 
-fn walk_tree(tree: &[u8], m: TreeMap, v: &[u8], bound: &mut [u16]) -> Walked
-    requires { ⌜ Accept (now tree) m × (boundRoom ≤ length (now bound)) × (now bound ≡ zeros (length (now bound))) ⌝ }
-    ensures { λ r. ⌜ Gives (now (tree .entry)) (now (v .entry)) (treeEnd (now (tree .entry)) (now (v .entry))) (now (bound .entry)) (now (bound .exit)) r ⌝ }
+fn walk_tree(tree: &[u8], map: TreeMap, panel: &[u8], bound: &mut [u16]) -> Walked
+    requires { ⌜ Accept (now tree) map × (boundRoom ≤ length (now bound)) × (now bound ≡ zeros (length (now bound))) ⌝ }
+    ensures { λ r. ⌜ Gives (now (tree .entry)) (now (panel .entry)) (treeEnd (now (tree .entry)) (now (panel .entry))) (now (bound .entry)) (now (bound .exit)) r ⌝ }
 {
-    match format_panel::check(v) {
-        format_panel::CheckedPanel::Accepted(n) => walk_panel(tree, m, v, n, bound),
+    match format_panel::check(panel) {
+        format_panel::CheckedPanel::Accepted(places) => walk_panel(tree, map, panel, places, bound),
         format_panel::CheckedPanel::Refused { number, place } => Walked::Refused { number, place },
     }
 }
 
 // The walk call: its answer and every word of the buffer after it, for whatever tree, panel and buffer.
-pub fn walk(tree: &[u8], v: &[u8], bound: &mut [u16]) -> Walked
-    ensures { λ r. ⌜ callOf r (now (bound .exit)) ≡ walkCall (now (tree .entry)) (now (v .entry)) (length (now (bound .entry))) ⌝ }
+pub fn walk(tree: &[u8], panel: &[u8], bound: &mut [u16]) -> Walked
+    ensures { λ r. ⌜ callOf r (now (bound .exit)) ≡ walkCall (now (tree .entry)) (now (panel .entry)) (length (now (bound .entry))) ⌝ }
 {
     zero_words(bound);
     if bound.len() < BOUND_ROOM {
@@ -82,11 +93,11 @@ pub fn walk(tree: &[u8], v: &[u8], bound: &mut [u16]) -> Walked
             place: 0,
         };
     }
-    let format_tree::CheckedTree::Accepted(m) = format_tree::check(tree) else {
+    let format_tree::CheckedTree::Accepted(map) = format_tree::check(tree) else {
         return Walked::Refused {
             number: refusals::TREE,
             place: 0,
         };
     };
-    walk_tree(tree, m, v, bound)
+    walk_tree(tree, map, panel, bound)
 }

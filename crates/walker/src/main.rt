@@ -4,9 +4,9 @@ use libc::STDERR_FILENO;
 use libc::STDOUT_FILENO;
 
 // The buffer has room for every text (`every-text-has-room` of the crate app_report).
-fn walk_panel(s: &[u8], v: &[u8]) {
+fn walk_panel(sheet: &[u8], panel: &[u8]) {
     let mut out = io::large_buffer();
-    let n = app_report::tell(s, v, &mut out);
+    let n = app_report::tell(sheet, panel, &mut out);
     if n == 0 {
         io::write_all(STDERR_FILENO, b"walker: the text has no room\n");
         return;
@@ -15,12 +15,12 @@ fn walk_panel(s: &[u8], v: &[u8]) {
 }
 
 // The panel is read once the sheet was.
-fn walk_sheet(s: &[u8]) {
+fn walk_sheet(sheet: &[u8]) {
     let mut panel = app_io::panel_buffer();
     let input = app_io::read_argument(2, &mut panel);
     if input.good {
         let n = input.count;
-        walk_panel(s, &panel[..n]);
+        walk_panel(sheet, &panel[..n]);
     }
 }
 

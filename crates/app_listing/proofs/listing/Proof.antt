@@ -14,10 +14,10 @@ use Rattle.app_listing.proofs.lines.put_listing.Reads as put-listing-re
 use Rattle.format_tree.proofs.check.Reads as check-reads
 use Rattle.base_words.proofs.zero_all.Reads as zero-all-reads
 
-accepted : (c : tie.After-known-told) → Accept (c .before .before .before .before .before .before .before .before .before .before .args .tree .now) (c .before .m .given .0 .0)
+accepted : (c : tie.After-known-told) → Accept (c .before .before .before .before .before .before .before .before .before .before .args .tree .now) (c .before .map .given .0 .0)
 accepted c =
     let a = c .before .before .before .before .before .before .before .before .before .before .args in
-    let m = c .before .m .given .0 .0 in
+    let m = c .before .map .given .0 .0 in
     let e : c .before .before .before .check .result ≡ CheckedTree.Accepted m = search needs in
     accepted-is (a .tree .now) m (bytes-of-fits (a .tree .now) (c .before .before .before .before .before .before .before .before .before .shared-slice-known .given)) (sym (c .before .before .before .check .ensures) ∙ e)
 
@@ -27,8 +27,8 @@ zero-all-requires c κs = search needs
 check-requires : tie.Need-check-requires
 check-requires c κs = search needs
 
-enum-known-m : tie.Need-enum-known-m
-enum-known-m c = search needs
+enum-known-map : tie.Need-enum-known-map
+enum-known-map c = search needs
 
 enum-told : tie.Need-enum-told
 enum-told c = search needs
@@ -73,7 +73,7 @@ listing-spec =
     (tie.spec
     zero-all-requires
     check-requires
-    enum-known-m
+    enum-known-map
     enum-told
     same-length
     returns

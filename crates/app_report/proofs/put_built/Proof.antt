@@ -43,7 +43,7 @@ put-walked-requires c κs =
     let work-room = c .before .before .before .before .before .before .before .before .before .before .large-buffer2 .ensures in
     let told = c .before .before .before .length .given .0 in
     let e : b .result ≡ Built.Tree (told .0) (told .1 .0) (told .1 .1 .0) = search needs in
-    let t = built-tree (s .args .s .now) (s .args .v .now) _ _ (b .result) _ _ (b .ensures) tree-room work-room (s .pre) (told .0) (told .1 .0) (told .1 .1 .0) e in
+    let t = built-tree (s .args .sheet .now) (s .args .panel .now) _ _ (b .result) _ _ (b .ensures) tree-room work-room (s .pre) (told .0) (told .1 .0) (told .1 .1 .0) e in
     (t .tree-fits, t .panel-fits)
 
 enum-known-number : tie.Need-enum-known-number
@@ -63,7 +63,7 @@ returns c =
     let work-room = c .before .before .before .before .before .before .before .before .before .before .before .before .before .large-buffer2 .ensures in
     let told = c .before .before .before .before .before .before .length .given .0 in
     let e : b .result ≡ Built.Tree (told .0) (told .1 .0) (told .1 .1 .0) = search needs in
-    let t = built-tree (s .args .s .now) (s .args .v .now) _ _ (b .result) _ _ (b .ensures) tree-room work-room (s .pre) (told .0) (told .1 .0) (told .1 .1 .0) e in
+    let t = built-tree (s .args .sheet .now) (s .args .panel .now) _ _ (b .result) _ _ (b .ensures) tree-room work-room (s .pre) (told .0) (told .1 .0) (told .1 .1 .0) e in
     writes-as (c .before .before .put-walked .ensures) (t .text)
 
 same-length-2 : tie.Need-same-length-2
@@ -79,7 +79,7 @@ returns-2 c =
     let place = c .before .before .before .before .before .number .given .0 .1 .0 in
     let e : b .result ≡ Built.Refused number place = search needs in
     writes-as (c .before .before .put-refused .ensures)
-    (built-refused (s .args .s .now) (s .args .v .now) _ _ (b .result) _ _ (b .ensures) tree-room work-room (s .pre) number place e)
+    (built-refused (s .args .sheet .now) (s .args .panel .now) _ _ (b .result) _ _ (b .ensures) tree-room work-room (s .pre) number place e)
 
 pub put-built-spec : {M : Type 1} → statement M
 put-built-spec =

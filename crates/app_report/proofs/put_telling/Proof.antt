@@ -29,7 +29,7 @@ returns : tie.Need-returns
 returns c =
     let a = c .before .before .before .before .before .before .before .before .before .before .args in
     let f = c .before .before .before .before .before .before .fit in
-    writes-as (c .before .before .put-built .ensures) (told-built (a .s .now) (a .v .now) (f .result) (f .ensures) (c .before .before .before .before .enum-told .given .1))
+    writes-as (c .before .before .put-built .ensures) (told-built (a .sheet .now) (a .panel .now) (f .result) (f .ensures) (c .before .before .before .before .enum-told .given .1))
 
 same-length-2 : tie.Need-same-length-2
 same-length-2 c = search needs
@@ -41,7 +41,7 @@ returns-2 c =
     let number = c .before .before .before .before .before .number .given .0 .0 in
     let place = c .before .before .before .before .before .number .given .0 .1 .0 in
     let e : f .result ≡ Fitted.Refused number place = search needs in
-    writes-as (c .before .before .put-refused .ensures) (told-refused (a .s .now) (a .v .now) (f .result) (f .ensures) number place e)
+    writes-as (c .before .before .put-refused .ensures) (told-refused (a .sheet .now) (a .panel .now) (f .result) (f .ensures) number place e)
 
 pub put-telling-spec : {M : Type 1} → statement M
 put-telling-spec =

@@ -23,14 +23,14 @@ returns c =
     let back3 = c .before .before .before in
     let back8 = back3 .before .before .before .before .before in
     let a = back8 .args in
-    call-no-room (a .tree .now) (a .v .now) (a .bound .now) (back3 .zero-words .last .0)
+    call-no-room (a .tree .now) (a .panel .now) (a .bound .now) (back3 .zero-words .last .0)
     (omega (arith, c .if1 .taken, back3 .zero-words .kept .0)) (back3 .zero-words .ensures)
 
 check-requires : tie.Need-check-requires
 check-requires c κs = search needs
 
-enum-known-m : tie.Need-enum-known-m
-enum-known-m c = search needs
+enum-known-map : tie.Need-enum-known-map
+enum-known-map c = search needs
 
 enum-told : tie.Need-enum-told
 enum-told c = search needs
@@ -46,7 +46,7 @@ returns-2 c =
     let back6 = back3 .before .before .before in
     let back11 = back6 .before .before .before .before .before in
     let a = back11 .args in
-    call-no-tree (a .tree .now) (a .v .now) (a .bound .now) (back6 .zero-words .last .0)
+    call-no-tree (a .tree .now) (a .panel .now) (a .bound .now) (back6 .zero-words .last .0)
     (omega (arith, back3 .if1 .left, back6 .zero-words .kept .0))
     (refused-is (a .tree .now) (sym (c .before .before .check .ensures) ∙ c .enum-told .given .1)) (back6 .zero-words .ensures)
 
@@ -58,8 +58,8 @@ walk-tree-requires c κs =
     let back12 = back8 .before .before .before .before in
     let back13 = back12 .before in
     let a = back13 .args in
-    let m = c .before .before .m .given .0 .0 in
-    let e : back4 .check .result ≡ CheckedTree.Accepted m = c .before .before .m .given .1 in
+    let m = c .before .before .map .given .0 .0 in
+    let e : back4 .check .result ≡ CheckedTree.Accepted m = c .before .before .map .given .1 in
     let w = accepted-is (a .tree .now) m (bytes-of-fits (a .tree .now) (back12 .shared-slice-known .given)) (sym (back4 .check .ensures) ∙ e) in
     (w, back5 .if1 .left, back8 .zero-words .ensures ∙ ap zeros (sym (back8 .zero-words .kept .0)))
 
@@ -77,10 +77,10 @@ returns-3 c =
     let back15 = back11 .before .before .before .before in
     let back16 = back15 .before in
     let a = back16 .args in
-    let m = back5 .m .given .0 .0 in
-    let e : back7 .check .result ≡ CheckedTree.Accepted m = back5 .m .given .1 in
+    let m = back5 .map .given .0 .0 in
+    let e : back7 .check .result ≡ CheckedTree.Accepted m = back5 .map .given .1 in
     let w = accepted-is (a .tree .now) m (bytes-of-fits (a .tree .now) (back15 .shared-slice-known .given)) (sym (back7 .check .ensures) ∙ e) in
-    call-walks (a .tree .now) (a .v .now) (a .bound .now) (c .before .before .walk-tree .last .1 .1 .1 .0)
+    call-walks (a .tree .now) (a .panel .now) (a .bound .now) (c .before .before .walk-tree .last .1 .1 .1 .0)
     (omega (arith, back8 .if1 .left, back11 .zero-words .kept .0)) (w .fits) (back11 .zero-words .last .0)
     (c .before .before .walk-tree .result) (back11 .zero-words .kept .0) (c .before .before .walk-tree .ensures)
 
@@ -92,7 +92,7 @@ walk-spec =
     same-length
     returns
     check-requires
-    enum-known-m
+    enum-known-map
     enum-told
     same-length-2
     returns-2

@@ -10,17 +10,17 @@ use Rattle.walk.proofs.walk_tree.Tie as tie
 check-requires : tie.Need-check-requires
 check-requires c κs = search needs
 
-enum-known-n : tie.Need-enum-known-n
-enum-known-n c = search needs
+enum-known-places : tie.Need-enum-known-places
+enum-known-places c = search needs
 
 walk-panel-requires : tie.Need-walk-panel-requires
 walk-panel-requires c κs =
     let back4 = c .before .before .before .before in
     let back8 = back4 .before .before .before .before in
     let a = back8 .args in
-    let n = c .before .before .n .given .0 .0 in
-    let e : back4 .check .result ≡ CheckedPanel.Accepted n = c .before .before .n .given .1 in
-    let w = accepts (a .v .now) n (sym (back4 .check .ensures) ∙ e) in
+    let n = c .before .before .places .given .0 .0 in
+    let e : back4 .check .result ≡ CheckedPanel.Accepted n = c .before .before .places .given .1 in
+    let w = accepts (a .panel .now) n (sym (back4 .check .ensures) ∙ e) in
     (ready (back8 .pre .0) w, back8 .pre .1, back8 .pre .2)
 
 enum-known-number : tie.Need-enum-known-number
@@ -35,10 +35,10 @@ returns c =
     let back7 = back5 .before .before in
     let back11 = back7 .before .before .before .before in
     let a = back11 .args in
-    let n = back5 .n .given .0 .0 in
-    let e : back7 .check .result ≡ CheckedPanel.Accepted n = back5 .n .given .1 in
-    let w = accepts (a .v .now) n (sym (back7 .check .ensures) ∙ e) in
-    gives-panel (a .tree .now) (a .v .now) (a .bound .now) (c .before .before .walk-panel .last .1 .1 .1 .1 .0)
+    let n = back5 .places .given .0 .0 in
+    let e : back7 .check .result ≡ CheckedPanel.Accepted n = back5 .places .given .1 in
+    let w = accepts (a .panel .now) n (sym (back7 .check .ensures) ∙ e) in
+    gives-panel (a .tree .now) (a .panel .now) (a .bound .now) (c .before .before .walk-panel .last .1 .1 .1 .1 .0)
     (c .before .before .walk-panel .result) (w .verdict) (c .before .before .walk-panel .ensures)
 
 returns-2 : tie.Need-returns-2
@@ -48,15 +48,15 @@ returns-2 c =
     let a = back7 .args in
     let g = c .before .number .given .0 in
     let e : back3 .check .result ≡ CheckedPanel.Refused (g .0) (g .1 .0) = c .before .number .given .1 in
-    gives-panel-refused (a .tree .now) (a .v .now) (a .bound .now) (back7 .pre .2) (g .0) (g .1 .0)
-    (refuses-by (a .v .now) (g .0) (g .1 .0) (sym (back3 .check .ensures) ∙ e))
+    gives-panel-refused (a .tree .now) (a .panel .now) (a .bound .now) (back7 .pre .2) (g .0) (g .1 .0)
+    (refuses-by (a .panel .now) (g .0) (g .1 .0) (sym (back3 .check .ensures) ∙ e))
 
 pub walk-tree-spec : {M : Type 1} → statement M
 walk-tree-spec =
     tie.close
     (tie.spec
     check-requires
-    enum-known-n
+    enum-known-places
     walk-panel-requires
     enum-known-number
     same-length

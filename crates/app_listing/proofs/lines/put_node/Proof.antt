@@ -39,7 +39,7 @@ cast-put-switch c = search needs
 put-switch-requires : tie.Need-put-switch-requires
 put-switch-requires c κs =
     let w = c .before .before .before .before .before .before .before .before .before .before .before in
-    let i = subst (NodeInside (w .args .m)) (is-switch (c .before .before .before .before .before .before)) (w .pre .1) in
+    let i = subst (NodeInside (w .args .map)) (is-switch (c .before .before .before .before .before .before)) (w .pre .1) in
     (w .pre .0, i .0, i .1)
 
 enum-known-node-2 : tie.Need-enum-known-node-2
@@ -63,7 +63,7 @@ add-all c = search needs
 put-switch-requires-2 : tie.Need-put-switch-requires-2
 put-switch-requires-2 c κs =
     let w = c .before .before .before .before .before .before .before .before .before .before .before in
-    let i = subst (NodeInside (w .args .m)) (is-list-switch (c .before .before .before .before .before .before)) (w .pre .1) in
+    let i = subst (NodeInside (w .args .map)) (is-list-switch (c .before .before .before .before .before .before)) (w .pre .1) in
     (w .pre .0, i .0, i .1)
 
 enum-known-node-3 : tie.Need-enum-known-node-3
@@ -72,7 +72,7 @@ enum-known-node-3 c = search needs
 put-leaf-requires : tie.Need-put-leaf-requires
 put-leaf-requires c κs =
     let w = c .before .before .before .before .before .before in
-    (w .pre .0, subst (NodeInside (w .args .m)) (is-leaf (c .before)) (w .pre .1))
+    (w .pre .0, subst (NodeInside (w .args .map)) (is-leaf (c .before)) (w .pre .1))
 
 enum-known-node-4 : tie.Need-enum-known-node-4
 enum-known-node-4 c = search needs
@@ -80,7 +80,7 @@ enum-known-node-4 c = search needs
 put-hoist-requires : tie.Need-put-hoist-requires
 put-hoist-requires c κs =
     let w = c .before .before .before .before .before .before in
-    (w .pre .0, subst (NodeInside (w .args .m)) (is-hoist (c .before)) (w .pre .1))
+    (w .pre .0, subst (NodeInside (w .args .map)) (is-hoist (c .before)) (w .pre .1))
 
 same-length : tie.Need-same-length
 same-length c = search needs

@@ -46,7 +46,7 @@ part-put-text-test-end c =
     let w = c .before .before .before .before .before .before .before in
     let g = c .before .before .before .test2 .given .0 in
     let e : w .args .test ≡ Test.Text (g .0) (g .1 .0) (g .1 .1 .0) = search needs in
-    text-inside (w .pre .0) (g .1 .0) (g .1 .1 .0) (subst (TestInside (w .args .m)) e (w .pre .1))
+    text-inside (w .pre .0) (g .1 .0) (g .1 .1 .0) (subst (TestInside (w .args .map)) e (w .pre .1))
 
 put-text-test-requires : tie.Need-put-text-test-requires
 put-text-test-requires c κs = search needs

@@ -41,7 +41,7 @@ returns c =
     (writes-then (c .before .before .before .before .before .before .before .before .before .before .put-numbered3 .ensures)
     (writes-then (c .before .before .before .before .before .before .put-place .ensures)
     (c .before .before .put .ensures)))))
-    (binding-is (a .v .now) (a .name) (a .r) (a .dropped))
+    (binding-is (a .panel .now) (a .name) (a .r) (a .dropped))
 
 pub put-binding-spec : {M : Type 1} → statement M
 put-binding-spec =

@@ -16,7 +16,7 @@ put-bytes-requires c κs = search needs
 cast-put-list : tie.Need-cast-put-list
 cast-put-list c =
     let s = c .before .before .before .before .before in
-    omega (arith, count-small (s .args .v .now) (s .args .r) (s .args .dropped) (s .args .x) (s .pre) (bytes-of-fits (s .args .v .now) (c .before .before .before .shared-slice-known .given)))
+    omega (arith, count-small (s .args .panel .now) (s .args .r) (s .args .dropped) (s .args .x) (s .pre) (bytes-of-fits (s .args .panel .now) (c .before .before .before .shared-slice-known .given)))
 
 put-list-requires : tie.Need-put-list-requires
 put-list-requires c κs = search needs
@@ -33,7 +33,7 @@ slice-aggregate-put-numbered c = search needs
 cast-put-numbered : tie.Need-cast-put-numbered
 cast-put-numbered c =
     let s = c .before .before .before .before .before .before in
-    omega (arith, count-small (s .args .v .now) (s .args .r) (s .args .dropped) (s .args .x) (s .pre) (bytes-of-fits (s .args .v .now) (c .before .before .before .before .shared-slice-known .given)))
+    omega (arith, count-small (s .args .panel .now) (s .args .r) (s .args .dropped) (s .args .x) (s .pre) (bytes-of-fits (s .args .panel .now) (c .before .before .before .before .shared-slice-known .given)))
 
 put-numbered-requires : tie.Need-put-numbered-requires
 put-numbered-requires c κs = search needs
@@ -44,7 +44,7 @@ slice-aggregate-put-numbered-2 c = search needs
 cast-put-numbered-2 : tie.Need-cast-put-numbered-2
 cast-put-numbered-2 c =
     let s = c .before .before .before .before .before .before in
-    omega (arith, a-small (s .args .v .now) (s .args .r) (s .args .dropped) (s .args .x) (s .pre) (bytes-of-fits (s .args .v .now) (c .before .before .before .before .shared-slice-known .given)))
+    omega (arith, a-small (s .args .panel .now) (s .args .r) (s .args .dropped) (s .args .x) (s .pre) (bytes-of-fits (s .args .panel .now) (c .before .before .before .before .shared-slice-known .given)))
 
 put-numbered-requires-2 : tie.Need-put-numbered-requires-2
 put-numbered-requires-2 c κs = search needs
@@ -55,7 +55,7 @@ same-length c = search needs
 returns : tie.Need-returns
 returns c =
     let s = c .before .before .before .before .before .before .before in
-    writes-as (c .before .before .put-int .ensures) (int-is (s .args .v .now) (s .args .r) (s .args .dropped) (s .args .x) (s .pre) (c .before .before .before .before .match .keys1))
+    writes-as (c .before .before .put-int .ensures) (int-is (s .args .panel .now) (s .args .r) (s .args .dropped) (s .args .x) (s .pre) (c .before .before .before .before .match .keys1))
 
 same-length-2 : tie.Need-same-length-2
 same-length-2 c = search needs
@@ -63,7 +63,7 @@ same-length-2 c = search needs
 returns-2 : tie.Need-returns-2
 returns-2 c =
     let s = c .before .before .before .before .before .before .before in
-    writes-as (c .before .before .put-bytes .ensures) (bytes-is (s .args .v .now) (s .args .r) (s .args .dropped) (s .args .x) (s .pre) (c .before .before .before .before .match .keys2))
+    writes-as (c .before .before .put-bytes .ensures) (bytes-is (s .args .panel .now) (s .args .r) (s .args .dropped) (s .args .x) (s .pre) (c .before .before .before .before .match .keys2))
 
 same-length-3 : tie.Need-same-length-3
 same-length-3 c = search needs
@@ -71,7 +71,7 @@ same-length-3 c = search needs
 returns-3 : tie.Need-returns-3
 returns-3 c =
     let s = c .before .before .before .before .before .before .before .before in
-    writes-as (c .before .before .put-list .ensures) (list-is (s .args .v .now) (s .args .r) (s .args .dropped) (s .args .x) (s .pre) (c .before .before .before .before .before .match .keys3))
+    writes-as (c .before .before .put-list .ensures) (list-is (s .args .panel .now) (s .args .r) (s .args .dropped) (s .args .x) (s .pre) (c .before .before .before .before .before .match .keys3))
 
 same-length-4 : tie.Need-same-length-4
 same-length-4 c = search needs
@@ -79,7 +79,7 @@ same-length-4 c = search needs
 returns-4 : tie.Need-returns-4
 returns-4 c =
     let s = c .before .before .before .before .before .before .before .before in
-    writes-as (c .before .before .put-text .ensures) (pair-is (s .args .v .now) (s .args .r) (s .args .dropped) (s .args .x) (s .pre) (c .before .before .before .before .before .match .keys4))
+    writes-as (c .before .before .put-text .ensures) (pair-is (s .args .panel .now) (s .args .r) (s .args .dropped) (s .args .x) (s .pre) (c .before .before .before .before .before .match .keys4))
 
 same-length-5 : tie.Need-same-length-5
 same-length-5 c = search needs
@@ -87,7 +87,7 @@ same-length-5 c = search needs
 returns-5 : tie.Need-returns-5
 returns-5 c =
     let s = c .before .before .before .before .before .before .before .before .before in
-    writes-as (c .before .before .put-numbered .ensures) (tuple-is (s .args .v .now) (s .args .r) (s .args .dropped) (s .args .x) (s .pre) (c .before .before .before .before .before .before .match .keys5))
+    writes-as (c .before .before .put-numbered .ensures) (tuple-is (s .args .panel .now) (s .args .r) (s .args .dropped) (s .args .x) (s .pre) (c .before .before .before .before .before .before .match .keys5))
 
 same-length-6 : tie.Need-same-length-6
 same-length-6 c = search needs
@@ -95,14 +95,14 @@ same-length-6 c = search needs
 returns-6 : tie.Need-returns-6
 returns-6 c =
     let s = c .before .before .before .before .before .before .before .before .before in
-    writes-as (c .before .before .put-numbered2 .ensures) (constr-is (s .args .v .now) (s .args .r) (s .args .dropped) (s .args .x) (s .pre) (c .before .before .before .before .before .before .match .keys6))
+    writes-as (c .before .before .put-numbered2 .ensures) (constr-is (s .args .panel .now) (s .args .r) (s .args .dropped) (s .args .x) (s .pre) (c .before .before .before .before .before .before .match .keys6))
 
 returns-7 : tie.Need-returns-7
 returns-7 c =
     let s = c .before .before .before in
     let other = c .match .rest in
     writes-as (writes-nothing _ _)
-    (unknown-is (s .args .v .now) (s .args .r) (s .args .dropped) (s .args .x) (s .pre)
+    (unknown-is (s .args .panel .now) (s .args .r) (s .args .dropped) (s .args .x) (s .pre)
     (omega (arith, other .1, other .0 .1, other .0 .0 .1, other .0 .0 .0 .1, other .0 .0 .0 .0 .1, other .0 .0 .0 .0 .0 .1)))
 
 pub put-record-spec : {M : Type 1} → statement M

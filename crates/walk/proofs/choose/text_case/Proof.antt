@@ -24,7 +24,7 @@ add-end c = search needs
 loop-holds : tie.Need-loop-holds Inv-loop μ-loop
 loop-holds c =
     let a = c .before .before .args in
-    (search needs, search needs, run-start (λ k. sameText (textAt (a .v .now) (a .start) (a .count)) (caseText (a .tree .now) k)) (a .i) (a .n))
+    (search needs, search needs, run-start (λ k. sameText (textAt (a .panel .now) (a .start) (a .count)) (caseText (a .tree .now) k)) (a .i) (a .n))
 
 is-text-requires : tie.Need-is-text-requires Inv-loop μ-loop
 is-text-requires c κs =
@@ -38,7 +38,7 @@ returns c =
     let back3 = c .before .before .before in
     let a = back3 .before .before .before .args in
     let l = back3 .loop in
-    let f : ℕ → Bool = λ k. sameText (textAt (a .v .now) (a .start) (a .count)) (caseText (a .tree .now) k) in
+    let f : ℕ → Bool = λ k. sameText (textAt (a .panel .now) (a .start) (a .count)) (caseText (a .tree .now) k) in
     let e = sym (c .before .is-text .ensures) ∙ c .if1 .taken in
     ap chosenOf (sym (lowest-found f (l .j) (a .i + a .n) (c .before .before .loop-test .taken) e) ∙ l .inv .2)
 
@@ -53,7 +53,7 @@ loop-again c =
     let back3 = c .before .before .before in
     let a = back3 .before .before .before .args in
     let l = back3 .loop in
-    let f : ℕ → Bool = λ k. sameText (textAt (a .v .now) (a .start) (a .count)) (caseText (a .tree .now) k) in
+    let f : ℕ → Bool = λ k. sameText (textAt (a .panel .now) (a .start) (a .count)) (caseText (a .tree .now) k) in
     let e = sym (c .before .is-text .ensures) ∙ c .if1 .left in
     (search needs, search needs, lowest-on f (l .j) (a .i + a .n) (c .before .before .loop-test .taken) e ∙ l .inv .2)
 
@@ -61,7 +61,7 @@ returns-2 : tie.Need-returns-2 Inv-loop μ-loop
 returns-2 c =
     let a = c .before .before .before .before .args in
     let l = c .before .loop in
-    let f : ℕ → Bool = λ k. sameText (textAt (a .v .now) (a .start) (a .count)) (caseText (a .tree .now) k) in
+    let f : ℕ → Bool = λ k. sameText (textAt (a .panel .now) (a .start) (a .count)) (caseText (a .tree .now) k) in
     ap chosenOf (sym (lowest-end f (l .j) (a .i + a .n) (c .loop-test .left)) ∙ l .inv .2)
 
 pub text-case-spec : {M : Type 1} → statement M

@@ -11,7 +11,7 @@ returns : tie.Need-returns
 returns c =
     let back3 = c .before .before .before in
     let a = back3 .args in
-    lengths-differ (a .v .now) (a .tree .now) (a .i) (a .count) (a .j) (a .len) (back3 .pre .0) (back3 .pre .1) (c .if1 .taken)
+    lengths-differ (a .panel .now) (a .tree .now) (a .i) (a .count) (a .j) (a .len) (back3 .pre .0) (back3 .pre .1) (c .if1 .taken)
 
 same-text-requires : tie.Need-same-text-requires
 same-text-requires c κs =
@@ -22,7 +22,7 @@ returns-2 : tie.Need-returns-2
 returns-2 c =
     let back4 = c .before .before .before .before in
     let a = back4 .args in
-    c .same-text .ensures ∙ ap (λ (k : ℕ). sameText (textAt (a .v .now) (a .i) (a .count)) (textAt (a .tree .now) (a .j) k)) (c .before .if1 .left)
+    c .same-text .ensures ∙ ap (λ (k : ℕ). sameText (textAt (a .panel .now) (a .i) (a .count)) (textAt (a .tree .now) (a .j) k)) (c .before .if1 .left)
 
 pub texts-same-spec : {M : Type 1} → statement M
 texts-same-spec = tie.close (tie.spec returns same-text-requires returns-2)

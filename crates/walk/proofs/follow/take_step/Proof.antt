@@ -1,7 +1,7 @@
 -- `walk::follow::take_step` meets its contract: a step of each kind is taken from its kind of record.
 -- No more is dropped than a record has, so that the sums do not wrap.
 use Rattle.walk.specs.FollowLaws.{dropped-small, left-has-parts, parts-in, step-wrong-kind, step-part, step-list, step-listtail}
-use Rattle.walk.specs.Positions.{placed, foundOf}
+use Rattle.walk.specs.Positions.{placed, takenOf}
 use native.Mathlib.Omega.{arith}
 use mathlib.Core.Path.{sym, ap, _∙_}
 use borrow.Author.Needs.{needs}
@@ -21,8 +21,8 @@ returns : tie.Need-returns
 returns c =
     let back3 = c .before .before .before in
     let a = back3 .before .before .before .args in
-    ap foundOf
-    (step-wrong-kind (a .v .now) (a .s) (a .p) (back3 .record-at .result) (back3 .record-at .ensures) (λ e. c .if1 .taken (e ∙ sym (c .before .before .left-by .ensures))))
+    ap takenOf
+    (step-wrong-kind (a .panel .now) (a .s) (a .p) (back3 .record-at .result) (back3 .record-at .ensures) (λ e. c .if1 .taken (e ∙ sym (c .before .before .left-by .ensures))))
 
 part-in-requires : tie.Need-part-in-requires
 part-in-requires c κs =
@@ -30,14 +30,14 @@ part-in-requires c κs =
     let start = back4 .before .before .before in
     let a = start .args in
     let kind = c .before .if1 .left ∙ c .before .before .before .left-by .ensures in
-    (start .pre .0, parts-in (a .v .now) (a .p .«record») (back4 .record-at .result) (back4 .record-at .ensures) (start .pre .1) (start .pre .2 .place-in) (omega (arith, kind, left-has-parts (a .s .kind))))
+    (start .pre .0, parts-in (a .panel .now) (a .p .«record») (back4 .record-at .result) (back4 .record-at .ensures) (start .pre .1) (start .pre .2 .place-in) (omega (arith, kind, left-has-parts (a .s .kind))))
 
 returns-2 : tie.Need-returns-2
 returns-2 c =
     let back5 = c .before .before .before .before .before in
     let a = back5 .before .before .before .args in
     let kind = c .before .before .if1 .left ∙ c .before .before .before .before .left-by .ensures in
-    c .part-in .ensures ∙ ap foundOf (step-part (a .v .now) (a .s) (a .p) (back5 .record-at .result) (back5 .record-at .ensures) kind (c .before .if2 .taken))
+    c .part-in .ensures ∙ ap takenOf (step-part (a .panel .now) (a .s) (a .p) (back5 .record-at .result) (back5 .record-at .ensures) kind (c .before .if2 .taken))
 
 add-part-in : tie.Need-add-part-in
 add-part-in c =
@@ -50,7 +50,7 @@ part-in-requires-2 c κs =
     let start = back5 .before .before .before in
     let a = start .args in
     let kind = c .before .before .if1 .left ∙ c .before .before .before .before .left-by .ensures in
-    (start .pre .0, parts-in (a .v .now) (a .p .«record») (back5 .record-at .result) (back5 .record-at .ensures) (start .pre .1) (start .pre .2 .place-in) (omega (arith, kind, left-has-parts (a .s .kind))))
+    (start .pre .0, parts-in (a .panel .now) (a .p .«record») (back5 .record-at .result) (back5 .record-at .ensures) (start .pre .1) (start .pre .2 .place-in) (omega (arith, kind, left-has-parts (a .s .kind))))
 
 returns-3 : tie.Need-returns-3
 returns-3 c =
@@ -58,7 +58,7 @@ returns-3 c =
     let back6 = back3 .before .before .before in
     let a = back6 .before .before .before .args in
     let kind = back3 .if1 .left ∙ back3 .before .before .left-by .ensures in
-    c .part-in2 .ensures ∙ ap foundOf (step-list (a .v .now) (a .s) (a .p) (back6 .record-at .result) (back6 .record-at .ensures) kind (c .before .if3 .taken))
+    c .part-in2 .ensures ∙ ap takenOf (step-list (a .panel .now) (a .s) (a .p) (back6 .record-at .result) (back6 .record-at .ensures) kind (c .before .if3 .taken))
 
 add-tail-in : tie.Need-add-tail-in
 add-tail-in c =
@@ -75,8 +75,8 @@ returns-4 c =
     let a = back6 .before .before .before .args in
     let kind = back3 .if1 .left ∙ back3 .before .before .left-by .ensures in
     c .tail-in .ensures
-    ∙ ap foundOf
-    (step-listtail (a .v .now) (a .s) (a .p) (back6 .record-at .result) (back6 .record-at .ensures) kind (omega (arith, c .before .before .if2 .left, c .before .if3 .left)))
+    ∙ ap takenOf
+    (step-listtail (a .panel .now) (a .s) (a .p) (back6 .record-at .result) (back6 .record-at .ensures) kind (omega (arith, c .before .before .if2 .left, c .before .if3 .left)))
 
 pub take-step-spec : {M : Type 1} → statement M
 take-step-spec =

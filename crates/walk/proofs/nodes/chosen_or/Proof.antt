@@ -29,15 +29,15 @@ returns c =
     let a = c .before .before .before .before .before .args in
     let place = c .before .before .chosen .given .0 .0 in
     let told : a .chosen ≡ At place = c .before .before .chosen .given .1 in
-    λ v x first cases e.
-    turns-case (a .tree .now) v x first cases (defaultChild (a .default)) (defaultWalk v (a .default)) place (c .child-of .result) (sym e ∙ told) (c .child-of .ensures)
+    λ v s x first cases e.
+    turns-case (a .tree .now) v s x first cases (defaultChild (a .default)) (defaultWalk v (a .default)) place (c .child-of .result) (sym e ∙ told) (c .child-of .ensures)
 
 returns-2 : tie.Need-returns-2
 returns-2 c =
     let a = c .before .before .before .before .args in
     let told : a .chosen ≡ Nothing = c .before .enum-told .given .1 in
-    λ v x first cases e.
-    turns-past (a .tree .now) v x first cases (defaultChild (a .default)) (defaultWalk v (a .default)) (c .default-of .result) (sym e ∙ told) (c .default-of .ensures (a .tree .now) v)
+    λ v s x first cases e.
+    turns-past (a .tree .now) v s x first cases (defaultChild (a .default)) (defaultWalk v (a .default)) (c .default-of .result) (sym e ∙ told) (c .default-of .ensures (a .tree .now) v s)
 
 pub chosen-or-spec : {M : Type 1} → statement M
 chosen-or-spec =

@@ -34,8 +34,8 @@ returns c =
     let start = back3 .before .before in
     let a = start .args in
     let chosen = back3 .numbered-case .ensures ∙ ap chosenOf (numbered-list (a .tree .now) (a .first) (a .cases) (a .length) (start .pre .2)) in
-    λ v. turns-no-length (a .tree .now) v (a .length) (a .first) (a .cases) (a .tails) (a .default) (c .from-tails .result)
-    (sym chosen ∙ c .before .enum-told .given .1) (c .from-tails .ensures v)
+    λ v s. turns-no-length (a .tree .now) v s (a .length) (a .first) (a .cases) (a .tails) (a .default) (c .from-tails .result)
+    (sym chosen ∙ c .before .enum-told .given .1) (c .from-tails .ensures v s)
 
 child-of-requires : tie.Need-child-of-requires
 child-of-requires c κs =
@@ -43,8 +43,8 @@ child-of-requires c κs =
     let start = back3 .before .before in
     let a = start .args in
     let told : back3 .numbered-case .result ≡ At (c .before .place .given .0 .0) = c .before .place .given .1 in
-    let inside = chosen-in _ (a .first) (a .cases) (a .m .cases .count) (back3 .numbered-case .result) (omega (arith, start .pre .1)) (back3 .numbered-case .ensures) in
-    (start .pre .0, subst (ChosenIn (a .m .cases .count)) told inside)
+    let inside = chosen-in _ (a .first) (a .cases) (a .map .cases .count) (back3 .numbered-case .result) (omega (arith, start .pre .1)) (back3 .numbered-case .ensures) in
+    (start .pre .0, subst (ChosenIn (a .map .cases .count)) told inside)
 
 returns-2 : tie.Need-returns-2
 returns-2 c =
@@ -54,7 +54,7 @@ returns-2 c =
     let place = c .before .before .place .given .0 .0 in
     let told : back4 .numbered-case .result ≡ At place = c .before .before .place .given .1 in
     let chosen = back4 .numbered-case .ensures ∙ ap chosenOf (numbered-list (a .tree .now) (a .first) (a .cases) (a .length) (start .pre .2)) in
-    λ v. turns-length (a .tree .now) v (a .length) (a .first) (a .cases) (a .tails) (a .default) place (c .child-of .result) (sym chosen ∙ told) (c .child-of .ensures)
+    λ v s. turns-length (a .tree .now) v s (a .length) (a .first) (a .cases) (a .tails) (a .default) place (c .child-of .result) (sym chosen ∙ told) (c .child-of .ensures)
 
 pub from-length-spec : {M : Type 1} → statement M
 from-length-spec =

@@ -86,7 +86,7 @@ returns c =
     let g = c .before .before .node .given .0 in
     let e : back4 .node-at .result ≡ Node.Switch (g .0) (g .1 .0) (g .1 .1 .0) (g .1 .1 .1 .0) (g .1 .1 .1 .1 .0) = c .before .before .node .given .1 in
     let w = switch-node (a .tree .now) (a .k) (g .0) (g .1 .0) (g .1 .1 .0) (g .1 .1 .1 .0) (g .1 .1 .1 .1 .0) (sym (back4 .node-at .ensures) ∙ e) in
-    steps-switch (a .tree .now) (a .v .now) (ready .sound) (a .k) h (g .0) (g .1 .0) (g .1 .1 .0) (g .1 .1 .1 .0) (g .1 .1 .1 .1 .0) (c .from-switch .result) w
+    steps-switch (a .tree .now) (a .panel .now) (ready .sound) (a .k) h (g .0) (g .1 .0) (g .1 .1 .0) (g .1 .1 .1 .0) (g .1 .1 .1 .1 .0) (c .from-switch .result) w
     (c .from-switch .ensures)
 
 returns-2 : tie.Need-returns-2
@@ -102,7 +102,7 @@ returns-2 c =
     let w =
     list-switch-node (a .tree .now) (a .k) (g .0) (g .1 .0) (g .1 .1 .0) (g .1 .1 .1 .0) (g .1 .1 .1 .1 .0)
     (sym (back4 .node-at .ensures) ∙ e) in
-    steps-list-switch (a .tree .now) (a .v .now) (ready .sound) (a .k) h (g .0) (g .1 .0) (g .1 .1 .0) (g .1 .1 .1 .0) (g .1 .1 .1 .1 .0)
+    steps-list-switch (a .tree .now) (a .panel .now) (ready .sound) (a .k) h (g .0) (g .1 .0) (g .1 .1 .0) (g .1 .1 .1 .0) (g .1 .1 .1 .1 .0)
     (c .from-list-switch .result) w (c .from-list-switch .ensures)
 
 returns-3 : tie.Need-returns-3
@@ -116,7 +116,7 @@ returns-3 c =
     let g = c .before .node3 .given .0 in
     let e : back3 .node-at .result ≡ Node.Leaf (g .0) (g .1 .0) (g .1 .1 .0) = c .before .node3 .given .1 in
     let w = leaf-node (a .tree .now) (a .k) (g .0) (g .1 .0) (g .1 .1 .0) (sym (back3 .node-at .ensures) ∙ e) in
-    steps-leaf (a .tree .now) (a .v .now) (ready .sound) (a .k) h (g .0) (g .1 .0) (g .1 .1 .0) w (omega arith)
+    steps-leaf (a .tree .now) (a .panel .now) (ready .sound) (a .k) h (g .0) (g .1 .0) (g .1 .1 .0) w (omega arith)
 
 returns-4 : tie.Need-returns-4
 returns-4 c =
@@ -131,7 +131,7 @@ returns-4 c =
     let w =
     hoist-node (a .tree .now) (a .k) (g .0) (g .1 .0) (g .1 .1 .0) (g .1 .1 .1 .0) (node-kind-known ruled (a .k) (back6 .pre .1))
     (sym (back3 .node-at .ensures) ∙ e) in
-    steps-hoist (a .tree .now) (a .v .now) (ready .sound) (a .k) h (g .1 .1 .1 .0) w
+    steps-hoist (a .tree .now) (a .panel .now) (ready .sound) (a .k) h (g .1 .1 .1 .0) w
 
 pub from-node-spec : {M : Type 1} → statement M
 from-node-spec =

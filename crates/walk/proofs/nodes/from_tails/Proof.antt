@@ -19,8 +19,8 @@ returns : tie.Need-returns
 returns c =
     let a = c .before .before .before .before .args in
     let k = c .before .before .largest-tail .result in
-    λ v. turns-no-tail (a .tree .now) v (a .length) (a .first) (a .tails) (a .default) (c .default-of .result) k
-    (c .before .before .largest-tail .ensures) (c .before .if1 .taken) (c .default-of .ensures (a .tree .now) v)
+    λ v s. turns-no-tail (a .tree .now) v s (a .length) (a .first) (a .tails) (a .default) (c .default-of .result) k
+    (c .before .before .largest-tail .ensures) (c .before .if1 .taken) (c .default-of .ensures (a .tree .now) v s)
 
 sub-numbered-case : tie.Need-sub-numbered-case
 sub-numbered-case c = search needs
@@ -41,8 +41,8 @@ returns-2 c =
     let a = start .args in
     let k = back3 .largest-tail .result in
     let chosen = c .before .numbered-case .ensures ∙ ap chosenOf (numbered-tail (a .tree .now) (a .first) (a .tails) (k - 1) (start .pre .2)) in
-    λ v. turns-tail (a .tree .now) v (a .length) (a .first) (a .tails) (a .default) (c .chosen-or .result) k (back3 .largest-tail .ensures)
-    (c .before .before .if1 .left) (c .chosen-or .ensures v (ListWithTail (k - 1)) (a .first) (a .tails) chosen)
+    λ v s. turns-tail (a .tree .now) v s (a .length) (a .first) (a .tails) (a .default) (c .chosen-or .result) k (back3 .largest-tail .ensures)
+    (c .before .before .if1 .left) (c .chosen-or .ensures v s (ListWithTail (k - 1)) (a .first) (a .tails) chosen)
 
 pub from-tails-spec : {M : Type 1} → statement M
 from-tails-spec =
