@@ -78,9 +78,9 @@ fn write(text: &[u8]) {
     io::write_all(STDOUT_FILENO, text);
 }
 
-fn list(s: &[u8]) {
+fn list(sheet: &[u8]) {
     let mut out = app_io::huge_buffer();
-    let n = app_io::list(s, &mut out);
+    let n = app_io::list(sheet, &mut out);
     write(&out[..n]);
 }
 

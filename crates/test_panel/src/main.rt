@@ -30,11 +30,11 @@ fn say_two(words: &[u8], a: usize, b: usize) {
 }
 
 // The check of a panel.
-fn check(name: &[u8], v: &[u8]) {
+fn check(name: &[u8], panel: &[u8]) {
     io::write_all(1, name);
-    match format_panel::check(v) {
-        CheckedPanel::Accepted(m) => {
-            say_two(b": accepted ", m.records, m.parts);
+    match format_panel::check(panel) {
+        CheckedPanel::Accepted(map) => {
+            say_two(b": accepted ", map.records.count, map.parts.count);
             io::write_all(1, b"\n");
         }
         CheckedPanel::Refused { number, place } => say_refused(number, place),
@@ -49,13 +49,13 @@ fn check_first(name: &[u8], b: &[u8], n: usize) {
 }
 
 // The text call and its twin.
-fn text(name: &[u8], v: &[u8], r: u16, dropped: u16) {
+fn text(name: &[u8], panel: &[u8], r: u16, dropped: u16) {
     io::write_all(1, name);
-    match format_panel::text(v, r, dropped) {
+    match format_panel::text(panel, r, dropped) {
         Located::At { start, count } => {
             say_two(b": at ", start, count);
             io::write_all(1, b" `");
-            io::write_all(1, format_panel::text_part(v, r, dropped));
+            io::write_all(1, format_panel::text_part(panel, r, dropped));
             io::write_all(1, b"`\n");
         }
         Located::Refused { number, place } => say_refused(number, place),
@@ -69,9 +69,9 @@ fn text_first(name: &[u8], b: &[u8], n: usize, r: u16, dropped: u16) {
 }
 
 // The fit check.
-fn fit(name: &[u8], s: &[u8], v: &[u8]) {
+fn fit(name: &[u8], sheet: &[u8], panel: &[u8]) {
     io::write_all(1, name);
-    match fit::fit(s, v) {
+    match fit::fit(sheet, panel) {
         Fitted::Fits => {
             io::write_all(1, b": fits\n");
         }
@@ -79,9 +79,9 @@ fn fit(name: &[u8], s: &[u8], v: &[u8]) {
     }
 }
 
-fn fit_first(name: &[u8], s: &[u8], b: &[u8], n: usize) {
+fn fit_first(name: &[u8], sheet: &[u8], b: &[u8], n: usize) {
     if n <= b.len() {
-        fit(name, s, &b[..n]);
+        fit(name, sheet, &b[..n]);
     }
 }
 

@@ -13,9 +13,9 @@ fn sheet(b: &mut [u8]) {
     end(b, of(1, 0, 0, 2, 0, 2, 0), 0);
 }
 
-fn show(name: &[u8], s: &[u8], c: u16) {
+fn show(name: &[u8], sheet: &[u8], c: u16) {
     io::write_all(1, name);
-    match clause_pattern(s, c) {
+    match clause_pattern(sheet, c) {
         Clause::At(r) => {
             io::write_all(1, b": kind ");
             io::print_decimal(1, r.kind as u64);

@@ -15,14 +15,14 @@ use test_make::three;
 use test_make::word;
 
 // ---- a case
-fn check(name: &[u8], s: &[u8]) {
+fn check(name: &[u8], sheet: &[u8]) {
     io::write_all(1, name);
-    match format_sheet::check(s) {
-        CheckedSheet::Accepted(m) => {
+    match format_sheet::check(sheet) {
+        CheckedSheet::Accepted(map) => {
             io::write_all(1, b": accepted ");
-            io::print_decimal(1, m.counts.patterns as u64);
+            io::print_decimal(1, map.patterns.count as u64);
             io::write_all(1, b" ");
-            io::print_decimal(1, m.counts.clauses as u64);
+            io::print_decimal(1, map.clauses.count as u64);
         }
         CheckedSheet::Refused { number, place } => {
             io::write_all(1, b": refused ");

@@ -1,6 +1,6 @@
 // The walk on real bytes. Standard input has trees and panels as rows of bytes, and the walks of one on the other; a walk gives a line
 // with its name and the call's answer, with (name, record, dropped) for each binding.
-// The file stdin says what its rows are; the file stdout has the answers as 01 gives them, by hand.
+// The file stdin says what its rows are; the file stdout has the answers as 01 gives them, and 02 the node and step of 32, by hand.
 mod rows;
 mod say;
 
@@ -16,14 +16,14 @@ const BYTES_AT: usize = 6;
 
 // A walk by this row, with a buffer of 576 words, or of one fewer or one more. It is filled beforehand, so that a word that is left
 // as it was shows.
-fn walk_row(kind: u8, line: &[u8], t: &[u8], v: &[u8]) {
+fn walk_row(kind: u8, line: &[u8], tree: &[u8], panel: &[u8]) {
     let mut fewer = [7u16; 575];
     let mut least = [7u16; 576];
     let mut more = [7u16; 577];
     match kind {
-        b'-' => walked(line, t, v, &mut fewer),
-        b'+' => walked(line, t, v, &mut more),
-        _ => walked(line, t, v, &mut least),
+        b'-' => walked(line, tree, panel, &mut fewer),
+        b'+' => walked(line, tree, panel, &mut more),
+        _ => walked(line, tree, panel, &mut least),
     }
 }
 

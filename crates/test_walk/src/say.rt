@@ -1,5 +1,6 @@
 // What the walk answers, written as a line. The buffer is filled beforehand; a word after the bindings that is not zero is said.
 use crate::rows::number;
+use base_numbers::refusals;
 use walk::Walked;
 
 fn say_number(x: u16) {
@@ -68,6 +69,15 @@ fn say(name: &[u8], answer: Walked, bound: &[u16]) {
         }
         Walked::NoLeaf => {
             io::write_all(1, b": no leaf");
+            say_rest(bound, 0);
+        }
+        Walked::Stuck { node, step } => {
+            io::write_all(1, b": refused ");
+            say_number(refusals::STUCK);
+            io::write_all(1, b" ");
+            say_number(node);
+            io::write_all(1, b" ");
+            say_number(step);
             say_rest(bound, 0);
         }
         Walked::Refused {
