@@ -1,5 +1,6 @@
 #!/usr/bin/env bash
 # Builds the library, the C program of examples/c and the Rust program of rust/dewmycel, and runs both on a sample: they print the same.
+# Then runs the tests of rust/dewmycel.
 # The library is for x86-64; on another processor the tools for x86-64 are installed where they are missing, and the programs run emulated.
 set -eu
 here=$(cd "$(dirname "$0")" && pwd)
@@ -18,7 +19,7 @@ target=x86_64-unknown-linux-gnu compiler=cc emulator=""
 if [ "$(uname -m)" != x86_64 ]; then
     "$root/tools/x86-64.sh"
     compiler=x86_64-linux-gnu-gcc emulator=qemu-x86_64
-    export RUSTC=/usr/bin/rustc CARGO_TARGET_X86_64_UNKNOWN_LINUX_GNU_LINKER=$compiler
+    export RUSTC=/usr/bin/rustc CARGO_TARGET_X86_64_UNKNOWN_LINUX_GNU_LINKER=$compiler CARGO_TARGET_X86_64_UNKNOWN_LINUX_GNU_RUNNER=$emulator
 fi
 
 echo "C:"
@@ -28,3 +29,4 @@ echo "Rust:"
 (cd "$root/rust/dewmycel" && cargo build --quiet --release --offline --target "$target" --example walk_panel)
 $emulator "$root/rust/dewmycel/target/$target/release/examples/walk_panel" "$room/sheet" "$room/panel" | tee "$room/by_rust"
 cmp "$room/by_c" "$room/by_rust" && echo "the same"
+(cd "$root/rust/dewmycel" && cargo test --quiet --release --offline --target "$target" --test stuck)

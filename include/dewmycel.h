@@ -12,8 +12,12 @@
  *
  * No call allocates, keeps a pointer, or has a state: calls on different buffers may run at once.
  *
- * An answer is one uint64_t. Its bits 0 to 15 are the refusal number, 0 for none; of a refusal bits 16 to 31
- * are its place and the rest is 0. A refusal leaves every writable buffer of the call all zero.
+ * An answer is one uint64_t. Its bits 0 to 15 are the refusal number, 0 for none. Of a refusal bits 16 to 31 are
+ * its place and the rest is 0; of 32 alone the place is two numbers, a node in bits 16 to 31 and a step in bits
+ * 32 to 47 (see dewmycel_walk), and the rest is 0. A refusal leaves every writable buffer of the call all zero.
+ *
+ * Ask for a refusal by dewmycel_refusal(answer), never by the whole answer: 32 had place 0 before it had a node
+ * and a step, and code that compares a whole answer with 32 now misses every one whose node or step is not 0.
  */
 #ifndef DEWMYCEL_H
 #define DEWMYCEL_H
@@ -55,7 +59,7 @@ extern "C" {
 #define DEWMYCEL_PANEL_TEXT 24   /* an integer of the panel is not canonical, or a text is over 64 bytes */
 #define DEWMYCEL_PANEL_MISFIT 25 /* the panel does not fit the sheet's subject type */
 #define DEWMYCEL_TREE 31         /* the bytes are not a tree file */
-#define DEWMYCEL_STUCK 32        /* a part that the tree asks for is of another kind, or is not there */
+#define DEWMYCEL_STUCK 32        /* a part that the tree asks for is of another kind, or is not there; place: the node and the step */
 #define DEWMYCEL_NO_TEXT 33      /* the position is not an integer or a byte string of the panel with 0 dropped */
 
 /* Builds the decision tree of a sheet.
@@ -78,6 +82,11 @@ uint64_t dewmycel_fit(const uint8_t *sheet, size_t sheet_length, const uint8_t *
  * Refusals 1, 31, 21 to 24, 32. At a leaf bit 48 is 1, bits 16 to 31 are its clause and 32 to 47 how many
  * bindings it has (at most 192); `bound` holds three words for each, in the leaf's order: name, record,
  * elements dropped; then zeros. Without a leaf the answer is 0 and `bound` is all zero.
+ * Of 32, bits 16 to 31 are the node at which the walk is stuck: the number of its record in the tree file, as
+ * the lister prints it, which is a switch, a list switch or a leaf and never a hoist. Bits 32 to 47 are the step
+ * of its path that could not be taken, from 0; where all could and the part there is of a kind that the node
+ * does not test, they are the path's length. At a leaf the path is that of its first binding that cannot be
+ * followed. A part of another kind is 32 at a node with a default too. `bound` is all zero.
  * `bound_length` counts uint16_t, at least 576, else refusal 1.
  * The tree is checked on each call, so a caller may hand over a file as it was read. */
 uint64_t dewmycel_walk(const uint8_t *tree, size_t tree_length, const uint8_t *panel, size_t panel_length,
@@ -90,7 +99,9 @@ uint64_t dewmycel_text(const uint8_t *panel, size_t panel_length, uint16_t recor
 
 /* The parts of an answer. */
 static inline uint16_t dewmycel_refusal(uint64_t answer) { return (uint16_t)answer; }
-static inline uint16_t dewmycel_place(uint64_t answer) { return (uint16_t)(answer >> 16); }
+static inline uint16_t dewmycel_place(uint64_t answer) { return (uint16_t)(answer >> 16); } /* of 32 the node alone */
+static inline uint16_t dewmycel_stuck_node(uint64_t answer) { return (uint16_t)(answer >> 16); }
+static inline uint16_t dewmycel_stuck_step(uint64_t answer) { return (uint16_t)(answer >> 32); }
 static inline uint16_t dewmycel_tree_length(uint64_t answer) { return (uint16_t)(answer >> 16); }
 static inline uint16_t dewmycel_nodes(uint64_t answer) { return (uint16_t)(answer >> 32); }
 static inline uint16_t dewmycel_bindings(uint64_t answer) { return (uint16_t)(answer >> 48); }

@@ -28,11 +28,16 @@ static int read_file(const char *name, uint8_t *to, size_t room, size_t *length)
     return !bad;
 }
 
+/* Says a refusal with its place: of 32 a node of the tree and a step of its path, of every other one number. */
 static int refused(uint64_t answer)
 {
-    if (dewmycel_refusal(answer) == 0)
+    unsigned number = dewmycel_refusal(answer);
+    if (number == 0)
         return 0;
-    printf("refused %u %u\n", (unsigned)dewmycel_refusal(answer), (unsigned)dewmycel_place(answer));
+    if (number == DEWMYCEL_STUCK)
+        printf("refused %u %u %u\n", number, (unsigned)dewmycel_stuck_node(answer), (unsigned)dewmycel_stuck_step(answer));
+    else
+        printf("refused %u %u\n", number, (unsigned)dewmycel_place(answer));
     return 1;
 }
 

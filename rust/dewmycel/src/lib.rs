@@ -49,13 +49,29 @@ pub const WORK_BYTES: usize = 65_536;
 /// The least length of the binding buffer of [`walk`], in words.
 pub const BOUND_WORDS: usize = 576;
 
-/// A refusal: its number, and the place where the format's document names one, else 0.
+/// The place of a refusal.
+#[derive(Clone, Copy, Debug, PartialEq, Eq)]
+pub enum Place {
+    /// The lowest type, pattern or clause at fault, for the refusals that name one; else 0.
+    Lowest(u16),
+    /// Where a walk is stuck, which is refusal 32.
+    Stuck {
+        /// The number of the node in the tree file: a switch, a list switch or a leaf.
+        node: u16,
+        /// The step of its path that could not be taken, from 0; the path's length where all could, and the part
+        /// there is of a kind that the node does not test. Of a leaf the path is that of its first binding that
+        /// cannot be followed.
+        step: u16,
+    },
+}
+
+/// A refusal: its number, and its place.
 #[derive(Clone, Copy, Debug, PartialEq, Eq)]
 pub struct Refusal {
     /// The number, from 1 on.
     pub number: u16,
-    /// The lowest type, pattern or clause at fault, for the refusals that name one.
-    pub place: u16,
+    /// The place: one number, and of 32 two.
+    pub place: Place,
 }
 
 impl Refusal {
@@ -88,7 +104,7 @@ impl Refusal {
         }
     }
 
-    /// What the place counts, where the number names one.
+    /// What the lowest place counts, where the number names one.
     pub fn place_is(&self) -> Option<&'static str> {
         match self.number {
             7 => Some("type"),
@@ -102,9 +118,10 @@ impl Refusal {
 impl fmt::Display for Refusal {
     fn fmt(&self, f: &mut fmt::Formatter<'_>) -> fmt::Result {
         write!(f, "refusal {}: {}", self.number, self.sentence())?;
-        match self.place_is() {
-            Some(what) => write!(f, " ({what} {})", self.place),
-            None => Ok(()),
+        match (self.place, self.place_is()) {
+            (Place::Stuck { node, step }, _) => write!(f, ", at node {node}, step {step}"),
+            (Place::Lowest(lowest), Some(what)) => write!(f, " ({what} {lowest})"),
+            (Place::Lowest(_), None) => Ok(()),
         }
     }
 }
@@ -115,14 +132,22 @@ fn word(answer: u64, i: u32) -> u16 {
     (answer >> (16 * i)) as u16
 }
 
+/// The number of a refusal whose place is a node and a step.
+const STUCK: u16 = 32;
+
 fn accepted(answer: u64) -> Result<u64, Refusal> {
-    match word(answer, 0) {
-        0 => Ok(answer),
-        number => Err(Refusal {
-            number,
-            place: word(answer, 1),
-        }),
-    }
+    let place = match word(answer, 0) {
+        0 => return Ok(answer),
+        STUCK => Place::Stuck {
+            node: word(answer, 1),
+            step: word(answer, 2),
+        },
+        _ => Place::Lowest(word(answer, 1)),
+    };
+    Err(Refusal {
+        number: word(answer, 0),
+        place,
+    })
 }
 
 /// A tree that was built: the file, and how many nodes and bindings it has.
@@ -163,10 +188,8 @@ pub fn build<'a>(sheet: &[u8], tree: &'a mut [u8], work: &mut [u8]) -> Result<Bu
 /// Whether a panel fits a sheet's subject type: refusals 2 to 11, 21 to 25.
 pub fn fit(sheet: &[u8], panel: &[u8]) -> Result<(), Refusal> {
     // SAFETY: two slices that are only read, each with its own length.
-    accepted(unsafe {
-        raw::dewmycel_fit(sheet.as_ptr(), sheet.len(), panel.as_ptr(), panel.len())
-    })
-    .map(|_| ())
+    accepted(unsafe { raw::dewmycel_fit(sheet.as_ptr(), sheet.len(), panel.as_ptr(), panel.len()) })
+        .map(|_| ())
 }
 
 /// A name bound at a leaf, to a record of the panel with so many list elements dropped.
@@ -199,7 +222,8 @@ impl<'a> Leaf<'a> {
     }
 }
 
-/// Walks a tree on a panel: refusals 1, 31, 21 to 24, 32. `None` where the walk ends without a leaf.
+/// Walks a tree on a panel: refusals 1, 31, 21 to 24, and 32 with the node and the step ([`Place::Stuck`]). `None` where
+/// the walk ends without a leaf.
 ///
 /// `bound` needs [`BOUND_WORDS`]. Neither the tree nor the panel is trusted.
 pub fn walk<'a>(
@@ -231,9 +255,8 @@ pub fn walk<'a>(
 /// 33.
 pub fn text(panel: &[u8], record: u16, dropped: u16) -> Result<&[u8], Refusal> {
     // SAFETY: one slice that is only read, with its length.
-    let answer = accepted(unsafe {
-        raw::dewmycel_text(panel.as_ptr(), panel.len(), record, dropped)
-    })?;
+    let answer =
+        accepted(unsafe { raw::dewmycel_text(panel.as_ptr(), panel.len(), record, dropped) })?;
     let start = word(answer, 1) as usize;
     Ok(&panel[start..start + word(answer, 2) as usize])
 }

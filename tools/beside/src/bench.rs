@@ -276,13 +276,13 @@ Walks, nanoseconds a walk; each column has its own median over a family's walks.
 buffer, reads the tree file and the panel file with every check, and walks. Tree: the call on an empty panel, refused 21 after the
 clearing and the tree's pass. Panel: the text call of a record that is not there, refused 33 after the panel's pass. Bare: the text call
 of an empty panel. The walk itself is whole - tree - panel + bare (the last, since each of the two passes has a call of its own in it),
-the median over turns in which each call is timed once. Plain: a walker in Rust over the same bytes that gives the same answer, 32 where
-it is stuck, and checks nothing else; indexed: the same as safe Rust, with its checks of indexes; trusting: one that does not ask either
-whether a part is there and of its kind. Ratio: the walk itself by plain, by indexed, by trusting. The next three columns are another
-way to reckon: the walk itself and plain from the least batch of each call, the mean over all walks, and their ratio. These walkers are
-called again and again, with nothing else between, so that a processor can learn every branch of a walk; behind two passes it has less to
-go by. So the last two columns are plain right behind the same two passes (the three calls in a row - tree - panel), and the ratio of
-the walk itself to that.
+the median over turns in which each call is timed once. Plain: a walker in Rust over the same bytes that gives the same answer, 32 with
+its node and step where it is stuck, and checks nothing else; indexed: the same as safe Rust, with its checks of indexes; trusting: one
+that does not ask either whether a part is there and of its kind. Ratio: the walk itself by plain, by indexed, by trusting. The next three
+columns are another way to reckon: the walk itself and plain from the least batch of each call, the mean over all walks, and their ratio.
+These walkers are called again and again, with nothing else between, so that a processor can learn every branch of a walk; behind two
+passes it has less to go by. So the last two columns are plain right behind the same two passes (the three calls in a row - tree - panel),
+and the ratio of the walk itself to that.
 family     walks    whole     tree    panel  bare  itself  plain  ratio  goal  indexed  ratio  trusting  ratio  l.itself l.plain  ratio  behind  ratio";
 
 fn show_builds(name: &str, goal: f64, members: &[Member]) {

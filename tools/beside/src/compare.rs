@@ -3,9 +3,9 @@
 
 use std::collections::BTreeMap;
 
-use crate::files::Panel;
-use crate::generate::panels::Panels;
-use crate::generate::{damage, sheets};
+use crate::files::{Panel, PanelWriter};
+use crate::generate::panels::{Panels, bend};
+use crate::generate::{damage, sheets, trees};
 #[cfg(feature = "library")]
 use crate::library;
 use crate::oracle;
@@ -14,7 +14,8 @@ use crate::reached;
 use crate::reference::panel::{Position, whole};
 use crate::reference::sheet::Checked;
 use crate::reference::walk::Reached;
-use crate::reference::{Refusal, build, calls, matcher, sheet, tree_file, walk};
+use crate::reference::{Place, Refusal, build, calls, matcher, sheet, tree_file, walk};
+use crate::rows;
 use crate::tree::{Node, listing};
 
 /// How often each refusal number was given; 0 stands for none.
@@ -68,15 +69,20 @@ pub struct Counts {
     sizes: [usize; 4],
     largest: usize,
     reached: BTreeMap<&'static str, usize>,
+    by_hand: usize,
     fitting: usize,
     leaves: usize,
     no_leaves: usize,
     panels: Numbers,
     any_walks: Numbers,
+    bent_walks: Numbers,
+    made_walks: Numbers,
     trees: Numbers,
     tree_walks: Numbers,
+    /// Walks that are stuck, by where.
+    stuck: BTreeMap<&'static str, usize>,
     texts: Numbers,
-    /// By case.
+    /// By case; the hand-made walks are before the first.
     pub differences: Vec<(usize, String)>,
 }
 
@@ -100,8 +106,11 @@ impl Counts {
         add(&mut self.sheets, other.sheets);
         add(&mut self.panels, other.panels);
         add(&mut self.any_walks, other.any_walks);
+        add(&mut self.bent_walks, other.bent_walks);
+        add(&mut self.made_walks, other.made_walks);
         add(&mut self.trees, other.trees);
         add(&mut self.tree_walks, other.tree_walks);
+        add(&mut self.stuck, other.stuck);
         add(&mut self.texts, other.texts);
         self.differences.extend(other.differences);
     }
@@ -117,6 +126,53 @@ fn number<T>(answer: &Result<T, Refusal>) -> u16 {
     answer.as_ref().err().map_or(0, |refusal| refusal.number)
 }
 
+/// Counts what a walk answers, and where it is stuck.
+fn count_walk<T>(
+    answer: &Result<T, Refusal>,
+    tree: &tree_file::Tree,
+    walks: &mut Numbers,
+    stuck: &mut BTreeMap<&'static str, usize>,
+) -> Result<(), String> {
+    *walks.entry(number(answer)).or_default() += 1;
+    if let Err(Refusal { place: Place::Stuck { node, step }, .. }) = answer {
+        *stuck.entry(stuck_at(tree, *node, *step)?).or_default() += 1;
+    }
+    Ok(())
+}
+
+/// Where a node and a step are: a step of a node's path, or the test behind it.
+fn stuck_at(tree: &tree_file::Tree, node: u16, step: u16) -> Result<&'static str, String> {
+    let (kind, fields) = tree.nodes[node as usize];
+    // Of a switch the length of its path; a leaf has no test.
+    let length = if kind < 2 { tree.steps_of(fields[0]).len() as u16 } else { u16::MAX };
+    match (kind, step) {
+        (2, 0) => Ok("at a leaf, the first step of a path"),
+        (2, _) => Ok("at a leaf, a later step"),
+        (0 | 1, 0) if length == 0 => Ok("at a test of the root"),
+        (0 | 1, _) if step == length => Ok("at a test behind steps"),
+        (0 | 1, 0) => Ok("at a switch, the first step of its path"),
+        (0 | 1, _) if step < length => Ok("at a switch, a later step"),
+        _ => Err(format!("a walk is stuck at node {node}, step {step}, which is no place")),
+    }
+}
+
+/// The hand-made walks of crates/test_walk: the reference's answer against the one written down, and the library's against the
+/// reference's.
+fn by_hand(counts: &mut Counts) -> Result<(), String> {
+    let mut written = rows::ANSWERS.lines();
+    for walk in rows::walks() {
+        let ours = rows::answered(&walk);
+        if written.next() != Some(ours.trim_end()) {
+            return Err(format!("the reference answers otherwise than test_walk's stdout: {ours}"));
+        }
+        library::same_walk(&walk.tree, &walk.panel, walk.words)
+            .map_err(|what| format!("{}: {what}", walk.name))?;
+        counts.library_walks += 1;
+        counts.by_hand += 1;
+    }
+    Ok(())
+}
+
 /// What a comparison is asked: the random sheets of a seed, and how many fitting panels of each are walked.
 #[derive(Clone, Copy)]
 pub struct Asked {
@@ -127,6 +183,12 @@ pub struct Asked {
 
 /// Fitting panels a sheet. With them 100,000 sheets give over 1,000,000 walks.
 pub const PANELS: usize = 24;
+
+/// Bent panels a sheet, whose walks are often stuck.
+const BENT: usize = 6;
+
+/// Panels a tree that no sheet has.
+const MADE: usize = 6;
 
 /// Compares random sheets and their panels, on every processor of the machine. Each case has a
 /// generator of its own, so the counts are the same however many there are.
@@ -141,6 +203,9 @@ pub fn run(asked: Asked) -> Counts {
         parts.into_iter().map(|part| part.join().expect("its counts")).collect::<Vec<_>>()
     });
     let mut counts = Counts::default();
+    if let Err(what) = by_hand(&mut counts) {
+        counts.differences.push((0, format!("by hand: {what}")));
+    }
     parts.into_iter().for_each(|part| counts.add(part));
     counts.differences.sort();
     counts
@@ -157,8 +222,31 @@ fn every(asked: Asked, first: usize, many: usize) -> Counts {
             let what = format!("case {case}: {what}\nsheet: {}", decimal.join(" "));
             counts.differences.push((case, what));
         }
+        // A generator of its own, so that the sheets of a seed stay what they are.
+        let mut random = Random::of_case(!asked.seed, case as u64);
+        if let Err(what) = made_tree(&mut random, &mut counts) {
+            counts.differences.push((case, format!("case {case}: {what}")));
+        }
     }
     counts
+}
+
+/// A tree that no sheet has, walked on the panel that its paths lead through and on bent copies of it.
+fn made_tree(random: &mut Random, counts: &mut Counts) -> Result<(), String> {
+    let mut value = trees::value(random, 4);
+    let root = trees::tree(random, &value, 4);
+    let file = tree_file::written(&root, trees::POOL);
+    let tree = tree_file::read(&file).map_err(|_| "the reader refuses a made tree")?;
+    for _ in 0..MADE {
+        let panel = PanelWriter::written(&value);
+        count_walk(&walk::walk(&tree, &panel), &tree, &mut counts.made_walks, &mut counts.stuck)?;
+        let panel = panel.to_bytes();
+        library::same_walk(&file, &panel, 576)
+            .map_err(|what| format!("{what}\ntree: {file:?}\npanel: {panel:?}"))?;
+        counts.library_walks += 1;
+        bend(random, &mut value);
+    }
+    Ok(())
 }
 
 /// One sheet: what differs, if something does.
@@ -213,6 +301,13 @@ fn one(
     }
     for _ in 0..2 {
         damaged_tree(random, &file, &panels, counts)?;
+    }
+    for _ in 0..BENT {
+        let Some(panel) = panels.bent(random) else {
+            break;
+        };
+        count_walk(&walk::walk(&tree, &panel), &tree, &mut counts.bent_walks, &mut counts.stuck)?;
+        library_on(bytes, &file, &panel.to_bytes(), 576, counts)?;
     }
     Ok(())
 }
@@ -308,7 +403,8 @@ fn any_panel(
 ) -> Result<(), String> {
     *counts.panels.entry(number(&calls::fit(sheet, panel))).or_default() += 1;
     let walked = calls::walk(tree, panel, &mut [0; 576]);
-    *counts.any_walks.entry(number(&walked)).or_default() += 1;
+    let read = tree_file::read(tree).map_err(|_| "the reader refuses a written tree")?;
+    count_walk(&walked, &read, &mut counts.any_walks, &mut counts.stuck)?;
     let at = if random.chance(2, 3) {
         whole(random.below(6) as u16)
     } else {
@@ -333,7 +429,8 @@ fn damaged_tree(
         return Ok(());
     };
     if let Ok(tree) = read {
-        *counts.tree_walks.entry(number(&walk::walk(&tree, &panel))).or_default() += 1;
+        let walked = walk::walk(&tree, &panel);
+        count_walk(&walked, &tree, &mut counts.tree_walks, &mut counts.stuck)?;
     }
     counts.library_walks += 1;
     library::same_walk(&damaged, &panel.to_bytes(), 576)
@@ -376,6 +473,11 @@ impl std::fmt::Display for Counts {
         writeln!(f, "walks of any panels: {}", show(&c.any_walks))?;
         writeln!(f, "damaged trees: {}", show(&c.trees))?;
         writeln!(f, "walks of damaged trees that are still read: {}", show(&c.tree_walks))?;
+        writeln!(f, "walks of bent panels: {}", show(&c.bent_walks))?;
+        writeln!(f, "walks of trees that no sheet has: {}", show(&c.made_walks))?;
+        let stuck: Vec<String> = c.stuck.iter().map(|(w, n)| format!("{w} {n}")).collect();
+        writeln!(f, "walks stuck: {}", stuck.join(", "))?;
+        writeln!(f, "hand-made walks of test_walk: {}", c.by_hand)?;
         writeln!(f, "text calls: {}", show(&c.texts))?;
         if library::HERE {
             writeln!(

@@ -5,7 +5,7 @@
 
 use crate::plain;
 use crate::reference::panel::Position;
-use crate::reference::{Refusal, calls};
+use crate::reference::{Place, Refusal, calls};
 
 unsafe extern "C" {
     fn dewmycel_build(
@@ -50,7 +50,11 @@ pub fn refusal(answer: u64) -> u16 {
 }
 
 fn packed_refusal(refusal: &Refusal) -> u64 {
-    packed(refusal.number.into(), refusal.place.into(), 0, 0)
+    let number = refusal.number.into();
+    match refusal.place {
+        Place::Lowest(place) => packed(number, place.into(), 0, 0),
+        Place::Stuck { node, step } => packed(number, node.into(), step.into(), 0),
+    }
 }
 
 pub fn build(sheet: &[u8], tree: &mut [u8], work: &mut [u8]) -> u64 {
@@ -140,7 +144,8 @@ pub fn same_walk(tree: &[u8], panel: &[u8], bound_length: usize) -> Result<(), S
     }
 }
 
-/// The plain walkers on a tree and a panel that passed their checks. Where the walk is stuck those that ask say so too.
+/// The plain walkers on a tree and a panel that passed their checks. Where the walk is stuck those that
+/// ask say so too, at the same node and step.
 pub fn same_plain(tree: &[u8], panel: &[u8], answer: u64, bound: &[u16]) -> Result<(), String> {
     let stuck = refusal(answer) != 0;
     for (name, walker) in plain::ASKING.into_iter().chain((!stuck).then_some(plain::TRUSTING)) {

@@ -1,6 +1,7 @@
 //! `beside`: the Rust, a reference and random sheets, to be held against the proved library.
 //!
-//! Commands: see USAGE. A refused sheet prints `refused NUMBER PLACE`, as the lister does.
+//! Commands: see USAGE. A refused sheet prints `refused NUMBER PLACE`, as the lister does; a walk that is stuck prints
+//! `refused 32 NODE STEP`.
 
 #[cfg(feature = "library")]
 mod bench;
@@ -18,6 +19,7 @@ mod plain;
 mod random;
 mod reached;
 mod reference;
+mod rows;
 #[cfg(test)]
 mod tests;
 mod tree;
@@ -35,8 +37,10 @@ beside list SHEET           the listing of the Rust's tree
 beside ref SHEET            the listing of the reference's tree
 beside tree SHEET OUT       writes the tree file, by the reference
 beside walk SHEET PANEL     fit check, build and walk, by the reference
+beside on TREE PANEL        the walk of a tree file alone, by the reference
 beside compare N SEED [P]   N random sheets: the Rust against the reference, walks of P fitting panels each against a matcher
 beside gen SEED DIR K       writes K random sheets with panels, and what the reference answers
+beside rows                 the hand-made walks of crates/test_walk, by the reference
 beside bytes [NAME]         hand-made sheets and panels, and their trees, as lists of bytes
 beside hand DIR             writes the hand-made ones, and what the reference answers
 beside bench K SEED [again] with the library: times of K sheets a family, by the Rust and by the library
@@ -73,6 +77,8 @@ fn command(args: &[String]) -> Result<bool, String> {
             Err(refusal) => print!("{}", refused(refusal)),
         },
         ["walk", sheet, panel] => print!("{}", walked(&read(sheet)?, &read(panel)?)),
+        ["on", tree, panel] => print!("{}", walked_on(&read(tree)?, &read(panel)?)),
+        ["rows"] => rows::walks().iter().for_each(|walk| print!("{}", rows::answered(walk))),
         ["compare", n, seed] => return compared(n, seed, compare::PANELS),
         ["compare", n, seed, panels] => return compared(n, seed, number(panels)? as usize),
         ["gen", seed, dir, k] => generated(number(seed)?, dir, number(k)?)?,
@@ -122,7 +128,7 @@ fn number(word: &str) -> Result<u64, String> {
 }
 
 fn refused(refusal: Refusal) -> String {
-    format!("refused {} {}\n", refusal.number, refusal.place)
+    format!("{refusal}\n")
 }
 
 /// The listing of a sheet's tree, or its refusal: the Rust's tree or the reference's.
@@ -141,13 +147,18 @@ fn tree_bytes(sheet: &[u8]) -> Result<Vec<u8>, Refusal> {
     Ok(tree)
 }
 
-/// What the walk of a panel over a sheet's tree answers, with a line for each binding.
+/// What the walk of a panel over a sheet's tree answers, if the panel fits the sheet.
 fn walked(sheet: &[u8], panel: &[u8]) -> String {
+    match calls::fit(sheet, panel).and_then(|()| tree_bytes(sheet)) {
+        Err(refusal) => refused(refusal),
+        Ok(tree) => walked_on(&tree, panel),
+    }
+}
+
+/// What the walk of a panel over a tree answers, with a line for each binding.
+fn walked_on(tree: &[u8], panel: &[u8]) -> String {
     let mut bound = [0; 576];
-    let answer = calls::fit(sheet, panel)
-        .and_then(|()| tree_bytes(sheet))
-        .and_then(|tree| calls::walk(&tree, panel, &mut bound));
-    match answer {
+    match calls::walk(tree, panel, &mut bound) {
         Err(refusal) => refused(refusal),
         Ok(None) => "no leaf\n".to_string(),
         Ok(Some((clause, count))) => {

@@ -3,7 +3,7 @@
 //! has cleared the rest of the buffer.
 //!
 //! They are made three times from one text: one that asks of each part that it is there and of its kind, as the walk's
-//! answer 32 has it; that one as safe Rust is, where each index is held against its slice; and one that asks nothing.
+//! answer 32 has it, and says at which node and step it is not; that one as safe Rust is, where each index is held against its slice; and one that asks nothing.
 
 use crate::files::{V_BYTES, V_CONSTR, V_INT, V_LIST, V_PAIR, V_TUPLE};
 use crate::library::packed;
@@ -11,7 +11,7 @@ use crate::tree::{S_CONSTR, S_LIST, S_LISTTAIL, S_PAIR};
 
 type Walker = unsafe fn(&[u8], &[u8], &mut [u16]) -> u64;
 
-/// Those that answer 32 where the walk is stuck, by name.
+/// Those that answer 32 with its node and step where the walk is stuck, by name.
 pub const ASKING: [(&str, Walker); 2] =
     [("the plain walker", asking), ("the plain walker with indexes checked", indexed)];
 
@@ -85,8 +85,8 @@ struct Walk<'a, const ASKS: bool, const CHECKED: bool> {
     panel_texts: usize,
 }
 
-/// The walk is stuck: a part is not there, or is of another kind.
-struct Stuck;
+/// A path is stuck: a part is not there, or is of another kind. How many steps were taken.
+struct Stuck(usize);
 
 impl<'a, const ASKS: bool, const CHECKED: bool> Walk<'a, ASKS, CHECKED> {
     fn of(tree: &'a [u8], panel: &'a [u8]) -> Self {
@@ -105,34 +105,35 @@ impl<'a, const ASKS: bool, const CHECKED: bool> Walk<'a, ASKS, CHECKED> {
         }
     }
 
-    /// The clause and the number of its bindings, packed as the library packs them; 0 for no leaf.
+    /// Stuck after so many steps, where it is asked and what is asked does not hold.
+    fn ask(
+        &self,
+        taken: impl FnOnce() -> usize,
+        holds: impl FnOnce() -> bool,
+    ) -> Result<(), Stuck> {
+        if ASKS && !holds() { Err(Stuck(taken())) } else { Ok(()) }
+    }
+
+    /// The clause and the number of its bindings, packed as the library packs them; 0 for no leaf; 32 with node and step.
     fn answer(&self, bound: &mut [u16]) -> u64 {
-        self.leaf(bound).unwrap_or_else(|Stuck| packed(32, 0, 0, 0))
-    }
-
-    /// Stuck, where it is asked and what is asked does not hold.
-    fn ask(&self, holds: impl FnOnce() -> bool) -> Result<(), Stuck> {
-        if ASKS && !holds() { Err(Stuck) } else { Ok(()) }
-    }
-
-    fn leaf(&self, bound: &mut [u16]) -> Result<u64, Stuck> {
         let mut node = 0;
         loop {
             let at = 12 * node;
             let field = |i: usize| self.tree.word(at + 2 + 2 * i);
             let next = match self.tree.byte(at) {
-                0 => self.switch(field(0), field(1), field(2))?,
-                1 => self.list_switch(field(0), field(1), field(2), field(3))?,
-                2 => {
-                    self.bind(field(1), field(2), bound)?;
-                    return Ok(packed(0, field(0) as u64, field(2) as u64, 1));
-                }
-                _ => Some(field(3)),
+                0 => self.switch(field(0), field(1), field(2)),
+                1 => self.list_switch(field(0), field(1), field(2), field(3)),
+                2 => match self.bind(field(1), field(2), bound) {
+                    Ok(()) => return packed(0, field(0) as u64, field(2) as u64, 1),
+                    Err(stuck) => Err(stuck),
+                },
+                _ => Ok(Some(field(3))),
             };
             node = match next {
-                Some(child) => child,
-                None if field(4) > 0 => field(4) - 1,
-                None => return Ok(0),
+                Ok(Some(child)) => child,
+                Ok(None) if field(4) > 0 => field(4) - 1,
+                Ok(None) => return 0,
+                Err(Stuck(step)) => return packed(32, node as u64, step as u64, 0),
             };
         }
     }
@@ -141,18 +142,18 @@ impl<'a, const ASKS: bool, const CHECKED: bool> Walk<'a, ASKS, CHECKED> {
         let path = self.paths + 4 * path;
         let (first, count) = (self.tree.word(path), self.tree.word(path + 2));
         let mut at = At { record: 0, dropped: 0 };
-        for step in first..first + count {
-            let step = self.steps + 6 * step;
+        for taken in 0..count {
+            let step = self.steps + 6 * (first + taken);
             let (kind, index) = (self.tree.byte(step), self.tree.word(step + 2));
             let record = 8 * at.record;
             let parts = || self.panel.word(record + 6);
-            self.ask(|| self.panel.byte(record) == stepped_from(kind))?;
+            self.ask(|| taken, || self.panel.byte(record) == stepped_from(kind))?;
             let part = if kind >= S_LIST { at.dropped + index } else { index };
             if kind == S_LISTTAIL {
-                self.ask(|| part <= parts())?;
+                self.ask(|| taken, || part <= parts())?;
                 at.dropped = part;
             } else {
-                self.ask(|| part < parts())?;
+                self.ask(|| taken, || part < parts())?;
                 let child = self.panel.word(record + 4) + part;
                 at = At { record: self.panel.word(self.children + 2 * child), dropped: 0 };
             }
@@ -160,12 +161,18 @@ impl<'a, const ASKS: bool, const CHECKED: bool> Walk<'a, ASKS, CHECKED> {
         Ok(at)
     }
 
+    /// How many steps a path has.
+    fn length(&self, path: usize) -> usize {
+        self.tree.word(self.paths + 4 * path + 2)
+    }
+
     /// The child of the first case that holds.
     fn switch(&self, path: usize, first: usize, cases: usize) -> Result<Option<usize>, Stuck> {
         let record = 8 * self.follow(path)?.record;
         let field = |i: usize| self.panel.word(record + 2 + 2 * i);
         let kind = self.panel.byte(record);
-        self.ask(|| kind == asked_by(self.tree.byte(self.cases + 8 * first)))?;
+        let asked = || kind == asked_by(self.tree.byte(self.cases + 8 * first));
+        self.ask(|| self.length(path), asked)?;
         let mut all = (first..first + cases).map(|case| self.cases + 8 * case);
         let found = if kind == V_CONSTR {
             all.find(|case| self.tree.word(case + 2) == field(0))
@@ -188,7 +195,7 @@ impl<'a, const ASKS: bool, const CHECKED: bool> Walk<'a, ASKS, CHECKED> {
         tails: usize,
     ) -> Result<Option<usize>, Stuck> {
         let at = self.follow(path)?;
-        self.ask(|| self.panel.byte(8 * at.record) == V_LIST)?;
+        self.ask(|| self.length(path), || self.panel.byte(8 * at.record) == V_LIST)?;
         let length = self.panel.word(8 * at.record + 6) - at.dropped;
         let mut best = None;
         for case in first..first + cases + tails {

@@ -1,8 +1,8 @@
 //! The scope document's own cases, asked of the reference and of the Rust.
 
-use crate::reference::{Refusal, build, calls, sheet};
+use crate::reference::{Place, Refusal, build, calls, sheet};
 use crate::tree::listing;
-use crate::{compare, hand, oracle, walked};
+use crate::{compare, hand, oracle, rows, walked};
 
 fn bytes(name: &str) -> Vec<u8> {
     let mut all = hand::proved().into_iter().chain(hand::limits());
@@ -66,8 +66,8 @@ fn the_other_trees_of_the_document() {
     assert!(agreed("P10").contains("1 switch tuple_1 "));
     assert!(agreed("P11").contains("1 switch tuple_0 "));
     assert!(agreed("extra").contains("2 hoist 1 then 3\n3 switch tuple_1 "));
-    assert_eq!(refusal("P8"), Refusal { number: 14, place: 1 });
-    assert_eq!(refusal("P12"), Refusal { number: 4, place: 0 });
+    assert_eq!(refusal("P8"), Refusal { number: 14, place: Place::Lowest(1) });
+    assert_eq!(refusal("P12"), Refusal { number: 4, place: Place::Lowest(0) });
 }
 
 #[test]
@@ -96,8 +96,18 @@ fn the_limits() {
         ("leading-zero", 9),
     ];
     for (name, number) in refusals {
-        assert_eq!(refusal(name), Refusal { number, place: 0 }, "{name}");
+        assert_eq!(refusal(name), Refusal { number, place: Place::Lowest(0) }, "{name}");
     }
+}
+
+/// The hand-made walks of `crates/test_walk`: the reference gives the answers that are written down there.
+#[test]
+fn the_rows_of_test_walk() {
+    let ours: String = rows::walks().iter().map(rows::answered).collect();
+    for (ours, written) in ours.lines().zip(rows::ANSWERS.lines()) {
+        assert_eq!(ours, written);
+    }
+    assert_eq!(ours, rows::ANSWERS);
 }
 
 /// The Rust has no limits: its trees just past them have just that size.

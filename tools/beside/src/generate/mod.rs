@@ -1,10 +1,11 @@
-//! Random sheets, panels and damaged copies, each the same for the same seed.
+//! Random sheets, panels, trees and damaged copies, each the same for the same seed.
 
 pub mod damage;
 pub mod layout;
 pub mod panels;
 pub mod patterns;
 pub mod sheets;
+pub mod trees;
 pub mod types;
 pub mod values;
 

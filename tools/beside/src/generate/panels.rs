@@ -25,14 +25,27 @@ impl Panels {
     /// A panel of the subject type, most often near to one of the clauses; none if the type has no
     /// finite value or the panel would be too large.
     pub fn fitting(&self, random: &mut Random) -> Option<Panel> {
+        let value = self.value(random)?;
+        Some(layout::panel(random, &value))
+    }
+
+    fn value(&self, random: &mut Random) -> Option<Value> {
         let subject = self.types.sheet.subject;
         let mut maker = Maker::new(&self.types, random);
-        let value = if random.chance(5, 6) {
+        if random.chance(5, 6) {
             let clause = random.pick(&self.clauses).clone();
             maker.matching(random, &clause, subject, DEPTH)
         } else {
             maker.value(random, subject, DEPTH)
-        }?;
+        }
+    }
+
+    /// Such a panel with one to three parts of another kind or with a part fewer: its walk may be stuck at any depth.
+    pub fn bent(&self, random: &mut Random) -> Option<Panel> {
+        let mut value = self.value(random)?;
+        for _ in 0..random.between(1, 3) {
+            bend(random, &mut value);
+        }
         Some(layout::panel(random, &value))
     }
 
@@ -58,6 +71,36 @@ impl Panels {
             _ => damage::damaged(random, &damage::PANEL, &panel.to_bytes()),
         }
     }
+}
+
+/// Makes a value, or a part of it, one of another kind, or takes its last part away.
+pub fn bend(random: &mut Random, value: &mut Value) {
+    let mut parts: Vec<&mut Value> = match value {
+        Value::Int(_) | Value::Bytes(_) => vec![],
+        Value::List(parts) | Value::Tuple(parts) | Value::Constr(_, parts) => {
+            parts.iter_mut().collect()
+        }
+        Value::Pair(fst, snd) => vec![fst, snd],
+    };
+    if !parts.is_empty() && random.chance(3, 4) {
+        let at = random.below(parts.len());
+        return bend(random, parts[at]);
+    }
+    let mut parts: Vec<Value> = parts.into_iter().map(|part| part.clone()).collect();
+    if random.chance(1, 3) {
+        parts.pop();
+    }
+    *value = match random.below(7) {
+        0 => Value::Int("7".to_string()),
+        1 => Value::Bytes(vec![7]),
+        2..=3 => Value::List(parts),
+        4 => Value::Tuple(parts),
+        5 if parts.len() == 2 => {
+            let snd = Box::new(parts.remove(1));
+            Value::Pair(Box::new(parts.remove(0)), snd)
+        }
+        _ => Value::Constr(random.below(3) as u16, parts),
+    };
 }
 
 /// Lists in lists, about as deep as is allowed.

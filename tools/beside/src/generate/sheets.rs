@@ -5,8 +5,8 @@ use super::types::{Flavour, Types, types};
 use super::{damage, layout};
 use crate::files::*;
 use crate::random::Random;
-use crate::reference::Refusal;
 use crate::reference::calls::tree_of;
+use crate::reference::{Place, Refusal};
 
 /// What a sheet is made from.
 struct Draft {
@@ -171,7 +171,7 @@ fn thinned_out(random: &mut Random, mut draft: Draft) -> Vec<u8> {
     for attempt in 0..100 {
         let bytes = draft.laid_out(random);
         match tree_of(&bytes) {
-            Err(Refusal { number: 14, place }) => {
+            Err(Refusal { number: 14, place: Place::Lowest(place) }) => {
                 draft.clauses.remove(place as usize);
                 let many = draft.mood.clauses == 32;
                 let again = attempt < 50 && (many || random.chance(2, 3));

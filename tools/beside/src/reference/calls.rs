@@ -40,7 +40,7 @@ pub fn fit(sheet_bytes: &[u8], panel_bytes: &[u8]) -> Result<(), Refusal> {
     if panel::fits(&panel, 0, &checked, checked.sheet.subject) { Ok(()) } else { refused(25) }
 }
 
-/// The walk: refusal 1, 31, 21 to 24, 32; a clause and the number of its bindings, or no leaf.
+/// The walk: refusal 1, 31, 21 to 24, 32 with a node and a step; a clause and the number of its bindings, or no leaf.
 /// A binding is three numbers of the buffer: name, record, dropped.
 pub fn walk(
     tree_bytes: &[u8],

@@ -16,7 +16,26 @@ pub mod walk;
 #[derive(Clone, Copy, Debug, PartialEq, Eq)]
 pub struct Refusal {
     pub number: u16,
-    pub place: u16,
+    pub place: Place,
+}
+
+/// The place of a refusal: one number, and of 32 two.
+#[derive(Clone, Copy, Debug, PartialEq, Eq)]
+pub enum Place {
+    /// The lowest type, pattern or clause at fault, or 0.
+    Lowest(u16),
+    /// Where a walk is stuck: a node of the tree file, and how many steps of its path are taken.
+    Stuck { node: u16, step: u16 },
+}
+
+/// `refused NUMBER PLACE`, of 32 `refused 32 NODE STEP`.
+impl std::fmt::Display for Refusal {
+    fn fmt(&self, f: &mut std::fmt::Formatter) -> std::fmt::Result {
+        match self.place {
+            Place::Lowest(place) => write!(f, "refused {} {place}", self.number),
+            Place::Stuck { node, step } => write!(f, "refused {} {node} {step}", self.number),
+        }
+    }
 }
 
 /// A refusal whose place is 0.
@@ -25,7 +44,7 @@ pub fn refused<T>(number: u16) -> Result<T, Refusal> {
 }
 
 pub fn refused_at<T>(number: u16, place: usize) -> Result<T, Refusal> {
-    Err(Refusal { number, place: place as u16 })
+    Err(Refusal { number, place: Place::Lowest(place as u16) })
 }
 
 /// Whether the starts of a file rise from 0, equal ones allowed, none passes the trailer, and
