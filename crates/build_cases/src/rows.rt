@@ -18,7 +18,7 @@ use format_sheet::SheetMap;
 use format_sheet::records::pattern_at;
 
 // What a pass meets: the cases with a tail or those without, of a column with these longest lengths.
-#[derive(Drop)]
+#[derive(Clone, Copy)]
 pub struct Pass {
     pub tail: bool,
     pub longest: Longest,

@@ -11,7 +11,7 @@ use build_arena::reading::{case_kind, case_length, case_number};
 use format_records::reading::Test;
 
 // A test by the fields of its case's record; the number of a text is its start in the pool.
-#[derive(Drop)]
+#[derive(Clone, Copy)]
 pub struct Fields {
     pub kind: u8,
     pub number: u16,

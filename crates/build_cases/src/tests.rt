@@ -10,7 +10,7 @@ use format_sheet::records::PatternRecord;
 
 // The longest lengths of lists in a column, each one more than it is, or 0 where there is none: of those without a tail, and of those
 // with, whose tail is not counted.
-#[derive(Drop)]
+#[derive(Clone, Copy)]
 pub struct Longest {
     pub tailless: usize,
     pub tails: usize,

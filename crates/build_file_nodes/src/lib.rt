@@ -20,7 +20,7 @@ mod shift;
 mod uses;
 
 // How many nodes, cases and bindings are written, and how many paths have a number.
-#[derive(Drop)]
+#[derive(Clone, Copy)]
 pub struct Tops {
     pub nodes: usize,
     pub cases: usize,

@@ -21,7 +21,7 @@ use format_parts::sections::first_of;
 use format_records::writing::put_node;
 
 // Where the sections of cases and bindings start in the file.
-#[derive(Drop)]
+#[derive(Clone, Copy)]
 pub struct Starts {
     pub cases: usize,
     pub bindings: usize,

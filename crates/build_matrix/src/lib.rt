@@ -55,7 +55,7 @@ pub struct Matrix {
 }
 
 // How many rows and columns a matrix has, and how many columns were tested.
-#[derive(Drop)]
+#[derive(Clone, Copy)]
 pub struct Sizes {
     pub rows: usize,
     pub columns: usize,

@@ -4,7 +4,7 @@ use base_numbers::sheet::CLAUSES_MOST;
 
 // Where there are more bindings than there is room for, their number is told as one more than the room.
 // `leaves` has 1 for each clause with a leaf.
-#[derive(Drop)]
+#[derive(Clone, Copy)]
 pub struct Tops {
     pub nodes: usize,
     pub cases: usize,

@@ -22,7 +22,7 @@ pub const NODES_FEW: usize = 64;
 
 // By clause, the node above which it is hoisted and the node of its first leaf, 1,024 where it has no leaf; how many clauses have one,
 // and the lowest that has none, or 32.
-#[derive(Drop)]
+#[derive(Clone, Copy)]
 pub struct Scopes {
     pub node: [u16; CLAUSES_MOST],
     pub leaf: [u16; CLAUSES_MOST],

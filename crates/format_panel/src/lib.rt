@@ -23,7 +23,7 @@ use shape::shape_fits;
 use texts::texts_fit;
 
 // Where the sections of a panel stand. The records start at 0.
-#[derive(Drop)]
+#[derive(Clone, Copy)]
 pub struct PanelMap {
     pub records: Section,
     pub parts: Section,

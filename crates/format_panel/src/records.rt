@@ -11,7 +11,7 @@ use base_numbers::record_fields;
 use base_words::word_at;
 
 // One record of a panel, with its fields as they stand in the file.
-#[derive(Drop)]
+#[derive(Clone, Copy)]
 pub struct Record {
     pub kind: u8,
     pub zero: u8,

@@ -7,7 +7,7 @@ ghost use Rattle.spec_rules.specs.TreeFile.{first_of};
 ghost use Rattle.format_parts.specs.Sections.{section_of};
 
 // Where a section starts, and how many records it has; of a pool, how many bytes.
-#[derive(Drop)]
+#[derive(Clone, Copy)]
 pub struct Section {
     pub start: usize,
     pub count: usize,

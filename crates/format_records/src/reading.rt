@@ -8,7 +8,7 @@ use base_numbers::{WORD_SIZE, case_kinds, tree_fields};
 use base_words::word_at;
 
 // What a case asks. A text is an integer's or a byte string's, by the kind of its case; it starts so far into the pool.
-#[derive(Drop)]
+#[derive(Clone, Copy)]
 pub enum Test {
     Constr(u16),
     Text { kind: u8, start: u16, count: u16 },

@@ -32,7 +32,7 @@ use texts::lowest_bad_text;
 use types::{lowest_transparent, types_fit};
 
 // Where the sections of a sheet stand, and the subject's type number.
-#[derive(Drop)]
+#[derive(Clone, Copy)]
 pub struct SheetMap {
     pub types: Section,
     pub constructors: Section,

@@ -17,7 +17,7 @@ use base_numbers::sheet::{
 use base_numbers::{pattern_kinds, record_fields, run_fields, type_fields};
 use base_words::word_at;
 
-#[derive(Drop)]
+#[derive(Clone, Copy)]
 pub struct TypeRecord {
     pub kind: u8,
     pub flag: u8,
@@ -32,7 +32,7 @@ pub struct Run {
     pub count: usize,
 }
 
-#[derive(Drop)]
+#[derive(Clone, Copy)]
 pub struct PatternRecord {
     pub kind: u8,
     pub zero: u8,

@@ -14,7 +14,7 @@ use format_sheet::records::{PatternRecord, pattern_in};
 use format_sheet::{CheckedSheet, SheetMap, check};
 use places::root_in;
 
-#[derive(Drop)]
+#[derive(Clone, Copy)]
 pub struct Reader<'a> {
     pub sheet: &'a [u8],
     pub types: usize,

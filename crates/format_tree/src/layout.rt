@@ -11,7 +11,7 @@ use base_numbers::{BYTE_SIZE, WORD_SIZE, tree_starts};
 use base_words::word_at;
 use format_parts::sections::{Section, section_of, whole_records};
 
-#[derive(Drop)]
+#[derive(Clone, Copy)]
 pub struct TreeMap {
     pub nodes: Section,
     pub cases: Section,
