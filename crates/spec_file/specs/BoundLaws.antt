@@ -88,7 +88,7 @@ first_uses_from (p ∷ ps) there q h = go (is_among p there) refl (first_uses_fr
 
     last : is_among q (there ++ p ∷ []) ≡ true → (is_among q there ≡ true) ⊎ (is_among q (p ∷ ps) ≡ true)
     last x = ⊎_elim inl
-        (λ y. ⊎_elim (λ e. inr (rw e (is_among_first p ps))) (λ z. inr (is_among_left q (p ∷ []) ps y)) (is_among_cases q p [] y))
+        (λ y. ⊎_elim (λ e. inr (ap (λ (x : Path). is_among x (p ∷ ps)) e ∙ is_among_first p ps)) (λ z. inr (is_among_left q (p ∷ []) ps y)) (is_among_cases q p [] y))
         (either_true (is_among q there) (is_among q (p ∷ [])) (sym (is_among_append q there (p ∷ [])) ∙ x))
 
     go : (b : Bool) → is_among p there ≡ b
@@ -127,7 +127,7 @@ without_keeps p r (q ∷ qs) n h = go (same_path p q) refl (is_among_cases r q q
         → is_among r (elim b as (λ x. List Path) [ true ↦ qs | false ↦ q ∷ without p qs ]) ≡ true
     go true e (inl x) ih = absurd (true≢false (sym (same_path_make r p (x ∙ sym (same_path_sound p q e))) ∙ n))
     go true e (inr x) ih = x
-    go false e (inl x) ih = rw x (is_among_first q (without p qs))
+    go false e (inl x) ih = ap (λ (s : Path). is_among s (q ∷ without p qs)) x ∙ is_among_first q (without p qs)
     go false e (inr x) ih = is_among_rest r q (without p qs) (ih x)
 
 pub distinct_fewer : (ps qs : List Path) → Distinct ps → Covers qs ps → length ps ≤ length qs

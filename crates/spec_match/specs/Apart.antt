@@ -1,7 +1,7 @@
 -- The tests of a row stand apart from each other, and each in a column of its matrix. So a column that is tested is gone from
 -- the row too, and where no column is chosen the first row has no test.
 use Rattle.std.specs.Prelude.{ℕ, ◌+◌, ◌≤◌, ◌<◌, ◌≡◌, refl, ◌⊎◌, Bool, true, false, List, [], ◌∷◌, ◌++◌}
-use Rattle.std.proofs.Common.{le_refl, arith, sym, ap, ◌∙◌, inl, inr, true≢false, append-nil, append_assoc}
+use Rattle.std.proofs.Common.{le_refl, arith, sym, ap, ◌∙◌, inl, inr, subst, true≢false, append-nil, append_assoc}
 use Rattle.std.proofs.lemmas.Bool.{false≢true}
 use Rattle.std.proofs.Math.Option.{Option, none, some}
 use Rattle.base_words.specs.Words.{either}
@@ -375,8 +375,8 @@ pub default_neat : (p : Path) (ps : List Path) (rs : List Row) → All (Neat ps)
 default_neat p ps rs h = default_all (Neat ps) (Neat (without p ps)) p (wild_neat p ps) rs h
 
 -- what a row of the case opens to stands among all that the case opens
-abbrev Opens_in : Path → Test → List Cell → Row → Type 0
-Opens_in p t ds r = (q : Pat) → test_at p r.tests ≡ some q → covers q t ≡ true → All (λ c. is_path_of c.path ds ≡ true) (opened_columns p q)
+abbrev OpensIn : Path → Test → List Cell → Row → Type 0
+OpensIn p t ds r = (q : Pat) → test_at p r.tests ≡ some q → covers q t ≡ true → All (λ c. is_path_of c.path ds ≡ true) (opened_columns p q)
 
 more_paths : (ds es cs : List Cell) → All (λ c. is_path_of c.path es ≡ true) cs → All (λ c. is_path_of c.path (ds ++ es) ≡ true) cs
 more_paths ds es cs w =
@@ -388,34 +388,54 @@ first_paths ds es =
     all_map (λ c. is_path_of c.path ds ≡ true) (λ c. is_path_of c.path (ds ++ es) ≡ true)
     (λ c h. is_path_of_append c.path ds es ∙ either_first_true (is_path_of c.path ds) (is_path_of c.path es) h) ds (own_paths ds)
 
-case_opens_in : (p : Path) (t : Test) (rs : List Row) → All (Opens_in p t (case_opens p t rs)) rs
+-- what a row adds to the columns that a case opens
+opens_none : (p : Path) (t : Test) (r : Row) (rs : List Row) → test_at p r.tests ≡ none → case_opens p t (r ∷ rs) ≡ case_opens p t rs
+unfolding case_opens
+opens_none p t r rs x = rw (x, case_opens)
+
+opens_covered : (p : Path) (t : Test) (r : Row) (rs : List Row) (z : Pat) → test_at p r.tests ≡ some z → covers z t ≡ true
+    → case_opens p t (r ∷ rs) ≡ opened_columns p z ++ case_opens p t rs
+unfolding case_opens
+opens_covered p t r rs z x y = rw (x, y, case_opens)
+
+opens_missed : (p : Path) (t : Test) (r : Row) (rs : List Row) (z : Pat) → test_at p r.tests ≡ some z → covers z t ≡ false
+    → case_opens p t (r ∷ rs) ≡ case_opens p t rs
+unfolding case_opens
+opens_missed p t r rs z x y = rw (x, y, case_opens)
+
+case_opens_in : (p : Path) (t : Test) (rs : List Row) → All (OpensIn p t (case_opens p t rs)) rs
 unfolding case_opens
 case_opens_in p t [] = tt
 case_opens_in p t (r ∷ rs) = go (test_at p r.tests) refl (case_opens_in p t rs)
   where
+    carried : (os : List Cell) → case_opens p t (r ∷ rs) ≡ os → All (OpensIn p t os) (r ∷ rs) → All (OpensIn p t (case_opens p t (r ∷ rs))) (r ∷ rs)
+    carried os e h = subst (λ (o : List Cell). All (OpensIn p t o) (r ∷ rs)) (sym e) h
+
     same_pattern : (a b : Pat) → ◌≡◌ {A = Option Pat} (some a) (some b) → a ≡ b
     same_pattern a b e = cc
 
     no_some : (a : Pat) → ◌≡◌ {A = Option Pat} none (some a) → ⊥
     no_some a e = let z : false ≡ true = cc in false≢true z
 
-    go : (o : Option Pat) → test_at p r.tests ≡ o → All (Opens_in p t (case_opens p t rs)) rs → All (Opens_in p t (case_opens p t (r ∷ rs))) (r ∷ rs)
-    go none x ih = rw (x, case_opens) (λ q e c. absurd (no_some q e), ih)
+    go : (o : Option Pat) → test_at p r.tests ≡ o → All (OpensIn p t (case_opens p t rs)) rs → All (OpensIn p t (case_opens p t (r ∷ rs))) (r ∷ rs)
+    go none x ih = carried (case_opens p t rs) (opens_none p t r rs x) (λ q e c. absurd (no_some q (sym x ∙ e)), ih)
     go (some z) x ih = test (covers z t) refl
       where
-        test : (b : Bool) → covers z t ≡ b → All (Opens_in p t (case_opens p t (r ∷ rs))) (r ∷ rs)
+        test : (b : Bool) → covers z t ≡ b → All (OpensIn p t (case_opens p t (r ∷ rs))) (r ∷ rs)
         test true y =
-            rw (x, y, case_opens) (
-              λ q e c. rw (← same_pattern z q e) (first_paths (opened_columns p z) (case_opens p t rs)),
-              all_map (Opens_in p t (case_opens p t rs)) (Opens_in p t (opened_columns p z ++ case_opens p t rs))
+            carried (opened_columns p z ++ case_opens p t rs) (opens_covered p t r rs z x y) (
+              λ q e c. rw (← same_pattern z q (sym x ∙ e)) (first_paths (opened_columns p z) (case_opens p t rs)),
+              all_map (OpensIn p t (case_opens p t rs)) (OpensIn p t (opened_columns p z ++ case_opens p t rs))
                   (λ s h q e c. more_paths (opened_columns p z) (case_opens p t rs) (opened_columns p q) (h q e c)) rs ih,
             )
-        test false y = rw (x, y, case_opens) (λ q e c. absurd (true≢false (sym c ∙ ap (λ k. covers k t) (sym (same_pattern z q e)) ∙ y)), ih)
+        test false y =
+            carried (case_opens p t rs) (opens_missed p t r rs z x y)
+            (λ q e c. absurd (true≢false (sym c ∙ ap (λ k. covers k t) (sym (same_pattern z q (sym x ∙ e))) ∙ y)), ih)
 
 pub case_neat : (p : Path) (t : Test) (ps : List Path) (rs : List Row) → All (Neat ps) rs → All (Neat (case_columns p t ps rs)) (case_rows p t rs)
 unfolding case_columns
 case_neat p t ps rs h =
-    case_all (λ r. Neat ps r × Opens_in p t (case_opens p t rs) r) (Neat (union (case_opens p t rs) ++ without p ps)) p
+    case_all (λ r. Neat ps r × OpensIn p t (case_opens p t rs) r) (Neat (union (case_opens p t rs) ++ without p ps)) p
     (λ r x (n, o). let (a, b) = wild_neat p ps r x n in (a, within_right (union (case_opens p t rs)) (without p ps) r.tests b))
     t
     (λ r q x y (n, o). (
@@ -430,7 +450,7 @@ case_neat p t ps rs h =
           (all_map (ApartFrom p) (λ c. p ≡ c.path → ⊥) (λ d k. apart_not_same p d.path k) (without_test p r.tests) (taken_tidy p q r.tests (take_test p r.tests q x) n.0).0)))),
     ))
     rs
-    (all_both (Neat ps) (Opens_in p t (case_opens p t rs)) (λ r. Neat ps r × Opens_in p t (case_opens p t rs) r) (λ r a b. (a, b)) rs h (case_opens_in p t rs))
+    (all_both (Neat ps) (OpensIn p t (case_opens p t rs)) (λ r. Neat ps r × OpensIn p t (case_opens p t rs) r) (λ r a b. (a, b)) rs h (case_opens_in p t rs))
 
 -- ---- the rows of clauses
 columns_more : (r s : Row) (rs : List Row) → Within (columns rs) s.tests → Within (columns (r ∷ rs)) s.tests
