@@ -1,5 +1,7 @@
 // The document's numbers for the code, each once and by name: sizes, limits, kinds, the words of a node, refusals.
 // `Limits`, `Kinds` and `RefusalNumbers` of spec_rules have the same numbers for the definitions; the proofs hold the two together.
+#![tactic(auto)]
+
 pub mod case_kinds;
 pub mod node_kinds;
 pub mod node_words;

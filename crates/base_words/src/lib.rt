@@ -1,5 +1,7 @@
 // Words of a byte buffer, low byte first, buffers set to zero, and the comparison of two texts.
 // Each contract is one equation with a definition of specs/Words or specs/Stored; nothing below this crate is the project's.
+#![tactic(auto)]
+
 ghost use Rattle.std.specs.Prelude.{◌≡◌, ◌+◌, ◌<◌, ◌≤◌, length};
 ghost use Rattle.base_words.specs.Words.{word_at, word_bytes, text_at, same_text, zeros, bits_at};
 ghost use Rattle.base_words.specs.Stored.{stored};

@@ -1,1 +1,2 @@
 // What accepted files give to the crates above: this crate is its specs/.
+#![tactic(auto)]

@@ -1,1 +1,2 @@
 // The panels that a sheet forgets: this crate is its specs/.
+#![tactic(auto)]

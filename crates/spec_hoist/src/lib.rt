@@ -1,1 +1,2 @@
 // The theorems of hoisting: this crate is its specs/.
+#![tactic(auto)]

@@ -1,1 +1,2 @@
 // Theorems about the definitions of spec_rules: this crate is its specs/.
+#![tactic(auto)]
