@@ -1,5 +1,7 @@
 // A leaf's bindings put into the arena: those of its clause's root, then what each column tested opened in the clause's row.
 // A binding is the number of its pattern; it is stored as its name and the class of its path, which the table has.
+#![tactic(auto)]
+
 ghost use Rattle.std.specs.Prelude.{◌≡◌, ◌<◌, get_or, take};
 ghost use Rattle.spec_rules.specs.Limits.{patterns_most};
 ghost use Rattle.spec_rules.specs.SheetFile.{patterns_at, children_at, patterns, clauses, root};

@@ -8,6 +8,8 @@
 // down to the first wildcard; a default or a case asks each row in its own column once, and a text is compared with a case's text once,
 // byte by byte. A column put among others is compared with those before its place, each pair of paths by at most 11 indices. Mapping a
 // pattern goes at most one call deep for each pattern and each child, where 192 less the pattern number falls.
+#![tactic(auto)]
+
 use base_numbers::sheet::{CLAUSES_MOST, PATTERNS_MOST};
 
 mod columns;

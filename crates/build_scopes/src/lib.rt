@@ -2,6 +2,8 @@
 // Scopes are found from the root down, with no places written out. Two passes over the nodes find at each its last leaf and the set of the
 // clauses with a leaf there; then each clause costs two ways down the tree. The memory is five bytes a node, of which the four of the sets
 // are lent, so that the caller has them afterwards.
+#![tactic(auto)]
+
 ghost use Rattle.std.specs.Prelude.{◌≡◌, ◌<◌, ◌≤◌, length};
 ghost use Rattle.spec_rules.specs.Limits.{clauses_most};
 ghost use Rattle.build_scopes.specs.Marks.{ReadyWith};

@@ -1,5 +1,7 @@
 // Rule 1: what each pattern of a checked sheet is to its clause's row, in one table that later rules read by pattern number.
 // Filling it goes up the pattern numbers: a pattern's own fields are set by its parent, which has a lower number.
+#![tactic(auto)]
+
 ghost use Rattle.std.specs.Prelude.{◌≡◌, false, ℕ, ◌+◌, ◌<◌, ◌≤◌, eqb, length, get_or};
 ghost use Rattle.base_words.specs.Words.{both, zeros};
 ghost use Rattle.spec_rules.specs.Kinds.{constructor_pattern, data_type, list_with_tail_pattern};

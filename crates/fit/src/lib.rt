@@ -3,6 +3,8 @@
 //
 // Cost. Beside the two checks, fitting reads each record and each part once, with its type and its type entry; its calls are at most 544
 // deep, one for each of 511 parts and 32 levels.
+#![tactic(auto)]
+
 ghost use Rattle.std.specs.Prelude.{◌≡◌};
 ghost use Rattle.format_sheet.specs.Check.{SheetAccepts};
 ghost use Rattle.format_panel.specs.Answers.{Accepts};

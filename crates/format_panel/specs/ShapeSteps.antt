@@ -87,7 +87,7 @@ module _ (v : List ℕ) (r : ℕ) where
 module _ (v : List ℕ) (m : PanelMap) (o : Opened v m) where
   pub part_read : (j p : ℕ) → p ≡ word_at v (m.parts.start + part_size * j) → p ≡ part v j
   unfolding part
-  part_read j p e = e ∙ rw o.parts_at
+  part_read j p e = e ∙ rw o.parts_from
 
 module _ (v : List ℕ) (s : Seen) (r j p : ℕ) (is : p ≡ part v j) where
   enters_not : enters_first v s.depths r j ≡ false → broken s ≡ enter_part v s r j

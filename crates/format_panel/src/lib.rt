@@ -5,6 +5,8 @@
 // once: at most 512 records, 511 parts and 32,768 bytes of text, whatever the lists of a damaged panel say, since the pass over the
 // records ends at the first part that it meets a second time. Besides the panel it needs a table of 512 depths, which is lent on:
 // nothing is copied for a record or a part. The text call adds one record to the check.
+#![tactic(auto)]
+
 ghost use Rattle.std.specs.Prelude.{◌≡◌};
 ghost use Rattle.spec_rules.specs.RefusalNumbers.{no_text_refusal};
 ghost use Rattle.spec_rules.specs.Calls.{text_part};

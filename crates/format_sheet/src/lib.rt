@@ -7,6 +7,8 @@
 // buffer, not searched for; that buffer and the one for the names of a clause are lent on, so that nothing is copied for a pattern,
 // an entry or a name. Calls go at most 12 levels deep for the depth, and at most one level for each pattern and each entry in
 // fitting, where 192 less the pattern number falls.
+#![tactic(auto)]
+
 mod fitting;
 mod layout;
 mod names;

@@ -1,6 +1,8 @@
 // The reader of a tree file: every condition of "A reader asks, else 31", and the reading of its records.
 // A check reads each record once, and nodes and cases once more for their order; it takes no memory but a few words. Each condition
 // is the rules' definition of its name; what is read of an accepted file rests on the facts of the crate spec_accepted.
+#![tactic(auto)]
+
 ghost use Rattle.std.specs.Prelude.{◌≡◌};
 ghost use Rattle.format_tree.specs.Reading.{Mapped, records_keep_rules, checked};
 

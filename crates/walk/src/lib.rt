@@ -2,6 +2,8 @@
 // Its cost is the reader's one pass over the tree and one over the panel, then the depth of the tree times the cases met on the way,
 // and the steps of the paths. A caller who walks one tree often pays the reader's pass each time: that is some steps for each
 // record of the tree, while the walk itself meets few of them.
+#![tactic(auto)]
+
 ghost use Rattle.std.specs.Prelude.{◌≡◌, ◌≤◌, length};
 ghost use Rattle.base_words.specs.Words.{zeros};
 ghost use Rattle.spec_rules.specs.Limits.{bound_room};

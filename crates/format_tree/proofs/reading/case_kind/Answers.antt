@@ -1,0 +1,8 @@
+-- `format_tree::reading::case_kind` meets its contract: the map's start of the section is the file's, so that the record read is the rules'.
+use Rattle.spec_rules.specs.TreeReader.{case_kind}
+use Rattle.format_tree.specs.ReadingLaws.{cases_start}
+use Rattle.format_tree.proofs.reading.case_kind.Goals as goal
+
+pub returns : goal.returns
+unfolding case_kind
+returns c = rw (cases_start c.requires.0) c.kind_in.ensures

@@ -1,0 +1,8 @@
+-- `walk::follow::path_length` meets its contract: a path's record says how many steps it has.
+use Rattle.walk.specs.FollowLaws.{path_long}
+use Rattle.walk.proofs.follow.path_length.Goals as goal
+
+pub returns : goal.returns
+returns c =
+    let a = c.args in
+    path_long a.tree.now a.p c.path_at-read.result c.path_at-read.ensures
