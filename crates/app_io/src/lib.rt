@@ -1,5 +1,7 @@
 // What the programs share: a file or standard input read whole, and the listing of a sheet.
 // No function asks anything of its caller, and what each counts are bytes of the buffer that it was lent.
+#![tactic(auto)]
+
 ghost use Rattle.std.specs.Prelude.{◌≡◌, length};
 ghost use Rattle.io.specs.Counts.{IsPrefixLen};
 ghost use Rattle.app_io.specs.Shown.{ShowsTree, ShowsRefusal, ShowsSheet};

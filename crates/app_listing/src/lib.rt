@@ -1,5 +1,7 @@
 // The listing of a tree file, and the line of a refused sheet, written into a lent buffer.
 // Each call's contract gives its answer and every byte of the buffer; what is read rests on the reader of tree files.
+#![tactic(auto)]
+
 ghost use Rattle.std.specs.Prelude.{◌≡◌, length};
 ghost use Rattle.app_listing.specs.Answers.{call_of, listing_call, line_of, refused_line_call};
 

@@ -1,6 +1,8 @@
 // What the walker says of a sheet and a panel, written into a lent buffer: `leaf CLAUSE`, `no leaf` or `refused NUMBER PLACE`, of 32
 // `refused 32 NODE STEP`, then a line for each binding in the leaf's order. The contract of `tell` gives its answer and every byte of the
 // buffer.
+#![tactic(auto)]
+
 ghost use Rattle.std.specs.Prelude.{◌≡◌, true};
 ghost use Rattle.spec_rules.specs.SheetRefusals.{accepted};
 ghost use Rattle.spec_rules.specs.PanelFile.{panel_verdict};

@@ -1,5 +1,7 @@
 // The build call: the tree of a sheet, written as its file, or the refusal; refusals 1, 2 to 11, 12 to 14 of document 01.
 // Its contract says its one answer and every byte of both buffers, for every byte string and every pair of buffers.
+#![tactic(auto)]
+
 ghost use Rattle.std.specs.Prelude.{◌≡◌, ◌≤◌, length};
 ghost use Rattle.base_words.specs.Words.{zeros};
 ghost use Rattle.spec_rules.specs.Limits.{tree_room, work_room};
@@ -32,7 +34,7 @@ pub enum Built {
 // On buffers that are large enough, the tree's all zero.
 fn build_sheet(sheet: &[u8], tree: &mut [u8], work: &mut [u8]) -> Built
     requires { (tree_room ≤ length tree.old) × (work_room ≤ length work.old) × (tree.old ≡ zeros (length tree.old)) }
-    ensures { GivesAnswer sheet tree work result }
+    ensures { GivesAnswer sheet.now tree.old tree.new work.old result }
 {
     match format_sheet::check(sheet) {
         CheckedSheet::Accepted(map) => build_tree(sheet, map, tree, work),
@@ -43,7 +45,7 @@ fn build_sheet(sheet: &[u8], tree: &mut [u8], work: &mut [u8]) -> Built
 // On a tree buffer that is all zero: it is written only where the sheet is accepted.
 fn build_clear(sheet: &[u8], tree: &mut [u8], work: &mut [u8]) -> Built
     requires { tree.old ≡ zeros (length tree.old) }
-    ensures { GivesAnswer sheet tree work result }
+    ensures { GivesAnswer sheet.now tree.old tree.new work.old result }
 {
     if tree.len() < TREE_ROOM {
         return Built::Refused {

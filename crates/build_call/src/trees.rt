@@ -40,7 +40,7 @@ fn write_tree(
 ) -> Built
     requires sheet_accepts { SheetAccepts sheet.now map × Tabled sheet.now table.now × Whole sheet.now work.now tops.nodes tops.cases scopes }
     requires clear_tree { ClearTree tree.old }
-    ensures { GivesTree sheet tree result }
+    ensures { GivesTree sheet.now tree.old tree.new result }
 {
     let mut classes = [0u8; PATTERNS_MOST];
     let written = write_nodes(
@@ -80,7 +80,7 @@ fn write_hoisted(
 ) -> Built
     requires sheet_accepts { SheetAccepts sheet.now map × Tabled sheet.now table.now × Hoistable sheet.now work.now tops.nodes tops.cases tops.bindings scopes }
     requires clear_tree { ClearTree tree.old }
-    ensures { GivesTree sheet tree result }
+    ensures { GivesTree sheet.now tree.old tree.new result }
 {
     let more = hoist_bindings(work, scopes, map.clauses.count);
     if BINDINGS_MOST < tops.bindings + more {
@@ -108,7 +108,7 @@ fn hoist_with(
 ) -> Built
     requires sheet_accepts { SheetAccepts sheet.now map × Tabled sheet.now table.now × Fitting sheet.now work.now tops.nodes tops.cases tops.bindings × (tops.nodes ≤ length sets.old) }
     requires clear_tree { ClearTree tree.old }
-    ensures { GivesTree sheet tree result }
+    ensures { GivesTree sheet.now tree.old tree.new result }
 {
     let scopes = get_hoist_paths(work, tops.nodes, map.clauses.count, sets);
     write_hoisted(sheet, map, table, work, tops, scopes, tree)
@@ -125,7 +125,7 @@ fn hoist_tree(
 ) -> Built
     requires sheet_accepts { SheetAccepts sheet.now map × Tabled sheet.now table.now × Fitting sheet.now work.now tops.nodes tops.cases tops.bindings }
     requires clear_tree { ClearTree tree.old }
-    ensures { GivesTree sheet tree result }
+    ensures { GivesTree sheet.now tree.old tree.new result }
 {
     if tops.nodes <= NODES_FEW {
         let mut sets = [0u32; NODES_FEW];
@@ -146,7 +146,7 @@ fn finish(
 ) -> Built
     requires sheet_accepts { SheetAccepts sheet.now map × Tabled sheet.now table.now × Raw sheet.now work.now tops.nodes tops.cases tops.bindings tops.leaves }
     requires clear_tree { ClearTree tree.old }
-    ensures { GivesTree sheet tree result }
+    ensures { GivesTree sheet.now tree.old tree.new result }
 {
     let clauses = map.clauses.count;
     let leaves = tops.leaves;
@@ -163,7 +163,7 @@ fn finish(
 // The tree of an accepted sheet, on buffers that are large enough, the tree's all zero.
 pub(crate) fn build_tree(sheet: &[u8], map: SheetMap, tree: &mut [u8], work: &mut [u8]) -> Built
     requires { SheetAccepts sheet.now map × (tree_room ≤ length tree.old) × (work_room ≤ length work.old) × (tree.old ≡ zeros (length tree.old)) }
-    ensures { GivesTree sheet tree result }
+    ensures { GivesTree sheet.now tree.old tree.new result }
 {
     let mut table = [0u8; TABLE];
     fill(sheet, map, &mut table);

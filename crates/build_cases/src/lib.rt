@@ -5,6 +5,8 @@
 // with a tail joins a case for each length from its own up to the longest (at most 192 in a pass), any other row one case; each is
 // looked for among those met so far, texts byte by byte where their lengths are equal (at most 64 bytes). No more is written once
 // 1,024 cases are there: each case has a node of its own, so that the tree then has too many nodes (refusal 12).
+#![tactic(auto)]
+
 mod column;
 mod meet;
 mod rows;

@@ -23,7 +23,7 @@ fn put_binding(
     paths: usize,
 ) -> usize
     requires { BindingAsked work.now i × (at + 3 < length tree.old) × Counted (uses_of number.old list.old paths) }
-    ensures { PutBinding work.now i at (uses_before number list paths) tree.old tree.new (uses_after number list result) }
+    ensures { PutBinding work.now i at (uses_before number.old list.old paths) tree.old tree.new (uses_after number.new list.new result) }
 {
     let binding = binding_at(work, i);
     let class = binding.path as usize;
@@ -45,7 +45,7 @@ pub(crate) fn put_bindings(
     paths: usize,
 ) -> usize
     requires { BindingsAsked work.now first count × (at + binding_size * count ≤ length tree.old) × Counted (uses_of number.old list.old paths) }
-    ensures { PutBindings work.now first count at (uses_before number list paths) tree.old tree.new (uses_after number list result) }
+    ensures { PutBindings work.now first count at (uses_before number.old list.old paths) tree.old tree.new (uses_after number.new list.new result) }
 {
     let mut known = paths;
     let mut i = 0;

@@ -38,7 +38,7 @@ fn put_hoist(
     tops: Tops,
 ) -> Tops
     requires { BoundAsked work.now leaf start tree.old (reach_of number.old list.old tops) }
-    ensures { out_after tree number list result ≡ bound_out work.now start leaf hoist_node (tops.nodes + 1) (out_before tree number list tops) }
+    ensures { out_after tree.new number.new list.new result ≡ bound_out work.now start leaf hoist_node (tops.nodes + 1) (out_before tree.old number.old list.old tops) }
 {
     let child = (tops.nodes + 1) as u16;
     put_bound(
@@ -69,7 +69,7 @@ pub(crate) fn put_hoists(
     tops: Tops,
 ) -> Tops
     requires { HoistsAsked work.now k (places_of node.now leaf.now) clauses shift.now start tree.old (reach_of number.old list.old tops) }
-    ensures { out_after tree number list result ≡ hoists_out work.now start (places_before node leaf) k 0 clauses (out_before tree number list tops) }
+    ensures { out_after tree.new number.new list.new result ≡ hoists_out work.now start (places_before node.now leaf.now) k 0 clauses (out_before tree.old number.old list.old tops) }
 {
     if shift[k] == shift[k + 1] {
         return tops;

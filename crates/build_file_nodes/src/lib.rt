@@ -2,6 +2,8 @@
 // One pass over the arena's nodes: above each node the hoists that its scopes put there, then the node, with its references moved to
 // where nodes come to stand, which is found first. The tables by clause, by node and by class are lent from one function to the next;
 // only counts go by value.
+#![tactic(auto)]
+
 ghost use Rattle.std.specs.Prelude.{◌≡◌, ◌≤◌, length};
 ghost use Rattle.spec_rules.specs.Limits.{patterns_most, tree_room};
 ghost use Rattle.build_file_nodes.specs.Written.{WritingAsked, WritesHoisted};

@@ -40,7 +40,7 @@ pub(crate) fn put_bound(
     tops: Tops,
 ) -> Tops
     requires { BoundAsked work.now leaf start tree.old (reach_of number.old list.old tops) }
-    ensures { out_after tree number list result ≡ bound_out work.now start leaf kind child (out_before tree number list tops) }
+    ensures { out_after tree.new number.new list.new result ≡ bound_out work.now start leaf kind child (out_before tree.old number.old list.old tops) }
 {
     let clause = node_word(work, leaf, node_words::CLAUSE);
     let from = node_word(work, leaf, node_words::FIRST_BINDING) as usize;
@@ -79,7 +79,7 @@ fn put_switch_node(
     tops: Tops,
 ) -> usize
     requires { SwitchNodeAsked work.now k tree.old (reach_of number.old list.old tops) }
-    ensures { PutSwitchNode work.now (moved_by shift.now) k (reach_before number list tops) tree.old tree.new (uses_after number list result) }
+    ensures { PutSwitchNode work.now (moved_by shift.now) k (reach_before number.old list.old tops) tree.old tree.new (uses_after number.new list.new result) }
 {
     let path = node_word(work, k, node_words::PATH) as usize;
     let cases = node_word(work, k, node_words::CASES);
@@ -113,7 +113,7 @@ fn put_switch(
     tops: Tops,
 ) -> Tops
     requires { SwitchAsked work.now k start tree.old (reach_of number.old list.old tops) }
-    ensures { out_after tree number list result ≡ switch_out work.now start (moved_by shift.now) k (out_before tree number list tops) }
+    ensures { out_after tree.new number.new list.new result ≡ switch_out work.now start (moved_by shift.now) k (out_before tree.old number.old list.old tops) }
 {
     let at = children_of(work, k);
     let first = at.first;
@@ -140,7 +140,7 @@ fn put_own(
     tops: Tops,
 ) -> Tops
     requires { OwnAsked work.now k starts.cases starts.bindings tree.old (reach_of number.old list.old tops) }
-    ensures { out_after tree number list result ≡ own_out work.now starts.cases starts.bindings (moved_by shift.now) k (out_before tree number list tops) }
+    ensures { out_after tree.new number.new list.new result ≡ own_out work.now starts.cases starts.bindings (moved_by shift.now) k (out_before tree.old number.old list.old tops) }
 {
     if node_kind(work, k) == node_kinds::LEAF {
         return put_bound(
@@ -173,7 +173,7 @@ fn put_one(
     tops: Tops,
 ) -> Tops
     requires { NodeAsked work.now k (places_of node.now leaf.now) clauses shift.now starts.cases starts.bindings tree.old (reach_of number.old list.old tops) }
-    ensures { out_after tree number list result ≡ node_out work.now starts.cases starts.bindings (places_before node leaf) clauses k (out_before tree number list tops) }
+    ensures { out_after tree.new number.new list.new result ≡ node_out work.now starts.cases starts.bindings (places_before node.now leaf.now) clauses k (out_before tree.old number.old list.old tops) }
 {
     let next = put_hoists(
         work,
@@ -206,7 +206,7 @@ pub(crate) fn put_nodes(
     tops: Tops,
 ) -> Tops
     requires { NodesAsked work.now nodes (places_of node.now leaf.now) clauses shift.now starts.cases starts.bindings tree.old (reach_of number.old list.old tops) }
-    ensures { out_after tree number list result ≡ nodes_out work.now starts.cases starts.bindings (places_before node leaf) clauses 0 nodes (out_before tree number list tops) }
+    ensures { out_after tree.new number.new list.new result ≡ nodes_out work.now starts.cases starts.bindings (places_before node.now leaf.now) clauses 0 nodes (out_before tree.old number.old list.old tops) }
 {
     let mut next = tops;
     let mut k = 0;

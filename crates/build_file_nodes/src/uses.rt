@@ -16,7 +16,7 @@ pub(crate) fn used(
     class: usize,
 ) -> usize
     requires { Counted (uses_of number.old list.old count) × (class < patterns_most) }
-    ensures { uses_after number list result ≡ with_class (uses_before number list count) class }
+    ensures { uses_after number.new list.new result ≡ with_class (uses_before number.old list.old count) class }
 {
     if number[class] != 0 {
         return count;

@@ -1,5 +1,7 @@
 // The tail of a tree file: the paths that its nodes and bindings use, their steps, the sheet's pool and the trailer.
 // A path is known by its class, a pattern's number; its steps are read off the table of patterns.
+#![tactic(auto)]
+
 mod records;
 mod steps;
 

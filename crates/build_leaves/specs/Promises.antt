@@ -1,8 +1,7 @@
 -- What the contracts say more than once, in a word, which takes the lent parameters themselves, at entry and at exit.
 use Rattle.std.specs.Prelude.{◌≡◌, List, ℕ}
-use Rattle.build_matrix.specs.Promises.{Lent}
 use Rattle.build_leaves.specs.Bindings.{bound, bound_all}
 
 -- the bindings of the patterns qs are put behind the `top` bindings of the work buffer, and r is the number of all
-abbrev pub Binds : Lent → Lent → ℕ → List ℕ → ℕ → Type 0
-Binds sheet work top qs r = bound work.exit.now r ≡ bound_all sheet.entry.now (bound work.entry.now top) qs
+abbrev pub Binds : List ℕ → List ℕ → List ℕ → ℕ → List ℕ → ℕ → Type 0
+Binds sheet work work' top qs r = bound work' r ≡ bound_all sheet (bound work top) qs

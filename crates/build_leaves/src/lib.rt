@@ -123,7 +123,7 @@ fn put_own(
     top: usize,
 ) -> usize
     requires { Accepted sheet.now × Tabled sheet.now table.now × (records ≡ patterns_at sheet.now) × (p < patterns sheet.now) × Room work.old top }
-    ensures { Binds sheet work top (own_of named p) result }
+    ensures { Binds sheet.now work.old work.new top (own_of named p) result }
 {
     if named {
         return put_binding(sheet, records, table, p, work, top);
@@ -143,7 +143,7 @@ fn put_bindings(
     top: usize,
 ) -> usize
     requires { Started sheet.now table.now records list × (p < patterns sheet.now) × Room work.old top }
-    ensures { Binds sheet work top (binds_of sheet.now p) result }
+    ensures { Binds sheet.now work.old work.new top (binds_of sheet.now p) result }
 {
     let g = gives(sheet, records, list, table, p);
     let next = put_own(sheet, records, table, p, g.named, work, top);
@@ -167,7 +167,7 @@ fn put_all_bindings(
     top: usize,
 ) -> usize
     requires { Started sheet.now table.now records list × Entries sheet.now parent j n × Room work.old top }
-    ensures { Binds sheet work top (binds_of_each sheet.now j n) result }
+    ensures { Binds sheet.now work.old work.new top (binds_of_each sheet.now j n) result }
 {
     let mut next = top;
     let mut k: usize = 0;
@@ -190,7 +190,7 @@ fn put_root(
     top: usize,
 ) -> usize
     requires { ReadyTable sheet.now map table.now × (c < clauses sheet.now) × Room work.old top }
-    ensures { Binds sheet work top (binds_of sheet.now (root sheet.now c)) result }
+    ensures { Binds sheet.now work.old work.new top (binds_of sheet.now (root sheet.now c)) result }
 {
     let records = map.patterns.start;
     let list = map.children.start;
@@ -216,7 +216,7 @@ fn put_opened(
     top: usize,
 ) -> usize
     requires { ReadyTable sheet.now map table.now × (c < clauses sheet.now) × (class < patterns_most) × (time < patterns_most) × Room work.old top }
-    ensures { Binds sheet work top (numbers_held sheet.now (opened_test sheet.now opened.now c time class)) result }
+    ensures { Binds sheet.now work.old work.new top (numbers_held sheet.now (opened_test sheet.now opened.now c time class)) result }
 {
     let cell = at(table, CELL + PATTERNS_MOST * c + class);
     if cell == 0 {
@@ -264,7 +264,7 @@ pub fn leaf_bindings<'a>(
     top: usize,
 ) -> usize
     requires { ReadyTable sheet.now map table.now × LeafAsked sheet.now c tested.now n × Room work.old top }
-    ensures { Binds sheet work top (leaf_numbers sheet.now opened.now (take n tested.now) c) result }
+    ensures { Binds sheet.now work.old work.new top (leaf_numbers sheet.now opened.now (take n tested.now) c) result }
 {
     let mut next = put_root(sheet, map, table, c, work, top);
     let mut time: usize = 0;

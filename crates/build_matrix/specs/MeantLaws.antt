@@ -9,7 +9,7 @@ use Rattle.std.proofs.Math.ListN.{length}
 use Rattle.base_words.specs.Words.{both, either, pick, text_at, same_text}
 use Rattle.base_words.specs.WordsLaws.{length_text_at, not_same_text}
 use Rattle.spec_rules.specs.Kinds.{integer_pattern, byte_string_pattern, list_pattern, list_with_tail_pattern, constructor_pattern, int_case}
-use Rattle.spec_rules.specs.SheetFile.{type_first, pattern_kind, pattern_a, pattern_first, pattern_count, child, pool_at, pool_size, pool_text}
+use Rattle.spec_rules.specs.SheetFile.{pattern_zero, type_first, pattern_kind, pattern_a, pattern_first, pattern_count, child, pool_at, pool_size, pool_text}
 use Rattle.spec_rules.specs.Patterns.{PatternKind, Discard, Variable, Assign, Integer, ByteString, ListOfAll, ListWithRest, Constructor, Pair, Tuple, Unknown, pattern_kind_of, Mark, Pat, Pats, tailed, many, one_constructor, along, of_constructor, of_kind, pattern}
 use Rattle.spec_rules.specs.Splitting as splitting
 use Rattle.spec_rules.specs.Splitting.{same_test, test_fields, covers}
@@ -127,20 +127,20 @@ module _ {s : List ℕ} (ok : Accepted s) (p : ℕ) (k : TestKnown s p) (u : Tes
   by_kind Discard e = absurd (false≢true (the_test Discard e))
   by_kind Variable e = absurd (false≢true (the_test Variable e))
   by_kind Assign e = absurd (false≢true (the_test Assign e))
-  by_kind Integer e = rw (pattern_byte (pattern_kind s p) Integer e (omega arith)) (of_integer s _ (pattern_a s p) (pattern_first s p) (pattern_count s p) u)
-  by_kind ByteString e = rw (pattern_byte (pattern_kind s p) ByteString e (omega arith)) (of_bytes s _ (pattern_a s p) (pattern_first s p) (pattern_count s p) u)
+  by_kind Integer e = rw (pattern_byte (pattern_kind s p) Integer e (omega arith)) (of_integer s (pattern_zero s p) (pattern_a s p) (pattern_first s p) (pattern_count s p) u)
+  by_kind ByteString e = rw (pattern_byte (pattern_kind s p) ByteString e (omega arith)) (of_bytes s (pattern_zero s p) (pattern_a s p) (pattern_first s p) (pattern_count s p) u)
   by_kind ListOfAll e =
       rw (pattern_byte (pattern_kind s p) ListOfAll e (omega arith), many_along (pattern s) s (pattern_first s p) (pattern_count s p) (type_first s (type_of s p)) 0)
-      (of_list s _ (pattern_a s p) (pattern_first s p) (pattern_count s p) u)
+      (of_list s (pattern_zero s p) (pattern_a s p) (pattern_first s p) (pattern_count s p) u)
   by_kind ListWithRest e =
       rw (pattern_byte (pattern_kind s p) ListWithRest e (omega arith))
-      (of_tailed s _ (pattern_a s p) (pattern_first s p) (pattern_count s p) (of_kind (pattern s) s p (type_of s p) ListWithRest)
+      (of_tailed s (pattern_zero s p) (pattern_a s p) (pattern_first s p) (pattern_count s p) (of_kind (pattern s) s p (type_of s p) ListWithRest)
       (tailed_covers (record { number = p; type = type_of s p }) (along (pattern s) s (pattern_first s p) (pattern_count s p - 1) (type_first s (type_of s p)) 0)
       (pattern s (child s (pattern_first s p + (pattern_count s p - 1))) (type_of s p)) (pattern_count s p - 1)
       (many_along (pattern s) s (pattern_first s p) (pattern_count s p - 1) (type_first s (type_of s p)) 0)) u)
   by_kind Constructor e =
       let one : one_constructor s (type_of s p) ≡ false = not-true (one_constructor s (type_of s p)) (the_test Constructor e) in
-      rw (pattern_byte (pattern_kind s p) Constructor e (omega arith), one) (of_constructor_lem s _ (pattern_a s p) (pattern_first s p) (pattern_count s p) u)
+      rw (pattern_byte (pattern_kind s p) Constructor e (omega arith), one) (of_constructor_lem s (pattern_zero s p) (pattern_a s p) (pattern_first s p) (pattern_count s p) u)
   by_kind Pair e = absurd (false≢true (the_test Pair e))
   by_kind Tuple e = absurd (false≢true (the_test Tuple e))
   by_kind Unknown e = absurd (false≢true (the_test Unknown e))

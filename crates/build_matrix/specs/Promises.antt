@@ -1,8 +1,6 @@
--- What the contracts say at length or more than once, in a word each. A name that ends in Before or After takes lent parameters
--- themselves, and is what they hold at a function's entry or at its exit, so that an `ensures` names each of them once.
+-- What the contracts say at length or more than once, in a word each. A name that ends in before or after takes what lent parameters
+-- hold at a function's entry or at its exit.
 use Rattle.std.specs.Prelude.{true, List, [], ◌++◌, ◌≡◌, ℕ, ◌+◌, ◌≤◌, ◌<◌, length, take}
-use Rattle.std.specs.Borrow.{Bor}
-use denote.Triple.Both.{Both}
 use Rattle.spec_rules.specs.Kinds.{integer_pattern, byte_string_pattern}
 use Rattle.spec_rules.specs.Limits.{patterns_most}
 use Rattle.spec_rules.specs.SheetFile.{pool_size, patterns}
@@ -26,16 +24,12 @@ use Rattle.build_matrix.specs.Meant.{meant, joins_test, InPool, join_row, open_r
 use Rattle.build_matrix.specs.Numbered.{Numbered, SoundOf, case_numbered}
 use Rattle.build_matrix.specs.Ready.{ReadyTable, Listed, put_tests, Roomy, Children, TestKnown}
 
--- a lent array or slice of numbers, at a function's entry and at its exit
-abbrev pub Lent : Type 0
-Lent = Both (Bor (List ℕ)) (Bor (List ℕ))
-
 -- rows in a lent array, up to a count
-abbrev pub rows_before : Lent → ℕ → PerRow
-rows_before rows n = as_rows rows.entry.now n
+abbrev pub rows_before : List ℕ → ℕ → PerRow
+rows_before rows n = as_rows rows n
 
-abbrev pub rows_after : Lent → ℕ → PerRow
-rows_after rows n = as_rows rows.exit.now n
+abbrev pub rows_after : List ℕ → ℕ → PerRow
+rows_after rows n = as_rows rows n
 
 -- ---- what putting columns among others asks: a sheet with its table, classes of it in order, and room for what is put
 -- those of a pattern
@@ -52,16 +46,16 @@ TestAsked s m t o p = ReadyTable s m t × Listed s o × TestKnown s p × Roomy s
 
 -- ---- a matrix
 -- of lent parts
-abbrev pub matrix_now : Bor (List ℕ) → Bor (List ℕ) → Bor (List ℕ) → Bor (List ℕ) → Sizes → Matrix
-matrix_now rows columns tested opened n = matrix_of rows.now columns.now tested.now opened.now n
+abbrev pub matrix_now : List ℕ → List ℕ → List ℕ → List ℕ → Sizes → Matrix
+matrix_now rows columns tested opened n = matrix_of rows columns tested opened n
 
 -- and what it was at entry, in numbers
-abbrev pub numbers_before : Lent → Lent → Lent → Lent → Sizes → Numbered
-numbers_before rows columns tested opened n = in_numbers (matrix_now rows.entry columns.entry tested.entry opened.entry n)
+abbrev pub numbers_before : List ℕ → List ℕ → List ℕ → List ℕ → Sizes → Numbered
+numbers_before rows columns tested opened n = in_numbers (matrix_now rows columns tested opened n)
 
 -- and what it is at exit
-abbrev pub matrix_after : Lent → Lent → Lent → Lent → Sizes → Matrix
-matrix_after rows columns tested opened n = matrix_now rows.exit columns.exit tested.exit opened.exit n
+abbrev pub matrix_after : List ℕ → List ℕ → List ℕ → List ℕ → Sizes → Matrix
+matrix_after rows columns tested opened n = matrix_now rows columns tested opened n
 
 -- ---- a case of the column of a class
 -- the matrix of the case of a test as the arena has it

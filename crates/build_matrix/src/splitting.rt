@@ -80,9 +80,9 @@ pub fn default_matrix<'a, 'b>(
     new_rows: &'b mut [u8; CLAUSES_MOST],
     new_columns: &'b mut [u8; PATTERNS_MOST],
 ) -> Sizes
-    requires splits { Splits table.now (matrix_now rows columns tested opened sizes) class }
+    requires splits { Splits table.now (matrix_now rows.now columns.now tested.old opened.now sizes) class }
     requires new_rows_len { (length new_rows.old ≡ clauses_most) × (length new_columns.old ≡ patterns_most) }
-    ensures { StandsFor (matrix_after new_rows new_columns tested opened result) (default_read table.now class (numbers_before rows columns tested opened sizes)) }
+    ensures { StandsFor (matrix_after new_rows.new new_columns.new tested.new opened.now result) (default_read table.now class (numbers_before rows.now columns.now tested.old opened.now sizes)) }
 {
     let count = wild_rows(table, rows, sizes.rows, opened, class, new_rows);
     let rest = put_rest(new_columns, 0, columns, sizes.columns, class);
@@ -114,7 +114,7 @@ fn join_row(
 ) -> Counts
     requires sheet_accepts { SheetAccepts sheet.now map × HeldKnown sheet.now held × InPool sheet.now test }
     requires whole_rows { WholeRows (as_rows rows.old counts.rows) × WholeRows (as_rows opens.old counts.opens) × (counts.rows < clauses_most) × (counts.opens < clauses_most) }
-    ensures { JoinsRow sheet.now test held c (rows_before rows counts.rows) (rows_before opens counts.opens) (rows_after rows result.rows) (rows_after opens result.opens) }
+    ensures { JoinsRow sheet.now test held c (rows_before rows.old counts.rows) (rows_before opens.old counts.opens) (rows_after rows.new result.rows) (rows_after opens.new result.opens) }
 {
     match held {
         Held::Test(p) => {
@@ -151,7 +151,7 @@ fn join_rows<'a, 'b>(
 ) -> Counts
     requires ready_table { ReadyTable sheet.now map table.now × WholeRows (as_rows from.now n) × All (λ c. c < clauses sheet.now) (take n from.now) × (class < patterns_most) × InPool sheet.now test }
     requires rows_len { (length rows.old ≡ clauses_most) × (length opens.old ≡ clauses_most) }
-    ensures { JoinsRows sheet.now test opened.now class (take n from.now) (rows_after rows result.rows) (rows_after opens result.opens) }
+    ensures { JoinsRows sheet.now test opened.now class (take n from.now) (rows_after rows.new result.rows) (rows_after opens.new result.opens) }
 {
     let mut counts = Counts { rows: 0, opens: 0 };
     let mut i: usize = 0;
@@ -215,9 +215,9 @@ pub fn case_matrix<'a, 'b>(
     new_rows: &'b mut [u8; CLAUSES_MOST],
     new_columns: &'b mut [u8; PATTERNS_MOST],
 ) -> Sizes
-    requires case_asked { CaseAsked sheet.now map table.now (matrix_now rows columns tested opened sizes) class test }
+    requires case_asked { CaseAsked sheet.now map table.now (matrix_now rows.now columns.now tested.old opened.old sizes) class test }
     requires new_rows_len { (length new_rows.old ≡ clauses_most) × (length new_columns.old ≡ patterns_most) }
-    ensures { StandsFor (matrix_after new_rows new_columns tested opened result) (case_of_test sheet.now class test (numbers_before rows columns tested opened sizes)) }
+    ensures { StandsFor (matrix_after new_rows.new new_columns.new tested.new opened.new result) (case_of_test sheet.now class test (numbers_before rows.now columns.now tested.old opened.old sizes)) }
 {
     let mut opens = [0u8; CLAUSES_MOST];
     let n = sizes.rows;

@@ -9,7 +9,6 @@ use Rattle.build_table.specs.Standing.{sheet_paths}
 use Rattle.format_records.specs.declared.reading.Test.{Test}
 use Rattle.build_matrix.specs.Meant.{meant}
 use Rattle.build_matrix.specs.Numbered.{Numbered}
-use Rattle.build_matrix.specs.Promises.{Lent}
 use Rattle.build_cases.specs.declared.CasesMet.{CasesMet}
 use Rattle.build_nodes.specs.declared.tops.Tops.{Tops}
 use Rattle.build_nodes.specs.declared.tops.Built.{Built}
@@ -21,21 +20,21 @@ abbrev pub test_tree : List ℕ → ℕ → Numbered → Test → Tree
 test_tree s class M test = case_tree s class M (meant s test)
 
 -- the tree a is put into the work buffer
-abbrev pub PutsTree : Lent → Lent → Tree → Tops → Tops → Type 0
-PutsTree sheet work a from to = Put (sheet_paths sheet.entry.now) work.entry.now work.exit.now a from to
+abbrev pub PutsTree : List ℕ → List ℕ → List ℕ → Tree → Tops → Tops → Type 0
+PutsTree sheet work work' a from to = Put (sheet_paths sheet) work work' a from to
 
 -- the same, or it has too many nodes
-abbrev pub BuildsTree : Lent → Lent → Tree → Tops → Built → Type 0
-BuildsTree sheet work a from r = Builds (sheet_paths sheet.entry.now) work.entry.now work.exit.now a from r
+abbrev pub BuildsTree : List ℕ → List ℕ → List ℕ → Tree → Tops → Built → Type 0
+BuildsTree sheet work work' a from r = Builds (sheet_paths sheet) work work' a from r
 
 -- the cases of the column of a class of the matrix M are built, whose records stand from number `first` on, or they have too many nodes
-abbrev pub BuildsColumn : Lent → Lent → ℕ → Numbered → ℕ → Tops → Built → Type 0
-BuildsColumn sheet work class M first from r =
-    BuildsCases (sheet_paths sheet.entry.now) (case_tree sheet.entry.now class M) (case_list sheet.entry.now class M) first work.entry.now work.exit.now from r
+abbrev pub BuildsColumn : List ℕ → List ℕ → List ℕ → ℕ → Numbered → ℕ → Tops → Built → Type 0
+BuildsColumn sheet work work' class M first from r =
+    BuildsCases (sheet_paths sheet) (case_tree sheet class M) (case_list sheet class M) first work work' from r
 
 -- the first `time` classes tested stay where they are
-abbrev pub KeepsTested : ℕ → Lent → Type 0
-KeepsTested time tested = StillTested time tested.entry.now tested.exit.now
+abbrev pub KeepsTested : ℕ → List ℕ → List ℕ → Type 0
+KeepsTested time tested tested' = StillTested time tested tested'
 
 -- the record of a switch on a class, whose cases were met from number `first` on
 abbrev pub switch_record : ℕ → ℕ → CasesMet → ℕ → List ℕ

@@ -46,7 +46,7 @@ fn put_leaf<'a>(
     tops: Tops,
 ) -> Tops
     requires { ReadyTable sheet.now map table.now × LeafAsked sheet.now clause tested.now time × Roomy work.old tops × (tops.nodes < nodes_most) }
-    ensures { PutsTree sheet work (clause_leaf sheet.now opened.now (take time tested.now) clause) tops result }
+    ensures { PutsTree sheet.now work.old work.new (clause_leaf sheet.now opened.now (take time tested.now) clause) tops result }
 {
     let top = leaf_bindings(
         sheet,
@@ -128,8 +128,8 @@ fn build_case<'a>(
     work: &mut [u8],
     tops: Tops,
 ) -> Built
-    requires { AskedCase sheet.now map table.now (matrix_now rows columns tested opened sizes) class test work.old tops }
-    ensures { BuildsTree sheet work (test_tree sheet.now class (numbers_before rows columns tested opened sizes) test) tops result × KeepsTested sizes.tested tested }
+    requires { AskedCase sheet.now map table.now (matrix_now rows.now columns.now tested.old opened.now sizes) class test work.old tops }
+    ensures { BuildsTree sheet.now work.old work.new (test_tree sheet.now class (numbers_before rows.now columns.now tested.old opened.now sizes) test) tops result × KeepsTested sizes.tested tested.old tested.new }
 {
     let mut some = [0u8; CLAUSES_MOST];
     let mut rest = [0u8; PATTERNS_MOST];
@@ -159,9 +159,9 @@ fn build_cases<'a>(
     first: usize,
     from: Tops,
 ) -> Built
-    requires asked_column { AskedColumn sheet.now map table.now (matrix_now rows columns tested opened sizes) class }
-    requires asked_cases { AskedCases sheet.now class (in_numbers (matrix_now rows columns tested opened sizes)) first work.old from }
-    ensures { BuildsColumn sheet work class (numbers_before rows columns tested opened sizes) first from result × KeepsTested sizes.tested tested }
+    requires asked_column { AskedColumn sheet.now map table.now (matrix_now rows.now columns.now tested.old opened.now sizes) class }
+    requires asked_cases { AskedCases sheet.now class (in_numbers (matrix_now rows.now columns.now tested.old opened.now sizes)) first work.old from }
+    ensures { BuildsColumn sheet.now work.old work.new class (numbers_before rows.now columns.now tested.old opened.now sizes) first from result × KeepsTested sizes.tested tested.old tested.new }
 {
     let count = from.cases - first;
     let mut tops = from;
@@ -197,8 +197,8 @@ fn build_switch<'a>(
     work: &mut [u8],
     tops: Tops,
 ) -> Built
-    requires { AskedColumn sheet.now map table.now (matrix_now rows columns tested opened sizes) class × Roomy work.old tops × (tops.nodes < nodes_most) }
-    ensures { BuildsTree sheet work (tree_at sheet.now (numbers_before rows columns tested opened sizes)) tops result × KeepsTested sizes.tested tested }
+    requires { AskedColumn sheet.now map table.now (matrix_now rows.now columns.now tested.old opened.now sizes) class × Roomy work.old tops × (tops.nodes < nodes_most) }
+    ensures { BuildsTree sheet.now work.old work.new (tree_at sheet.now (numbers_before rows.now columns.now tested.old opened.now sizes)) tops result × KeepsTested sizes.tested tested.old tested.new }
 {
     let first = tops.cases;
     let meeting = meet_cases(
@@ -255,8 +255,8 @@ pub(crate) fn do_build_tree<'a>(
     work: &mut [u8],
     tops: Tops,
 ) -> Built
-    requires { Asked sheet.now map table.now (matrix_now rows columns tested opened sizes) work.old tops }
-    ensures { BuildsTree sheet work (tree_at sheet.now (numbers_before rows columns tested opened sizes)) tops result × KeepsTested sizes.tested tested }
+    requires { Asked sheet.now map table.now (matrix_now rows.now columns.now tested.old opened.now sizes) work.old tops }
+    ensures { BuildsTree sheet.now work.old work.new (tree_at sheet.now (numbers_before rows.now columns.now tested.old opened.now sizes)) tops result × KeepsTested sizes.tested tested.old tested.new }
 {
     if tops.nodes == NODES_MOST {
         return Built { fits: false, tops };

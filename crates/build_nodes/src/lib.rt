@@ -11,6 +11,8 @@
 // Why it may stop. Each case has a node of its own. So where there is no room for the records of a switch's cases, the tree has more
 // than 1,024 nodes, though not all of them are written. The contract says this of any number of nodes that are still to come
 // elsewhere; for the whole tree it is that its nodes are more than 1,024, as refusal 12 asks.
+#![tactic(auto)]
+
 mod build;
 pub mod raw;
 pub mod tops;

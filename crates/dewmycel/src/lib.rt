@@ -1,5 +1,7 @@
 // The calls of document 01. None asks anything of its caller; each contract is one promise of specs/Promises.antt, which gives the one answer
 // and every byte of every writable buffer after it, on refused input too. The module face has the same calls for C, each answer in one word.
+#![tactic(auto)]
+
 pub mod face;
 
 ghost use Rattle.std.specs.Prelude.{length};

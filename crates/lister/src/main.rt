@@ -1,5 +1,7 @@
 // The lister: a sheet on standard input; on standard output the listing of its tree, or `refused NUMBER PLACE`.
 // The work is done by the proved calls below the crate app_io.
+#![tactic(auto)]
+
 use libc::{STDERR_FILENO, STDIN_FILENO, STDOUT_FILENO};
 
 fn list(sheet: &[u8]) {

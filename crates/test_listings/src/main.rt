@@ -4,6 +4,8 @@
 // The files of data/ are hand-made sheets: document 01's P6 to P12, and its limits on clauses, nodes, bindings, patterns and
 // depth, from both sides. What stdout has was not made by this program: tools/answers.py takes each listing from the Rust
 // module itself, and each refusal from the reference of tools/beside, which was written from the document.
+#![tactic(auto)]
+
 ghost use Rattle.std.specs.Prelude.{◌<◌};
 ghost use Rattle.io.specs.Counts.{IsPrefixLen};
 

@@ -1,5 +1,7 @@
 // What the test programs share: sheets and panels made piece by piece in a buffer. Whatever would lie past its end is left out.
 // Each contract is one store at a place; a store past the end changes nothing, so none asks for room.
+#![tactic(auto)]
+
 ghost use Rattle.std.specs.Prelude.{◌≡◌, ◌-◌, min};
 ghost use Rattle.base_words.specs.Stored.{stored};
 ghost use Rattle.test_make.specs.Pieces.{low_word, three_words, four_words, trailer_at, trailer_of, sheet_size};

@@ -1,5 +1,7 @@
 // The boundaries of document 01 for a panel: each line names a case and gives the answer of a call.
 // The file stdout has the answers as 01 gives them, by hand.
+#![tactic(auto)]
+
 mod make;
 
 use fit::Fitted;

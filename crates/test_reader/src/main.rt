@@ -1,4 +1,6 @@
 // The three answers of `clause_pattern`: each line names a case and gives the answer, and the file stdout has them by hand.
+#![tactic(auto)]
+
 use format_sheet_reader::{Clause, clause_pattern};
 use test_make::{end, four, of, word};
 

@@ -1,5 +1,7 @@
 // The boundaries of document 01 for a sheet: each line names a case and gives the answer of the check.
 // The file stdout has the answers as 01 gives them, by hand.
+#![tactic(auto)]
+
 mod make;
 
 use format_sheet::CheckedSheet;

@@ -1,5 +1,7 @@
 // Replays stored answers of the Rust module: the file that the argument names holds sheets, each with the listing of the Rust's
 // tree, and what the build and the listing give of each sheet has to be that to the letter. HOW.md says how the file was made.
+#![tactic(auto)]
+
 ghost use Rattle.std.specs.Prelude.{◌≡◌, ◌+◌, ◌≤◌, length};
 
 use base_words::{same_text, word_at};

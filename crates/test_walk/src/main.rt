@@ -1,6 +1,8 @@
 // The walk on real bytes. Standard input has trees and panels as rows of bytes, and the walks of one on the other; a walk gives a line
 // with its name and the call's answer, with (name, record, dropped) for each binding.
 // The file stdin says what its rows are; the file stdout has the answers as 01 gives them, and 02 the node and step of 32, by hand.
+#![tactic(auto)]
+
 mod rows;
 mod say;
 

@@ -1,5 +1,7 @@
 // The walker: a sheet file and a panel file as arguments. On standard output it says which clause the panel takes and what its names are
 // bound to, or `refused NUMBER PLACE`. The work is done by the proved calls of the crate app_report.
+#![tactic(auto)]
+
 use libc::{STDERR_FILENO, STDOUT_FILENO};
 
 // The buffer has room for every text (`every_text_has_room` of the crate app_report).

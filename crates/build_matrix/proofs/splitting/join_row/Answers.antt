@@ -45,7 +45,7 @@ returns-else-not-covers c =
     let row = c.put_row in
     let test = c.put_row-in-Test in
     let covers = c.covers in
-    joined_test (joins_case a.sheet.now (meant a.sheet.now a.test)) (as_rows a.rows.now a.counts.rows) (as_rows a.opens.now a.counts.opens) a.held a.c {c.in-Test.p = c.in-Test.p} (as_rows row.new.list row.result) (as_rows test.new.list test.result) row.ensures test.ensures e
+    joined_test (joins_case a.sheet.now (meant a.sheet.now a.test)) (as_rows a.rows.now a.counts.rows) (as_rows a.opens.now a.counts.opens) a.held a.c {p = c.in-Test.p} (as_rows row.new.list row.result) (as_rows test.new.list test.result) row.ensures test.ensures e
     (sym covers.ensures ∙ c.if-not-covers.false)
 
 pub returns-in-Wildcard : goal.returns-in-Wildcard

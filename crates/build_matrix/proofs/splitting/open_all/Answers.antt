@@ -38,8 +38,8 @@ loop-i-preserved c =
     let l = c.loop-i in
     let p = c.wide in (
       omega (arith, l.invariant.0),
-      opened_listed c.requires.opens_asked.0 a.opens.now a.n (omega (arith, c.requires.opens_asked.1.long, c.requires.opens_asked.1.most)) c.requires.opens_asked.2 c.requires.opens_asked.3 l.i c.loop-i-test.true l.invariant.0 p.result p.ensures (as_classes l.list l.count) l.invariant.1 l.invariant.2 c.«open».ensures,
-      opened_columns c.requires.opens_asked.0 a.opens.now a.n (omega (arith, c.requires.opens_asked.1.long, c.requires.opens_asked.1.most)) c.requires.opens_asked.2 c.requires.opens_asked.3 l.i c.loop-i-test.true l.invariant.0 p.result p.ensures (as_classes l.list l.count) l.invariant.1 l.invariant.2 c.«open».ensures,
+      opened_listed c.requires.opens_asked.0 a.opens.now a.n (omega (arith, c.requires.opens_asked.1.long, c.requires.opens_asked.1.most)) c.requires.opens_asked.2 c.requires.opens_asked.3 l.i c.loop-i-test.true l.invariant.0 p.result p.ensures (as_classes l.list l.count) l.invariant.1 l.invariant.2 c.open-count.ensures,
+      opened_columns c.requires.opens_asked.0 a.opens.now a.n (omega (arith, c.requires.opens_asked.1.long, c.requires.opens_asked.1.most)) c.requires.opens_asked.2 c.requires.opens_asked.3 l.i c.loop-i-test.true l.invariant.0 p.result p.ensures (as_classes l.list l.count) l.invariant.1 l.invariant.2 c.open-count.ensures,
     )
 
 pub returns : goal.returns
