@@ -560,8 +560,8 @@ module _ (w : List ℕ) (nodes : ℕ) (x : Places) (clauses cases_at bindings_at
           inside = l;
           file = record {
             tree_room_holds = omega (arith, a.file.tree_room_holds, h.long);
-            cases_start = a.file.cases_start_holds;
-            bindings_start = a.file.bindings_start_holds;
+            cases_start_holds = a.file.cases_start_holds;
+            bindings_start_holds = a.file.bindings_start_holds;
           };
           counted = h.counted;
           within =
