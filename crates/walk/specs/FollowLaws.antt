@@ -346,7 +346,7 @@ module _ {t : List ℕ} {m : TreeMap} {v : List ℕ} {n : PanelMap} where
     bindable = record {
       followable = followable;
       bindings_lie = bindings_lie ready.mapped;
-      bindings_start = sym (bindings_start ready.mapped);
+      bindings_start_holds = sym (bindings_start ready.mapped);
       paths_start = sym (paths_start ready.mapped);
       steps_start = sym (steps_start ready.mapped);
       binding_path_holds = ready.sound.is_ruled.binding_path_holds;

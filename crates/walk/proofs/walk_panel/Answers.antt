@@ -15,25 +15,21 @@ overflow_cast-node c = omega (arith, node_word c.requires.0 c.reach-ended.ensure
 
 pub bind-requires : goal.bind-requires
 bind-requires c =
-    let start : tie.Start = c in
     let leaf_at : Reached =  Reached.Leaf c.in-Leaf.clause c.in-Leaf.first c.in-Leaf.count in
-    let arrived : Arrives (start).args.tree.now (start).args.panel.now c.reach-ended.result.node (leaf_at) = let e : c.reach-ended.result.end ≡ leaf_at = c.in-Leaf.is in rw e at c.reach-ended.ensures in
-    let s = start in
+    let arrived : Arrives c.args.tree.now c.args.panel.now c.reach-ended.result.node (leaf_at) = let e : c.reach-ended.result.end ≡ leaf_at = c.in-Leaf.is in rw e at c.reach-ended.ensures in
     let w = arrived in
-    (bindable s.pre.0, w.holds.0, omega (arith, w.holds.1, s.pre.1))
+    (bindable c.requires.0, w.holds.0, omega (arith, w.holds.1, c.requires.1))
 
 pub overflow_cast-result : goal.overflow_cast-result
 overflow_cast-result c =
     let leaf_at : Reached =  Reached.Leaf c.in-Leaf.clause c.in-Leaf.first c.in-Leaf.count in
-    let start : tie.Start = c in
-    let arrived : Arrives (start).args.tree.now (start).args.panel.now c.reach-ended.result.node (leaf_at) = let e : c.reach-ended.result.end ≡ leaf_at = c.in-Leaf.is in rw e at c.reach-ended.ensures in
+    let arrived : Arrives c.args.tree.now c.args.panel.now c.reach-ended.result.node (leaf_at) = let e : c.reach-ended.result.end ≡ leaf_at = c.in-Leaf.is in rw e at c.reach-ended.ensures in
     omega (arith, (arrived).holds.2)
 
 pub overflow_cast-result-in_default : goal.overflow_cast-result-in_default
 overflow_cast-result-in_default c =
     let leaf_at : Reached =  Reached.Leaf c.in-Leaf.clause c.in-Leaf.first c.in-Leaf.count in
-    let start : tie.Start = c in
-    let arrived : Arrives (start).args.tree.now (start).args.panel.now c.reach-ended.result.node (leaf_at) = let e : c.reach-ended.result.end ≡ leaf_at = c.in-Leaf.is in rw e at c.reach-ended.ensures in
+    let arrived : Arrives c.args.tree.now c.args.panel.now c.reach-ended.result.node (leaf_at) = let e : c.reach-ended.result.end ≡ leaf_at = c.in-Leaf.is in rw e at c.reach-ended.ensures in
     omega (arith, (arrived).holds.1)
 
 pub shape_of-bound-in_default : goal.shape_of-bound-in_default
@@ -41,30 +37,27 @@ shape_of-bound-in_default c = c.bind.auto.bound
 
 pub returns-in_default : goal.returns-in_default
 returns-in_default c =
-    let start : tie.Start = c in
     let leaf_at : Reached =  Reached.Leaf c.in-Leaf.clause c.in-Leaf.first c.in-Leaf.count in
-    let arrived : Arrives (start).args.tree.now (start).args.panel.now c.reach-ended.result.node (leaf_at) = let e : c.reach-ended.result.end ≡ leaf_at = c.in-Leaf.is in rw e at c.reach-ended.ensures in
-    let a = (start).args in
-    gives_leaf a.tree.now a.panel.now a.bound.now (start).requires.2 _ c.in-Leaf.clause c.in-Leaf.first c.in-Leaf.count
-    c.bind.new.bound (arrived) c.bind.result (start).requires.1 c.bind.ensures c.in_default.is
+    let arrived : Arrives c.args.tree.now c.args.panel.now c.reach-ended.result.node (leaf_at) = let e : c.reach-ended.result.end ≡ leaf_at = c.in-Leaf.is in rw e at c.reach-ended.ensures in
+    let a = c.args in
+    gives_leaf a.tree.now a.panel.now a.bound.now c.requires.2 _ c.in-Leaf.clause c.in-Leaf.first c.in-Leaf.count
+    c.bind.new.bound (arrived) c.bind.result c.requires.1 c.bind.ensures c.in_default.is
 
 pub overflow_cast-result-in-Leaf : goal.overflow_cast-result-in-Leaf
 overflow_cast-result-in-Leaf c =
-    let start : tie.Start = c in
     let leaf_at : Reached =  Reached.Leaf c.in-Leaf.clause c.in-Leaf.first c.in-Leaf.count in
-    let arrived : Arrives (start).args.tree.now (start).args.panel.now c.reach-ended.result.node (leaf_at) = let e : c.reach-ended.result.end ≡ leaf_at = c.in-Leaf.is in rw e at c.reach-ended.ensures in
-    omega (arith, unbound_word (start).requires.0 (arrived) c.bind.ensures c.in-Stuck-bind.is)
+    let arrived : Arrives c.args.tree.now c.args.panel.now c.reach-ended.result.node (leaf_at) = let e : c.reach-ended.result.end ≡ leaf_at = c.in-Leaf.is in rw e at c.reach-ended.ensures in
+    omega (arith, unbound_word c.requires.0 (arrived) c.bind.ensures c.in-Stuck-bind.is)
 
 pub shape_of-bound : goal.shape_of-bound
 shape_of-bound c = c.bind.auto.bound
 
 pub returns-in-Stuck-bind : goal.returns-in-Stuck-bind
 returns-in-Stuck-bind c =
-    let start : tie.Start = c in
     let leaf_at : Reached =  Reached.Leaf c.in-Leaf.clause c.in-Leaf.first c.in-Leaf.count in
-    let arrived : Arrives (start).args.tree.now (start).args.panel.now c.reach-ended.result.node (leaf_at) = let e : c.reach-ended.result.end ≡ leaf_at = c.in-Leaf.is in rw e at c.reach-ended.ensures in
-    let a = (start).args in
-    gives_unbound a.tree.now a.panel.now a.bound.now (start).requires.2 _ c.in-Leaf.clause c.in-Leaf.first c.in-Leaf.count
+    let arrived : Arrives c.args.tree.now c.args.panel.now c.reach-ended.result.node (leaf_at) = let e : c.reach-ended.result.end ≡ leaf_at = c.in-Leaf.is in rw e at c.reach-ended.ensures in
+    let a = c.args in
+    gives_unbound a.tree.now a.panel.now a.bound.now c.requires.2 _ c.in-Leaf.clause c.in-Leaf.first c.in-Leaf.count
     c.bind.new.bound (arrived) c.bind.result c.in-Stuck-bind.step c.bind.ensures c.in-Stuck-bind.is
 
 pub returns-in-NoLeaf : goal.returns-in-NoLeaf

@@ -66,7 +66,7 @@ overflow_cast-p c =
     let b = c.binding_from-b.result in
     let found = found_some a.panel.now (path_at a.tree.now b.path) c.in-At.p (sym c.follow-found.ensures ∙ c.in-At.is) in
     let within = found_within w b.path c.in-At.p found in
-    omega (arith, within.place_in, w.opened.laid.records-most)
+    omega (arith, within.place_in, w.opened.laid.records_most_holds)
 
 pub overflow_cast-p-in-loop-i : goal.overflow_cast-p-in-loop-i
 overflow_cast-p-in-loop-i c =

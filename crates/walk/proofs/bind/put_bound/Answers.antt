@@ -14,4 +14,4 @@ pub shape_of-bound : goal.shape_of-bound
 shape_of-bound c = simp length-set
 
 pub returns : goal.returns
-returns c = three_stores c.args.bound.now c.args.at c.args.name c.args.«record» c.args.dropped
+returns c = three_stores c.args.bound.now c.args.at c.args.name c.args.record c.args.dropped

@@ -34,14 +34,14 @@ overflow_add-first c =
     let a = c.args in
     let w = c.requires.0 in
     let x = c.path_from-path.result in
-    omega (arith, path_run w a.p x c.requires.3 c.path_from-path.ensures, w.steps-lie)
+    omega (arith, path_run w a.p x c.requires.3 c.path_from-path.ensures, w.steps_lie)
 
 pub step_from-step-requires : goal.step_from-step-requires
 step_from-step-requires c =
     let a = c.args in
     let w = c.requires.0 in
     let x = c.path_from-path.result in
-    (w.steps-lie, c.requires.2, omega (arith, path_run w a.p x c.requires.3 c.path_from-path.ensures))
+    (w.steps_lie, c.requires.2, omega (arith, path_run w a.p x c.requires.3 c.path_from-path.ensures))
 
 pub take_step-requires : goal.take_step-requires
 take_step-requires c =

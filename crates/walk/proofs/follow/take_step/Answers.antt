@@ -16,7 +16,7 @@ pub part_in-requires : goal.part_in-requires
 part_in-requires c =
     let a = c.args in
     let kind = c.if-x-left_by.false ∙ c.left_by.ensures in
-    (c.requires.0, parts_in a.panel.now a.p.«record» c.record_at-x.result c.record_at-x.ensures c.requires.1 c.requires.2.IsPlace-in (omega (arith, kind, left_has_parts a.s.kind)))
+    (c.requires.0, parts_in a.panel.now a.p.record c.record_at-x.result c.record_at-x.ensures c.requires.1 c.requires.2.place_in (omega (arith, kind, left_has_parts a.s.kind)))
 
 pub returns-then-kind-lt-LIST : goal.returns-then-kind-lt-LIST
 returns-then-kind-lt-LIST c =
@@ -32,7 +32,7 @@ pub part_in-requires-then-kind-eq-LIST : goal.part_in-requires-then-kind-eq-LIST
 part_in-requires-then-kind-eq-LIST c =
     let a = c.args in
     let kind = c.if-x-left_by.false ∙ c.left_by.ensures in
-    (c.requires.0, parts_in a.panel.now a.p.«record» c.record_at-x.result c.record_at-x.ensures c.requires.1 c.requires.2.IsPlace-in (omega (arith, kind, left_has_parts a.s.kind)))
+    (c.requires.0, parts_in a.panel.now a.p.record c.record_at-x.result c.record_at-x.ensures c.requires.1 c.requires.2.place_in (omega (arith, kind, left_has_parts a.s.kind)))
 
 pub returns-then-kind-eq-LIST : goal.returns-then-kind-eq-LIST
 returns-then-kind-eq-LIST c =

@@ -23,49 +23,42 @@ returns-in_default c =
 
 pub record_at-x-requires : goal.record_at-x-requires
 record_at-x-requires c =
-    let start : tie.Start = c in
     let place : Position = c.in-At.p in
-    let found : follow (start).args.panel.now (path_at (start).args.tree.now (start).args.path) panel_root ≡ some (placed (place)) = let a = (start).args in
+    let found : follow c.args.panel.now (path_at c.args.tree.now c.args.path) panel_root ≡ some (placed (place)) = let a = c.args in
     found_some a.panel.now (path_at a.tree.now a.path) (place) (sym c.follow-found.ensures ∙ c.in-At.is) in
-    let ready = (start).requires.0 in
-    (ready.opened.laid, (found_within (followable ready) (start).args.path (place) (found)).place_in)
+    let ready = c.requires.0 in
+    (ready.opened.laid, (found_within (followable ready) c.args.path (place) (found)).place_in)
 
 pub path_length-requires : goal.path_length-requires
-path_length-requires c =
-    let start : tie.Start = c in
-    let s = start in (s.pre.0.mapped, s.pre.1)
+path_length-requires c = (c.requires.0.mapped, c.requires.1)
 
 pub returns-then-x-ne-LIST : goal.returns-then-x-ne-LIST
 returns-then-x-ne-LIST c =
-    let start : tie.Start = c in
     let place : Position = c.in-At.p in
-    let found : follow (start).args.panel.now (path_at (start).args.tree.now (start).args.path) panel_root ≡ some (placed (place)) = let a = (start).args in
+    let found : follow c.args.panel.now (path_at c.args.tree.now c.args.path) panel_root ≡ some (placed (place)) = let a = c.args in
     found_some a.panel.now (path_at a.tree.now a.path) (place) (sym c.follow-found.ensures ∙ c.in-At.is) in
-    let a = (start).args in
+    let a = c.args in
     list_wrong_kind a.tree.now a.panel.now a.path a.first a.cases a.tails a.default c.path_length.result c.path_length.ensures
     (placed (place)) c.record_at-x.result (found) c.record_at-x.ensures c.if-x-ne-LIST.true
 
 pub overflow_sub-x : goal.overflow_sub-x
 overflow_sub-x c =
-    let start : tie.Start = c in
     let place : Position = c.in-At.p in
-    let found : follow (start).args.panel.now (path_at (start).args.tree.now (start).args.path) panel_root ≡ some (placed (place)) = let a = (start).args in
+    let found : follow c.args.panel.now (path_at c.args.tree.now c.args.path) panel_root ≡ some (placed (place)) = let a = c.args in
     found_some a.panel.now (path_at a.tree.now a.path) (place) (sym c.follow-found.ensures ∙ c.in-At.is) in
-    let within = found_within (followable (start).requires.0) (start).args.path (place) (found) in
+    let within = found_within (followable c.requires.0) c.args.path (place) (found) in
     omega (arith, within.dropped_in, ap (λ (x : Record). x.count) c.record_at-x.ensures)
 
 pub from_length-requires : goal.from_length-requires
 from_length-requires c =
-    let start : tie.Start = c in
-    let pre = (start).requires in
+    let pre = c.requires in
     (pre.0.mapped, pre.2, pre.3, pre.4)
 
 pub returns : goal.returns
 returns c =
-    let start : tie.Start = c in
     let place : Position = c.in-At.p in
-    let found : follow (start).args.panel.now (path_at (start).args.tree.now (start).args.path) panel_root ≡ some (placed (place)) = let a = (start).args in
+    let found : follow c.args.panel.now (path_at c.args.tree.now c.args.path) panel_root ≡ some (placed (place)) = let a = c.args in
     found_some a.panel.now (path_at a.tree.now a.path) (place) (sym c.follow-found.ensures ∙ c.in-At.is) in
-    let a = (start).args in
+    let a = c.args in
     list_turns a.tree.now a.panel.now a.path a.first a.cases a.tails a.default (placed (place)) c.record_at-x.result
     c.from_length.result (found) c.record_at-x.ensures c.if-x-ne-LIST.false (c.from_length.ensures a.panel.now (steps_on a.tree.now a.panel.now a.path))

@@ -27,113 +27,91 @@ returns-in_default c =
 
 pub record_at-x-requires : goal.record_at-x-requires
 record_at-x-requires c =
-    let start : tie.Start = c in
     let place : Position = c.in-At.p in
-    let found : follow (start).args.panel.now (path_at (start).args.tree.now (start).args.path) panel_root ≡ some (placed (place)) = let a = (start).args in
+    let found : follow c.args.panel.now (path_at c.args.tree.now c.args.path) panel_root ≡ some (placed (place)) = let a = c.args in
     found_some a.panel.now (path_at a.tree.now a.path) (place) (sym c.follow-found.ensures ∙ c.in-At.is) in
-    let ready = (start).requires.0 in
-    (ready.opened.laid, (found_within (followable ready) (start).args.path (place) (found)).place_in)
+    let ready = c.requires.0 in
+    (ready.opened.laid, (found_within (followable ready) c.args.path (place) (found)).place_in)
 
 pub path_length-requires : goal.path_length-requires
-path_length-requires c =
-    let start : tie.Start = c in
-    let s = start in (s.pre.0.mapped, s.pre.1)
+path_length-requires c = (c.requires.0.mapped, c.requires.1)
 
 pub returns-then-x-asked : goal.returns-then-x-asked
 returns-then-x-asked c =
-    let start : tie.Start = c in
     let place : Position = c.in-At.p in
-    let found : follow (start).args.panel.now (path_at (start).args.tree.now (start).args.path) panel_root ≡ some (placed (place)) = let a = (start).args in
+    let found : follow c.args.panel.now (path_at c.args.tree.now c.args.path) panel_root ≡ some (placed (place)) = let a = c.args in
     found_some a.panel.now (path_at a.tree.now a.path) (place) (sym c.follow-found.ensures ∙ c.in-At.is) in
-    let asked : c.asked_by-asked.result ≡ asked_by (test_of (start).args.tree.now (start).args.first) = c.asked_by-asked.ensures ∙ ap asked_by (start).requires.6 in
-    let s = start in
-    let a = s.args in
-    switch_wrong_kind a.tree.now a.panel.now a.path a.first a.cases a.default s.pre.2 s.pre.4 (placed (place)) (found)
+    let asked : c.asked_by-asked.result ≡ asked_by (test_of c.args.tree.now c.args.first) = c.asked_by-asked.ensures ∙ ap asked_by c.requires.6 in
+    let a = c.args in
+    switch_wrong_kind a.tree.now a.panel.now a.path a.first a.cases a.default c.requires.2 c.requires.4 (placed (place)) (found)
     c.record_at-x.result c.record_at-x.ensures c.path_length.result c.path_length.ensures (λ e. c.if-x-asked.true (e ∙ sym (asked)))
 
 pub numbered_case-chosen-requires : goal.numbered_case-chosen-requires
-numbered_case-chosen-requires c =
-    let start : tie.Start = c in
-    let s = start in (s.pre.0.mapped, s.pre.3)
+numbered_case-chosen-requires c = (c.requires.0.mapped, c.requires.3)
 
 pub chosen_or-requires : goal.chosen_or-requires
 chosen_or-requires c =
-    let start : tie.Start = c in
-    let s = start in
-    let a = s.args in
-    (s.pre.0.mapped, chosen_in _ a.first a.cases _ c.numbered_case-chosen.result s.pre.3 c.numbered_case-chosen.ensures)
+    let a = c.args in
+    (c.requires.0.mapped, chosen_in _ a.first a.cases _ c.numbered_case-chosen.result c.requires.3 c.numbered_case-chosen.ensures)
 
 pub returns-then-asked-eq-CONSTRUCTOR : goal.returns-then-asked-eq-CONSTRUCTOR
 returns-then-asked-eq-CONSTRUCTOR c =
-    let start : tie.Start = c in
     let place : Position = c.in-At.p in
-    let found : follow (start).args.panel.now (path_at (start).args.tree.now (start).args.path) panel_root ≡ some (placed (place)) = let a = (start).args in
+    let found : follow c.args.panel.now (path_at c.args.tree.now c.args.path) panel_root ≡ some (placed (place)) = let a = c.args in
     found_some a.panel.now (path_at a.tree.now a.path) (place) (sym c.follow-found.ensures ∙ c.in-At.is) in
-    let asked : c.asked_by-asked.result ≡ asked_by (test_of (start).args.tree.now (start).args.first) = c.asked_by-asked.ensures ∙ ap asked_by (start).requires.6 in
-    let s = start in
-    let a = s.args in
-    switch_constr a.tree.now a.panel.now a.path a.first a.cases a.default s.pre.2 s.pre.4 (placed (place)) (found)
-    c.record_at-x.result c.record_at-x.ensures (c.if-x-asked.false ∙ asked) s.pre.5 c.numbered_case-chosen.result
+    let asked : c.asked_by-asked.result ≡ asked_by (test_of c.args.tree.now c.args.first) = c.asked_by-asked.ensures ∙ ap asked_by c.requires.6 in
+    let a = c.args in
+    switch_constr a.tree.now a.panel.now a.path a.first a.cases a.default c.requires.2 c.requires.4 (placed (place)) (found)
+    c.record_at-x.result c.record_at-x.ensures (c.if-x-asked.false ∙ asked) c.requires.5 c.numbered_case-chosen.result
     c.chosen_or.result c.chosen_or.ensures (sym (asked) ∙ c.if-asked-eq-CONSTRUCTOR.true) c.numbered_case-chosen.ensures
 
 pub overflow_add-start : goal.overflow_add-start
 overflow_add-start c =
-    let start : tie.Start = c in
-    let led_to : tie.After-known-told = c in
     let place : Position = c.in-At.p in
-    let found : follow (start).args.panel.now (path_at (start).args.tree.now (start).args.path) panel_root ≡ some (placed (place)) = let a = (start).args in
+    let found : follow c.args.panel.now (path_at c.args.tree.now c.args.path) panel_root ≡ some (placed (place)) = let a = c.args in
     found_some a.panel.now (path_at a.tree.now a.path) (place) (sym c.follow-found.ensures ∙ c.in-At.is) in
-    let asked : c.asked_by-asked.result ≡ asked_by (test_of (start).args.tree.now (start).args.first) = c.asked_by-asked.ensures ∙ ap asked_by (start).requires.6 in
-    let texts : (asked_by (test_of (start (led_to)).args.tree.now (start (led_to)).args.first) ≤ bytes_record) × AllText (start (led_to)).args.tree.now (start (led_to)).args.first (start (led_to)).args.cases = let s = start (led_to) in
-    let a = s.args in
-    texts_asked a.tree.now a.first s.pre.4 (λ e. c.if-asked-eq-CONSTRUCTOR.false (asked (led_to) ∙ e)) a.cases s.pre.5 in
-    let text_in : (start (led_to)).args.places.pool.start + c.record_at-x.result.first + c.record_at-x.result.count ≤ length (start (led_to)).args.panel.now = let led = led_to in
-    let a = (start).args in
-    let ready = (start).pre.0 in
+    let asked : c.asked_by-asked.result ≡ asked_by (test_of c.args.tree.now c.args.first) = c.asked_by-asked.ensures ∙ ap asked_by c.requires.6 in
+    let texts : (asked_by (test_of c.args.tree.now c.args.first) ≤ bytes_record) × AllText c.args.tree.now c.args.first c.args.cases = 
+    let a = c.args in
+    texts_asked a.tree.now a.first c.requires.4 (λ e. c.if-asked-eq-CONSTRUCTOR.false (asked ∙ e)) a.cases c.requires.5 in
+    let text_in : c.args.places.pool.start + c.record_at-x.result.first + c.record_at-x.result.count ≤ length c.args.panel.now = 
+    let a = c.args in
+    let ready = c.requires.0 in
     let read = c.record_at-x in
     text_inside a.panel.now (placed (place)) read.result read.ensures a.places ready.opened ready.panel.is_shaped
     (found_within (followable ready) a.path (place) (found)).place_in (omega (arith, c.if-x-asked.false, asked, (texts).0)) in
-    omega (arith, text_in, (start (led_to)).requires.0.opened.laid.length_most)
+    omega (arith, text_in, c.requires.0.opened.laid.length_most)
 
 pub text_case-chosen-requires : goal.text_case-chosen-requires
 text_case-chosen-requires c =
-    let start : tie.Start = c in
-    let led_to : tie.After-known-told = c in
-    let asked : c.asked_by-asked.result ≡ asked_by (test_of (start).args.tree.now (start).args.first) = c.asked_by-asked.ensures ∙ ap asked_by (start).requires.6 in
-    let texts : (asked_by (test_of (start (led_to)).args.tree.now (start (led_to)).args.first) ≤ bytes_record) × AllText (start (led_to)).args.tree.now (start (led_to)).args.first (start (led_to)).args.cases = let s = start (led_to) in
-    let a = s.args in
-    texts_asked a.tree.now a.first s.pre.4 (λ e. c.if-asked-eq-CONSTRUCTOR.false (asked (led_to) ∙ e)) a.cases s.pre.5 in
+    let asked : c.asked_by-asked.result ≡ asked_by (test_of c.args.tree.now c.args.first) = c.asked_by-asked.ensures ∙ ap asked_by c.requires.6 in
+    let texts : (asked_by (test_of c.args.tree.now c.args.first) ≤ bytes_record) × AllText c.args.tree.now c.args.first c.args.cases = 
+    let a = c.args in
+    texts_asked a.tree.now a.first c.requires.4 (λ e. c.if-asked-eq-CONSTRUCTOR.false (asked ∙ e)) a.cases c.requires.5 in
     let place : Position = c.in-At.p in
-    let found : follow (start).args.panel.now (path_at (start).args.tree.now (start).args.path) panel_root ≡ some (placed (place)) = let a = (start).args in
+    let found : follow c.args.panel.now (path_at c.args.tree.now c.args.path) panel_root ≡ some (placed (place)) = let a = c.args in
     found_some a.panel.now (path_at a.tree.now a.path) (place) (sym c.follow-found.ensures ∙ c.in-At.is) in
-    let text_in : (start (led_to)).args.places.pool.start + c.record_at-x.result.first + c.record_at-x.result.count ≤ length (start (led_to)).args.panel.now = let led = led_to in
-    let a = (start).args in
-    let ready = (start).pre.0 in
+    let text_in : c.args.places.pool.start + c.record_at-x.result.first + c.record_at-x.result.count ≤ length c.args.panel.now = 
+    let a = c.args in
+    let ready = c.requires.0 in
     let read = c.record_at-x in
     text_inside a.panel.now (placed (place)) read.result read.ensures a.places ready.opened ready.panel.is_shaped
     (found_within (followable ready) a.path (place) (found)).place_in (omega (arith, c.if-x-asked.false, asked, (texts).0)) in
-    let s = start (led_to) in (ready_ruled s.pre.0, s.pre.3, (texts).1, text_in)
+    (ready_ruled c.requires.0, c.requires.3, (texts).1, text_in)
 
 pub chosen_or-requires-2 : goal.chosen_or-requires-2
 chosen_or-requires-2 c =
-    let start : tie.Start = c in
-    let led_to : tie.After-known-told = c in
-    let s = start (led_to) in
-    let a = s.args in
-    (s.pre.0.mapped, chosen_in _ a.first a.cases _ c.text_case-chosen.result s.pre.3 c.text_case-chosen.ensures)
+    let a = c.args in
+    (c.requires.0.mapped, chosen_in _ a.first a.cases _ c.text_case-chosen.result c.requires.3 c.text_case-chosen.ensures)
 
 pub returns : goal.returns
 returns c =
-    let start : tie.Start = c in
     let place : Position = c.in-At.p in
-    let found : follow (start).args.panel.now (path_at (start).args.tree.now (start).args.path) panel_root ≡ some (placed (place)) = let a = (start).args in
+    let found : follow c.args.panel.now (path_at c.args.tree.now c.args.path) panel_root ≡ some (placed (place)) = let a = c.args in
     found_some a.panel.now (path_at a.tree.now a.path) (place) (sym c.follow-found.ensures ∙ c.in-At.is) in
-    let asked : c.asked_by-asked.result ≡ asked_by (test_of (start).args.tree.now (start).args.first) = c.asked_by-asked.ensures ∙ ap asked_by (start).requires.6 in
-    let led_to : tie.After-known-told = c in
-    let led = led_to in
-    let s = start in
-    let a = s.args in
+    let asked : c.asked_by-asked.result ≡ asked_by (test_of c.args.tree.now c.args.first) = c.asked_by-asked.ensures ∙ ap asked_by c.requires.6 in
+    let a = c.args in
     let read = c.record_at-x in
-    switch_text a.tree.now a.panel.now a.path a.first a.cases a.default s.pre.2 s.pre.4 (placed (place)) (found)
-    read.result read.ensures (c.if-x-asked.false ∙ asked) s.pre.5 c.text_case-chosen.result
-    c.chosen_or-2.result c.chosen_or-2.ensures a.places s.pre.0.opened (λ e. c.if-asked-eq-CONSTRUCTOR.false (asked ∙ e)) c.text_case-chosen.ensures
+    switch_text a.tree.now a.panel.now a.path a.first a.cases a.default c.requires.2 c.requires.4 (placed (place)) (found)
+    read.result read.ensures (c.if-x-asked.false ∙ asked) c.requires.5 c.text_case-chosen.result
+    c.chosen_or-2.result c.chosen_or-2.ensures a.places c.requires.0.opened (λ e. c.if-asked-eq-CONSTRUCTOR.false (asked ∙ e)) c.text_case-chosen.ensures
