@@ -28,10 +28,10 @@ build_tree-built-requires c =
 
 pub returns-then-not-built : goal.returns-then-not-built
 returns-then-not-built c =
-    let over = c.build_tree-built.ensures.over (off _ (ap not c.if-not-built.true)) in
+    let over = c.build_tree-built.ensures.over (off _ c.if-not-built.true) in
     rw c.refused.ensures (gives_refusal c.args.sheet.now _ _ 12 0 (end_12_raw c.args.sheet.now over) c.requires.3)
 
 pub finish-requires : goal.finish-requires
 finish-requires c =
     let built = c.build_tree-built in
-    let fits = built.ensures.put (on _ (ap not c.if-not-built.false)) in record { sheet_accepts = (c.requires.0, c.fill.ensures, raw_built c.requires.0.ok _ built.result.tops (omega (arith, c.requires.2, built.auto.work)) fits); clear_tree = (c.requires.1, c.requires.3) }
+    let fits = built.ensures.put (on _ c.if-not-built.false) in record { sheet_accepts = (c.requires.0, c.fill.ensures, raw_built c.requires.0.ok _ built.result.tops (omega (arith, c.requires.2, built.auto.work)) fits); clear_tree = (c.requires.1, c.requires.3) }
