@@ -8,7 +8,7 @@ root=$(cd "$here/.." && pwd)
 text=${1:-$root/samples/line.txt}
 panel=${2:-calibrate}
 
-said=$(cd "$root" && rt staticlib dewmycel 2>&1) || { echo "$said" >&2; exit 1; }
+"$root/tools/staticlib.sh"
 export DEWMYCEL_LIB=$root/target/staticlib
 room=$(mktemp -d)
 trap 'rm -rf "$room"' EXIT

@@ -3,13 +3,13 @@
 # needed to build for x86-64 and to run it emulated is installed from Debian 12's packages first.
 
 build_with_library() {
-    local profile=$1 sources here root said target=x86_64-unknown-linux-gnu
+    local profile=$1 sources here root target=x86_64-unknown-linux-gnu
     here=$(cd "$(dirname "${BASH_SOURCE[0]}")" && pwd)
     root=$(cd "$here/../.." && pwd)
     sources=$(cd "$2" && pwd)
     AIKEN_SRC=$("$here/build.sh" --where "$sources")
     export AIKEN_SRC
-    said=$(cd "$root" && rt staticlib dewmycel 2>&1) || { echo "$said" >&2; return 1; }
+    "$root/tools/staticlib.sh" || return 1
     export DEWMYCEL_LIB=$root/target/staticlib
     export RUSTFLAGS="${RUSTFLAGS:-} --cap-lints=allow"
     beside=("$here/target/$target/$profile/beside")

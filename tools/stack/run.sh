@@ -3,7 +3,7 @@
 set -eu
 here=$(cd "$(dirname "$0")" && pwd)
 root=$(cd "$here/../.." && pwd)
-said=$(cd "$root" && rt staticlib dewmycel 2>&1) || { echo "$said" >&2; exit 1; }
+"$root/tools/staticlib.sh"
 compiler=cc emulator=""
 if [ "$(uname -m)" != x86_64 ]; then
     "$root/tools/x86-64.sh"

@@ -10,6 +10,11 @@ use app_listing::Listed;
 use base_numbers::panel::PANEL_MOST;
 use base_numbers::sheet::SHEET_MOST;
 use build_call::Built;
+use std::env::{Env, FillError};
+use std::fmt::Display;
+use std::fs;
+use std::io::Read;
+use std::rt::Files;
 
 // Room for a sheet, and for a panel, with one byte more than either may have: a longer input fills it, and its length refuses it.
 pub const SHEET_ROOM: usize = SHEET_MOST + 1;
@@ -19,8 +24,8 @@ pub const PANEL_ROOM: usize = PANEL_MOST + 1;
 // More than any listing takes: 1,024 lines, 1,023 tests of at most 64 bytes, and at most 5,120 paths of at most 11 steps.
 pub const HUGE_ROOM: usize = 2097152;
 
-// How many bytes were read, and whether there was something to read from.
-#[derive(Drop)]
+// How many bytes were read, and whether they could be.
+#[derive(Clone, Copy)]
 pub struct Input {
     pub count: usize,
     pub good: bool,
@@ -45,67 +50,91 @@ pub fn huge_buffer() -> [u8; HUGE_ROOM]
     [0; HUGE_ROOM]
 }
 
-// Whether a read fails: that of a directory does, and that of an input that has ended does not.
-fn fails(fd: i32) -> bool {
-    let mut one = [0u8; 1];
-    libc::read(fd, &mut one) < 0
+// Says on standard error why a file cannot be read. A line that cannot be written is left out.
+fn say_why(rt: &impl Eprint, name: &str, why: impl Display + Drop) {
+    let what = if name.is_empty() {
+        "a file without a name"
+    } else {
+        name
+    };
+    let _ = eprintln!(rt; "{what}: {why}");
 }
 
-// Reads until the buffer is full or the input ends.
-pub fn read_input(fd: i32, buf: &mut [u8]) -> Input
+// Reads until the buffer is full or the input ends. Where a read fails, one line on standard error tells the input's name and why.
+pub fn read_input(rt: &impl Eprint, name: &str, reader: &mut impl Read, buf: &mut [u8]) -> Input
     ensures { IsPrefixLen result.count buf.new }
 {
-    let count = io::read_full(fd, buf);
-    if count != 0 {
-        return Input { count, good: true };
+    let mut count = 0;
+    while count < buf.len() {
+        match reader.read(&mut buf[count..]) {
+            Ok(0) => break,
+            Ok(n) => count += n,
+            Err(error) => {
+                say_why(rt, name, error);
+                return Input { count, good: false };
+            }
+        }
     }
-    let good = !fails(fd);
-    Input { count, good }
+    Input { count, good: true }
 }
 
-// Says on standard error why a file cannot be read.
-fn say_why(path: &[u8]) {
-    if path.len() == 0 {
-        os::fail(b"a file without a name");
-        return;
-    }
-    os::fail(path);
-}
-
-// Reads a file; where it cannot be read, one line on standard error says why.
-pub fn read_file(path: &[u8], buf: &mut [u8]) -> Input
+// Reads a file; where it cannot be read, one line on standard error says why. A name that is not UTF-8 names no file here.
+pub fn read_file<R: Files + Eprint>(rt: &R, path: &[u8], buf: &mut [u8]) -> Input
     ensures { IsPrefixLen result.count buf.new }
 {
-    let fd = os::open_read(path);
-    if fd < 0 {
-        say_why(path);
+    let Ok(name) = str::from_utf8(path) else {
+        say_why(rt, "the name of a file", "it is not UTF-8");
         return Input {
             count: 0,
             good: false,
         };
+    };
+    match fs::open(rt, name) {
+        Ok(mut file) => read_input(rt, name, &mut file, buf),
+        Err(error) => {
+            say_why(rt, name, error);
+            Input {
+                count: 0,
+                good: false,
+            }
+        }
     }
-    let input = read_input(fd, buf);
-    if !input.good {
-        say_why(path);
+}
+
+// Why an argument is no name of a file, in the words that the system has for it.
+fn no_name(error: FillError) -> &'static str {
+    match error {
+        FillError::NotPresent => "Invalid argument",
+        FillError::TooLong => "File name too long",
     }
-    libc::close(fd);
-    input
 }
 
 // Reads the file that argument i names.
-pub fn read_argument(i: usize, buf: &mut [u8]) -> Input
+pub fn read_argument<R: Env + Files + Eprint>(rt: &R, i: usize, buf: &mut [u8]) -> Input
     ensures { IsPrefixLen result.count buf.new }
 {
     let mut path = io::buffer();
-    let n = os::arg(i, &mut path);
-    if os::errno() != 0 {
-        os::fail(b"the name of a file");
-        return Input {
-            count: 0,
-            good: false,
-        };
+    match rt.arg(i, &mut path) {
+        Ok(n) => read_file(rt, &path[..n], buf),
+        Err(error) => {
+            say_why(rt, "the name of a file", no_name(error));
+            Input {
+                count: 0,
+                good: false,
+            }
+        }
     }
-    read_file(&path[..n], buf)
+}
+
+// How many arguments there are; the first is the program's own name.
+pub fn argument_count(rt: &impl Env) -> usize {
+    let mut name = [0u8; 1];
+    for i in 0..usize::MAX {
+        if let Err(FillError::NotPresent) = rt.arg(i, &mut name) {
+            return i;
+        }
+    }
+    usize::MAX
 }
 
 // The listing of a tree file; 0 bytes where it has no room or is no tree.

@@ -1,6 +1,6 @@
 // The calls for C: each answer in one u64. Bits 0 to 15 are the refusal number, 0 for none; of a refusal bits 16 to 31 are its place, and
 // the rest is 0 but of 32, which has two numbers for its place.
-// A slice is a pointer and a length; what a caller in C owes is in include/dewmycel.h.
+// The crate dewmycel_c exports them.
 ghost use Rattle.std.specs.Prelude.{◌≡◌, length};
 ghost use Rattle.spec_rules.specs.Calls.{build_call, fit_call, walk_call, text_call};
 ghost use Rattle.dewmycel.specs.Packed.{packed, packed_fit, packed_text};
@@ -20,8 +20,7 @@ fn pack(a: u16, b: u16, c: u16, d: u16) -> u64
 }
 
 // Built: bits 16 to 31 are the length of the tree file, 32 to 47 its nodes, 48 to 63 its bindings.
-#[unsafe(no_mangle)]
-pub extern "C" fn dewmycel_build(sheet: &[u8], tree: &mut [u8], work: &mut [u8]) -> u64
+pub fn dewmycel_build(sheet: &[u8], tree: &mut [u8], work: &mut [u8]) -> u64
     ensures { BuildFace result tree.new work.new (build_call sheet.now (length tree.old) (length work.old)) }
 {
     match crate::build(sheet, tree, work) {
@@ -35,8 +34,7 @@ pub extern "C" fn dewmycel_build(sheet: &[u8], tree: &mut [u8], work: &mut [u8])
 }
 
 // Fits: all 0.
-#[unsafe(no_mangle)]
-pub extern "C" fn dewmycel_fit(sheet: &[u8], panel: &[u8]) -> u64
+pub fn dewmycel_fit(sheet: &[u8], panel: &[u8]) -> u64
     ensures { result ≡ packed_fit (fit_call sheet.now panel.now) }
 {
     match crate::fit(sheet, panel) {
@@ -47,8 +45,7 @@ pub extern "C" fn dewmycel_fit(sheet: &[u8], panel: &[u8]) -> u64
 
 // At a leaf bit 48 is 1, bits 16 to 31 are the clause, 32 to 47 the number of bindings; No leaf: all 0. Of 32, bits 16 to 31 are
 // the node and 32 to 47 the step.
-#[unsafe(no_mangle)]
-pub extern "C" fn dewmycel_walk(tree: &[u8], panel: &[u8], bound: &mut [u16]) -> u64
+pub fn dewmycel_walk(tree: &[u8], panel: &[u8], bound: &mut [u16]) -> u64
     ensures { WalkFace result bound.new (walk_call tree.now panel.now (length bound.old)) }
 {
     match crate::walk(tree, panel, bound) {
@@ -60,8 +57,7 @@ pub extern "C" fn dewmycel_walk(tree: &[u8], panel: &[u8], bound: &mut [u16]) ->
 }
 
 // Bits 16 to 31 are where the text starts in the panel, 32 to 47 its length.
-#[unsafe(no_mangle)]
-pub extern "C" fn dewmycel_text(panel: &[u8], record: u16, dropped: u16) -> u64
+pub fn dewmycel_text(panel: &[u8], record: u16, dropped: u16) -> u64
     ensures { result ≡ packed_text (text_call panel.now «record» dropped) }
 {
     match crate::text(panel, record, dropped) {

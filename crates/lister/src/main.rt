@@ -2,25 +2,23 @@
 // The work is done by the proved calls below the crate app_io.
 #![tactic(auto)]
 
-use libc::{STDERR_FILENO, STDIN_FILENO, STDOUT_FILENO};
+use std::io;
 
-fn list(sheet: &[u8]) {
+fn list(rt: &(impl Print + Eprint), sheet: &[u8]) -> io::Result<()> {
     let mut out = app_io::huge_buffer();
     let n = app_io::list(sheet, &mut out);
     if n == 0 {
-        io::write_all(STDERR_FILENO, b"lister: the listing has no room\n");
-        return;
+        return eprintln!(rt; "lister: the listing has no room");
     }
-    io::write_all(STDOUT_FILENO, &out[..n]);
+    rt.write_all(&out[..n])
 }
 
-fn main() {
+fn main(rt: HostRuntime) -> io::Result<()> {
     let mut sheet = app_io::sheet_buffer();
-    let input = app_io::read_input(STDIN_FILENO, &mut sheet);
+    let input = app_io::read_input(&rt, "standard input", &mut rt.stdin(), &mut sheet);
     if !input.good {
-        os::fail(b"standard input");
-        return;
+        return Ok(());
     }
     let n = input.count;
-    list(&sheet[..n]);
+    list(&rt, &sheet[..n])
 }

@@ -9,7 +9,8 @@
 ghost use Rattle.std.specs.Prelude.{◌<◌};
 ghost use Rattle.io.specs.Counts.{IsPrefixLen};
 
-use libc::{STDERR_FILENO, STDOUT_FILENO};
+use std::env::Env;
+use std::rt::Files;
 
 // The longest listing that is written whole.
 const SHOWN_MOST: usize = 20000;
@@ -63,60 +64,59 @@ fn first_line(text: &[u8]) -> usize
     i
 }
 
-fn write_short(text: &[u8]) {
+fn write_short(rt: &impl Print, text: &[u8]) -> std::io::Result<()> {
     let n = first_line(text);
-    io::write_all(STDOUT_FILENO, &text[..n]);
-    io::write_all(STDOUT_FILENO, b"\n");
-    io::print_decimal(STDOUT_FILENO, text.len() as u64);
-    io::write_all(STDOUT_FILENO, b" bytes, checksum ");
-    io::print_hex(STDOUT_FILENO, checksum(text) as u64, 8);
-    io::write_all(STDOUT_FILENO, b"\n");
+    rt.write_all(&text[..n])?;
+    let count = text.len();
+    let sum = checksum(text);
+    println!(rt; "\n{count} bytes, checksum {sum:08x}")
 }
 
-fn write(text: &[u8]) {
+fn write(rt: &impl Print, text: &[u8]) -> std::io::Result<()> {
     if SHOWN_MOST < text.len() {
-        write_short(text);
-        return;
+        return write_short(rt, text);
     }
-    io::write_all(STDOUT_FILENO, text);
+    rt.write_all(text)
 }
 
-fn list(sheet: &[u8]) {
+fn list(rt: &impl Print, sheet: &[u8]) -> std::io::Result<()> {
     let mut out = app_io::huge_buffer();
     let n = app_io::list(sheet, &mut out);
-    write(&out[..n]);
+    write(rt, &out[..n])
 }
 
-fn write_name(i: usize) {
+fn write_name(rt: &(impl Env + Print), i: usize) -> std::io::Result<()> {
     let mut name = io::buffer();
-    let n = os::arg(i, &mut name);
-    io::write_all(STDOUT_FILENO, &name[..n]);
-    io::write_all(STDOUT_FILENO, b"\n");
-}
-
-fn list_argument(i: usize) {
-    let mut sheet = app_io::sheet_buffer();
-    let input = app_io::read_argument(i, &mut sheet);
-    if input.good {
-        write_name(i);
-        let n = input.count;
-        list(&sheet[..n]);
+    if let Ok(n) = rt.arg(i, &mut name) {
+        rt.write_all(&name[..n])?;
     }
+    rt.write_all(b"\n")
 }
 
-fn list_arguments(count: usize) {
+fn list_argument<R: Env + Files + Print + Eprint>(rt: &R, i: usize) -> std::io::Result<()> {
+    let mut sheet = app_io::sheet_buffer();
+    let input = app_io::read_argument(rt, i, &mut sheet);
+    if !input.good {
+        return Ok(());
+    }
+    write_name(rt, i)?;
+    let n = input.count;
+    list(rt, &sheet[..n])
+}
+
+fn list_arguments<R: Env + Files + Print + Eprint>(rt: &R, count: usize) -> std::io::Result<()> {
     let mut i: usize = 1;
     while i < count {
-        list_argument(i);
+        list_argument(rt, i)?;
         i += 1;
     }
+    Ok(())
 }
 
-fn main() {
-    let count = os::arg_count();
+fn main(rt: HostRuntime) -> std::io::Result<()> {
+    let count = app_io::argument_count(&rt);
     if count < 2 {
-        io::write_all(STDERR_FILENO, b"usage: listings SHEET ..\n");
-        return;
+        return eprintln!(rt; "usage: listings SHEET ..");
     }
-    list_arguments(count);
+    list_arguments(&rt, count)
 }

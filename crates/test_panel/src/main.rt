@@ -7,144 +7,154 @@ mod make;
 use fit::Fitted;
 use format_panel::{CheckedPanel, Located};
 use make::{chain, end, leaf, part, record, three, wide};
+use std::io;
 use test_make::four;
 
-fn say_refused(number: u16, place: u16) {
-    io::write_all(1, b": refused ");
-    io::print_decimal(1, number as u64);
-    io::write_all(1, b" ");
-    io::print_decimal(1, place as u64);
-    io::write_all(1, b"\n");
+fn say_refused(rt: &impl Print, number: u16, place: u16) -> io::Result<()> {
+    println!(rt; ": refused {number} {place}")
 }
 
-fn say_two(words: &[u8], a: usize, b: usize) {
-    io::write_all(1, words);
-    io::print_decimal(1, a as u64);
-    io::write_all(1, b" ");
-    io::print_decimal(1, b as u64);
+fn say_two(rt: &impl Print, words: &str, a: usize, b: usize) -> io::Result<()> {
+    print!(rt; "{words}{a} {b}")
 }
 
 // The check of a panel.
-fn check(name: &[u8], panel: &[u8]) {
-    io::write_all(1, name);
+fn check(rt: &impl Print, name: &str, panel: &[u8]) -> io::Result<()> {
+    print!(rt; "{name}")?;
     match format_panel::check(panel) {
         CheckedPanel::Accepted(map) => {
-            say_two(b": accepted ", map.records.count, map.parts.count);
-            io::write_all(1, b"\n");
+            say_two(rt, ": accepted ", map.records.count, map.parts.count)?;
+            rt.write_all(b"\n")
         }
-        CheckedPanel::Refused { number, place } => say_refused(number, place),
+        CheckedPanel::Refused { number, place } => say_refused(rt, number, place),
     }
 }
 
 // The check of the first n bytes.
-fn check_first(name: &[u8], b: &[u8], n: usize) {
+fn check_first(rt: &impl Print, name: &str, b: &[u8], n: usize) -> io::Result<()> {
     if n <= b.len() {
-        check(name, &b[..n]);
+        check(rt, name, &b[..n])?;
     }
+    Ok(())
 }
 
 // The text call and its twin.
-fn text(name: &[u8], panel: &[u8], r: u16, dropped: u16) {
-    io::write_all(1, name);
+fn text(rt: &impl Print, name: &str, panel: &[u8], r: u16, dropped: u16) -> io::Result<()> {
+    print!(rt; "{name}")?;
     match format_panel::text(panel, r, dropped) {
         Located::At { start, count } => {
-            say_two(b": at ", start, count);
-            io::write_all(1, b" `");
-            io::write_all(1, format_panel::text_part(panel, r, dropped));
-            io::write_all(1, b"`\n");
+            say_two(rt, ": at ", start, count)?;
+            rt.write_all(b" `")?;
+            rt.write_all(format_panel::text_part(panel, r, dropped))?;
+            rt.write_all(b"`\n")
         }
-        Located::Refused { number, place } => say_refused(number, place),
+        Located::Refused { number, place } => say_refused(rt, number, place),
     }
 }
 
-fn text_first(name: &[u8], b: &[u8], n: usize, r: u16, dropped: u16) {
+fn text_first(
+    rt: &impl Print,
+    name: &str,
+    b: &[u8],
+    n: usize,
+    r: u16,
+    dropped: u16,
+) -> io::Result<()> {
     if n <= b.len() {
-        text(name, &b[..n], r, dropped);
+        text(rt, name, &b[..n], r, dropped)?;
     }
+    Ok(())
 }
 
 // The fit check.
-fn fit(name: &[u8], sheet: &[u8], panel: &[u8]) {
-    io::write_all(1, name);
+fn fit(rt: &impl Print, name: &str, sheet: &[u8], panel: &[u8]) -> io::Result<()> {
+    print!(rt; "{name}")?;
     match fit::fit(sheet, panel) {
-        Fitted::Fits => {
-            io::write_all(1, b": fits\n");
-        }
-        Fitted::Refused { number, place } => say_refused(number, place),
+        Fitted::Fits => println!(rt; ": fits"),
+        Fitted::Refused { number, place } => say_refused(rt, number, place),
     }
 }
 
-fn fit_first(name: &[u8], sheet: &[u8], b: &[u8], n: usize) {
+fn fit_first(rt: &impl Print, name: &str, sheet: &[u8], b: &[u8], n: usize) -> io::Result<()> {
     if n <= b.len() {
-        fit(name, sheet, &b[..n]);
+        fit(rt, name, sheet, &b[..n])?;
     }
+    Ok(())
 }
 
 // ---- 21 and 22
 // One empty byte string, with n bytes of text that nobody has.
-fn with_pool(name: &[u8], pool: u16) {
+fn with_pool(rt: &impl Print, name: &str, pool: u16) -> io::Result<()> {
     let mut b = [0u8; 20000];
     record(&mut b, 0, 1, 0, 0, 0);
     let n = end(&mut b, 1, 0, pool);
-    check_first(name, &b, n);
+    check_first(rt, name, &b, n)
 }
 
 // The same with 8 bytes after the record, and these starts and length in the trailer.
-fn with_trailer(name: &[u8], records_at: usize, parts_at: usize, pool_at: usize, length: usize) {
+fn with_trailer(
+    rt: &impl Print,
+    name: &str,
+    records_at: usize,
+    parts_at: usize,
+    pool_at: usize,
+    length: usize,
+) -> io::Result<()> {
     let mut b = [0u8; 24];
     record(&mut b, 0, 1, 0, 0, 0);
     four(&mut b, 16, records_at, parts_at, pool_at, length);
-    check(name, &b);
+    check(rt, name, &b)
 }
 
-fn lengths() {
+fn lengths(rt: &impl Print) -> io::Result<()> {
     let b = [0u8; 7];
-    check(b"7 bytes", &b);
+    check(rt, "7 bytes", &b)?;
     let mut c = [0u8; 8];
     four(&mut c, 0, 0, 0, 0, 8);
-    check(b"8 bytes, no record", &c);
-    with_pool(b"1 record", 0);
-    with_pool(b"16384 bytes", 16368);
-    with_pool(b"16385 bytes", 16369);
+    check(rt, "8 bytes, no record", &c)?;
+    with_pool(rt, "1 record", 0)?;
+    with_pool(rt, "16384 bytes", 16368)?;
+    with_pool(rt, "16385 bytes", 16369)
 }
 
-fn layouts() {
-    with_trailer(b"a pool of 8 bytes", 0, 8, 8, 24);
-    with_trailer(b"a trailer that tells another length", 0, 8, 8, 25);
-    with_trailer(b"records that start at 8", 8, 16, 16, 24);
-    with_trailer(b"a record that is cut", 0, 12, 16, 24);
+fn layouts(rt: &impl Print) -> io::Result<()> {
+    with_trailer(rt, "a pool of 8 bytes", 0, 8, 8, 24)?;
+    with_trailer(rt, "a trailer that tells another length", 0, 8, 8, 25)?;
+    with_trailer(rt, "records that start at 8", 8, 16, 16, 24)?;
+    with_trailer(rt, "a record that is cut", 0, 12, 16, 24)
 }
 
-fn more_layouts() {
-    with_trailer(b"a part that is cut", 0, 8, 11, 24);
-    with_trailer(b"a pool that starts before the parts", 0, 8, 0, 24);
-    with_trailer(b"a pool that starts past the trailer", 0, 8, 18, 24);
+fn more_layouts(rt: &impl Print) -> io::Result<()> {
+    with_trailer(rt, "a part that is cut", 0, 8, 11, 24)?;
+    with_trailer(rt, "a pool that starts before the parts", 0, 8, 0, 24)?;
+    with_trailer(rt, "a pool that starts past the trailer", 0, 8, 18, 24)
 }
 
-fn with_records(name: &[u8], n: u16) {
+fn with_records(rt: &impl Print, name: &str, n: u16) -> io::Result<()> {
     let mut b = [0u8; 8192];
     let length = wide(&mut b, n);
-    check_first(name, &b, length);
+    check_first(rt, name, &b, length)
 }
 
-fn with_depth(name: &[u8], n: u16) {
+fn with_depth(rt: &impl Print, name: &str, n: u16) -> io::Result<()> {
     let mut b = [0u8; 512];
     let length = chain(&mut b, n);
-    check_first(name, &b, length);
+    check_first(rt, name, &b, length)
 }
 
-fn counts() {
-    with_records(b"2 records", 2);
-    with_records(b"512 records", 512);
-    with_records(b"513 records", 513);
-    with_depth(b"depth 32", 32);
-    with_depth(b"depth 33", 33);
+fn counts(rt: &impl Print) -> io::Result<()> {
+    with_records(rt, "2 records", 2)?;
+    with_records(rt, "512 records", 512)?;
+    with_records(rt, "513 records", 513)?;
+    with_depth(rt, "depth 32", 32)?;
+    with_depth(rt, "depth 33", 33)
 }
 
 // ---- 23
 // A root, a list and an empty byte string: kind word, a, first and count of the root; first and count of the list; the two parts.
 fn shape(
-    name: &[u8],
+    rt: &impl Print,
+    name: &str,
     kind: u16,
     a: u16,
     first: u16,
@@ -153,7 +163,7 @@ fn shape(
     list_count: u16,
     part_0: u16,
     part_1: u16,
-) {
+) -> io::Result<()> {
     let mut b = [0u8; 64];
     record(&mut b, 0, kind, a, first, count);
     record(&mut b, 1, 2, 0, list_first, list_count);
@@ -161,14 +171,15 @@ fn shape(
     part(&mut b, 3, 0, part_0);
     part(&mut b, 3, 1, part_1);
     let n = end(&mut b, 3, 2, 0);
-    check_first(name, &b, n);
+    check_first(rt, name, &b, n)
 }
 
-fn parts() {
-    shape(b"a pair", 3, 0, 0, 2, 0, 0, 1, 2);
-    shape(b"a list in a tuple", 4, 0, 0, 1, 1, 1, 1, 2);
+fn parts(rt: &impl Print) -> io::Result<()> {
+    shape(rt, "a pair", 3, 0, 0, 2, 0, 0, 1, 2)?;
+    shape(rt, "a list in a tuple", 4, 0, 0, 1, 1, 1, 1, 2)?;
     shape(
-        b"a record that is two parts and one that is none",
+        rt,
+        "a record that is two parts and one that is none",
         3,
         0,
         0,
@@ -177,101 +188,103 @@ fn parts() {
         0,
         1,
         1,
-    );
-    shape(b"a part past the records", 3, 0, 0, 2, 0, 0, 1, 3);
-    shape(b"the root as a part", 3, 0, 0, 2, 0, 0, 1, 0);
+    )?;
+    shape(rt, "a part past the records", 3, 0, 0, 2, 0, 0, 1, 3)?;
+    shape(rt, "the root as a part", 3, 0, 0, 2, 0, 0, 1, 0)
 }
 
-fn lists() {
-    shape(b"a part in no list", 4, 0, 0, 1, 0, 0, 1, 2);
-    shape(b"a part in two lists", 4, 0, 0, 2, 1, 1, 1, 2);
-    shape(b"a record in its own list", 4, 0, 0, 1, 1, 1, 1, 1);
-    shape(b"a list past the parts", 2, 0, 1, 2, 0, 0, 1, 2);
-    shape(b"an empty list from 1", 3, 0, 0, 2, 1, 0, 1, 2);
+fn lists(rt: &impl Print) -> io::Result<()> {
+    shape(rt, "a part in no list", 4, 0, 0, 1, 0, 0, 1, 2)?;
+    shape(rt, "a part in two lists", 4, 0, 0, 2, 1, 1, 1, 2)?;
+    shape(rt, "a record in its own list", 4, 0, 0, 1, 1, 1, 1, 1)?;
+    shape(rt, "a list past the parts", 2, 0, 1, 2, 0, 0, 1, 2)?;
+    shape(rt, "an empty list from 1", 3, 0, 0, 2, 1, 0, 1, 2)
 }
 
-fn fields() {
-    shape(b"a pair of one", 3, 0, 0, 1, 1, 1, 1, 2);
-    shape(b"kind 6", 6, 0, 0, 2, 0, 0, 1, 2);
-    shape(b"a zero byte of 1", 259, 0, 0, 2, 0, 0, 1, 2);
-    shape(b"a list with a", 2, 1, 0, 2, 0, 0, 1, 2);
-    shape(b"constructor 1", 5, 1, 0, 2, 0, 0, 1, 2);
+fn fields(rt: &impl Print) -> io::Result<()> {
+    shape(rt, "a pair of one", 3, 0, 0, 1, 1, 1, 1, 2)?;
+    shape(rt, "kind 6", 6, 0, 0, 2, 0, 0, 1, 2)?;
+    shape(rt, "a zero byte of 1", 259, 0, 0, 2, 0, 0, 1, 2)?;
+    shape(rt, "a list with a", 2, 1, 0, 2, 0, 0, 1, 2)?;
+    shape(rt, "constructor 1", 5, 1, 0, 2, 0, 0, 1, 2)
 }
 
 // A root that has no part: kind, first and count.
-fn lone(name: &[u8], kind: u16, first: u16, count: u16) {
+fn lone(rt: &impl Print, name: &str, kind: u16, first: u16, count: u16) -> io::Result<()> {
     let mut b = [0u8; 24];
     record(&mut b, 0, kind, 0, first, count);
     let n = end(&mut b, 1, 0, 4);
-    check_first(name, &b, n);
+    check_first(rt, name, &b, n)
 }
 
-fn roots() {
-    lone(b"an empty list", 2, 0, 0);
-    lone(b"an empty tuple", 4, 0, 0);
-    lone(b"a text of all the pool", 1, 0, 4);
-    lone(b"a text past the pool", 1, 1, 4);
+fn roots(rt: &impl Print) -> io::Result<()> {
+    lone(rt, "an empty list", 2, 0, 0)?;
+    lone(rt, "an empty tuple", 4, 0, 0)?;
+    lone(rt, "a text of all the pool", 1, 0, 4)?;
+    lone(rt, "a text past the pool", 1, 1, 4)
 }
 
 // ---- 24
-fn integer(name: &[u8], digits: &[u8]) {
+fn integer(rt: &impl Print, name: &str, digits: &[u8]) -> io::Result<()> {
     let mut b = [0u8; 256];
     let n = leaf(&mut b, 0, digits);
-    check_first(name, &b, n);
+    check_first(rt, name, &b, n)
 }
 
 // A byte string of n zero bytes.
-fn byte_string(name: &[u8], n: u16) {
+fn byte_string(rt: &impl Print, name: &str, n: u16) -> io::Result<()> {
     let mut b = [0u8; 256];
     record(&mut b, 0, 1, 0, 0, n);
     let length = end(&mut b, 1, 0, n);
-    check_first(name, &b, length);
+    check_first(rt, name, &b, length)
 }
 
-fn integers() {
-    integer(b"`0`", b"0");
-    integer(b"`-0`", b"-0");
-    integer(b"`01`", b"01");
-    integer(b"`-1`", b"-1");
+fn integers(rt: &impl Print) -> io::Result<()> {
+    integer(rt, "`0`", b"0")?;
+    integer(rt, "`-0`", b"-0")?;
+    integer(rt, "`01`", b"01")?;
+    integer(rt, "`-1`", b"-1")
 }
 
-fn more_integers() {
-    integer(b"`-`", b"-");
-    integer(b"`10`", b"10");
-    integer(b"`1a`", b"1a");
-    integer(b"an integer of no text", b"");
+fn more_integers(rt: &impl Print) -> io::Result<()> {
+    integer(rt, "`-`", b"-")?;
+    integer(rt, "`10`", b"10")?;
+    integer(rt, "`1a`", b"1a")?;
+    integer(rt, "an integer of no text", b"")
 }
 
-fn texts() {
+fn texts(rt: &impl Print) -> io::Result<()> {
     integer(
-        b"64 digits",
+        rt,
+        "64 digits",
         b"1234567812345678123456781234567812345678123456781234567812345678",
-    );
+    )?;
     integer(
-        b"65 digits",
+        rt,
+        "65 digits",
         b"12345678123456781234567812345678123456781234567812345678123456781",
-    );
-    byte_string(b"0 bytes of text", 0);
-    byte_string(b"64 bytes of text", 64);
-    byte_string(b"65 bytes of text", 65);
+    )?;
+    byte_string(rt, "0 bytes of text", 0)?;
+    byte_string(rt, "64 bytes of text", 64)?;
+    byte_string(rt, "65 bytes of text", 65)
 }
 
 // ---- the text call, on the list of `-5`, `ab` and the empty byte string
-fn position(name: &[u8], r: u16, dropped: u16) {
+fn position(rt: &impl Print, name: &str, r: u16, dropped: u16) -> io::Result<()> {
     let mut b = [0u8; 64];
     let n = three(&mut b);
-    text_first(name, &b, n, r, dropped);
+    text_first(rt, name, &b, n, r, dropped)
 }
 
-fn positions() {
-    position(b"the list", 0, 0);
-    position(b"the integer", 1, 0);
-    position(b"dropped 1 on an integer", 1, 1);
-    position(b"the byte string", 2, 0);
-    position(b"the empty byte string", 3, 0);
-    position(b"a record past the last", 4, 0);
+fn positions(rt: &impl Print) -> io::Result<()> {
+    position(rt, "the list", 0, 0)?;
+    position(rt, "the integer", 1, 0)?;
+    position(rt, "dropped 1 on an integer", 1, 1)?;
+    position(rt, "the byte string", 2, 0)?;
+    position(rt, "the empty byte string", 3, 0)?;
+    position(rt, "a record past the last", 4, 0)?;
     let b = [0u8; 7];
-    text(b"a text of 7 bytes", &b, 0, 0);
+    text(rt, "a text of 7 bytes", &b, 0, 0)
 }
 
 // ---- 25
@@ -286,7 +299,7 @@ fn sheet(b: &mut [u8]) {
 }
 
 // A root of the kind given, of the integer `7` and a constructor, whose one part is the `7` of the kind given.
-fn fitting(name: &[u8], root: u16, number: u16, field: u16) {
+fn fitting(rt: &impl Print, name: &str, root: u16, number: u16, field: u16) -> io::Result<()> {
     let mut b = [0u8; 64];
     record(&mut b, 0, root, 0, 0, 2);
     record(&mut b, 1, 0, 0, 0, 1);
@@ -296,44 +309,45 @@ fn fitting(name: &[u8], root: u16, number: u16, field: u16) {
     let n = end(&mut b, 4, 3, 1);
     let mut s = [0u8; 60];
     sheet(&mut s);
-    fit_first(name, &s, &b, n);
+    fit_first(rt, name, &s, &b, n)
 }
 
-fn fits() {
+fn fits(rt: &impl Print) -> io::Result<()> {
     fitting(
-        b"a tuple of an integer and constructor 1 of an integer",
+        rt,
+        "a tuple of an integer and constructor 1 of an integer",
         4,
         1,
         0,
-    );
-    fitting(b"a list where a tuple is wanted", 2, 1, 0);
-    fitting(b"a pair where a tuple is wanted", 3, 1, 0);
-    fitting(b"a constructor number one past its type", 4, 2, 0);
-    fitting(b"constructor 0 with a part", 4, 0, 0);
-    fitting(b"a byte string where an integer is wanted", 4, 1, 1);
+    )?;
+    fitting(rt, "a list where a tuple is wanted", 2, 1, 0)?;
+    fitting(rt, "a pair where a tuple is wanted", 3, 1, 0)?;
+    fitting(rt, "a constructor number one past its type", 4, 2, 0)?;
+    fitting(rt, "constructor 0 with a part", 4, 0, 0)?;
+    fitting(rt, "a byte string where an integer is wanted", 4, 1, 1)
 }
 
-fn refusals() {
+fn refusals(rt: &impl Print) -> io::Result<()> {
     let b = [0u8; 17];
-    fit(b"a sheet of 17 bytes", &b, &b);
+    fit(rt, "a sheet of 17 bytes", &b, &b)?;
     let mut s = [0u8; 60];
     sheet(&mut s);
-    fit(b"a panel of 17 bytes that tells none", &s, &b);
+    fit(rt, "a panel of 17 bytes that tells none", &s, &b)
 }
 
-fn main() {
-    lengths();
-    layouts();
-    more_layouts();
-    counts();
-    parts();
-    lists();
-    fields();
-    roots();
-    integers();
-    more_integers();
-    texts();
-    positions();
-    fits();
-    refusals();
+fn main(rt: HostRuntime) -> io::Result<()> {
+    lengths(&rt)?;
+    layouts(&rt)?;
+    more_layouts(&rt)?;
+    counts(&rt)?;
+    parts(&rt)?;
+    lists(&rt)?;
+    fields(&rt)?;
+    roots(&rt)?;
+    integers(&rt)?;
+    more_integers(&rt)?;
+    texts(&rt)?;
+    positions(&rt)?;
+    fits(&rt)?;
+    refusals(&rt)
 }

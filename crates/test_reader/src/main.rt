@@ -2,6 +2,7 @@
 #![tactic(auto)]
 
 use format_sheet_reader::{Clause, clause_pattern};
+use std::io;
 use test_make::{end, four, of, word};
 
 // One type, Int, the subject's; pattern 0 is the variable of name 7, pattern 1 a discard; clause 0 has root 1, clause 1 has root 0.
@@ -11,34 +12,24 @@ fn sheet(b: &mut [u8]) {
     end(b, of(1, 0, 0, 2, 0, 2, 0), 0);
 }
 
-fn show(name: &[u8], sheet: &[u8], c: u16) {
-    io::write_all(1, name);
+fn show(rt: &impl Print, name: &str, sheet: &[u8], c: u16) -> io::Result<()> {
     match clause_pattern(sheet, c) {
         Clause::At(r) => {
-            io::write_all(1, b": kind ");
-            io::print_decimal(1, r.kind as u64);
-            io::write_all(1, b" a ");
-            io::print_decimal(1, r.a as u64);
+            let kind = r.kind;
+            let a = r.a;
+            println!(rt; "{name}: kind {kind} a {a}")
         }
-        Clause::NoClause => {
-            io::write_all(1, b": no clause");
-        }
-        Clause::Refused { number, place } => {
-            io::write_all(1, b": refused ");
-            io::print_decimal(1, number as u64);
-            io::write_all(1, b" ");
-            io::print_decimal(1, place as u64);
-        }
+        Clause::NoClause => println!(rt; "{name}: no clause"),
+        Clause::Refused { number, place } => println!(rt; "{name}: refused {number} {place}"),
     }
-    io::write_all(1, b"\n");
 }
 
-fn main() {
+fn main(rt: HostRuntime) -> io::Result<()> {
     let mut s = [0u8; 44];
     sheet(&mut s);
-    show(b"clause 0", &s, 0);
-    show(b"clause 1", &s, 1);
-    show(b"clause 2", &s, 2);
+    show(&rt, "clause 0", &s, 0)?;
+    show(&rt, "clause 1", &s, 1)?;
+    show(&rt, "clause 2", &s, 2)?;
     let b = [0u8; 17];
-    show(b"17 bytes", &b, 0);
+    show(&rt, "17 bytes", &b, 0)
 }

@@ -6,79 +6,73 @@ mod make;
 
 use format_sheet::CheckedSheet;
 use make::{clauses, list_of, nested};
+use std::io;
 use test_make::{Sizes, bytes, end, four, of, three, word};
 
 // ---- a case
-fn check(name: &[u8], sheet: &[u8]) {
-    io::write_all(1, name);
+fn check(rt: &impl Print, name: &str, sheet: &[u8]) -> io::Result<()> {
     match format_sheet::check(sheet) {
         CheckedSheet::Accepted(map) => {
-            io::write_all(1, b": accepted ");
-            io::print_decimal(1, map.patterns.count as u64);
-            io::write_all(1, b" ");
-            io::print_decimal(1, map.clauses.count as u64);
+            let patterns = map.patterns.count;
+            let clauses = map.clauses.count;
+            println!(rt; "{name}: accepted {patterns} {clauses}")
         }
-        CheckedSheet::Refused { number, place } => {
-            io::write_all(1, b": refused ");
-            io::print_decimal(1, number as u64);
-            io::write_all(1, b" ");
-            io::print_decimal(1, place as u64);
-        }
+        CheckedSheet::Refused { number, place } => println!(rt; "{name}: refused {number} {place}"),
     }
-    io::write_all(1, b"\n");
 }
 
 // The first n bytes.
-fn check_first(name: &[u8], b: &[u8], n: usize) {
+fn check_first(rt: &impl Print, name: &str, b: &[u8], n: usize) -> io::Result<()> {
     if n <= b.len() {
-        check(name, &b[..n]);
+        check(rt, name, &b[..n])?;
     }
+    Ok(())
 }
 
 // ---- 2 to 5: sheets of zeros, which are types Int, constructors of no field, type entries of type 0, discards, and roots 0
-fn sized(name: &[u8], n: Sizes) {
+fn sized(rt: &impl Print, name: &str, n: Sizes) -> io::Result<()> {
     let mut b = [0u8; 9000];
     let length = end(&mut b, n, 0);
-    check_first(name, &b, length);
+    check_first(rt, name, &b, length)
 }
 
-fn lengths() {
+fn lengths(rt: &impl Print) -> io::Result<()> {
     let b = [0u8; 17];
-    check(b"17 bytes", &b);
-    sized(b"18 bytes", of(0, 0, 0, 0, 0, 0, 0));
-    sized(b"one clause", of(1, 0, 0, 1, 0, 1, 0));
-    sized(b"8192 bytes", of(1, 0, 0, 1, 0, 1, 8158));
-    sized(b"8193 bytes", of(1, 0, 0, 1, 0, 1, 8159));
+    check(rt, "17 bytes", &b)?;
+    sized(rt, "18 bytes", of(0, 0, 0, 0, 0, 0, 0))?;
+    sized(rt, "one clause", of(1, 0, 0, 1, 0, 1, 0))?;
+    sized(rt, "8192 bytes", of(1, 0, 0, 1, 0, 1, 8158))?;
+    sized(rt, "8193 bytes", of(1, 0, 0, 1, 0, 1, 8159))
 }
 
-fn counts() {
-    sized(b"64 types", of(64, 0, 0, 1, 0, 1, 0));
-    sized(b"65 types", of(65, 0, 0, 1, 0, 1, 0));
-    sized(b"128 constructors", of(1, 128, 0, 1, 0, 1, 0));
-    sized(b"129 constructors", of(1, 129, 0, 1, 0, 1, 0));
-    sized(b"256 type entries", of(1, 0, 256, 1, 0, 1, 0));
-    sized(b"257 type entries", of(1, 0, 257, 1, 0, 1, 0));
+fn counts(rt: &impl Print) -> io::Result<()> {
+    sized(rt, "64 types", of(64, 0, 0, 1, 0, 1, 0))?;
+    sized(rt, "65 types", of(65, 0, 0, 1, 0, 1, 0))?;
+    sized(rt, "128 constructors", of(1, 128, 0, 1, 0, 1, 0))?;
+    sized(rt, "129 constructors", of(1, 129, 0, 1, 0, 1, 0))?;
+    sized(rt, "256 type entries", of(1, 0, 256, 1, 0, 1, 0))?;
+    sized(rt, "257 type entries", of(1, 0, 257, 1, 0, 1, 0))
 }
 
-fn listed(name: &[u8], n: u16) {
+fn listed(rt: &impl Print, name: &str, n: u16) -> io::Result<()> {
     let mut b = [0u8; 9000];
     let length = list_of(&mut b, n);
-    check_first(name, &b, length);
+    check_first(rt, name, &b, length)
 }
 
-fn with_clauses(name: &[u8], n: u16) {
+fn with_clauses(rt: &impl Print, name: &str, n: u16) -> io::Result<()> {
     let mut b = [0u8; 9000];
     let length = clauses(&mut b, n);
-    check_first(name, &b, length);
+    check_first(rt, name, &b, length)
 }
 
-fn more_counts() {
-    listed(b"192 patterns, 191 children", 191);
-    listed(b"193 patterns, 192 children", 192);
-    sized(b"192 children, all pattern 0", of(1, 0, 0, 1, 192, 1, 0));
-    sized(b"193 children, all pattern 0", of(1, 0, 0, 1, 193, 1, 0));
-    with_clauses(b"32 clauses", 32);
-    with_clauses(b"33 clauses", 33);
+fn more_counts(rt: &impl Print) -> io::Result<()> {
+    listed(rt, "192 patterns, 191 children", 191)?;
+    listed(rt, "193 patterns, 192 children", 192)?;
+    sized(rt, "192 children, all pattern 0", of(1, 0, 0, 1, 192, 1, 0))?;
+    sized(rt, "193 children, all pattern 0", of(1, 0, 0, 1, 193, 1, 0))?;
+    with_clauses(rt, "32 clauses", 32)?;
+    with_clauses(rt, "33 clauses", 33)
 }
 
 // ---- 3, 4, 6, 8, 10, 11: a sheet with one of everything, and what a word of it changes.
@@ -140,102 +134,107 @@ fn one_of_everything(b: &mut [u8]) -> usize {
 }
 
 // The sheet with the word x at byte i.
-fn with(name: &[u8], i: usize, x: usize) {
+fn with(rt: &impl Print, name: &str, i: usize, x: usize) -> io::Result<()> {
     let mut b = [0u8; 256];
     let length = one_of_everything(&mut b);
     word(&mut b, i, x);
-    check_first(name, &b, length);
+    check_first(rt, name, &b, length)
 }
 
 // The same with two words changed.
-fn with_two(name: &[u8], i: usize, x: usize, j: usize, y: usize) {
+fn with_two(rt: &impl Print, name: &str, i: usize, x: usize, j: usize, y: usize) -> io::Result<()> {
     let mut b = [0u8; 256];
     let length = one_of_everything(&mut b);
     word(&mut b, i, x);
     word(&mut b, j, y);
-    check_first(name, &b, length);
+    check_first(rt, name, &b, length)
 }
 
-fn layouts() {
-    with(b"one of everything", 0, 0);
-    with(b"another length in the trailer", 205, 206);
-    with(b"types that start at 6", 189, 6);
-    with(b"a constructor that is cut", 193, 46);
-    with(b"children that start before the patterns", 197, 54);
-    with(b"a pool that starts past the trailer", 201, 190);
-    with(b"no clause", 201, 180);
+fn layouts(rt: &impl Print) -> io::Result<()> {
+    with(rt, "one of everything", 0, 0)?;
+    with(rt, "another length in the trailer", 205, 206)?;
+    with(rt, "types that start at 6", 189, 6)?;
+    with(rt, "a constructor that is cut", 193, 46)?;
+    with(rt, "children that start before the patterns", 197, 54)?;
+    with(rt, "a pool that starts past the trailer", 201, 190)?;
+    with(rt, "no clause", 201, 180)
 }
 
-fn kinds_of_types() {
-    with(b"a type of kind 6", 0, 6);
-    with(b"Int with a first", 2, 1);
-    with(b"Int with a count", 4, 1);
-    with(b"Bytes with a count", 10, 1);
-    with(b"a list type of two entries", 16, 2);
-    with(b"a list type past the type list", 14, 6);
-    with(b"a pair type of one entry", 22, 1);
+fn kinds_of_types(rt: &impl Print) -> io::Result<()> {
+    with(rt, "a type of kind 6", 0, 6)?;
+    with(rt, "Int with a first", 2, 1)?;
+    with(rt, "Int with a count", 4, 1)?;
+    with(rt, "Bytes with a count", 10, 1)?;
+    with(rt, "a list type of two entries", 16, 2)?;
+    with(rt, "a list type past the type list", 14, 6)?;
+    with(rt, "a pair type of one entry", 22, 1)
 }
 
-fn more_types() {
-    with(b"a pair type of three entries", 22, 3);
-    with(b"a tuple type of one entry", 28, 1);
-    with(b"a tuple type of four entries, one past the list", 28, 4);
-    with(b"Data with no constructor", 34, 0);
-    with(b"Data with three constructors, one past the section", 34, 3);
-    with(b"an opaque Int", 0, 256);
-    with(b"Data with flag 3", 30, 773);
-    with(b"Data with flag 4", 30, 1029);
+fn more_types(rt: &impl Print) -> io::Result<()> {
+    with(rt, "a pair type of three entries", 22, 3)?;
+    with(rt, "a tuple type of one entry", 28, 1)?;
+    with(rt, "a tuple type of four entries, one past the list", 28, 4)?;
+    with(rt, "Data with no constructor", 34, 0)?;
+    with(
+        rt,
+        "Data with three constructors, one past the section",
+        34,
+        3,
+    )?;
+    with(rt, "an opaque Int", 0, 256)?;
+    with(rt, "Data with flag 3", 30, 773)?;
+    with(rt, "Data with flag 4", 30, 1029)
 }
 
-fn constructors_and_entries() {
-    with(b"a constructor of no field with a first", 36, 1);
-    with(b"a constructor past the type list", 42, 2);
-    with(b"a type entry of type 5", 44, 5);
-    with(b"a type entry of type 6", 44, 6);
-    with(b"the subject 5", 203, 5);
-    with(b"the subject 6", 203, 6);
+fn constructors_and_entries(rt: &impl Print) -> io::Result<()> {
+    with(rt, "a constructor of no field with a first", 36, 1)?;
+    with(rt, "a constructor past the type list", 42, 2)?;
+    with(rt, "a type entry of type 5", 44, 5)?;
+    with(rt, "a type entry of type 6", 44, 6)?;
+    with(rt, "the subject 5", 203, 5)?;
+    with(rt, "the subject 6", 203, 6)
 }
 
-fn zero_bytes_and_kinds() {
-    with(b"a zero byte that is 1", 120, 256);
-    with(b"a pattern of kind 10", 120, 10);
-    with(b"a discard with an a", 122, 1);
-    with(b"a discard with a first", 124, 1);
-    with(b"a variable with a first", 92, 1);
-    with(b"an integer with an a", 82, 1);
-    with(b"an integer past the pool", 84, 3);
-    with(b"a byte string past the pool", 118, 3);
+fn zero_bytes_and_kinds(rt: &impl Print) -> io::Result<()> {
+    with(rt, "a zero byte that is 1", 120, 256)?;
+    with(rt, "a pattern of kind 10", 120, 10)?;
+    with(rt, "a discard with an a", 122, 1)?;
+    with(rt, "a discard with a first", 124, 1)?;
+    with(rt, "a variable with a first", 92, 1)?;
+    with(rt, "an integer with an a", 82, 1)?;
+    with(rt, "an integer past the pool", 84, 3)?;
+    with(rt, "a byte string past the pool", 118, 3)
 }
 
-fn runs() {
-    with(b"a list with an a", 138, 1);
-    with(b"an empty list with a first", 140, 1);
-    with(b"a tuple with an a", 130, 1);
-    with(b"a pair with an a", 98, 1);
-    with(b"an entry in no list", 134, 1);
-    with_two(b"an entry in two lists", 140, 9, 142, 1);
-    with(b"children past the child list", 134, 3);
-    with_two(b"a tail that is an integer", 164, 4, 166, 3);
+fn runs(rt: &impl Print) -> io::Result<()> {
+    with(rt, "a list with an a", 138, 1)?;
+    with(rt, "an empty list with a first", 140, 1)?;
+    with(rt, "a tuple with an a", 130, 1)?;
+    with(rt, "a pair with an a", 98, 1)?;
+    with(rt, "an entry in no list", 134, 1)?;
+    with_two(rt, "an entry in two lists", 140, 9, 142, 1)?;
+    with(rt, "children past the child list", 134, 3)?;
+    with_two(rt, "a tail that is an integer", 164, 4, 166, 3)
 }
 
-fn children_and_roots() {
-    with(b"a child that is no pattern", 178, 13);
-    with(b"a root that is no pattern", 184, 13);
-    with(b"a root twice", 184, 9);
-    with(b"a root that is a child", 184, 11);
-    with(b"a child twice", 178, 10);
-    with(b"a child that is a root", 178, 12);
+fn children_and_roots(rt: &impl Print) -> io::Result<()> {
+    with(rt, "a child that is no pattern", 178, 13)?;
+    with(rt, "a root that is no pattern", 184, 13)?;
+    with(rt, "a root twice", 184, 9)?;
+    with(rt, "a root that is a child", 184, 11)?;
+    with(rt, "a child twice", 178, 10)?;
+    with(rt, "a child that is a root", 178, 12)
 }
 
 // One pattern of a kind, with n of three discards inside, of type Int: what keeps the shape does not fit.
-fn parent(name: &[u8], kind: usize, n: u16) {
+fn parent(rt: &impl Print, name: &str, kind: usize, n: u16) -> io::Result<()> {
     let mut b = [0u8; 256];
     let count = n as usize;
     four(&mut b, 6, kind, 0, 0, count);
     three(&mut b, 14 + 8 * count, 1, 2, 3);
     word(&mut b, 14 + 10 * count, 0);
     let length = family(&mut b, n);
-    check_first(name, &b, length);
+    check_first(rt, name, &b, length)
 }
 
 fn family(b: &mut [u8], n: u16) -> usize {
@@ -246,68 +245,74 @@ fn family(b: &mut [u8], n: u16) -> usize {
     }
 }
 
-fn parents() {
-    parent(b"an assign of none", 2, 0);
-    parent(b"an assign of one", 2, 1);
-    parent(b"an assign of two", 2, 2);
-    parent(b"a list with tail of one", 6, 1);
-    parent(b"a list with tail of two", 6, 2);
-    parent(b"a pair of one", 8, 1);
-    parent(b"a pair of two", 8, 2);
-    parent(b"a pair of three", 8, 3);
-    parent(b"a tuple of none", 9, 0);
+fn parents(rt: &impl Print) -> io::Result<()> {
+    parent(rt, "an assign of none", 2, 0)?;
+    parent(rt, "an assign of one", 2, 1)?;
+    parent(rt, "an assign of two", 2, 2)?;
+    parent(rt, "a list with tail of one", 6, 1)?;
+    parent(rt, "a list with tail of two", 6, 2)?;
+    parent(rt, "a pair of one", 8, 1)?;
+    parent(rt, "a pair of two", 8, 2)?;
+    parent(rt, "a pair of three", 8, 3)?;
+    parent(rt, "a tuple of none", 9, 0)
 }
 
 // A child below its parent: pattern 1, a list of pattern 0.
-fn child_below() {
+fn child_below(rt: &impl Print) -> io::Result<()> {
     let mut b = [0u8; 64];
     four(&mut b, 14, 5, 0, 0, 1);
     word(&mut b, 22, 0);
     word(&mut b, 24, 1);
     let length = end(&mut b, of(1, 0, 0, 2, 1, 1, 0), 0);
-    check_first(b"a child below its parent", &b, length);
+    check_first(rt, "a child below its parent", &b, length)
 }
 
-fn with_depth(name: &[u8], n: u16) {
+fn with_depth(rt: &impl Print, name: &str, n: u16) -> io::Result<()> {
     let mut b = [0u8; 512];
     let length = nested(&mut b, n);
-    check_first(name, &b, length);
+    check_first(rt, name, &b, length)
 }
 
-fn depths() {
-    child_below();
-    with_depth(b"depth 12", 12);
-    with_depth(b"depth 13", 13);
+fn depths(rt: &impl Print) -> io::Result<()> {
+    child_below(rt)?;
+    with_depth(rt, "depth 12", 12)?;
+    with_depth(rt, "depth 13", 13)
 }
 
 // ---- 7
 // Type 0 is Int; types 1 and 2 are Data with so many constructors, each of so many fields. The flag stands in the kind's high byte.
-fn data(name: &[u8], kind: usize, constructors: usize, fields: usize) {
+fn data(
+    rt: &impl Print,
+    name: &str,
+    kind: usize,
+    constructors: usize,
+    fields: usize,
+) -> io::Result<()> {
     let mut b = [0u8; 128];
     three(&mut b, 6, kind, 0, constructors);
     three(&mut b, 12, kind, 0, constructors);
     four(&mut b, 18, 0, fields, 0, fields);
     let length = end(&mut b, of(3, 2, 2, 1, 0, 1, 0), 1);
-    check_first(name, &b, length);
+    check_first(rt, name, &b, length)
 }
 
-fn transparents() {
-    data(b"opaque, one constructor, one field", 261, 1, 1);
-    data(b"not opaque", 5, 1, 1);
-    data(b"opaque and list-decorated", 773, 1, 1);
-    data(b"opaque, two constructors", 261, 2, 1);
-    data(b"opaque, two fields", 261, 1, 2);
+fn transparents(rt: &impl Print) -> io::Result<()> {
+    data(rt, "opaque, one constructor, one field", 261, 1, 1)?;
+    data(rt, "not opaque", 5, 1, 1)?;
+    data(rt, "opaque and list-decorated", 773, 1, 1)?;
+    data(rt, "opaque, two constructors", 261, 2, 1)?;
+    data(rt, "opaque, two fields", 261, 1, 2)
 }
 
 // ---- 9
 // A pattern of kind 3 or 4 with this text, of type Int or Bytes: types 0 and 1.
-fn text(name: &[u8], kind: usize, subject: usize, text: &[u8]) {
+fn text(rt: &impl Print, name: &str, kind: usize, subject: usize, text: &[u8]) -> io::Result<()> {
     let mut b = [0u8; 256];
     three(&mut b, 6, 1, 0, 0);
     four(&mut b, 12, kind, 0, 0, text.len());
     bytes(&mut b, 22, text);
     let length = with_pool(&mut b, text.len(), subject);
-    check_first(name, &b, length);
+    check_first(rt, name, &b, length)
 }
 
 fn with_pool(b: &mut [u8], pool: usize, subject: usize) -> usize {
@@ -318,111 +323,118 @@ fn with_pool(b: &mut [u8], pool: usize, subject: usize) -> usize {
     }
 }
 
-fn integers() {
-    text(b"0", 3, 0, b"0");
-    text(b"-0", 3, 0, b"-0");
-    text(b"01", 3, 0, b"01");
-    text(b"-", 3, 0, b"-");
-    text(b"an integer of no text", 3, 0, b"");
-    text(b"-10", 3, 0, b"-10");
-    text(b"--1", 3, 0, b"--1");
-    text(b"1a", 3, 0, b"1a");
+fn integers(rt: &impl Print) -> io::Result<()> {
+    text(rt, "0", 3, 0, b"0")?;
+    text(rt, "-0", 3, 0, b"-0")?;
+    text(rt, "01", 3, 0, b"01")?;
+    text(rt, "-", 3, 0, b"-")?;
+    text(rt, "an integer of no text", 3, 0, b"")?;
+    text(rt, "-10", 3, 0, b"-10")?;
+    text(rt, "--1", 3, 0, b"--1")?;
+    text(rt, "1a", 3, 0, b"1a")
 }
 
-fn long_texts() {
+fn long_texts(rt: &impl Print) -> io::Result<()> {
     text(
-        b"64 digits",
+        rt,
+        "64 digits",
         3,
         0,
         b"1234567890123456789012345678901234567890123456789012345678901234",
-    );
+    )?;
     text(
-        b"65 digits",
+        rt,
+        "65 digits",
         3,
         0,
         b"12345678901234567890123456789012345678901234567890123456789012345",
-    );
+    )?;
     text(
-        b"64 bytes",
+        rt,
+        "64 bytes",
         4,
         1,
         b"1234567890123456789012345678901234567890123456789012345678901234",
-    );
+    )?;
     text(
-        b"65 bytes",
+        rt,
+        "65 bytes",
         4,
         1,
         b"12345678901234567890123456789012345678901234567890123456789012345",
-    );
-    text(b"a byte string of no text", 4, 1, b"");
+    )?;
+    text(rt, "a byte string of no text", 4, 1, b"")
 }
 
 // ---- 10 and 11
-fn misfits() {
-    with(b"a tuple for a list", 203, 2);
-    with(b"a constructor that the type has not", 74, 2);
-    with(b"a constructor with too many arguments", 74, 0);
-    with(b"a tuple for a pair", 96, 9);
-    with(b"a byte string for an integer", 80, 4);
-    with(b"a tuple of none in clause 1", 136, 9);
+fn misfits(rt: &impl Print) -> io::Result<()> {
+    with(rt, "a tuple for a list", 203, 2)?;
+    with(rt, "a constructor that the type has not", 74, 2)?;
+    with(rt, "a constructor with too many arguments", 74, 0)?;
+    with(rt, "a tuple for a pair", 96, 9)?;
+    with(rt, "a byte string for an integer", 80, 4)?;
+    with(rt, "a tuple of none in clause 1", 136, 9)
 }
 
-fn names() {
-    with(b"a name twice in clause 0", 106, 7);
-    with(b"a name of clause 0 in clause 1", 146, 8);
-    with_two(b"a name twice in clause 1", 136, 1, 138, 7);
+fn names(rt: &impl Print) -> io::Result<()> {
+    with(rt, "a name twice in clause 0", 106, 7)?;
+    with(rt, "a name of clause 0 in clause 1", 146, 8)?;
+    with_two(rt, "a name twice in clause 1", 136, 1, 138, 7)
 }
 
 // ---- two faults at once: the earlier number, the lower place
-fn two_faults() {
-    with_two(b"a cut constructor, another length", 193, 46, 205, 206);
-    with_two(b"a pattern of kind 10, a type of kind 6", 120, 10, 0, 6);
+fn two_faults(rt: &impl Print) -> io::Result<()> {
+    with_two(rt, "a cut constructor, another length", 193, 46, 205, 206)?;
+    with_two(rt, "a pattern of kind 10, a type of kind 6", 120, 10, 0, 6)?;
     with_two(
-        b"text 1a, a constructor that the type has not",
+        rt,
+        "text 1a, a constructor that the type has not",
         86,
         2,
         74,
         2,
-    );
+    )?;
     with_two(
-        b"clause 1 does not fit, a name twice in clause 0",
+        rt,
+        "clause 1 does not fit, a name twice in clause 0",
         136,
         9,
         106,
         7,
-    );
+    )
 }
 
-fn lower_places() {
-    with(b"the integer ab in pattern 7", 112, 3);
+fn lower_places(rt: &impl Print) -> io::Result<()> {
+    with(rt, "the integer ab in pattern 7", 112, 3)?;
     with_two(
-        b"the integer ab in pattern 7, 1a in pattern 3",
+        rt,
+        "the integer ab in pattern 7, 1a in pattern 3",
         112,
         3,
         86,
         2,
-    );
-    with_two(b"clauses 1 and 0 do not fit", 136, 9, 74, 2);
+    )?;
+    with_two(rt, "clauses 1 and 0 do not fit", 136, 9, 74, 2)
 }
 
-fn main() {
-    lengths();
-    counts();
-    more_counts();
-    layouts();
-    kinds_of_types();
-    more_types();
-    constructors_and_entries();
-    zero_bytes_and_kinds();
-    runs();
-    children_and_roots();
-    parents();
-    depths();
-    transparents();
-    integers();
-    long_texts();
-    misfits();
-    names();
-    two_faults();
-    lower_places();
+fn main(rt: HostRuntime) -> io::Result<()> {
+    lengths(&rt)?;
+    counts(&rt)?;
+    more_counts(&rt)?;
+    layouts(&rt)?;
+    kinds_of_types(&rt)?;
+    more_types(&rt)?;
+    constructors_and_entries(&rt)?;
+    zero_bytes_and_kinds(&rt)?;
+    runs(&rt)?;
+    children_and_roots(&rt)?;
+    parents(&rt)?;
+    depths(&rt)?;
+    transparents(&rt)?;
+    integers(&rt)?;
+    long_texts(&rt)?;
+    misfits(&rt)?;
+    names(&rt)?;
+    two_faults(&rt)?;
+    lower_places(&rt)
 }

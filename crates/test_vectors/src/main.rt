@@ -5,13 +5,12 @@
 ghost use Rattle.std.specs.Prelude.{◌≡◌, ◌+◌, ◌≤◌, length};
 
 use base_words::{same_text, word_at};
-use libc::{STDERR_FILENO, STDOUT_FILENO};
 
 // The longest file that is replayed.
 const FILE_MOST: usize = 1048576;
 
 // Where a vector's sheet starts, where its listing does, and where it ends.
-#[derive(Drop)]
+#[derive(Clone, Copy)]
 struct Vector {
     start: usize,
     split: usize,
@@ -20,7 +19,7 @@ struct Vector {
 
 // How many vectors there were, how many of them differ, which differed first, counted from 1, and whether the file ends with the
 // last of them.
-#[derive(Drop)]
+#[derive(Clone, Copy)]
 struct Tally {
     vectors: usize,
     differ: usize,
@@ -118,42 +117,40 @@ fn replay(all: &[u8]) -> Tally
     t
 }
 
-fn say_number(words: &[u8], n: usize) {
-    io::write_all(STDOUT_FILENO, words);
-    io::print_decimal(STDOUT_FILENO, n as u64);
+fn say_number(rt: &impl Print, words: &str, n: usize) -> std::io::Result<()> {
+    print!(rt; "{words}{n}")
 }
 
 // One line.
-fn say(t: Tally) {
-    say_number(b"", t.vectors);
-    say_number(b" vectors, ", t.differ);
-    io::write_all(STDOUT_FILENO, b" differ");
+fn say(rt: &impl Print, t: Tally) -> std::io::Result<()> {
+    say_number(rt, "", t.vectors)?;
+    say_number(rt, " vectors, ", t.differ)?;
+    print!(rt; " differ")?;
     if t.differ != 0 {
-        say_number(b", the first is number ", t.first);
+        say_number(rt, ", the first is number ", t.first)?;
     }
     if !t.whole {
-        io::write_all(STDOUT_FILENO, b", and the file is cut");
+        print!(rt; ", and the file is cut")?;
     }
-    io::write_all(STDOUT_FILENO, b"\n");
+    rt.write_all(b"\n")
 }
 
-fn replay_file(all: &[u8]) {
+fn replay_file(rt: &(impl Print + Eprint), all: &[u8]) -> std::io::Result<()> {
     if FILE_MOST < all.len() {
-        io::write_all(STDERR_FILENO, b"vectors: the file is too long\n");
-        return;
+        return eprintln!(rt; "vectors: the file is too long");
     }
-    say(replay(all));
+    say(rt, replay(all))
 }
 
-fn main() {
-    if os::arg_count() != 2 {
-        io::write_all(STDERR_FILENO, b"usage: vectors FILE\n");
-        return;
+fn main(rt: HostRuntime) -> std::io::Result<()> {
+    if app_io::argument_count(&rt) != 2 {
+        return eprintln!(rt; "usage: vectors FILE");
     }
     let mut file = app_io::huge_buffer();
-    let input = app_io::read_argument(1, &mut file);
-    if input.good {
-        let n = input.count;
-        replay_file(&file[..n]);
+    let input = app_io::read_argument(&rt, 1, &mut file);
+    if !input.good {
+        return Ok(());
     }
+    let n = input.count;
+    replay_file(&rt, &file[..n])
 }

@@ -6,8 +6,11 @@
 mod rows;
 mod say;
 
+ghost use Rattle.std.specs.Io.{ReadsAtMost};
+
 use rows::{copies, line_end, number, put_bytes};
 use say::walked;
+use std::io::Read;
 use test_make::bytes;
 
 // The bytes of a row stand behind its letter and its first number.
@@ -15,21 +18,33 @@ const BYTES_AT: usize = 6;
 
 // A walk by this row, with a buffer of 576 words, or of one fewer or one more. It is filled beforehand, so that a word that is left
 // as it was shows.
-fn walk_row(kind: u8, line: &[u8], tree: &[u8], panel: &[u8]) {
+fn walk_row(
+    rt: &impl Print,
+    kind: u8,
+    line: &[u8],
+    tree: &[u8],
+    panel: &[u8],
+) -> std::io::Result<()> {
     let mut fewer = [7u16; 575];
     let mut least = [7u16; 576];
     let mut more = [7u16; 577];
     match kind {
-        b'-' => walked(line, tree, panel, &mut fewer),
-        b'+' => walked(line, tree, panel, &mut more),
-        _ => walked(line, tree, panel, &mut least),
+        b'-' => walked(rt, line, tree, panel, &mut fewer),
+        b'+' => walked(rt, line, tree, panel, &mut more),
+        _ => walked(rt, line, tree, panel, &mut least),
     }
 }
 
 // What a row says is done: to the tree and the one that is tried, to the panel, or a walk, after which the tree is tried as it was.
-fn do_row(line: &[u8], tree: &mut [u8], tried: &mut [u8], panel: &mut [u8]) {
+fn do_row(
+    rt: &impl Print,
+    line: &[u8],
+    tree: &mut [u8],
+    tried: &mut [u8],
+    panel: &mut [u8],
+) -> std::io::Result<()> {
     if line.len() < BYTES_AT {
-        return;
+        return Ok(());
     }
     let at = number(line, 1);
     let kind = line[0];
@@ -46,26 +61,49 @@ fn do_row(line: &[u8], tree: &mut [u8], tried: &mut [u8], panel: &mut [u8]) {
         b'p' => put_bytes(line, BYTES_AT, panel, at),
         b';' => {}
         _ => {
-            walk_row(kind, line, tried, panel);
+            walk_row(rt, kind, line, tried, panel)?;
             bytes(tried, 0, tree);
         }
     }
+    Ok(())
 }
 
-fn do_rows(all: &[u8], tree: &mut [u8], tried: &mut [u8], panel: &mut [u8]) {
+fn do_rows(
+    rt: &impl Print,
+    all: &[u8],
+    tree: &mut [u8],
+    tried: &mut [u8],
+    panel: &mut [u8],
+) -> std::io::Result<()> {
     let mut at: usize = 0;
     while at < all.len() {
         let end = line_end(all, at);
-        do_row(&all[at..end], tree, tried, panel);
+        do_row(rt, &all[at..end], tree, tried, panel)?;
         at = end + 1;
     }
+    Ok(())
 }
 
-fn main() {
+// Reads until the buffer is full or the input ends.
+fn read_full(reader: &mut impl Read, buf: &mut [u8]) -> std::io::Result<usize>
+    ensures { ReadsAtMost result buf.new }
+{
+    let mut done = 0;
+    while done < buf.len() {
+        let n = reader.read(&mut buf[done..])?;
+        if n == 0 {
+            break;
+        }
+        done += n;
+    }
+    Ok(done)
+}
+
+fn main(rt: HostRuntime) -> std::io::Result<()> {
     let mut all = io::large_buffer();
-    let n = io::read_full(0, &mut all);
+    let n = read_full(&mut rt.stdin(), &mut all)?;
     let mut tree = io::large_buffer();
     let mut tried = io::large_buffer();
     let mut panel = io::large_buffer();
-    do_rows(&all[..n], &mut tree, &mut tried, &mut panel);
+    do_rows(&rt, &all[..n], &mut tree, &mut tried, &mut panel)
 }

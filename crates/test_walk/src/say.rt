@@ -1,42 +1,44 @@
 // What the walk answers, written as a line. The buffer is filled beforehand; a word after the bindings that is not zero is said.
 use crate::rows::number;
 use base_numbers::refusals;
+use std::io;
 use walk::Walked;
 
-fn say_number(x: u16) {
-    io::print_decimal(1, x as u64);
+fn say_number(rt: &impl Print, x: u16) -> io::Result<()> {
+    print!(rt; "{x}")
 }
 
 // The numbers of a binding, from word k on.
-fn say_binding(bound: &[u16], k: usize) {
+fn say_binding(rt: &impl Print, bound: &[u16], k: usize) -> io::Result<()> {
     if bound.len() < 3 {
-        return;
+        return Ok(());
     }
     if bound.len() - 3 < k {
-        return;
+        return Ok(());
     }
-    io::write_all(1, b" (");
-    say_number(bound[k]);
-    io::write_all(1, b", ");
-    say_number(bound[k + 1]);
-    io::write_all(1, b", ");
-    say_number(bound[k + 2]);
-    io::write_all(1, b")");
+    rt.write_all(b" (")?;
+    say_number(rt, bound[k])?;
+    rt.write_all(b", ")?;
+    say_number(rt, bound[k + 1])?;
+    rt.write_all(b", ")?;
+    say_number(rt, bound[k + 2])?;
+    rt.write_all(b")")
 }
 
 // The first and the last of so many bindings, and those between where they are few.
-fn say_bindings(bound: &[u16], count: u16) {
+fn say_bindings(rt: &impl Print, bound: &[u16], count: u16) -> io::Result<()> {
     let mut k: u16 = 0;
     while k < count {
         if k < 3 {
-            say_binding(bound, 3 * k as usize);
+            say_binding(rt, bound, 3 * k as usize)?;
         }
         k += 1;
     }
     if 3 < count {
-        io::write_all(1, b" ..");
-        say_binding(bound, 3 * (count - 1) as usize);
+        rt.write_all(b" ..")?;
+        say_binding(rt, bound, 3 * (count - 1) as usize)?;
     }
+    Ok(())
 }
 
 // Whether every word from k on is zero.
@@ -51,44 +53,44 @@ fn clear_from(bound: &[u16], from: usize) -> bool {
     true
 }
 
-fn say_rest(bound: &[u16], from: usize) {
+fn say_rest(rt: &impl Print, bound: &[u16], from: usize) -> io::Result<()> {
     if !clear_from(bound, from) {
-        io::write_all(1, b", and a word that is not zero");
+        rt.write_all(b", and a word that is not zero")?;
     }
-    io::write_all(1, b"\n");
+    rt.write_all(b"\n")
 }
 
-fn say(name: &[u8], answer: Walked, bound: &[u16]) {
-    io::write_all(1, name);
+fn say(rt: &impl Print, name: &[u8], answer: Walked, bound: &[u16]) -> io::Result<()> {
+    rt.write_all(name)?;
     match answer {
         Walked::Leaf { clause, count } => {
-            io::write_all(1, b": leaf ");
-            say_number(clause);
-            say_bindings(bound, count);
-            say_rest(bound, 3 * count as usize);
+            rt.write_all(b": leaf ")?;
+            say_number(rt, clause)?;
+            say_bindings(rt, bound, count)?;
+            say_rest(rt, bound, 3 * count as usize)
         }
         Walked::NoLeaf => {
-            io::write_all(1, b": no leaf");
-            say_rest(bound, 0);
+            rt.write_all(b": no leaf")?;
+            say_rest(rt, bound, 0)
         }
         Walked::Stuck { node, step } => {
-            io::write_all(1, b": refused ");
-            say_number(refusals::STUCK);
-            io::write_all(1, b" ");
-            say_number(node);
-            io::write_all(1, b" ");
-            say_number(step);
-            say_rest(bound, 0);
+            rt.write_all(b": refused ")?;
+            say_number(rt, refusals::STUCK)?;
+            rt.write_all(b" ")?;
+            say_number(rt, node)?;
+            rt.write_all(b" ")?;
+            say_number(rt, step)?;
+            say_rest(rt, bound, 0)
         }
         Walked::Refused {
             number: refusal,
             place,
         } => {
-            io::write_all(1, b": refused ");
-            say_number(refusal);
-            io::write_all(1, b" ");
-            say_number(place);
-            say_rest(bound, 0);
+            rt.write_all(b": refused ")?;
+            say_number(rt, refusal)?;
+            rt.write_all(b" ")?;
+            say_number(rt, place)?;
+            say_rest(rt, bound, 0)
         }
     }
 }
@@ -96,18 +98,24 @@ fn say(name: &[u8], answer: Walked, bound: &[u16]) {
 // The name of a walk stands behind its letter and two numbers: how many bytes of the tree there are, and how many of the panel.
 const NAME_AT: usize = 11;
 
-pub fn walked(line: &[u8], t: &[u8], v: &[u8], bound: &mut [u16]) {
+pub fn walked(
+    rt: &impl Print,
+    line: &[u8],
+    t: &[u8],
+    v: &[u8],
+    bound: &mut [u16],
+) -> io::Result<()> {
     let tree = number(line, 1);
     let panel = number(line, 6);
     if t.len() < tree {
-        return;
+        return Ok(());
     }
     if v.len() < panel {
-        return;
+        return Ok(());
     }
     if line.len() < NAME_AT {
-        return;
+        return Ok(());
     }
     let answer = walk::walk(&t[..tree], &v[..panel], bound);
-    say(&line[NAME_AT..], answer, bound);
+    say(rt, &line[NAME_AT..], answer, bound)
 }

@@ -2,38 +2,39 @@
 // bound to, or `refused NUMBER PLACE`. The work is done by the proved calls of the crate app_report.
 #![tactic(auto)]
 
-use libc::{STDERR_FILENO, STDOUT_FILENO};
+use std::env::Env;
+use std::rt::Files;
 
 // The buffer has room for every text (`every_text_has_room` of the crate app_report).
-fn walk_panel(sheet: &[u8], panel: &[u8]) {
+fn walk_panel(rt: &(impl Print + Eprint), sheet: &[u8], panel: &[u8]) -> std::io::Result<()> {
     let mut out = io::large_buffer();
     let n = app_report::tell(sheet, panel, &mut out);
     if n == 0 {
-        io::write_all(STDERR_FILENO, b"walker: the text has no room\n");
-        return;
+        return eprintln!(rt; "walker: the text has no room");
     }
-    io::write_all(STDOUT_FILENO, &out[..n]);
+    rt.write_all(&out[..n])
 }
 
 // The panel is read once the sheet was.
-fn walk_sheet(sheet: &[u8]) {
+fn walk_sheet<R: Env + Files + Print + Eprint>(rt: &R, sheet: &[u8]) -> std::io::Result<()> {
     let mut panel = app_io::panel_buffer();
-    let input = app_io::read_argument(2, &mut panel);
-    if input.good {
-        let n = input.count;
-        walk_panel(sheet, &panel[..n]);
+    let input = app_io::read_argument(rt, 2, &mut panel);
+    if !input.good {
+        return Ok(());
     }
+    let n = input.count;
+    walk_panel(rt, sheet, &panel[..n])
 }
 
-fn main() {
-    if os::arg_count() != 3 {
-        io::write_all(STDERR_FILENO, b"usage: walker SHEET PANEL\n");
-        return;
+fn main(rt: HostRuntime) -> std::io::Result<()> {
+    if app_io::argument_count(&rt) != 3 {
+        return eprintln!(rt; "usage: walker SHEET PANEL");
     }
     let mut sheet = app_io::sheet_buffer();
-    let input = app_io::read_argument(1, &mut sheet);
-    if input.good {
-        let n = input.count;
-        walk_sheet(&sheet[..n]);
+    let input = app_io::read_argument(&rt, 1, &mut sheet);
+    if !input.good {
+        return Ok(());
     }
+    let n = input.count;
+    walk_sheet(&rt, &sheet[..n])
 }

@@ -1,7 +1,7 @@
 //! The proved library beside the reference: each call on the same bytes, with buffers full of
 //! other bytes before it, and its answer and every byte after it compared.
 //!
-//! The library is the archive that `rt staticlib dewmycel` writes, for x86-64 (library.sh).
+//! The library is the archive that `tools/staticlib.sh` writes, for x86-64 (library.sh).
 
 use crate::plain;
 use crate::reference::panel::Position;

@@ -1,0 +1,24 @@
+-- The file that the build wrote is walked, and its refusal is told.
+use Rattle.app_listing.specs.WritingLaws.{writes_as}
+use Rattle.app_report.specs.AnswersLaws.{built_tree, built_refused}
+use Rattle.app_report.proofs.put_built.Goals as goal
+
+pub put_walked-requires : goal.put_walked-requires
+put_walked-requires c =
+    let t =
+    built_tree c.args.sheet.now c.args.panel.now _ _ c.build.result _ _ c.build.ensures c.large_buffer-tree.ensures c.large_buffer-work.ensures
+    c.requires c.in-Tree.length c.in-Tree.nodes c.in-Tree.bindings c.in-Tree.is in
+    (t.tree_fits_holds, t.panel_fits_holds)
+
+pub returns-in-Tree : goal.returns-in-Tree
+returns-in-Tree c =
+    let t =
+    built_tree c.args.sheet.now c.args.panel.now _ _ c.build.result _ _ c.build.ensures c.large_buffer-tree.ensures c.large_buffer-work.ensures
+    c.requires c.in-Tree.length c.in-Tree.nodes c.in-Tree.bindings c.in-Tree.is in
+    writes_as c.put_walked.ensures t.text
+
+pub returns-in-Refused : goal.returns-in-Refused
+returns-in-Refused c =
+    writes_as c.put_refused.ensures
+    (built_refused c.args.sheet.now c.args.panel.now _ _ c.build.result _ _ c.build.ensures c.large_buffer-tree.ensures c.large_buffer-work.ensures
+    c.requires c.in-Refused.number c.in-Refused.place c.in-Refused.is)
