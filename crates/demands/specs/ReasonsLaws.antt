@@ -44,24 +44,24 @@ module _ (s : List ℕ) (n m number place : ℕ) where
       tree : tree_room ≤ n → work_room ≤ m → verdict s ≡ accepted → (w : Verdict) → tree_verdict (clauses s) (sheet_tree s) ≡ w → unless w end ≡ refuses number place
           → BuildRefuses s n m number place
       tree a b h accepted g d = absurd (no_refusal (built_of (sheet_tree_file s) (sheet_tree s)) number place d)
-      tree a b h (refused k p) g d = BuildRefuses.for-tree a b h (g ∙ same_refusal k p number place d)
+      tree a b h (refused k p) g d = BuildRefuses.for_tree a b h (g ∙ same_refusal k p number place d)
 
       sheet : tree_room ≤ n → work_room ≤ m → (w : Verdict) → verdict s ≡ w → unless w (unless (tree_verdict (clauses s) (sheet_tree s)) end) ≡ refuses number place
           → BuildRefuses s n m number place
       sheet a b accepted h d = tree a b h (tree_verdict (clauses s) (sheet_tree s)) refl d
-      sheet a b (refused k p) h d = BuildRefuses.for-sheet a b (h ∙ same_refusal k p number place d)
+      sheet a b (refused k p) h d = BuildRefuses.for_sheet a b (h ∙ same_refusal k p number place d)
 
       room : (a : Bool) → leb tree_room n ≡ a → (b : Bool) → leb work_room m ≡ b
           → unless (require (both a b) 1 accepted) (unless (verdict s) (unless (tree_verdict (clauses s) (sheet_tree s)) end)) ≡ refuses number place
           → BuildRefuses s n m number place
-      room false x b y d = BuildRefuses.for-room (inl (leb-false tree_room n x)) (sym (same_number 1 0 number place d)) (sym (same_place 1 0 number place d))
-      room true x false y d = BuildRefuses.for-room (inr (leb-false work_room m y)) (sym (same_number 1 0 number place d)) (sym (same_place 1 0 number place d))
+      room false x b y d = BuildRefuses.for_room (inl (leb-false tree_room n x)) (sym (same_number 1 0 number place d)) (sym (same_place 1 0 number place d))
+      room true x false y d = BuildRefuses.for_room (inr (leb-false work_room m y)) (sym (same_number 1 0 number place d)) (sym (same_place 1 0 number place d))
       room true x true y d = sheet (leb-true tree_room n x) (leb-true work_room m y) (verdict s) refl d
 
   pub reason_build : BuildRefuses s n m number place → build_answer s n m ≡ refuses number place
-  reason_build (BuildRefuses.for-room o a b) = build_room_lem s n m o ∙ rw (a, b)
-  reason_build (BuildRefuses.for-sheet a b h) = build_sheet s n m a b number place h
-  reason_build (BuildRefuses.for-tree a b h g) = build_tree s n m a b h number place g
+  reason_build (BuildRefuses.for_room o a b) = build_room_lem s n m o ∙ rw (a, b)
+  reason_build (BuildRefuses.for_sheet a b h) = build_sheet s n m a b number place h
+  reason_build (BuildRefuses.for_tree a b h g) = build_tree s n m a b h number place g
 
 -- ---- the fit check
 module _ (s v : List ℕ) (number place : ℕ) where
@@ -71,20 +71,20 @@ module _ (s v : List ℕ) (number place : ℕ) where
     where
       type : verdict s ≡ accepted → panel_verdict v ≡ accepted → (b : Bool) → panel_fits s v ≡ b → require b 25 accepted ≡ refused number place → FitRefuses s v number place
       type h g true x d = let z : ◌≡◌ {A = ℕ} 0 1 = cc in absurd (omega arith)
-      type h g false x d = let a : 25 ≡ number = cc in let b : 0 ≡ place = cc in FitRefuses.for-type h g x (sym a) (sym b)
+      type h g false x d = let a : 25 ≡ number = cc in let b : 0 ≡ place = cc in FitRefuses.for_type h g x (sym a) (sym b)
 
       panel : verdict s ≡ accepted → (w : Verdict) → panel_verdict v ≡ w → and_then w (require (panel_fits s v) 25 accepted) ≡ refused number place → FitRefuses s v number place
       panel h accepted g d = type h g (panel_fits s v) refl d
-      panel h (refused k p) g d = FitRefuses.for-panel h (g ∙ d)
+      panel h (refused k p) g d = FitRefuses.for_panel h (g ∙ d)
 
       sheet : (w : Verdict) → verdict s ≡ w → and_then w (and_then (panel_verdict v) (require (panel_fits s v) 25 accepted)) ≡ refused number place → FitRefuses s v number place
       sheet accepted h d = panel h (panel_verdict v) refl d
-      sheet (refused k p) h d = FitRefuses.for-sheet (h ∙ d)
+      sheet (refused k p) h d = FitRefuses.for_sheet (h ∙ d)
 
   pub reason_fit : FitRefuses s v number place → fit_call s v ≡ refused number place
-  reason_fit (FitRefuses.for-sheet h) = fit_sheet s v number place h
-  reason_fit (FitRefuses.for-panel h g) = fit_panel s v h number place g
-  reason_fit (FitRefuses.for-type h g x a b) = fit_type s v h g x ∙ rw (a, b)
+  reason_fit (FitRefuses.for_sheet h) = fit_sheet s v number place h
+  reason_fit (FitRefuses.for_panel h g) = fit_panel s v h number place g
+  reason_fit (FitRefuses.for_type h g x a b) = fit_type s v h g x ∙ rw (a, b)
 
 -- ---- the walk
 module _ (t v : List ℕ) (n number place : ℕ) where
@@ -97,21 +97,21 @@ module _ (t v : List ℕ) (n number place : ℕ) where
 
       panel : bound_room ≤ n → tree_fits t ≡ true → (w : Verdict) → panel_verdict v ≡ w → unless w end ≡ refuses number place → WalkRefuses t v n number place
       panel a b accepted h d = absurd (no_refusal _ number place d)
-      panel a b (refused k p) h d = WalkRefuses.for-panel a b (h ∙ same_refusal k p number place d)
+      panel a b (refused k p) h d = WalkRefuses.for_panel a b (h ∙ same_refusal k p number place d)
 
       tree : bound_room ≤ n → (b : Bool) → tree_fits t ≡ b → unless (require b 31 accepted) (unless (panel_verdict v) end) ≡ refuses number place → WalkRefuses t v n number place
       tree a true x d = panel a x (panel_verdict v) refl d
-      tree a false x d = WalkRefuses.for-tree a x (sym (same_number 31 0 number place d)) (sym (same_place 31 0 number place d))
+      tree a false x d = WalkRefuses.for_tree a x (sym (same_number 31 0 number place d)) (sym (same_place 31 0 number place d))
 
       room : (b : Bool) → leb bound_room n ≡ b → unless (require b 1 accepted) (unless (require (tree_fits t) 31 accepted) (unless (panel_verdict v) end)) ≡ refuses number place
           → WalkRefuses t v n number place
       room true x d = tree (leb-true bound_room n x) (tree_fits t) refl d
-      room false x d = WalkRefuses.for-room (leb-false bound_room n x) (sym (same_number 1 0 number place d)) (sym (same_place 1 0 number place d))
+      room false x d = WalkRefuses.for_room (leb-false bound_room n x) (sym (same_number 1 0 number place d)) (sym (same_place 1 0 number place d))
 
   pub reason_walk : WalkRefuses t v n number place → walk_answer t v n ≡ refuses number place
-  reason_walk (WalkRefuses.for-room l a b) = walk_room_lem t v n l ∙ rw (a, b)
-  reason_walk (WalkRefuses.for-tree l x a b) = walk_tree t v n l x ∙ rw (a, b)
-  reason_walk (WalkRefuses.for-panel l x h) = walk_panel t v n l x number place h
+  reason_walk (WalkRefuses.for_room l a b) = walk_room_lem t v n l ∙ rw (a, b)
+  reason_walk (WalkRefuses.for_tree l x a b) = walk_tree t v n l x ∙ rw (a, b)
+  reason_walk (WalkRefuses.for_panel l x h) = walk_panel t v n l x number place h
 
 -- ---- the walk that is stuck
 module _ (t v : List ℕ) (n node step : ℕ) where
@@ -162,13 +162,13 @@ module _ (v : List ℕ) (at dropped number place : ℕ) where
       text : (x : Span) → panel_verdict v ≡ accepted → (b : Bool) → has_text v at dropped ≡ b → unless (require b 33 accepted) (answers x) ≡ refuses number place
           → TextRefuses v at dropped number place
       text x h true g d = absurd (no_refusal x number place d)
-      text x h false g d = TextRefuses.for-text h g (sym (same_number 33 0 number place d)) (sym (same_place 33 0 number place d))
+      text x h false g d = TextRefuses.for_text h g (sym (same_number 33 0 number place d)) (sym (same_place 33 0 number place d))
 
       panel : (x : Span) (w : Verdict) → panel_verdict v ≡ w → unless w (unless (require (has_text v at dropped) 33 accepted) (answers x)) ≡ refuses number place
           → TextRefuses v at dropped number place
       panel x accepted h d = text x h (has_text v at dropped) refl d
-      panel x (refused k p) h d = TextRefuses.for-panel (h ∙ same_refusal k p number place d)
+      panel x (refused k p) h d = TextRefuses.for_panel (h ∙ same_refusal k p number place d)
 
   pub reason_text : TextRefuses v at dropped number place → text_call v at dropped ≡ refuses number place
-  reason_text (TextRefuses.for-panel h) = text_panel v at dropped number place h
-  reason_text (TextRefuses.for-text h g a b) = text_none v at dropped h g ∙ rw (a, b)
+  reason_text (TextRefuses.for_panel h) = text_panel v at dropped number place h
+  reason_text (TextRefuses.for_text h g a b) = text_none v at dropped h g ∙ rw (a, b)

@@ -1,0 +1,5 @@
+use Rattle.app_listing.specs.WritingLaws.{writes_then}
+use Rattle.app_listing.proofs.lines.put_hoist.Goals as goal
+
+pub returns : goal.returns
+returns c = writes_then c.put_numbered-clause_end.ensures (writes_then c.put_numbered-child_end.ensures c.put_bindings.ensures)
