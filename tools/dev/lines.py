@@ -56,9 +56,10 @@ def main(args):
     total, tests = [0, 0, 0, 0], 0
     print('| crate | code | definitions | laws | proofs | seconds |\n|---|---|---|---|---|---|')
     for line in (ROOT / 'crates.txt').read_text(encoding='utf-8').split('\n'):
-        if not re.match(r'\w+:', line):
+        named = re.match(r'(\w+)( staticlib)?:', line)
+        if not named:
             continue
-        name = line.split(':')[0]
+        name = named.group(1)
         found = crate_lines(ROOT / 'crates' / name)
         total = [a + b for a, b in zip(total, found)]
         tests += found[0] if name.startswith('test_') else 0
