@@ -14,7 +14,8 @@ use Rattle.spec_rules.specs.TreeReader.{tree_fits}
 use Rattle.spec_rules.specs.Calls.{Answer, answers, refuses, Built as BuiltTree, BuildCall, build_answer, build_call, sheet_tree_file}
 use Rattle.spec_rules.specs.Listing.{listing, refused_line, printed, sheet_listing}
 use Rattle.spec_theorems.specs.CallsLaws.{build_answers_only}
-use Rattle.spec_theorems.specs.Theorems.{the_file_fits, the_buffer_has_the_file}
+use Rattle.spec_theorems.specs.Theorems.{the_buffer_has_the_file}
+use Rattle.spec_theorems.proofs.Theorems.{the_file_fits}
 use Rattle.app_listing.specs.declared.Listed.{Listed}
 use Rattle.app_listing.specs.Answers.{End, written, full, answer_of, text_in, end_in, ListingCall, call_of, listing_call, LineCall, line_of, refused_line_call}
 use Rattle.build_call.specs.declared.Built.{Built}

@@ -15,7 +15,8 @@ use Rattle.spec_rules.specs.Calls.{answers, refuses, Built as BuiltTree, BuildCa
 use Rattle.spec_rules.specs.Listing.{refused_line}
 use Rattle.spec_theorems.specs.Said.{WalkEnds, at_a_leaf, without_a_leaf, with_32}
 use Rattle.spec_theorems.specs.CallsLaws.{build_answers_only, fit_accepts_only}
-use Rattle.spec_theorems.specs.Theorems.{the_file_fits, the_buffer_has_the_file, few_are_bound, the_walk_ends}
+use Rattle.spec_theorems.specs.Theorems.{the_buffer_has_the_file, few_are_bound, the_walk_ends}
+use Rattle.spec_theorems.proofs.Theorems.{the_file_fits}
 use Rattle.fit.specs.declared.Fitted.{Fitted}
 use Rattle.walk.specs.declared.Walked.{Walked}
 use Rattle.walk.specs.Answers.{answer_of}

@@ -8,7 +8,7 @@ use Rattle.spec_rules.specs.Walking.{walk}
 use Rattle.spec_rules.specs.Calls.{sheet_tree_file}
 use Rattle.spec_theorems.specs.Said.{Builds, Fits, FirstMatch, NoMatch}
 use Rattle.spec_theorems.specs.CallsLaws.{build_answers, fit_accepts}
-use Rattle.spec_theorems.specs.Theorems.{the_walk_ends_at_the_first_match, the_walk_ends_without_leaf}
+use Rattle.spec_theorems.proofs.Theorems.{the_walk_ends_at_the_first_match, the_walk_ends_without_leaf}
 use Rattle.app_report.specs.Telling.{no_leaf_line, leaf_line, binding_lines, walked_text, built_text, telling}
 
 module _ (s v : List ℕ) (b : Builds s) (f : Fits s v) where

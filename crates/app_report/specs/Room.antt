@@ -20,7 +20,8 @@ use Rattle.spec_rules.specs.WalkPlaces.{last_node, stuck_step}
 use Rattle.spec_rules.specs.Listing.{decimal_to, decimal, hex, refused_line}
 use Rattle.spec_accepted.specs.PanelFacts.{accepted_panel}
 use Rattle.spec_theorems.specs.CallsLaws.{build_answers_only, fit_accepts_only, text_none, text_answers}
-use Rattle.spec_theorems.specs.Theorems.{the_file_fits, few_are_bound}
+use Rattle.spec_theorems.specs.Theorems.{few_are_bound}
+use Rattle.spec_theorems.proofs.Theorems.{the_file_fits}
 use Rattle.app_listing.specs.RecordsLaws.{refused_line_is}
 use Rattle.app_report.specs.Telling.{list_word, kind_text, record_text, place_text, binding_line, binding_lines, leaf_line, stuck_line, walked_text, where_fits, where_built, built_text, telling}
 use Rattle.app_report.specs.LinesLaws.{binding_is, leaf_is}

@@ -18,7 +18,7 @@ use Rattle.spec_file.specs.PathsLaws.{Covers, is_among_first, is_among_rest, is_
 use Rattle.spec_hoist.specs.Trees.{unhoisted, unhoisted_of}
 use Rattle.spec_theorems.specs.Stands.{part_path, part_type, Stands, Used}
 use Rattle.spec_theorems.specs.SheetLeaves.{whole_unhoisted}
-use Rattle.spec_theorems.specs.BuiltTree.{sheet_used}
+use Rattle.spec_theorems.proofs.BuiltTree.{sheet_used}
 use Rattle.build_table.specs.Standing.{Standing, path_of, type_of, kind_of, is_tail, step_to, type_to, follows, child_standing, paths_from, sheet_paths}
 use Rattle.build_table.specs.StandingLaws.{standing_child, root_path, root_type}
 use Rattle.build_call.specs.VerdictLaws.{raw_tree}

@@ -30,7 +30,7 @@ use Rattle.spec_hoist.specs.BindingsLaws.{first_bindings_idle}
 use Rattle.spec_hoist.specs.WholeTreeLaws.{whole_tree_leaves, whole_tree_made, whole_tree_present, cases_in_less}
 use Rattle.spec_theorems.specs.Said.{Builds, OfClause}
 use Rattle.spec_theorems.specs.SheetLeaves.{each_leaf, sheet_leaves, length_sheet_patterns}
-use Rattle.spec_theorems.specs.SheetFileLaws.{sheet_file_small}
+use Rattle.spec_theorems.proofs.SheetFileLaws.{sheet_file_small}
 use Rattle.build_arena.specs.Arena.{arena_end, Held}
 use Rattle.build_arena.specs.NumberedLaws.{nodes_held, leaf_node_lem}
 use Rattle.build_table.specs.Standing.{path_of, sheet_paths, paths_from}

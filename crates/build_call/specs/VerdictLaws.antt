@@ -16,7 +16,8 @@ use Rattle.spec_rules.specs.SheetRefusals.{accepted, refused}
 use Rattle.spec_rules.specs.Building.{Tree, plain_tree}
 use Rattle.spec_rules.specs.Hoisting.{has_leaf, first_bindings, nodes_in, bindings_in}
 use Rattle.spec_rules.specs.Calls.{sheet_patterns, sheet_tree, lowest_idle, tree_verdict}
-use Rattle.spec_hoist.specs.WholeTreeLaws.{whole_tree_nodes, whole_tree_bindings, whole_tree_has_leaf}
+use Rattle.spec_hoist.specs.WholeTreeLaws.{whole_tree_has_leaf}
+use Rattle.spec_hoist.proofs.WholeTreeLaws.{whole_tree_nodes, whole_tree_bindings}
 use Rattle.spec_theorems.specs.SheetLeaves.{length_sheet_patterns}
 
 module _ (s : List ℕ) where

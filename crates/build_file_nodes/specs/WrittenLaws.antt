@@ -27,7 +27,7 @@ use Rattle.spec_file.specs.LengthLaws.{length_nodes_from, length_cases_from}
 use Rattle.spec_file.specs.PathsLaws.{Covers, covers_first, covers_rest, covers_left, covers_right}
 use Rattle.spec_file.specs.BoundLaws.{table_used}
 use Rattle.spec_hoist.specs.Descent.{wrap_by, is_scope}
-use Rattle.spec_hoist.specs.OnceLaws.{nodes_in_hoist_all}
+use Rattle.spec_hoist.proofs.OnceLaws.{nodes_in_hoist_all}
 use Rattle.build_arena.specs.Arena.{cases_most, bindings_start, arena_end, node_kind, node_word, binding_path}
 use Rattle.build_arena.specs.RecordsLaws.{node_held, first_binding}
 use Rattle.build_arena.specs.Numbered.{subtrees, subtrees_of, subtree_at, is_switch, cases_under, default_under, Each, HeldAt, LeafNode}

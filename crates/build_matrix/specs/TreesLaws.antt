@@ -17,7 +17,8 @@ use Rattle.spec_rules.specs.Patterns.{Pat, clause_pattern}
 use Rattle.spec_rules.specs.Rows.{Path, Row, clause_row, opened_columns}
 use Rattle.spec_rules.specs.Columns.{test_at, choice, without}
 use Rattle.spec_rules.specs.Splitting.{Test, open_row, column, without_test, is_met, cases_of, covers, default_rows, case_rows}
-use Rattle.spec_rules.specs.SplittingLaws.{All, any_covers, case_covered}
+use Rattle.spec_rules.specs.SplittingLaws.{All, any_covers}
+use Rattle.spec_rules.proofs.SplittingLaws.{case_covered}
 use Rattle.spec_rules.specs.Building.{Tree, absent, leaf_of, has_list, plain_tree}
 use Rattle.spec_rules.specs.Hoisting.{nodes_in}
 use Rattle.spec_rules.specs.Calls.{sheet_patterns}

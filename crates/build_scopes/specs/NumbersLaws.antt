@@ -15,9 +15,9 @@ use Rattle.spec_rules.specs.Building.{Tree, Cases, absent, leaf, hoist, switch, 
 use Rattle.spec_rules.specs.Hoisting.{Place, is_at, first_bindings, hoist_all, nodes_in, nodes_in_of, has_leaf, has_leaf_of}
 use Rattle.spec_hoist.specs.Trees.{Plain, PlainOf}
 use Rattle.spec_hoist.specs.Scopes.{has_scope, last_leaf, is_clause, scope_in}
-use Rattle.spec_hoist.specs.IdleLaws.{has_scope_scope_in}
+use Rattle.spec_hoist.proofs.IdleLaws.{has_scope_scope_in}
 use Rattle.spec_hoist.specs.Descent.{cases_with, children_with, is_scope, here, further, wrap_by, hoist_by, hoist_by_of}
-use Rattle.spec_hoist.specs.DescentLaws.{is_scope_scope_in, hoist_all_by}
+use Rattle.spec_hoist.proofs.DescentLaws.{is_scope_scope_in, hoist_all_by}
 use Rattle.build_arena.specs.Numbered.{joined, is_switch, cases_under, default_under}
 use Rattle.build_arena.specs.NumberedLaws.{nodes_in_switch, nodes_in_of_joined}
 use Rattle.build_scopes.specs.Numbers.{descent, descent_of, scope_number, scope_node, hoist_by_number, hoist_by_number_of}

@@ -12,7 +12,7 @@ use Rattle.spec_rules.specs.Building.{Tree, Cases, absent, leaf, hoist, switch, 
 use Rattle.spec_rules.specs.Hoisting.{first_bindings, hoist_all, nodes_in, nodes_in_of, bindings_in, has_leaf}
 use Rattle.spec_hoist.specs.Trees.{Plain, PlainOf, is_present, WellMade, WellMadeOf}
 use Rattle.spec_hoist.specs.Descent.{wrap_by}
-use Rattle.spec_hoist.specs.DescentLaws.{nodes_in_wrap_by}
+use Rattle.spec_hoist.proofs.DescentLaws.{nodes_in_wrap_by}
 use Rattle.spec_hoist.specs.WholeTreeLaws.{cases_in_less}
 use Rattle.build_arena.specs.Arena.{arena_end, Held}
 use Rattle.build_arena.specs.Numbered.{subtree_at}

@@ -19,7 +19,8 @@ use Rattle.spec_rules.specs.Hoisting.{has_leaf, nodes_in, bindings_in}
 use Rattle.spec_rules.specs.Calls.{tree_verdict, BuildCall, build_answer, build_call, WalkCall, walk_answer, walk_call, text_part, part_of_span}
 use Rattle.spec_theorems.specs.Said.{StuckThere, Passes2, Passes3, Passes4, Passes5, Passes6, Passes7, Passes8, Passes9, Passes10, Passes11, Passes12, Passes13, Passes14, Passes21, Passes22, Passes23, Passes24}
 use Rattle.spec_theorems.specs.CallsLaws.{build_refused_writes, walk_refused_writes, walk_stuck_writes}
-use Rattle.spec_theorems.specs.Theorems.{the_place_is_there, accepted_exactly, tree_accepted_exactly, panel_accepted_exactly, refused_2_exactly, refused_3_exactly, refused_4_exactly, refused_5_exactly, refused_6_exactly, refused_7_exactly, refused_8_exactly, refused_9_exactly, refused_10_exactly, refused_11_exactly, refused_12_exactly, refused_13_exactly, refused_21_exactly, refused_22_exactly, refused_23_exactly, refused_24_exactly}
+use Rattle.spec_theorems.specs.Theorems.{the_place_is_there, accepted_exactly, panel_accepted_exactly, refused_2_exactly, refused_3_exactly, refused_4_exactly, refused_5_exactly, refused_6_exactly, refused_7_exactly, refused_8_exactly, refused_9_exactly, refused_10_exactly, refused_11_exactly, refused_12_exactly, refused_13_exactly, refused_21_exactly, refused_22_exactly, refused_23_exactly, refused_24_exactly}
+use Rattle.spec_theorems.proofs.Theorems.{tree_accepted_exactly}
 use Rattle.spec_theorems.specs.Refusals.{refusal_14}
 use Rattle.fit.specs.declared.Fitted.{Fitted}
 use Rattle.fit.specs.declared.Fitted.TheVariants.{Refused as NotFitted}

@@ -12,7 +12,7 @@ use Rattle.spec_rules.specs.TreeReader.{tree_fits, tree_of, nodes, bindings}
 use Rattle.spec_rules.specs.Calls.{answers, Built as BuiltTree, BuildCall, built_of, build_answer, build_call, sheet_tree, sheet_tree_file}
 use Rattle.spec_theorems.specs.Said.{Builds}
 use Rattle.spec_theorems.specs.CallsLaws.{build_answers, build_answers_only, build_writes}
-use Rattle.spec_theorems.specs.Theorems.{the_file_fits, the_file_says_the_tree, the_answer_tells_the_file}
+use Rattle.spec_theorems.proofs.Theorems.{the_file_fits, the_file_says_the_tree, the_answer_tells_the_file}
 use Rattle.build_call.specs.declared.Built.{Built}
 use Rattle.build_call.specs.declared.Built.TheVariants.{Tree}
 use Rattle.build_call.specs.Answers.{answer_of}

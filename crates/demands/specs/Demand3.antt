@@ -23,7 +23,8 @@ use Rattle.spec_hoist.specs.Trees.{hoists_of, Above}
 use Rattle.spec_match.specs.Bindings.{SameUpToOrder}
 use Rattle.spec_theorems.specs.Said.{Builds, Fits, FirstMatch, NoMatch, times_bound}
 use Rattle.spec_theorems.specs.CallsLaws.{build_answers_only, fit_accepts_only, build_file}
-use Rattle.spec_theorems.specs.Theorems.{the_walk_ends_at_the_first_match, the_walk_ends_without_leaf, the_call_answers_the_first_match, the_call_answers_without_leaf, the_call_writes_the_first_match, a_clause_matches_or_none, the_file_says_the_tree, each_clause_is_hoisted_once, each_clause_is_hoisted_above_its_leaves}
+use Rattle.spec_theorems.specs.Theorems.{a_clause_matches_or_none, each_clause_is_hoisted_above_its_leaves}
+use Rattle.spec_theorems.proofs.Theorems.{the_walk_ends_at_the_first_match, the_walk_ends_without_leaf, the_call_answers_the_first_match, the_call_answers_without_leaf, the_call_writes_the_first_match, the_file_says_the_tree, each_clause_is_hoisted_once}
 use Rattle.fit.specs.declared.Fitted.TheVariants.{Fits as PanelFits}
 use Rattle.walk.specs.declared.Walked.{Walked}
 use Rattle.walk.specs.declared.Walked.TheVariants.{Leaf, NoLeaf}

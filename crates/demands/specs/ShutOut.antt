@@ -12,7 +12,7 @@ use Rattle.build_call.specs.declared.Built.TheVariants.{Tree, Refused}
 use Rattle.dewmycel.specs.Promises.{BuildFits, WalkFits}
 use Rattle.spec_rules.specs.TreeReader.{nodes, bindings}
 use Rattle.spec_theorems.specs.CallsLaws.{build_file}
-use Rattle.spec_theorems.specs.Theorems.{the_answer_tells_the_file}
+use Rattle.spec_theorems.proofs.Theorems.{the_answer_tells_the_file}
 
 zero_is_one : ◌≡◌ {A = ℕ} 0 1 → ⊥
 zero_is_one z = absurd (omega arith)

@@ -1,17 +1,16 @@
 -- How long a tree file can be: every case has a node of its own, the table has each path once, and so the counts of refusals 12
--- and 13 with the sheet's limits keep the file under 65,536 bytes.
+-- and 13 with the sheet's limits keep the file under 65,536 bytes (proofs/BoundLaws.antt).
 use Rattle.std.specs.Prelude.{◌≡◌, refl, ◌⊎◌, Bool, true, false, List, [], ◌∷◌, ◌++◌, ℕ, suc, ◌+◌, ◌-◌, ◌*◌, ◌≤◌, ◌<◌, length}
 use Rattle.std.proofs.Common.{sym, ap, ◌∙◌, inl, inr, ⊎_elim, true≢false, arith}
 use Rattle.base_words.specs.Words.{either}
 use Rattle.base_words.specs.WordsLaws.{either_true, either_false, either_make_false}
-use Rattle.spec_rules.specs.Limits.{patterns_most, depth_most, sheet_most, nodes_most, bindings_most, tree_room, node_size, case_size, binding_size, path_size, step_size, tree_trailer}
+use Rattle.spec_rules.specs.Limits.{patterns_most, depth_most, sheet_most, nodes_most, bindings_most, node_size, case_size, binding_size, path_size, step_size, tree_trailer}
 use Rattle.spec_rules.specs.Rows.{Path, same_path}
 use Rattle.spec_rules.specs.Building.{Tree, Cases, absent, leaf, hoist, switch, listswitch, cnil, ccons}
 use Rattle.spec_rules.specs.Hoisting.{how_many, nodes_in, nodes_in_of}
-use Rattle.spec_rules.specs.TreeFile.{is_among, first_uses, paths_used, path_table, cases_in, cases_in_of, tree_file}
+use Rattle.spec_rules.specs.TreeFile.{is_among, first_uses, paths_used, path_table, cases_in, cases_in_of}
 use Rattle.spec_file.specs.PathsLaws.{same_path_sound, same_path_make, is_among_append, is_among_left, is_among_first, is_among_rest, is_among_cases, Covers, first_uses_new, first_uses_known}
-use Rattle.spec_file.specs.FileLaws.{file_length}
-use Rattle.spec_file.specs.Writable.{present, Writable, WritableOf, steps_in, Short, Bounded}
+use Rattle.spec_file.specs.Writable.{present, Writable, WritableOf, Short}
 
 -- ---- every case has its own child node
 at_most : (d : Tree) → (present d ≡ true → cases_in d < nodes_in d) → cases_in d ≤ nodes_in d
@@ -144,13 +143,6 @@ table_size a all v =
     distinct_fewer (path_table a) all (table_distinct a) (record { among = λ p h. v.among p ((table_used a).among p h) })
 
 -- ---- the steps of short paths
-steps_most : (ps : List Path) → Short ps → steps_in ps ≤ (depth_most - 1) * length ps
-unfolding steps_in
-steps_most [] s = omega arith
-steps_most (p ∷ ps) s =
-    let rest : Short ps = record { short = λ q h. s.short q (is_among_rest q p ps h) } in
-    omega (arith, s.short p (is_among_first p ps), steps_most ps rest)
-
 pub table_short : (a : Tree) → Short (paths_used a) → Short (path_table a)
 table_short a s = record { short = λ p h. s.short p ((table_used a).among p h) }
 
@@ -160,16 +152,3 @@ file_most =
     node_size * nodes_most + case_size * (nodes_most - 1) + binding_size * bindings_most + path_size * patterns_most + step_size * ((depth_most - 1) * patterns_most)
     + sheet_most
     + tree_trailer
-
-pub file_most_lem : (pool : List ℕ) (a : Tree) → present a ≡ true → Writable pool a → Bounded pool a → length (tree_file pool a) ≤ file_most
-file_most_lem pool a r w m =
-    let n = m.nodes_most_holds in
-    let b = m.bindings_most_holds in
-    let p = m.paths_most in
-    let s = steps_most (path_table a) (table_short a m.paths_short) in
-    let l = m.pool_most in
-    let c = cases_under_nodes pool a r w in
-    omega (arith, file_length pool a)
-
-pub file_small : (pool : List ℕ) (a : Tree) → present a ≡ true → Writable pool a → Bounded pool a → length (tree_file pool a) < tree_room
-file_small pool a r w m = omega (arith, file_most_lem pool a r w m)

@@ -10,10 +10,6 @@ pub mod TableLaws
 pub mod TreeStands
 pub mod TreeStandsLaws
 pub mod PlacedLaws
-pub mod ReadLaws
-pub mod RulesLaws
 pub mod OrderLaws
-pub mod FitsLaws
 pub mod BoundLaws
-pub mod BytesLaws
 pub mod Examples

@@ -2,7 +2,7 @@
 -- induction over the list of sections, whatever they hold; who has a file of six or of seven takes a section by its number.
 use Rattle.std.specs.Prelude.{◌≡◌, List, [], ◌∷◌, ◌++◌, ℕ, zero, suc, ◌+◌, ◌-◌, ◌*◌, ◌<◌}
 use Rattle.std.proofs.Math.Path.{refl, sym, ap}
-use Rattle.std.proofs.Common.{◌∙◌, arith, add-zero}
+use Rattle.std.proofs.Common.{◌∙◌, arith}
 use Rattle.std.proofs.Math.ListN.{length, get_or, length-append, get_or-append}
 use Rattle.std.proofs.Math.Seq.{get_or-append-add}
 use Rattle.base_words.specs.Words.{word_at, word_bytes}

@@ -1,2 +1,2 @@
-// The laws of the tree file: this crate is its specs/.
+// The laws of the tree file: this crate is its specs/ and proofs/.
 #![tactic(auto)]

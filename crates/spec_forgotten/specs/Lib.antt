@@ -11,6 +11,7 @@
 --   OpenedParts, KnownTypes, NodesFit, MatrixLaws, SomewhereLaws, CasesFound, BuiltTested, SheetTested: the tree of an accepted sheet is tested.
 --   ShapesLaws, ChildrenLaws, SearchLaws, ReachLaws, NeverStuckLaws, FewTestsLaws, FileWaysLaws, FoundLaws: what the search answers; no walk is stuck; few tests.
 --   FillingLaws, MarkingLaws: which types have a value. PanelFitsLaws, PanelWalksLaws: panel files and their values.
+-- What is not listed below is in proofs/.
 pub mod Values
 pub mod PanelValues
 pub mod Forgetting
@@ -30,21 +31,12 @@ pub mod KnownTypes
 pub mod NodesFit
 pub mod FallingLaws
 pub mod MatrixLaws
-pub mod SomewhereLaws
 pub mod CasesFound
-pub mod BuiltTested
 pub mod SheetTested
 pub mod ShapesLaws
 pub mod ChildrenLaws
-pub mod SearchLaws
-pub mod ReachLaws
 pub mod NeverStuckLaws
 pub mod FewTestsLaws
 pub mod FileWaysLaws
-pub mod FoundLaws
-pub mod FillingLaws
-pub mod MarkingLaws
 pub mod PanelFitsLaws
 pub mod PanelWalksLaws
-pub mod ForgettingTheorems
-pub mod OneAnswerLaws

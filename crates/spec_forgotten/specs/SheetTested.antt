@@ -1,8 +1,8 @@
 -- An accepted sheet: its patterns have the texts that a panel may have, its tree is `Tested`, and every value of the subject's type has the
 -- columns of the root. So some value falls out of a switch exactly if each branch on the way there can be taken (`only_goes`,
--- `goes_out_there`). Said of every well-made tree that is the sheet's once its hoists are taken out; `sheet_tree` is one.
+-- `goes_out_there` of proofs/SheetTested.antt). Said of every well-made tree that is the sheet's once its hoists are taken out; `sheet_tree` is one.
 use Prim.Native.Nat.{ℕ, zero, suc, ◌+◌, ◌-◌, ◌≤◌, ◌<◌}
-use Rattle.std.proofs.Common.{le_refl, ◌∙◌, le-leb}
+use Rattle.std.proofs.Common.{le_refl, le-leb}
 use native.Mathlib.Omega.{arith}
 use Rattle.std.specs.Prelude.{◌≡◌, Bool, List, [], ◌∷◌, get_or, take, drop, leb}
 use Rattle.std.proofs.Math.Path.{refl, ap}
@@ -11,13 +11,12 @@ use Rattle.std.proofs.Math.ListN.{length}
 use Rattle.base_words.specs.Words.{Bytes}
 use Rattle.base_words.specs.WordsLaws.{both_true, both_make}
 use Rattle.spec_rules.specs.Limits.{patterns_most}
-use Rattle.spec_rules.specs.SheetFile.{subject, types, clauses, patterns, type_first, constructor_first, entry, pattern_kind, pattern_a, pattern_first, pattern_count, child, root, pool_text, pool_at}
+use Rattle.spec_rules.specs.SheetFile.{subject, clauses, patterns, type_first, constructor_first, entry, pattern_kind, pattern_a, pattern_first, pattern_count, child, root, pool_text, pool_at}
 use Rattle.spec_rules.specs.Patterns.{PatternKind, Discard, Variable, Assign, Integer, ByteString, ListOfAll, ListWithRest, Constructor, Pair, Tuple, Unknown, pattern_kind_of, Mark, Pat, Pats, one_constructor, decorated, constructor_of, along, of_constructor, of_kind, pattern_to, pattern, clause_pattern, clause_patterns}
 use Rattle.spec_rules.specs.Rows.{Path, clause_rows}
 use Rattle.spec_rules.specs.Columns.{columns}
 use Rattle.spec_rules.specs.SheetRefusals.{has_children}
 use Rattle.spec_rules.specs.Building.{Tree, plain_tree}
-use Rattle.spec_rules.specs.Hoisting.{nodes_in}
 use Rattle.spec_rules.specs.Calls.{sheet_patterns, sheet_tree}
 use Rattle.spec_rules.specs.SplittingLaws.{All}
 use Rattle.spec_accepted.specs.KindsLaws.{pattern_byte}
@@ -25,17 +24,13 @@ use Rattle.spec_accepted.specs.SheetFacts.{Parent, Shaped, owned_pattern, Accept
 use Rattle.spec_hoist.specs.Trees.{is_present, WellMade, unhoisted}
 use Rattle.spec_hoist.specs.WholeTreeLaws.{whole_tree_made, whole_tree_present}
 use Rattle.spec_match.specs.Lists.{all_map}
-use Rattle.spec_match.specs.Tests.{clause_rows_test}
-use Rattle.spec_match.specs.Depth.{plain_tree_matrix}
-use Rattle.spec_match.specs.ColumnTypes.{type_after, retyped}
+use Rattle.spec_match.specs.ColumnTypes.{type_after}
 use Rattle.spec_match.specs.SheetColumns.{sheet_resolved}
 use Rattle.spec_theorems.specs.SheetLeaves.{whole_unhoisted, length_sheet_patterns}
-use Rattle.spec_forgotten.specs.Values.{Value, are_bytes, of_type, Passed, without, walk_on}
+use Rattle.spec_forgotten.specs.Values.{Value, are_bytes, of_type}
 use Rattle.spec_forgotten.specs.OpenedParts.{legal_there}
-use Rattle.spec_forgotten.specs.KnownTypes.{after_known}
-use Rattle.spec_forgotten.specs.MatrixLaws.{texts_fit, texts_fit_all, Kept, Good, Open, root_columns_lem, good_root}
-use Rattle.spec_forgotten.specs.FallingLaws.{There, Has, Tested, Goes, falls_out, falls_only}
-use Rattle.spec_forgotten.specs.BuiltTested.{Known, matrix_tested}
+use Rattle.spec_forgotten.specs.MatrixLaws.{texts_fit, texts_fit_all, Kept, Open, root_columns_lem}
+use Rattle.spec_forgotten.specs.FallingLaws.{There, Has}
 
 -- a well-made tree that is the sheet's once its hoists are taken out
 pub record OfSheet (s : List ℕ) (b : Tree) : Type 0 where
@@ -137,7 +132,7 @@ module _ (s : List ℕ) (a : Accepted s) (bytes : Bytes s) where
     clauses_kept (c + 1) n (omega arith),
   )
 
-  sheet_kept : All (Kept s) (sheet_patterns s)
+  pub sheet_kept : All (Kept s) (sheet_patterns s)
   unfolding sheet_patterns
   sheet_kept = clauses_kept 0 (clauses s) (omega arith)
 
@@ -148,39 +143,13 @@ module _ (s : List ℕ) (a : Accepted s) (bytes : Bytes s) where
   abbrev pub root_columns : List Path
   root_columns = columns (clause_rows 0 (sheet_patterns s))
 
-  sheet_good : Good s root_types root_columns (clause_rows 0 (sheet_patterns s))
-  sheet_good = good_root s (subject s) (sheet_patterns s) (sheet_resolved s a) sheet_kept
-
   pub root_has : (v : Value) → of_type s (subject s) v ≡ true → Has s root_types root_columns v
   root_has v h =
       all_map (Open s (subject s)) (There s root_types v)
       (λ z (l, b). let r = legal_there s z (subject s) v h l b in ((r.part, r.there), r.type))
       root_columns (root_columns_lem s (subject s) (sheet_patterns s) (sheet_resolved s a) sheet_kept)
 
-  root_known : Known s a.is_typed 0 root_types root_columns
-  root_known =
-      all_map (Open s (subject s)) (λ z. root_types z < types s) (λ z (l, b). after_known s a.is_typed z (subject s) a.is_typed.subject_type l b)
-      root_columns (root_columns_lem s (subject s) (sheet_patterns s) (sheet_resolved s a) sheet_kept)
-
   -- ---- a tree that is the sheet's once its hoists are taken out
-  module _ (b : Tree) (is : OfSheet s b) where
-    -- THEOREM: it is tested
-    pub tree_tested : Tested s (retyped s) (nodes_in b) root_types root_columns 0 b
-    tree_tested =
-        matrix_tested s a.is_typed is.most root_columns (clause_rows 0 (sheet_patterns s)) (clause_rows_test 0 (sheet_patterns s)) root_types sheet_good root_known
-        b (is.same ∙ plain_tree_matrix (sheet_patterns s)) is.made 0 (nodes_in b) (le_refl (nodes_in b))
-
-    -- THEOREM: a value that ends at a switch took only branches that some part takes
-    pub only_goes : (v : Value) → of_type s (subject s) v ≡ true → (n : ℕ) (ts : List Passed) → walk_on 0 b v ≡ without n ts → Goes s (retyped s) root_types 0 b n ts
-    only_goes v h n ts e = falls_only s (retyped s) (nodes_in b) root_types root_columns 0 b tree_tested v h (root_has v h) n ts e
-
-    -- THEOREM: where each branch can be taken, some value takes them all
-    pub goes_out_there : (v : Value) → of_type s (subject s) v ≡ true → (n : ℕ) (ts : List Passed) → Goes s (retyped s) root_types 0 b n ts
-        → (x : Value) × (of_type s (subject s) x ≡ true) × (walk_on 0 b x ≡ without n ts)
-    goes_out_there v h n ts g =
-        let r = falls_out s (retyped s) (nodes_in b) root_types root_columns 0 b n ts g tree_tested v h (root_has v h) in
-        (r.value, r.typed, r.ends)
-
   -- `sheet_tree` is such a tree
   pub sheet_tree_is : OfSheet s (sheet_tree s)
   unfolding sheet_tree

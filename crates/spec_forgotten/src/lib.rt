@@ -1,2 +1,2 @@
-// The panels that a sheet forgets: this crate is its specs/.
+// The panels that a sheet forgets: this crate is its specs/ and proofs/.
 #![tactic(auto)]

@@ -1,5 +1,5 @@
 -- Hoisting by going down the tree once, with no place written down: each node is given the clauses not hoisted yet whose scope it is.
--- DescentLaws shows that this is the hoisting of rule 7.
+-- proofs/DescentLaws.antt shows that this is the hoisting of rule 7.
 use Rattle.std.specs.Prelude.{ℕ, zero, suc, ◌+◌, Bool, true, false, not, List, leb}
 use Rattle.base_words.specs.Words.{both, either}
 use Rattle.spec_rules.specs.Rows.{Binding, bit}

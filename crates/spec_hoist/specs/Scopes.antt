@@ -1,5 +1,5 @@
 -- A clause's scope by going over the tree once: from the scopes in the children of a switch, without the places of all leaves.
--- ScopesLaws shows that it is the scope of rule 6, the common start of the clause's visits.
+-- proofs/ScopesLaws.antt shows that it is the scope of rule 6, the common start of the clause's visits.
 use Rattle.std.specs.Prelude.{ℕ, suc, Bool, true, false, [], ◌∷◌, ◌++◌, eqb}
 use Rattle.std.proofs.Math.Option.{Option, none, some}
 use Rattle.base_words.specs.Words.{pick}

@@ -1,25 +1,20 @@
 -- The whole tree of a sheet's clauses: each clause with a leaf is hoisted exactly once and above all its leaves, and nothing else is changed.
--- The theorems of the other files at the tree that is built; and what a well made tree keeps when it is hoisted.
+-- The theorems of the other files at the tree that is built, those of the hoists in proofs/WholeTreeLaws.antt; and what a well made tree
+-- keeps when it is hoisted.
 use Rattle.std.specs.Prelude.{◌≡◌, refl, Bool, true, false, List, [], ◌∷◌, ℕ, zero, suc, ◌+◌, ◌≤◌, ◌<◌, length}
 use Rattle.std.proofs.Common.{ap, ◌∙◌, arith}
 use Rattle.std.proofs.Math.Option.{none, some}
 use Rattle.spec_rules.specs.Patterns.{Pat}
 use Rattle.spec_rules.specs.Rows.{bit}
-use Rattle.spec_rules.specs.Searching.{times}
 use Rattle.spec_rules.specs.Building.{Tree, Cases, absent, leaf, hoist, switch, listswitch, cnil, ccons, plain_tree}
-use Rattle.spec_rules.specs.Hoisting.{Place, Fallback, Case, under, Visit, how_many, visits, first_bindings, Hoist, hoists, is_at, wrap, hoisted, hoisted_of, hoist_all, whole_tree, nodes_in, nodes_in_of, bindings_in, has_leaf}
+use Rattle.spec_rules.specs.Hoisting.{Place, Fallback, Case, under, Visit, how_many, visits, Hoist, hoists, is_at, wrap, hoisted, hoisted_of, hoist_all, whole_tree, nodes_in, nodes_in_of, has_leaf}
 use Rattle.spec_rules.specs.TreeFile.{cases_in, cases_in_of}
 use Rattle.spec_rules.specs.Walking.{walk}
 use Rattle.spec_rules.specs.Calls.{lowest_idle}
-use Rattle.spec_hoist.specs.Trees.{is_present, WellMade, WellMadeOf, hoists_of, EachHoist, Above, leaf_with, leaves_of, Among, sum}
-use Rattle.spec_hoist.specs.Descent.{hoist_by}
+use Rattle.spec_hoist.specs.Trees.{is_present, WellMade, WellMadeOf, hoists_of, Above, leaves_of}
 use Rattle.spec_hoist.specs.UnhoistedLaws.{walk_hoisted, leaves_of_hoisted, has_leaf_hoisted}
-use Rattle.spec_hoist.specs.IdleLaws.{LowestIdle, lowest_idle_some, lowest_idle_none, lowest_idle_make, lowest_idle_make_none}
-use Rattle.spec_hoist.specs.OnceLaws.{hoists_of_hoist_all, hoisted_only, hoisted_once, nodes_in_hoist_all}
-use Rattle.spec_hoist.specs.AboveLaws.{hoisted_above}
-use Rattle.spec_hoist.specs.BindingsLaws.{hoists_bind, bindings_in_hoist_all}
-use Rattle.spec_hoist.specs.BuiltLaws.{plain_tree_plain, plain_tree_made, plain_tree_present}
-use Rattle.spec_hoist.specs.DescentLaws.{hoist_all_by}
+use Rattle.spec_hoist.specs.IdleLaws.{LowestIdle, lowest_idle_some, lowest_idle_make, lowest_idle_make_none}
+use Rattle.spec_hoist.specs.BuiltLaws.{plain_tree_made, plain_tree_present}
 
 -- ---- a well made tree is well made when it is hoisted
 abbrev Below : ℕ → List Hoist → Type 0
@@ -141,32 +136,6 @@ module _ (qs : List Pat) where
   unfolding whole_tree
   whole_tree_present l = hoist_all_present (length qs) (plain_tree qs) ∙ plain_tree_present qs l
 
-  -- one hoist for each clause with a leaf, none for any other, above all leaves of the clause, with the bindings of one of them
-  pub whole_tree_once : (c : ℕ) → c < length qs → hoists_of c (whole_tree qs) ≡ bit (has_leaf c (plain_tree qs))
-  unfolding whole_tree
-  whole_tree_once c l = hoists_of_hoist_all (length qs) (plain_tree qs) c (plain_tree_plain qs) l
-
-  pub whole_tree_only : (c : ℕ) → length qs ≤ c → hoists_of c (whole_tree qs) ≡ 0
-  unfolding whole_tree
-  whole_tree_only c l = hoisted_only (length qs) (plain_tree qs) c (plain_tree_plain qs) l
-
-  pub whole_tree_above : (c : ℕ) → c < length qs → Above c (whole_tree qs)
-  unfolding whole_tree
-  whole_tree_above c l = hoisted_above (length qs) (plain_tree qs) c l
-
-  pub whole_tree_bind : EachHoist (λ c bs. Among (leaf_with c bs) (leaves_of (plain_tree qs))) (whole_tree qs)
-  unfolding whole_tree
-  whole_tree_bind = hoists_bind (length qs) (plain_tree qs) (plain_tree_plain qs)
-
-  -- 12 and 13
-  pub whole_tree_nodes : nodes_in (whole_tree qs) ≡ nodes_in (plain_tree qs) + times (λ c. has_leaf c (plain_tree qs)) 0 (length qs)
-  unfolding whole_tree
-  whole_tree_nodes = nodes_in_hoist_all (length qs) (plain_tree qs)
-
-  pub whole_tree_bindings : length (bindings_in (whole_tree qs)) ≡ length (bindings_in (plain_tree qs)) + sum (λ c. length (first_bindings c (plain_tree qs))) 0 (length qs)
-  unfolding whole_tree
-  whole_tree_bindings = bindings_in_hoist_all (length qs) (plain_tree qs)
-
   -- 14
   pub whole_tree_idle : (c : ℕ) → lowest_idle (length qs) (whole_tree qs) ≡ some c → LowestIdle (length qs) (plain_tree qs) c
   unfolding whole_tree
@@ -185,18 +154,3 @@ module _ (qs : List Pat) where
     pub leaf_there : has_leaf c (whole_tree qs) ≡ true
     pub once : hoists_of c (whole_tree qs) ≡ 1
     pub above : Above c (whole_tree qs)
-
-  pub whole_tree_hoisted : lowest_idle (length qs) (whole_tree qs) ≡ none → (c : ℕ) → c < length qs → HoistedOnce c
-  unfolding whole_tree
-  whole_tree_hoisted e c l =
-      let h = lowest_idle_none (length qs) (plain_tree qs) e c l in
-      record {
-        leaf_there = whole_tree_has_leaf c ∙ h;
-        once = hoisted_once (length qs) (plain_tree qs) c (plain_tree_plain qs) l h;
-        above = whole_tree_above c l;
-      }
-
-  -- rule 7 by going down the tree once
-  pub whole_tree_by : whole_tree qs ≡ hoist_by (λ c. first_bindings c (plain_tree qs)) (length qs) (λ c. true) (plain_tree qs)
-  unfolding whole_tree
-  whole_tree_by = hoist_all_by (length qs) (plain_tree qs)

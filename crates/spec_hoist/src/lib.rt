@@ -1,2 +1,2 @@
-// The theorems of hoisting: this crate is its specs/.
+// The theorems of hoisting: this crate is its specs/ and proofs/.
 #![tactic(auto)]

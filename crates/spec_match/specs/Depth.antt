@@ -14,7 +14,8 @@ use Rattle.spec_rules.specs.Patterns.{Pat, Pats, discard, variable, assign, inte
 use Rattle.spec_rules.specs.Rows.{Step, constr, list, listtail, Path, into, opening, Cell, Row, columns_of, columns_of_each, opened_columns, clause_rows}
 use Rattle.spec_rules.specs.Columns.{union, columns, without, test_at, count, better, choice}
 use Rattle.spec_rules.specs.Splitting.{Test, Constr, Int, Bytes, ListOf, ListWithTail, same_test, column, without_test, open_row, Group, Split, Met, is_met, cases_of, covers, default_rows, case_rows, case_opens, filtered, split_by_filters}
-use Rattle.spec_rules.specs.SplittingLaws.{All, any_covers, case_covered, split_filters, same_test_refl, same_test_sound}
+use Rattle.spec_rules.specs.SplittingLaws.{All, any_covers, same_test_refl, same_test_sound}
+use Rattle.spec_rules.proofs.SplittingLaws.{case_covered, split_filters}
 use Rattle.spec_rules.specs.Building.{Tree, Cases, switch, listswitch, cnil, ccons, leaf_of, has_list, is_tail_case, select, cases_by, node_by, tree_to, places, places_of, test_places, matrix_places, plain_tree}
 use Rattle.spec_match.specs.Tests.{is_test, TestRow, cell, Taken, take_test, row_test, case_test, default_test}
 

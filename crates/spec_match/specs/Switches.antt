@@ -18,7 +18,8 @@ use Rattle.spec_rules.specs.Kinds.{list_record}
 use Rattle.spec_rules.specs.Patterns.{Mark, Pat, Pats, discard, variable, assign, integer, bytestring, listed, tailed, constructor, opened, many}
 use Rattle.spec_rules.specs.Rows.{Path}
 use Rattle.spec_rules.specs.Splitting.{Test, Constr, Int, Bytes, ListOf, ListWithTail, same_test, tailless_length, tailed_length, longest, Met, is_met, cases_of, covers}
-use Rattle.spec_rules.specs.SplittingLaws.{All, both_end, InRange, any_covers, same_test_sound, same_test_refl, either_none, not_true_false, longest_bounds, cases_of_covers, case_covered}
+use Rattle.spec_rules.specs.SplittingLaws.{All, both_end, InRange, any_covers, same_test_sound, same_test_refl, either_none, not_true_false, longest_bounds}
+use Rattle.spec_rules.proofs.SplittingLaws.{cases_of_covers, case_covered}
 use Rattle.spec_rules.specs.Building.{Tree, Cases, switch, listswitch, cnil, ccons, is_list, has_list}
 use Rattle.spec_rules.specs.PanelFile.{record_kind, record_a, record_text}
 use Rattle.spec_rules.specs.Walking.{Position, panel_root, follow, Walked, shown_at, length_at, test_kind, first_kind, of_this_kind, tail_number, largest_tail, at_tail, walk, walk_cases}

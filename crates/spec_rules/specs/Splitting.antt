@@ -1,5 +1,5 @@
 -- 01, "How a tree is built", rule 4: splitting a matrix by the column at a path.
--- First the document's pass down the rows; then the filters that it equals (SplittingLaws has the proof).
+-- First the document's pass down the rows; then the filters that it equals (proofs/SplittingLaws.antt has the proof).
 use Rattle.std.specs.Prelude.{ℕ, zero, suc, ◌+◌, ◌-◌, Bool, true, false, List, [], ◌∷◌, ◌++◌, leb}
 use Rattle.std.proofs.Math.Option.{none, some}
 use Rattle.base_words.specs.Words.{either, pick, same_text}

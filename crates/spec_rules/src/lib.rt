@@ -1,3 +1,3 @@
-// Document 01 as definitions: this crate is its specs/. It has no code, so that nobody has to believe a line of code to believe
-// the definitions.
+// Document 01 as definitions: this crate is its specs/, and laws over them in proofs/. It has no code, so that nobody has to believe a line
+// of code to believe the definitions.
 #![tactic(auto)]

@@ -3,6 +3,7 @@
 --   CaseStarts, Formed, SheetLeaves, BuiltTree: the tree of an accepted sheet can be written. SheetFileLaws: what its file says.
 --   FirstMatches: the meaning clause by clause. Positions: a walk's positions. WalkPlaces: where it ends.
 --   Stages, Refusals, CallsLaws: what is refused, and when.
+-- BuiltTree and SheetFileLaws are in proofs/, and so is what rests on them.
 pub mod Said
 pub mod Theorems
 pub mod Stands
@@ -12,8 +13,6 @@ pub mod Counting
 pub mod CaseStarts
 pub mod Formed
 pub mod SheetLeaves
-pub mod BuiltTree
-pub mod SheetFileLaws
 pub mod FirstMatches
 pub mod Positions
 pub mod WalkPlaces

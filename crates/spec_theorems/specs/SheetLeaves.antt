@@ -1,11 +1,11 @@
 -- The leaves and hoists of an accepted sheet's tree: each is a clause's and binds what the clause's pattern binds, each name to the path
--- of the pattern that has it; and a clause has at most as many names as the sheet has patterns.
+-- of the pattern that has it. That a clause has at most as many names as the sheet has patterns is in proofs/SheetLeaves.antt.
 use Rattle.std.specs.Prelude.{ℕ, zero, suc, ◌+◌, ◌≤◌, ◌<◌, ◌≡◌, refl, List, [], ◌∷◌, ◌++◌, length}
 use Rattle.std.proofs.Common.{arith, zero-add, sym, ap, ◌∙◌, subst, inl, inr}
 use Rattle.std.proofs.Math.Option.{Option, some}
 use Rattle.spec_rules.specs.Limits.{node_bindings_most}
-use Rattle.spec_rules.specs.SheetFile.{clauses, patterns, pattern_a}
-use Rattle.spec_rules.specs.Patterns.{Pat, clause_pattern, clause_patterns, names}
+use Rattle.spec_rules.specs.SheetFile.{clauses}
+use Rattle.spec_rules.specs.Patterns.{Pat, clause_pattern, clause_patterns}
 use Rattle.spec_rules.specs.Rows.{Binding}
 use Rattle.spec_rules.specs.Building.{Tree, Cases, absent, leaf, hoist, switch, listswitch, cnil, ccons, plain_tree}
 use Rattle.spec_rules.specs.Hoisting.{whole_tree}
@@ -15,15 +15,12 @@ use Rattle.spec_accepted.specs.SheetFacts.{Accepted}
 use Rattle.spec_hoist.specs.Trees.{unhoisted, unhoisted_of, EachHoist, EachHoistOf, Leaf, leaf_with, leaves_of, leaves_of_each, Among}
 use Rattle.spec_hoist.specs.UnhoistedLaws.{hoist_all_unhoisted, plain_unhoisted}
 use Rattle.spec_hoist.specs.BuiltLaws.{plain_tree_plain}
-use Rattle.spec_hoist.specs.WholeTreeLaws.{whole_tree_bind}
+use Rattle.spec_hoist.proofs.WholeTreeLaws.{whole_tree_bind}
 use Rattle.spec_match.specs.Lists.{all_append}
-use Rattle.spec_match.specs.Bindings.{all_bindings}
-use Rattle.spec_match.specs.Leaves.{AllLeaves, AllLeavesOf, clause_at, LeafOf, bound_names, all_bindings_names, leaves_bind}
+use Rattle.spec_match.specs.Leaves.{AllLeaves, AllLeavesOf, clause_at, LeafOf, leaves_bind}
 use Rattle.spec_theorems.specs.Said.{OfClause}
 use Rattle.spec_theorems.specs.Stands.{Used}
-use Rattle.spec_theorems.specs.EachPattern.{all_bindings_everywhere}
-use Rattle.spec_theorems.specs.SheetPatterns.{FieldA, Facts, clause_everywhere}
-use Rattle.spec_theorems.specs.Counting.{distinct_most, same_bindings_all}
+use Rattle.spec_theorems.specs.SheetPatterns.{FieldA}
 
 -- ---- leaves: from a tree without hoists to the tree, from all leaves to one, from leaves to hoists
 module _ (P : ℕ → List Binding → Type 0) where
@@ -156,33 +153,6 @@ pub record BindingOf (s : List ℕ) (b : Binding) : Type 0 where
   pub its_name : FieldA s b.name
 
 module _ (s : List ℕ) (a : Accepted s) where
-  clause_binds : (c : ℕ) → c < clauses s → All (BindingOf s) (all_bindings [] (clause_pattern s c))
-  clause_binds c l =
-      all_bindings_everywhere (Facts s) (BindingOf s) (λ p m x h. record { its_path = h.0; its_name = h.1 }) (λ p m x q h. record { its_path = h.0; its_name = h.1 })
-      [] (clause_pattern s c) (clause_everywhere s a c l)
-
-  all_names : (bs : List Binding) → All (BindingOf s) bs → All (λ x. (k : ℕ) × (k < patterns s) × (x ≡ pattern_a s k)) (bound_names bs)
-  all_names [] h = tt
-  all_names (b ∷ bs) h = let n = h.0.its_name in ((n.number, n.known, n.is), all_names bs h.1)
-
-  -- THEOREM: a clause has at most as many names as the sheet has patterns
-  pub names_most : (c : ℕ) → c < clauses s → length (names (clause_pattern s c)) ≤ patterns s
-  names_most c l =
-      distinct_most (pattern_a s) (patterns s) (names (clause_pattern s c)) (a.names_once c l)
-      (rw (all_bindings_names [] (clause_pattern s c)) at (all_names (all_bindings [] (clause_pattern s c)) (clause_binds c l)))
-
   pub record LeafFine (c : ℕ) (bs : List Binding) : Type 0 where
     pub few : length bs ≤ node_bindings_most
     pub each : All (BindingOf s) bs
-
-  pub leaf_fine : (c : ℕ) (bs : List Binding) → OfClause s c bs → LeafFine c bs
-  leaf_fine c bs o = record {
-    few = omega (arith, o.as_many, names_most c o.clause, a.is_counted.patterns_most_holds);
-    each = same_bindings_all (BindingOf s) bs (all_bindings [] (clause_pattern s c)) o.binds (clause_binds c o.clause);
-  }
-
-  pub leaves_fine : AllLeaves LeafFine (sheet_tree s)
-  leaves_fine = leaves_map (OfClause s) LeafFine leaf_fine (sheet_tree s) (sheet_leaves s)
-
-  pub hoists_fine : EachHoist LeafFine (sheet_tree s)
-  hoists_fine = hoists_map (OfClause s) LeafFine leaf_fine (sheet_tree s) (sheet_hoists s)

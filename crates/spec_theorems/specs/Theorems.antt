@@ -1,10 +1,11 @@
 -- THE THEOREMS: what is proved of document 01's definitions (crate spec_rules), before any code. Read each statement with 01 beside it; the
--- words that rules does not have are in Said, the proofs in the files that each one cites.
+-- words that rules does not have are in Said, the proofs in the files that each one cites. Most of section 1, and single theorems of 2, 3,
+-- 5 and 6, stand in proofs/Theorems.antt.
 --
 --   s sheet bytes, t tree bytes, v panel bytes, a a tree, c a clause, k a place, n and m lengths of buffers
-use Rattle.std.specs.Prelude.{ℕ, ◌+◌, ◌-◌, ◌*◌, ◌≤◌, ◌<◌, ◌≡◌, ◌⊎◌, ◌↔◌, true, false, not, List, ◌++◌, length}
+use Rattle.std.specs.Prelude.{ℕ, ◌+◌, ◌-◌, ◌≤◌, ◌<◌, ◌≡◌, ◌⊎◌, ◌↔◌, true, false, not, List, ◌++◌, length}
 use Rattle.std.proofs.Common.{arith, ◌∙◌}
-use Rattle.std.proofs.Math.Path.{sym, ap}
+use Rattle.std.proofs.Math.Path.{sym}
 use Rattle.std.proofs.Math.Option.{some}
 use Rattle.base_words.specs.Words.{Bytes, text_at, zeros}
 use Rattle.spec_rules.specs.Limits.{nodes_most, bindings_most, tree_room, work_room, bound_room, node_bindings_most}
@@ -12,105 +13,49 @@ use Rattle.spec_rules.specs.SearchingLaws.{Lowest}
 use Rattle.spec_rules.specs.SheetFile.{subject, types, patterns, clauses}
 use Rattle.spec_rules.specs.Patterns.{Pat, pattern_to, pattern, clause_pattern, names}
 use Rattle.spec_rules.specs.SheetRefusals.{length_fits, layout_fits, has_clause, counts_fit, types_fit, transparent, shape_fits, bad_text, misfit, name_twice, Verdict, accepted, refused, verdict}
-use Rattle.spec_rules.specs.Rows.{bit, Path, Row, clause_rows}
+use Rattle.spec_rules.specs.Rows.{Path, Row, clause_rows}
 use Rattle.spec_rules.specs.Columns.{before, columns}
 use Rattle.spec_rules.specs.Splitting.{split, split_by_filters}
 use Rattle.spec_rules.specs.Building.{Tree, tree_to, matrix_places, plain_tree}
 use Rattle.spec_rules.specs.Hoisting.{nodes_in, bindings_in, has_leaf}
-use Rattle.spec_rules.specs.TreeReader.{nodes, bindings, node_kind, tree_fits, node_kind_of, node_for, tree_below, tree_of}
+use Rattle.spec_rules.specs.TreeReader.{nodes, node_kind, tree_fits, node_kind_of, node_for, tree_below, tree_of}
 use Rattle.spec_rules.specs.PanelFile.{records, panel_pool_at, record_first, record_count, panel_length_fits, panel_layout_fits, panel_shape_fits, panel_texts_fit, panel_verdict}
 use Rattle.spec_rules.specs.Fitting.{has_type_to, panel_fits}
-use Rattle.spec_rules.specs.Walking.{Bound, reached, no_leaf, stuck, walk}
+use Rattle.spec_rules.specs.Walking.{Bound, reached, stuck, walk}
 use Rattle.spec_rules.specs.WalkPlaces.{goes_on, last_node, stuck_step}
-use Rattle.spec_rules.specs.Calls.{answers, refuses, sheet_patterns, sheet_tree, sheet_tree_file, tree_verdict, Built, built_of, build_answer, build_call, fit_call, leaf_of, without_leaf, walk_answer, bound_words, walk_call, has_text, text_call, meaning}
-use Rattle.spec_rules.specs.SplittingLaws.{All, split_filters}
+use Rattle.spec_rules.specs.Calls.{answers, refuses, sheet_patterns, sheet_tree, sheet_tree_file, tree_verdict, Built, built_of, build_answer, build_call, fit_call, walk_answer, bound_words, walk_call, has_text, text_call}
+use Rattle.spec_rules.proofs.SplittingLaws.{split_filters}
 use Rattle.spec_accepted.specs.SheetFacts.{accepted_sheet}
 use Rattle.spec_accepted.specs.PatternsLaws.{pattern_deep}
 use Rattle.spec_accepted.specs.PanelFacts.{accepted_panel, has_type_deep}
 use Rattle.spec_accepted.specs.TreeFacts.{tree_sound, tree_length_small, tree_below_enough}
-use Rattle.spec_hoist.specs.Trees.{hoists_of, EachHoist, Above, Leaf, leaves_of, Among}
-use Rattle.spec_hoist.specs.WholeTreeLaws.{whole_tree_once, whole_tree_above, whole_tree_has_leaf, whole_tree_walk}
+use Rattle.spec_hoist.specs.Trees.{EachHoist, Above, Leaf, leaves_of, Among}
+use Rattle.spec_hoist.proofs.WholeTreeLaws.{whole_tree_above}
 use Rattle.spec_match.specs.Tests.{clause_rows_test}
 use Rattle.spec_match.specs.Depth.{tree_to_matrix, plain_tree_matrix}
 use Rattle.spec_match.specs.Apart.{is_column}
 use Rattle.spec_match.specs.Order.{before_trans, before_one_way}
 use Rattle.spec_match.specs.Bindings.{SameUpToOrder}
 use Rattle.spec_match.specs.Leaves.{AllLeaves}
-use Rattle.spec_match.specs.Answers.{SameAnswer}
-use Rattle.spec_match.specs.Typing.{sheet_first_match}
 use Rattle.spec_match.specs.ColumnTypes.{Meets}
 use Rattle.spec_match.specs.SheetColumns.{sheet_columns_ordered}
-use Rattle.spec_theorems.specs.Said.{Builds, Fits, FirstMatch, NoMatch, EndsAt, OfClause, InPanel, WalkEnds, StuckThere, LeafThere, LeadsOn, TellsTheFile, Passes2, Passes3, Passes4, Passes5, Passes6, Passes7, Passes8, Passes9, Passes10, Passes11, Passes12, Passes13, Passes14, Passes21, Passes22, Passes23, Passes24}
+use Rattle.spec_theorems.specs.Said.{Builds, Fits, FirstMatch, NoMatch, OfClause, WalkEnds, StuckThere, LeafThere, LeadsOn, Passes2, Passes3, Passes4, Passes5, Passes6, Passes7, Passes8, Passes9, Passes10, Passes11, Passes12, Passes13, Passes21, Passes22, Passes23, Passes24}
 use Rattle.spec_theorems.specs.SheetLeaves.{length_sheet_patterns, each_leaf, sheet_leaves, sheet_hoists}
-use Rattle.spec_theorems.specs.SheetFileLaws.{sheet_file_fits, sheet_file_read, sheet_file_nodes, sheet_file_bindings, sheet_file_small, sheet_file_bytes}
 use Rattle.spec_theorems.specs.Stages.{one_refusal, not_both}
-use Rattle.spec_theorems.specs.Refusals.{sheet_accepted, sheet_numbers, refusal_2, refusal_3, refusal_4, refusal_5, refusal_6, refusal_7, refusal_8, refusal_9, refusal_10, refusal_11, tree_accepted, tree_numbers, refusal_12, refusal_13, refusal_14, panel_accepted, panel_numbers, refusal_21, refusal_22, refusal_23, refusal_24}
-use Rattle.spec_theorems.specs.Positions.{walk_from, length_bound, walk_in_panel, leaves_few}
+use Rattle.spec_theorems.specs.Refusals.{sheet_accepted, sheet_numbers, refusal_2, refusal_3, refusal_4, refusal_5, refusal_6, refusal_7, refusal_8, refusal_9, refusal_10, refusal_11, tree_numbers, refusal_12, refusal_13, refusal_14, panel_accepted, panel_numbers, refusal_21, refusal_22, refusal_23, refusal_24}
+use Rattle.spec_theorems.specs.Positions.{walk_from, length_bound, leaves_few}
 use Rattle.spec_theorems.specs.WalkPlaces.{goes_on_leads, last_walk, stuck_there, leaf_there, place_short}
-use Rattle.spec_theorems.specs.FirstMatches.{first_or_none, ends_at, ends_without}
-use Rattle.spec_theorems.specs.CallsLaws.{BuildAnswers, build_room_lem, build_sheet, build_tree, build_answers, build_answers_only, build_writes, build_file, build_refused_writes, fit_sheet, fit_panel, fit_type, fit_accepts, fit_accepts_only, walk_room_lem, walk_tree, walk_panel, walk_reached, walk_without, walk_writes, walk_ends, walk_refused_writes, room_enough, text_panel, text_none, text_answers}
+use Rattle.spec_theorems.specs.FirstMatches.{first_or_none}
+use Rattle.spec_theorems.specs.CallsLaws.{BuildAnswers, build_room_lem, build_sheet, build_tree, build_answers, build_answers_only, build_writes, build_file, build_refused_writes, fit_sheet, fit_panel, fit_type, fit_accepts, fit_accepts_only, walk_room_lem, walk_tree, walk_panel, walk_ends, walk_refused_writes, room_enough, text_panel, text_none, text_answers}
 
 -- ======== 1. First match: a sheet that builds, a panel that fits it, the walk of the tree file
-module _ (s v : List ℕ) (b : Builds s) (f : Fits s v) where
-  -- the walk answers what the sheet means on the panel: the first clause that matches, with what its pattern gives each of its names, in
-  -- whatever order, or No leaf where none matches
-  pub the_walk_is_the_meaning : SameAnswer (walk (tree_of (sheet_tree_file s)) v) (meaning s v)
-  unfolding meaning sheet_tree
-  the_walk_is_the_meaning =
-      rw (sheet_file_read s b.sheet, whole_tree_walk (sheet_patterns s) v) (sheet_first_match s v b.sheet f.type)
-
-  -- 32 is not given
-  pub the_walk_is_not_stuck : walk (tree_of (sheet_tree_file s)) v ≡ stuck → ⊥
-  the_walk_is_not_stuck e = rw e at the_walk_is_the_meaning
-
-  -- it ends at a leaf of the first clause that matches, with exactly its names, each once, each at the position that the pattern gives it
-  pub the_walk_ends_at_the_first_match : (c : ℕ) → FirstMatch s v c → EndsAt s v c (walk (tree_of (sheet_tree_file s)) v)
-  the_walk_ends_at_the_first_match c l =
-      ends_at s v (accepted_sheet s b.sheet) (walk (tree_of (sheet_tree_file s)) v) c l the_walk_is_the_meaning
-
-  -- if no clause matches, it ends without a leaf
-  pub the_walk_ends_without_leaf : NoMatch s v → walk (tree_of (sheet_tree_file s)) v ≡ no_leaf
-  the_walk_ends_without_leaf none =
-      ends_without s v (accepted_sheet s b.sheet) (walk (tree_of (sheet_tree_file s)) v) none the_walk_is_the_meaning
-
-  -- the same of the call
-  module _ (n : ℕ) (room : bound_room ≤ n) where
-    pub the_call_answers_the_first_match : (c : ℕ) → FirstMatch s v c
-        → walk_answer (sheet_tree_file s) v n ≡ answers (leaf_of c (length (names (clause_pattern s c))))
-    the_call_answers_the_first_match c l =
-        let e = the_walk_ends_at_the_first_match c l in
-        walk_reached (sheet_tree_file s) v n room (sheet_file_fits s b.sheet) f.panel c e.bounds e.at_leaf
-        ∙ ap (λ k. answers (leaf_of c k)) e.as_many
-
-    pub the_call_answers_without_leaf : NoMatch s v → walk_answer (sheet_tree_file s) v n ≡ answers without_leaf
-    the_call_answers_without_leaf none =
-        walk_without (sheet_tree_file s) v n room (sheet_file_fits s b.sheet) f.panel (the_walk_ends_without_leaf none)
-
-    -- "(name, record, dropped) for each binding", and zeros after them
-    pub the_call_writes_the_first_match : (c : ℕ) (l : FirstMatch s v c)
-        → (walk_call (sheet_tree_file s) v n).bound ≡ bound_words (the_walk_ends_at_the_first_match c l).bounds ++ zeros (n - 3 * length (names (clause_pattern s c)))
-    the_call_writes_the_first_match c l =
-        let e = the_walk_ends_at_the_first_match c l in
-        walk_writes (sheet_tree_file s) v n room (sheet_file_fits s b.sheet) f.panel c e.bounds e.at_leaf
-        ∙ ap (λ k. bound_words e.bounds ++ zeros (n - 3 * k)) e.as_many
-
 -- one of the two is the case
 pub a_clause_matches_or_none : (s v : List ℕ) → ((c : ℕ) × FirstMatch s v c) ⊎ NoMatch s v
 a_clause_matches_or_none = first_or_none
 
 -- ======== 2. Hoisting
 module _ (s : List ℕ) (b : Builds s) (c : ℕ) (l : c < clauses s) where
-  pub each_clause_has_a_leaf : has_leaf c (sheet_tree s) ≡ true
-  each_clause_has_a_leaf = ((tree_accepted (clauses s) (sheet_tree s)).0 b.tree).1 c l
-
-  -- each clause of such a sheet is hoisted exactly once
-  pub each_clause_is_hoisted_once : hoists_of c (sheet_tree s) ≡ 1
-  unfolding sheet_tree bit
-  each_clause_is_hoisted_once =
-      whole_tree_once (sheet_patterns s) c (omega (arith, length_sheet_patterns s))
-      ∙ ap bit (sym (whole_tree_has_leaf (sheet_patterns s) c) ∙ each_clause_has_a_leaf)
-
-  -- and above all its leaves: going down from the root none of them is met before the hoist
+  -- each clause is hoisted above all its leaves: going down from the root none of them is met before the hoist
   pub each_clause_is_hoisted_above_its_leaves : Above c (sheet_tree s)
   unfolding sheet_tree
   each_clause_is_hoisted_above_its_leaves = whole_tree_above (sheet_patterns s) c (omega (arith, length_sheet_patterns s))
@@ -129,37 +74,8 @@ pub idle_exactly : (s : List ℕ) (c : ℕ)
 idle_exactly s c = refusal_14 (clauses s) (sheet_tree s) c
 
 -- ======== 3. The file says the tree
-module _ (s : List ℕ) (h : verdict s ≡ accepted) where
-  -- the written file passes the reader's conditions: 31 is not given
-  pub the_file_fits : tree_fits (sheet_tree_file s) ≡ true
-  the_file_fits = sheet_file_fits s h
-
-  -- reading it gives the tree back: node for node, cases, bindings, paths
-  pub the_file_says_the_tree : tree_of (sheet_tree_file s) ≡ sheet_tree s
-  the_file_says_the_tree = sheet_file_read s h
-
-module _ (s : List ℕ) (b : Builds s) where
-  -- it is under 65,536 bytes long, so that the least room of the tree buffer is enough
-  pub the_file_is_small : length (sheet_tree_file s) < tree_room
-  the_file_is_small = sheet_file_small s b
-
-  -- it is bytes if the sheet is
-  pub the_file_is_bytes : Bytes s → Bytes (sheet_tree_file s)
-  the_file_is_bytes = sheet_file_bytes s b
-
--- what the build answers is the file's length and the records written; and so many bytes of the tree buffer are the file
+-- so many bytes of the tree buffer as the build answers are the file
 module _ (s : List ℕ) (n m : ℕ) (x : Built) (e : build_answer s n m ≡ answers x) where
-  pub the_answer_tells_the_file : TellsTheFile s x
-  unfolding built_of
-  the_answer_tells_the_file =
-      let o = build_answers_only s n m x e in
-      record {
-        bytes_told = ap (λ (y : Built). y.bytes) o.is;
-        bytes_few = omega (arith, ap (λ (y : Built). y.bytes) o.is, sheet_file_small s o.builds);
-        nodes_told = ap (λ (y : Built). y.nodes) o.is ∙ sym (sheet_file_nodes s);
-        bindings_told = ap (λ (y : Built). y.bindings) o.is ∙ sym (sheet_file_bindings s);
-      }
-
   pub the_buffer_has_the_file : text_at (build_call s n m).tree 0 x.bytes ≡ sheet_tree_file s
   the_buffer_has_the_file = build_file s n m x e
 
@@ -260,9 +176,6 @@ module _ (s : List ℕ) where
 
 -- of a tree of n clauses; 14 is `idle_exactly`
 module _ (n : ℕ) (a : Tree) where
-  pub tree_accepted_exactly : (tree_verdict n a ≡ accepted) ↔ Passes14 n a
-  tree_accepted_exactly = tree_accepted n a
-
   pub refused_12_to_14 : (m k : ℕ) → tree_verdict n a ≡ refused m k → (12 ≤ m) × (m ≤ 14)
   refused_12_to_14 = tree_numbers n a
 
@@ -362,10 +275,6 @@ module _ (v : List ℕ) (place dropped : ℕ) where
 
 -- ======== 6. The walk reads only what fits: any tree and any panel that their readers accept
 module _ (t v : List ℕ) (panel : panel_verdict v ≡ accepted) where
-  -- every position that the walk answers is one of the panel
-  pub each_position_is_in_the_panel : (c : ℕ) (xs : List Bound) → walk (tree_of t) v ≡ reached c xs → All (λ b. InPanel v b.position) xs
-  each_position_is_in_the_panel = walk_in_panel v (accepted_panel v panel) (tree_of t)
-
   module _ (fits : tree_fits t ≡ true) where
     -- at most 192 names are bound, and so the least room of the binding buffer is enough
     pub few_are_bound : (c : ℕ) (xs : List Bound) → walk (tree_of t) v ≡ reached c xs → length xs ≤ node_bindings_most

@@ -1,2 +1,2 @@
-// Theorems about the definitions of spec_rules: this crate is its specs/.
+// Theorems about the definitions of spec_rules: this crate is its specs/ and proofs/.
 #![tactic(auto)]

@@ -22,7 +22,7 @@ use Rattle.spec_forgotten.specs.Choosing.{Chosen, by_test, by_length, Node, node
 use Rattle.spec_forgotten.specs.Shapes.{possible}
 use Rattle.spec_forgotten.specs.Search.{Came, onward, if_so, reach}
 use Rattle.spec_forgotten.specs.ChildrenLaws.{CaseOf, ChildOf, child_within, default_within}
-use Rattle.spec_forgotten.specs.SearchLaws.{no_came, not_itself, ReachedAt, here, by_child, by_default, reached_at, reach_child, reach_default, onward_some}
+use Rattle.spec_forgotten.proofs.SearchLaws.{no_came, not_itself, ReachedAt, here, by_child, by_default, reached_at, reach_child, reach_default, onward_some}
 
 -- the tests of a way before those of a further one
 unfoldable pub after : List Passed → Option Came → Option Came

@@ -18,7 +18,7 @@ use Rattle.spec_file.specs.FileLaws.{Filed, tree_filed}
 use Rattle.spec_file.specs.Writable.{steps_in, present, Writable}
 use Rattle.spec_file.specs.TableLaws.{steps_keep_rules, paths_keep_rules, bindings_keep_rules}
 use Rattle.spec_file.specs.PlacedLaws.{root_placed, table_read}
-use Rattle.spec_file.specs.RulesLaws.{Keeps, tree_keeps_rules}
+use Rattle.spec_file.proofs.RulesLaws.{Keeps, tree_keeps_rules}
 use Rattle.spec_file.specs.OrderLaws.{nodes_in_order}
 
 whole : (size from to : ℕ) → from ≤ to → (to - from) % size ≡ 0 → whole_records size from to ≡ true

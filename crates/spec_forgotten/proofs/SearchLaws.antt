@@ -24,7 +24,8 @@ use Rattle.spec_forgotten.specs.ReachingLaws.{no_node_there}
 use Rattle.spec_forgotten.specs.NodesFit.{NodeFits}
 use Rattle.spec_forgotten.specs.FallingLaws.{Tested, Child, child, Rest, rest, Goes, goes_hoist, goes_out, goes_case, goes_on, node_tested, hoist_tested}
 use Rattle.spec_forgotten.specs.Shapes.{shape_of, choose_in, branch_is, possible}
-use Rattle.spec_forgotten.specs.ShapesLaws.{possible_taken, taken_possible}
+use Rattle.spec_forgotten.specs.ShapesLaws.{taken_possible}
+use Rattle.spec_forgotten.proofs.ShapesLaws.{possible_taken}
 use Rattle.spec_forgotten.specs.Search.{Came, onward, if_so, reach, reach_in, path_of, lacks_default, falls_out}
 use Rattle.spec_forgotten.specs.ChildrenLaws.{CaseOf, case_within, ChildOf, one_child, chosen_child, node_chooses, node_path, child_within, default_within}
 

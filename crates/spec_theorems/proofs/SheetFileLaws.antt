@@ -10,13 +10,13 @@ use Rattle.spec_rules.specs.TreeReader.{nodes, bindings, tree_fits, tree_of}
 use Rattle.spec_rules.specs.Calls.{sheet_tree, sheet_tree_file}
 use Rattle.spec_accepted.specs.SheetFacts.{accepted_sheet}
 use Rattle.spec_file.specs.FileLaws.{file_nodes, file_bindings}
-use Rattle.spec_file.specs.ReadLaws.{file_read}
-use Rattle.spec_file.specs.FitsLaws.{file_fits}
-use Rattle.spec_file.specs.BoundLaws.{file_small}
-use Rattle.spec_file.specs.BytesLaws.{file_bytes}
+use Rattle.spec_file.proofs.ReadLaws.{file_read}
+use Rattle.spec_file.proofs.FitsLaws.{file_fits}
+use Rattle.spec_file.proofs.BoundLaws.{file_small}
+use Rattle.spec_file.proofs.BytesLaws.{file_bytes}
 use Rattle.spec_theorems.specs.Said.{Builds}
 use Rattle.spec_theorems.specs.Refusals.{tree_accepted}
-use Rattle.spec_theorems.specs.BuiltTree.{sheet_present, sheet_writable, sheet_in_words, sheet_bounded, pool_bytes}
+use Rattle.spec_theorems.proofs.BuiltTree.{sheet_present, sheet_writable, sheet_in_words, sheet_bounded, pool_bytes}
 
 module _ (s : List ℕ) (h : verdict s ≡ accepted) where
   pub sheet_file_fits : tree_fits (sheet_tree_file s) ≡ true

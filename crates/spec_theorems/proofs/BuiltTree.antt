@@ -29,9 +29,11 @@ use Rattle.spec_match.specs.Lists.{all_append}
 use Rattle.spec_match.specs.Leaves.{AllLeaves, AllLeavesOf}
 use Rattle.spec_match.specs.SheetColumns.{sheet_resolved}
 use Rattle.spec_theorems.specs.Stands.{Used, sheet_paths, length_sheet_paths, used_among, used_short, name_small, used_small}
-use Rattle.spec_theorems.specs.SheetPatterns.{FieldA, sheet_everywhere}
+use Rattle.spec_theorems.specs.SheetPatterns.{FieldA}
+use Rattle.spec_theorems.proofs.SheetPatterns.{sheet_everywhere}
 use Rattle.spec_theorems.specs.Formed.{OneKind, Formed, FormedOf, NumberOf, CaseOf, plain_formed}
-use Rattle.spec_theorems.specs.SheetLeaves.{whole_unhoisted, length_sheet_patterns, BindingOf, LeafFine, leaves_fine, hoists_fine}
+use Rattle.spec_theorems.specs.SheetLeaves.{whole_unhoisted, length_sheet_patterns, BindingOf, LeafFine}
+use Rattle.spec_theorems.proofs.SheetLeaves.{leaves_fine, hoists_fine}
 
 -- ---- the pool of a sheet of bytes is bytes
 pub pool_bytes : (s : List ℕ) → AllBytes s → AllBytes (pool s)

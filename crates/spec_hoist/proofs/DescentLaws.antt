@@ -17,8 +17,9 @@ use Rattle.spec_rules.specs.Building.{Tree, Cases, absent, leaf, hoist, switch, 
 use Rattle.spec_rules.specs.Hoisting.{Place, Fallback, Case, under, how_many, visits, scope, first_bindings, Hoist, hoists, is_at, wrap, hoisted, hoisted_of, hoist_all, nodes_in, bindings_in, has_leaf}
 use Rattle.spec_hoist.specs.Trees.{sum}
 use Rattle.spec_hoist.specs.Scopes.{has_scope, later, last_leaf, last_leaf_of, is_clause, beneath, merge, noted, scope_in, scope_in_of}
-use Rattle.spec_hoist.specs.ScopesLaws.{scope_is, noted_step, merge_step, merge_none, beneath_step, beneath_none, scope_in_of_step}
-use Rattle.spec_hoist.specs.IdleLaws.{has_scope_scope_in}
+use Rattle.spec_hoist.specs.ScopesLaws.{noted_step, merge_step, merge_none, beneath_step, beneath_none, scope_in_of_step}
+use Rattle.spec_hoist.proofs.ScopesLaws.{scope_is}
+use Rattle.spec_hoist.proofs.IdleLaws.{has_scope_scope_in}
 use Rattle.spec_hoist.specs.Descent.{cases_with, children_with, is_scope, here, further, wrap_by, hoist_by, hoist_by_of}
 
 -- ---- when the root is the scope

@@ -1,6 +1,6 @@
 -- The file of a writable tree is bytes, where its numbers are those that two bytes hold and it is under 65,536 bytes long.
 -- Rests on the laws of its length; the counts that are written are bounded by the length.
-use Rattle.std.specs.Prelude.{◌≡◌, refl, Bool, true, false, ℕ, zero, suc, ◌+◌, ◌*◌, ◌/◌, ◌%◌, ◌≤◌, ◌<◌, length, get_or}
+use Rattle.std.specs.Prelude.{◌≡◌, refl, Bool, true, false, ℕ, zero, suc, ◌+◌, ◌/◌, ◌%◌, ◌≤◌, ◌<◌, length, get_or}
 use mathlib.Core.List.{List, [], ◌∷◌, ◌++◌}
 use Rattle.std.proofs.Common.{arith, length-append}
 use Rattle.base_words.specs.Words.{word_bytes, Bytes as AllBytes}
@@ -15,7 +15,7 @@ use Rattle.spec_file.specs.PathsLaws.{is_among_first, is_among_rest, path_number
 use Rattle.spec_file.specs.SectionsLaws.{trailer_size, file_sections}
 use Rattle.spec_file.specs.FileLaws.{file_length}
 use Rattle.spec_file.specs.Writable.{steps_in, TextStarts, Writable, WritableOf, SmallStep, SmallPath, SmallNames, SmallTest, SmallNumbers, SmallNumbersOf, InWords}
-use Rattle.spec_file.specs.RulesLaws.{default_inside}
+use Rattle.spec_file.proofs.RulesLaws.{default_inside}
 use Rattle.spec_file.specs.BoundLaws.{table_used}
 
 -- ---- bytes of parts

@@ -16,11 +16,12 @@ use Rattle.spec_accepted.specs.SheetFacts.{Accepted}
 use Rattle.spec_match.specs.ColumnTypes.{type_after}
 use Rattle.spec_forgotten.specs.Values.{Value, of_type, Passed, Ended, at_clause, without, stuck_on, no_node, walk_on}
 use Rattle.spec_forgotten.specs.Forgetting.{NoHollow}
-use Rattle.spec_forgotten.specs.SheetTested.{OfSheet, root_columns, root_has, tree_tested, only_goes, goes_out_there}
-use Rattle.spec_forgotten.specs.SomewhereLaws.{walk_somewhere}
+use Rattle.spec_forgotten.specs.SheetTested.{OfSheet, root_columns, root_has}
+use Rattle.spec_forgotten.proofs.SheetTested.{tree_tested, only_goes, goes_out_there}
+use Rattle.spec_forgotten.proofs.SomewhereLaws.{walk_somewhere}
 use Rattle.spec_forgotten.specs.NeverStuckLaws.{walk_not_stuck}
 use Rattle.spec_forgotten.specs.Search.{Came, reach, falls_out, lowest_gap, way_of, way_to}
-use Rattle.spec_forgotten.specs.SearchLaws.{Finds, goes_reached, reached_goes}
+use Rattle.spec_forgotten.proofs.SearchLaws.{Finds, goes_reached, reached_goes}
 
 module _ (s : List ℕ) (a : Accepted s) (bytes : Bytes s) where
   module _ (b : Tree) (is : OfSheet s b) where

@@ -12,8 +12,9 @@ use Rattle.spec_rules.specs.Building.{Tree, Cases, absent, leaf, hoist, switch, 
 use Rattle.spec_rules.specs.Hoisting.{Place, Fallback, Case, under, Visit, how_many, visits, scope, Hoist, hoists, is_at, wrap, hoisted, hoisted_of, hoist_all, has_leaf, has_leaf_of}
 use Rattle.spec_hoist.specs.Trees.{Above, AboveOf}
 use Rattle.spec_hoist.specs.Scopes.{has_scope, later, last_leaf, last_leaf_of, is_clause, beneath, merge, scope_in, scope_in_of}
-use Rattle.spec_hoist.specs.ScopesLaws.{scope_is, noted_root, noted_step, merge_step, merge_none, beneath_step, beneath_none}
-use Rattle.spec_hoist.specs.IdleLaws.{has_scope_scope_in, has_scope_scope_in_of}
+use Rattle.spec_hoist.specs.ScopesLaws.{noted_root, noted_step, merge_step, merge_none, beneath_step, beneath_none}
+use Rattle.spec_hoist.proofs.ScopesLaws.{scope_is}
+use Rattle.spec_hoist.proofs.IdleLaws.{has_scope_scope_in, has_scope_scope_in_of}
 use Rattle.spec_hoist.specs.UnhoistedLaws.{has_leaf_hoisted_at, has_leaf_of_hoisted_at}
 
 -- ---- where no hoist is needed

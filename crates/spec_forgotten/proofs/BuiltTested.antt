@@ -15,7 +15,8 @@ use Rattle.spec_rules.specs.Patterns.{Pat, discard, variable, assign, integer, b
 use Rattle.spec_rules.specs.Rows.{Step, Path, same_path, Row}
 use Rattle.spec_rules.specs.Columns.{union, without, test_at, choice}
 use Rattle.spec_rules.specs.Splitting.{Test, Constr, Int, Bytes, ListOf, ListWithTail, column, Met, is_met, cases_of, covers, case_rows, case_opens, default_rows}
-use Rattle.spec_rules.specs.SplittingLaws.{All, any_covers, case_covered, same_test_sound}
+use Rattle.spec_rules.specs.SplittingLaws.{All, any_covers, same_test_sound}
+use Rattle.spec_rules.proofs.SplittingLaws.{case_covered}
 use Rattle.spec_rules.specs.Building.{Tree, Cases, absent, leaf, hoist, switch, listswitch, leaf_of, is_list, has_list}
 use Rattle.spec_rules.specs.Hoisting.{how_many, nodes_in, nodes_in_of}
 use Rattle.spec_accepted.specs.SheetFacts.{Typed}
@@ -34,7 +35,7 @@ use Rattle.spec_forgotten.specs.TypedPartsLaws.{part_type, type_along, part_type
 use Rattle.spec_forgotten.specs.Choosing.{Chosen, by_test, by_length, Node, node_of}
 use Rattle.spec_forgotten.specs.OpenedParts.{stands_under, led_typed, legal_there, Takes, case_plain, case_there}
 use Rattle.spec_forgotten.specs.KnownTypes.{after_known, TestOf, case_known}
-use Rattle.spec_forgotten.specs.SomewhereLaws.{walk_somewhere}
+use Rattle.spec_forgotten.proofs.SomewhereLaws.{walk_somewhere}
 use Rattle.spec_forgotten.specs.CasesFound.{lookup_found, each_met, shows_takes, by_test_lem, ByLength, exactly, at_least, by_length_lem}
 use Rattle.spec_forgotten.specs.NodesFit.{MayShow, NodeFits}
 use Rattle.spec_forgotten.specs.MatrixLaws.{texts_fit, all_without, Kept, Good, NewIn, new_columns, good_case, good_default, column_kept}

@@ -24,21 +24,23 @@ use Rattle.spec_match.specs.Answers.{SameAnswer}
 use Rattle.spec_match.specs.Typing.{sheet_first_match}
 use Rattle.spec_match.specs.ColumnTypes.{type_after}
 use Rattle.spec_theorems.specs.SheetLeaves.{length_sheet_patterns}
-use Rattle.spec_theorems.specs.BuiltTree.{paths_most}
+use Rattle.spec_theorems.proofs.BuiltTree.{paths_most}
 use Rattle.spec_forgotten.specs.Values.{Passed, Ended, at_clause, without, stuck_on, no_node, walk_on}
 use Rattle.spec_forgotten.specs.Forgetting.{Forgotten, LowestForgotten, Covered, LowestHollow, NoHollow}
 use Rattle.spec_forgotten.specs.ForgettingSaid.{NeverStuck, OneWay, SwitchWithoutDefault, WayInTheFile, FewTests, ForgottenOrCovered, HollowOrFilled, HollowOrNone, FitsByValue, WalksAgree, CoveredPanelsHaveALeaf}
-use Rattle.spec_forgotten.specs.SheetTested.{OfSheet, root_columns, tree_tested, only_goes, sheet_tree_is}
+use Rattle.spec_forgotten.specs.SheetTested.{OfSheet, root_columns, sheet_tree_is}
+use Rattle.spec_forgotten.proofs.SheetTested.{tree_tested, only_goes}
 use Rattle.spec_forgotten.specs.Search.{lowest_gap, way_to}
 use Rattle.spec_forgotten.specs.FewTestsLaws.{few_on_the_way}
-use Rattle.spec_forgotten.specs.SomewhereLaws.{walk_somewhere}
+use Rattle.spec_forgotten.proofs.SomewhereLaws.{walk_somewhere}
 use Rattle.spec_forgotten.specs.PanelFitsLaws.{panel_fits_by_value}
-use Rattle.spec_forgotten.specs.PanelWalksLaws.{EndsAlike, walks_alike}
+use Rattle.spec_forgotten.specs.PanelWalksLaws.{EndsAlike}
+use Rattle.spec_forgotten.proofs.PanelWalksLaws.{walks_alike}
 use Rattle.spec_forgotten.specs.PanelValues.{panel_value}
 use Rattle.spec_forgotten.specs.Marking.{hollow_type}
-use Rattle.spec_forgotten.specs.MarkingLaws.{filled_or_hollow, hollow_is_lowest, none_is_filled}
+use Rattle.spec_forgotten.proofs.MarkingLaws.{filled_or_hollow, hollow_is_lowest, none_is_filled}
 use Rattle.spec_forgotten.specs.FileWaysLaws.{goes_file_way, way_ends}
-use Rattle.spec_forgotten.specs.FoundLaws.{FallsAt, tree_one_way, search_covers, search_lowest, search_sound, tree_never_stuck}
+use Rattle.spec_forgotten.proofs.FoundLaws.{FallsAt, tree_one_way, search_covers, search_lowest, search_sound, tree_never_stuck}
 
 module _ (s : List ℕ) (h : verdict s ≡ accepted) (bytes : Bytes s) where
   a : Accepted s

@@ -12,8 +12,9 @@ use Rattle.spec_rules.specs.Building.{Tree, Cases, absent, leaf, hoist, switch, 
 use Rattle.spec_rules.specs.Hoisting.{Place, Fallback, Case, under, how_many, visits, scope, first_bindings, Hoist, hoists, is_at, wrap, hoisted, hoisted_of, hoist_all, nodes_in, has_leaf}
 use Rattle.spec_hoist.specs.Trees.{Plain, PlainOf, over_hoists, over_hoists_of, hoists_of, over_places, over_places_of, nodes_at, sum}
 use Rattle.spec_hoist.specs.Scopes.{has_scope, later, last_leaf, last_leaf_of, is_clause, beneath, merge, scope_in, scope_in_of}
-use Rattle.spec_hoist.specs.ScopesLaws.{scope_is, noted_root, noted_step, merge_step, beneath_step, scope_in_of_step}
-use Rattle.spec_hoist.specs.IdleLaws.{has_scope_scope}
+use Rattle.spec_hoist.specs.ScopesLaws.{noted_root, noted_step, merge_step, beneath_step, scope_in_of_step}
+use Rattle.spec_hoist.proofs.ScopesLaws.{scope_is}
+use Rattle.spec_hoist.proofs.IdleLaws.{has_scope_scope}
 use Rattle.spec_hoist.specs.UnhoistedLaws.{nodes_in_added}
 
 -- ---- sums over places

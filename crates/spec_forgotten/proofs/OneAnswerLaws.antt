@@ -9,8 +9,8 @@ use Rattle.spec_rules.specs.Calls.{Answer, answers, refuses, written, sheet_tree
 use Rattle.spec_forgotten.specs.Values.{Passed}
 use Rattle.spec_forgotten.specs.Forgetting.{report_room, LowestForgotten, LowestHollow, NoHollow, ForgottenRefuses, for_room, before_15, for_hollow, after_15, for_the_tree, Asked, Report, gap, ForgottenAnswers, is_covered, is_forgotten, is_refused, reported}
 use Rattle.spec_forgotten.specs.ForgettingSaid.{OneAnswer}
-use Rattle.spec_forgotten.specs.MarkingLaws.{not_both, one_lowest}
-use Rattle.spec_forgotten.specs.ForgettingTheorems.{one_way_holds}
+use Rattle.spec_forgotten.proofs.MarkingLaws.{not_both, one_lowest}
+use Rattle.spec_forgotten.proofs.ForgettingTheorems.{one_way_holds}
 
 -- ---- verdicts
 not_refused : (v : Verdict) (number place : ℕ) → v ≡ accepted → v ≡ refused number place → ⊥

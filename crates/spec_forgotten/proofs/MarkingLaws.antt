@@ -13,12 +13,12 @@ use Rattle.std.proofs.Math.Dec.{ltb}
 use borrow.Author.Tests.{ltb-true, ltb-false}
 use Rattle.base_words.specs.Words.{both, either}
 use Rattle.base_words.specs.WordsLaws.{both_true, both_make, either_true, either_first_true, either_second_true}
-use Rattle.spec_rules.specs.Searching.{lowest, times}
+use Rattle.spec_rules.specs.Searching.{times}
 use Rattle.spec_rules.specs.SearchingLaws.{first_or_rest, lowest_none, lowest_some, times_most, times_some}
 use Rattle.spec_rules.specs.SheetFile.{types}
 use Rattle.spec_accepted.specs.SheetFacts.{Typed}
 use Rattle.spec_forgotten.specs.Forgetting.{Filled, Hollow, LowestHollow, NoHollow}
-use Rattle.spec_forgotten.specs.FillingLaws.{fills_filled, unmarked_hollow}
+use Rattle.spec_forgotten.proofs.FillingLaws.{fills_filled, unmarked_hollow}
 use Rattle.spec_forgotten.specs.KnownTypes.{parts_known}
 use Rattle.spec_forgotten.specs.Marking.{fills, is_marked, marks_by, round, added, rounds_to, filled_types, hollow_type}
 
