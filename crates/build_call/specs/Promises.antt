@@ -1,5 +1,4 @@
--- What the contracts say more than once, in a word each. GivesTree and GivesAnswer take the tree buffer before and
--- after.
+-- What the contracts say more than once, in a word each. GivesTree and GivesAnswer take the tree buffer before and after.
 use Rattle.std.specs.Prelude.{◌≡◌, List, ℕ, ◌≤◌, length}
 use Rattle.base_words.specs.Words.{zeros}
 use Rattle.spec_rules.specs.Limits.{tree_room}

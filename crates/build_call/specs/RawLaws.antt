@@ -19,7 +19,6 @@ use Rattle.spec_rules.specs.SheetFile.{clauses, patterns, pool}
 use Rattle.spec_rules.specs.SheetRefusals.{accepted, refused, verdict}
 use Rattle.spec_rules.specs.Patterns.{names, clause_pattern}
 use Rattle.spec_rules.specs.Rows.{Path}
-use Rattle.spec_rules.specs.Building.{leaf}
 use Rattle.spec_rules.specs.Hoisting.{has_leaf, first_bindings, nodes_in, bindings_in, hoist_all, whole_tree}
 use Rattle.spec_rules.specs.TreeFile.{cases_in, path_table, tree_file}
 use Rattle.spec_rules.specs.Calls.{answers, refuses, written, built_of, sheet_patterns, sheet_tree, sheet_tree_file, lowest_idle, tree_verdict}

@@ -12,7 +12,7 @@ use Rattle.base_words.specs.WordsLaws.{word_at_small}
 use Rattle.spec_rules.specs.Kinds.{integer_pattern, byte_string_pattern, list_pattern, list_with_tail_pattern, constructor_pattern, constr_case, int_case, bytes_case, list_case, list_with_tail_case}
 use Rattle.spec_rules.specs.SheetFile.{pattern_kind, pattern_a, pattern_first, pattern_count, pool_text, pool_size, type_first, constructor_first}
 use Rattle.spec_rules.specs.Patterns.{PatternKind, Integer, ByteString, ListOfAll, ListWithRest, Constructor, pattern_kind_of, Mark, Pat, Pats, integer, bytestring, listed, tailed, constructor, many, one_constructor, decorated, constructor_of, along, of_kind, of_constructor, pattern}
-use Rattle.spec_rules.specs.Splitting.{Test, ListOf, Met, rising, joined, text_start, tailless_length, tailed_length, larger, longest, meet}
+use Rattle.spec_rules.specs.Splitting.{ListOf, Met, rising, joined, text_start, tailless_length, tailed_length, larger, longest, meet}
 use Rattle.spec_match.specs.Depth.{is_tail, is_exact}
 use Rattle.spec_accepted.specs.SheetFacts.{Accepted}
 use Rattle.spec_accepted.specs.PatternsLaws.{pattern_of_kind, many_along}

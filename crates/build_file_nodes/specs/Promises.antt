@@ -1,5 +1,5 @@
--- What the contracts say more than once, in a word each: the path numbers and the file so far, in parameters that are lent. Each takes
--- what these hold; before is at a function's entry, after at its exit.
+-- What the contracts say more than once, in a word each: the path numbers and the file so far, in parameters that are lent. Each takes what
+-- these hold; before is at a function's entry, after at its exit.
 use Rattle.std.specs.Prelude.{List, ℕ}
 use Rattle.build_file_nodes.specs.declared.Tops.{Tops}
 use Rattle.build_file_nodes.specs.Uses.{Uses, uses_of}

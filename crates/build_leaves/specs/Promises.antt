@@ -1,4 +1,4 @@
--- What the contracts say more than once, in a word, which takes the lent parameters themselves, at entry and at exit.
+-- What the contracts say more than once, in a word: the sheet, and the work buffer before and after.
 use Rattle.std.specs.Prelude.{◌≡◌, List, ℕ}
 use Rattle.build_leaves.specs.Bindings.{bound, bound_all}
 

@@ -35,7 +35,6 @@ use Rattle.build_matrix.specs.HeldRows.{held_tests}
 use Rattle.build_matrix.specs.Matrices.{rows_at}
 use Rattle.build_matrix.specs.MatricesLaws.{column_is}
 use Rattle.build_matrix.specs.TreesLaws.{FirstTest, rows_tests, chosen_first, some_tree, no_tree, case_some, chosen_there, chosen_room, chosen_class, tree_switch, sound_default, sound_case}
-use Rattle.format_records.specs.declared.reading.Test.{Test}
 use Rattle.build_cases.specs.PassesLaws.{sorts_length}
 use Rattle.build_nodes.specs.CasesLaws.{There}
 use Rattle.build_nodes.specs.SwitchLaws.{in_order}

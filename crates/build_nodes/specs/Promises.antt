@@ -1,5 +1,5 @@
--- What the contracts say at length or more than once, in a word each. Those that begin with what is done take the lent parameters
--- themselves, and speak of them at entry and at exit.
+-- What the contracts say at length or more than once, in a word each. Those that begin with what is done take what lent
+-- parameters hold before and after.
 use Rattle.std.specs.Prelude.{List, ℕ, ◌-◌}
 use Rattle.base_words.specs.Words.{pick}
 use Rattle.spec_rules.specs.Kinds.{list_switch_node, switch_node}

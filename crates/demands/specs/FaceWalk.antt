@@ -11,13 +11,13 @@ use Rattle.spec_rules.specs.RefusalNumbers.{room_refusal, panel_length_refusal, 
 use Rattle.spec_rules.specs.SheetRefusals.{Verdict, accepted, refused, require}
 use Rattle.spec_rules.specs.PanelFile.{panel_verdict, panel_length_fits, panel_layout_fits, panel_shape_fits, panel_texts_fit}
 use Rattle.spec_rules.specs.TreeReader.{tree_fits, tree_of, node_word, node_clause}
-use Rattle.spec_rules.specs.Walking.{Bound, Walked, reached, no_leaf, stuck, walk}
+use Rattle.spec_rules.specs.Walking.{Walked, reached, no_leaf, stuck, walk}
 use Rattle.spec_rules.specs.WalkPlaces.{last_node, stuck_step}
 use Rattle.spec_rules.specs.Calls.{Answer, answers, refuses, WalkEnd, stuck_at, walk_answer, walk_call}
 use Rattle.spec_theorems.specs.CallsLaws.{walk_room_lem, walk_tree, walk_panel, walk_reached, walk_without, walk_stuck, walk_refused_writes, walk_stuck_writes}
 use Rattle.spec_theorems.specs.Theorems.{few_are_bound, the_leaf_is_there, the_place_is_short}
 use Rattle.dewmycel.specs.Packed.{packed_walk}
-use Rattle.dewmycel.specs.PackedLaws.{Refusal, read_walk, leaf_reads_back, no_leaf_reads_back, stuck_reads_back, unwalked_reads_back}
+use Rattle.dewmycel.specs.PackedLaws.{read_walk, leaf_reads_back, no_leaf_reads_back, stuck_reads_back, unwalked_reads_back}
 use Rattle.dewmycel.specs.Face.{WalkFace}
 use Rattle.demands.specs.Reasons.{WalkRefuses, WalkSticks}
 use Rattle.demands.specs.ReasonsLaws.{walk_reason, reason_walk, stuck_reason, reason_stuck}

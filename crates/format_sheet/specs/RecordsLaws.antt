@@ -3,7 +3,7 @@ use Rattle.std.specs.Prelude.{◌≡◌, List, ℕ, ◌+◌, ◌*◌, ◌≤◌,
 use Rattle.std.proofs.Common.{ap, ◌∙◌, arith}
 use Rattle.base_words.specs.Words.{word_at}
 use Rattle.spec_rules.specs.Limits.{type_size, constructor_size, entry_size, pattern_size, child_size, clause_size}
-use Rattle.spec_rules.specs.SheetFile.{types, constructors, entries, patterns, children, clauses, type_kind, type_flag, type_first, type_count, constructor_first, constructor_count, entry, pattern_kind, pattern_zero, pattern_a, pattern_first, pattern_count, child, root}
+use Rattle.spec_rules.specs.SheetFile.{types, constructors, entries, clauses, type_kind, type_flag, type_first, type_count, constructor_first, constructor_count, entry, pattern_kind, pattern_zero, pattern_a, pattern_first, pattern_count, child, root}
 use Rattle.spec_accepted.specs.SheetFacts.{Laid, type_inside, constructor_inside, entry_inside, clause_inside}
 use Rattle.format_sheet.specs.declared.SheetMap.{SheetMap}
 use Rattle.format_sheet.specs.declared.records.Run.{Run}

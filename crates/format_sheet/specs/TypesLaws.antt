@@ -5,7 +5,7 @@ use Rattle.std.proofs.Math.Bool.{true, false}
 use borrow.Author.Tests.{eq-eqb, ne_eqb}
 use Rattle.std.proofs.Math.Dec.{eqb}
 use Rattle.spec_rules.specs.Kinds.{data_type, opaque_flag}
-use Rattle.spec_rules.specs.SheetFile.{subject, types, constructors, entries, type_kind, type_flag, type_first, type_count, entry, run_in}
+use Rattle.spec_rules.specs.SheetFile.{subject, types, constructors, type_kind, type_flag, type_first, type_count, entry, run_in}
 use Rattle.spec_rules.specs.SheetRefusals.{type_parts, type_flags, type_keeps_rules, constructor_keeps_rules, entry_keeps_rules, transparent}
 use Rattle.spec_accepted.specs.SheetFacts.{Typed}
 use Rattle.format_sheet.specs.declared.SheetMap.{SheetMap}

@@ -8,15 +8,12 @@ use Prim.Native.Nat.{ℕ, zero, suc, ◌+◌, ◌-◌, ◌≤◌, ◌<◌}
 use native.Mathlib.Omega.{arith}
 use borrow.Author.Tests.{eq-eqb, ne_eqb}
 use Rattle.base_words.specs.Words.{pick, text_at}
-use Rattle.spec_rules.specs.Kinds.{integer_record, bytes_record, list_record, constructor_record, int_case, bytes_case, list_with_tail_case}
-use Rattle.spec_rules.specs.Searching.{lowest}
-use Rattle.spec_rules.specs.SearchingLaws.{lowest_some}
-use Rattle.spec_rules.specs.SheetRefusals.{is_in}
-use Rattle.spec_rules.specs.Splitting.{Test, Constr, ListOf, ListWithTail, same_test}
-use Rattle.spec_rules.specs.Building.{Tree, Cases, ccons}
+use Rattle.spec_rules.specs.Kinds.{integer_record, bytes_record, list_record, constructor_record, int_case, bytes_case}
+use Rattle.spec_rules.specs.Splitting.{Test, Constr, ListOf, ListWithTail}
+use Rattle.spec_rules.specs.Building.{Tree}
 use Rattle.spec_rules.specs.PanelFile.{record_kind, record_count}
-use Rattle.spec_rules.specs.TreeReader.{nodes, cases, node_kind, Switch, List_switch, Leaf, Hoist_node, case_kind, case_number, case_child, case_test, start_of_test, case_children, default_child, node_children, path_at, cases_for, default_for, node_for, tree_below, tree_of}
-use Rattle.spec_rules.specs.Walking.{Position as Place, panel_root, follow, bound, Walked, stuck, shown_at, length_at, test_kind, first_kind, of_this_kind, at_part, of_length, at_list, largest_tail, at_tail, if_same, walk, walk_cases}
+use Rattle.spec_rules.specs.TreeReader.{nodes, node_kind, Switch, List_switch, Leaf, Hoist_node, case_kind, case_child, case_children, default_child, node_children, path_at, cases_for, default_for, node_for, tree_below, tree_of}
+use Rattle.spec_rules.specs.Walking.{Position as Place, panel_root, follow, bound, Walked, stuck, shown_at, length_at, test_kind, of_this_kind, at_part, of_length, at_list, largest_tail, at_tail, walk, walk_cases}
 use Rattle.spec_rules.specs.WalkPlaces.{numbered, child_reached, goes_on_by_kind, goes_on, last_from, last_node, step_at_kind, stuck_step}
 use Rattle.spec_rules.specs.WalkPlacesLaws.{all_taken}
 use Rattle.spec_accepted.specs.KindsLaws.{byte_node}

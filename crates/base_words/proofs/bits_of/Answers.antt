@@ -1,5 +1,4 @@
 -- `base_words::bits_of` meets its contract. The loop's invariant: the bits of the first k bytes are found.
-use Prim.Native.Nat.{◌-◌}
 use native.Mathlib.Omega.{arith}
 use mathlib.Core.Path.{◌≡◌, sym, ap, ◌∙◌}
 use Rattle.base_words.specs.Words.{bits_at}

@@ -1,6 +1,5 @@
 -- `base_words::same_text` meets its contract. The loop's invariant: the texts agree at each of the first k bytes.
 -- Rests on the laws of texts that agree, and that differ at a byte.
-use Prim.Native.Nat.{◌-◌}
 use native.Mathlib.Omega.{arith}
 use mathlib.Core.Path.{sym}
 use borrow.Author.Count.{below_more}

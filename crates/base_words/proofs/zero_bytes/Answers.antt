@@ -1,5 +1,5 @@
 -- `base_words::zero_bytes` meets its contract. The loop's invariant: the first k of the bytes are 0, and all others as they were.
-use Prim.Native.Nat.{ℕ, ◌+◌, ◌-◌}
+use Prim.Native.Nat.{ℕ, ◌+◌}
 use native.Mathlib.Omega.{arith}
 use mathlib.Core.Path.{◌≡◌, refl, sym, ap, ◌∙◌}
 use Rattle.base_words.specs.Words.{zeros}

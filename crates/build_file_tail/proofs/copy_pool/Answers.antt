@@ -1,7 +1,6 @@
 -- `build_file_tail::copy_pool` meets its contract. The loop's invariant: the first i bytes of the pool are there, and the rest stored behind them is the whole.
 use Rattle.build_file_tail.specs.RecordsLaws.{pool_size_lem, pool_room, pool_text_lem}
 use Rattle.build_file_tail.specs.StoringLaws.{copied_none, copied_more, copied_all, puts_as}
-use Prim.Native.Nat.{◌-◌}
 use native.Mathlib.Omega.{arith}
 use Rattle.build_file_tail.proofs.copy_pool.Goals as goal
 

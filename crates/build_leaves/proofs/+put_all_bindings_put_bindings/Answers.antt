@@ -1,5 +1,5 @@
 use mathlib.Core.Path.{refl, ap, ◌∙◌}
-use Prim.Native.Nat.{◌+◌, ◌-◌}
+use Prim.Native.Nat.{◌+◌}
 use native.Mathlib.Omega.{arith}
 use Rattle.spec_rules.specs.SheetFile.{child}
 use Rattle.build_table.specs.Seen.{binds_of, binds_of_each}

@@ -1,6 +1,6 @@
 -- `leaf_bindings`: the bindings of the root, then those that each column tested opened.
 use mathlib.Core.Path.{refl, ◌∙◌}
-use Prim.Native.Nat.{◌+◌, ◌-◌}
+use Prim.Native.Nat.{◌+◌}
 use native.Mathlib.Omega.{arith}
 use Rattle.spec_rules.specs.SheetFile.{root}
 use Rattle.build_table.specs.Seen.{binds_of}

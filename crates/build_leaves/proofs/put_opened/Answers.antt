@@ -16,7 +16,7 @@ returns-then-cell-eq0 c =
 
 pub bounds-opened-p : goal.bounds-opened-p
 bounds-opened-p c =
-    let test_known : c.at-cell.result - 1 < patterns c.args.sheet.now = 
+    let test_known : c.at-cell.result - 1 < patterns c.args.sheet.now =
     cell_known c.args.sheet.now c.args.table.now c.requires.0.tabled c.args.c c.args.class c.requires.1 c.requires.2 c.at-cell.result c.at-cell.ensures c.if-cell-eq0.false in
     omega (arith, test_known, c.requires.0.checked.ok.is_counted.patterns_most_holds)
 
@@ -29,15 +29,15 @@ returns-then-wide-time c =
 
 pub children_of-run-requires : goal.children_of-run-requires
 children_of-run-requires c =
-    let test_known : c.at-cell.result - 1 < patterns c.args.sheet.now = 
+    let test_known : c.at-cell.result - 1 < patterns c.args.sheet.now =
     cell_known c.args.sheet.now c.args.table.now c.requires.0.tabled c.args.c c.args.class c.requires.1 c.requires.2 c.at-cell.result c.at-cell.ensures c.if-cell-eq0.false in
     (c.requires.0.checked.ok.is_laid, c.requires.0.checked.is_map, test_known)
 
 pub returns-then-run-eq0 : goal.returns-then-run-eq0
 returns-then-run-eq0 c =
-    let test_known : c.at-cell.result - 1 < patterns c.args.sheet.now = 
+    let test_known : c.at-cell.result - 1 < patterns c.args.sheet.now =
     cell_known c.args.sheet.now c.args.table.now c.requires.0.tabled c.args.c c.args.class c.requires.1 c.requires.2 c.at-cell.result c.at-cell.ensures c.if-cell-eq0.false in
-    let held_is : numbers_held c.args.sheet.now (opened_test c.args.sheet.now c.args.opened.now c.args.c c.args.time c.args.class) ≡ opened_binds c.args.sheet.now (c.at-cell.result - 1) = 
+    let held_is : numbers_held c.args.sheet.now (opened_test c.args.sheet.now c.args.opened.now c.args.c c.args.time c.args.class) ≡ opened_binds c.args.sheet.now (c.at-cell.result - 1) =
     let cell = c.at-cell in
     same_time c.args.sheet.now c.args.table.now c.requires.0.tabled c.args.c c.args.class c.requires.1 c.requires.2 cell.result cell.ensures c.if-cell-eq0.false c.args.opened.now c.args.time
     c.wide.result c.wide.ensures c.if-wide-time.false in
@@ -48,16 +48,16 @@ returns-then-run-eq0 c =
 
 pub put_all_bindings-requires : goal.put_all_bindings-requires
 put_all_bindings-requires c =
-    let test_known : c.at-cell.result - 1 < patterns c.args.sheet.now = 
+    let test_known : c.at-cell.result - 1 < patterns c.args.sheet.now =
     cell_known c.args.sheet.now c.args.table.now c.requires.0.tabled c.args.c c.args.class c.requires.1 c.requires.2 c.at-cell.result c.at-cell.ensures c.if-cell-eq0.false in
     let run = c.children_of-run in
     (started c.requires.0, run_entries c.args.sheet.now (c.at-cell.result - 1) (test_known) run.result run.ensures, c.requires.4)
 
 pub returns : goal.returns
 returns c =
-    let test_known : c.at-cell.result - 1 < patterns c.args.sheet.now = 
+    let test_known : c.at-cell.result - 1 < patterns c.args.sheet.now =
     cell_known c.args.sheet.now c.args.table.now c.requires.0.tabled c.args.c c.args.class c.requires.1 c.requires.2 c.at-cell.result c.at-cell.ensures c.if-cell-eq0.false in
-    let held_is : numbers_held c.args.sheet.now (opened_test c.args.sheet.now c.args.opened.now c.args.c c.args.time c.args.class) ≡ opened_binds c.args.sheet.now (c.at-cell.result - 1) = 
+    let held_is : numbers_held c.args.sheet.now (opened_test c.args.sheet.now c.args.opened.now c.args.c c.args.time c.args.class) ≡ opened_binds c.args.sheet.now (c.at-cell.result - 1) =
     let cell = c.at-cell in
     same_time c.args.sheet.now c.args.table.now c.requires.0.tabled c.args.c c.args.class c.requires.1 c.requires.2 cell.result cell.ensures c.if-cell-eq0.false c.args.opened.now c.args.time
     c.wide.result c.wide.ensures c.if-wide-time.false in

@@ -9,12 +9,12 @@ use Rattle.build_leaves.proofs.put_root.Goals as goal
 
 pub gives-g-requires : goal.gives-g-requires
 gives-g-requires c =
-    let root_known : c.root_at-p.result < patterns c.args.sheet.now =  omega (arith, c.root_at-p.ensures, c.requires.0.checked.ok.is_shaped.root_pattern c.args.c c.requires.1) in
+    let root_known : c.root_at-p.result < patterns c.args.sheet.now = omega (arith, c.root_at-p.ensures, c.requires.0.checked.ok.is_shaped.root_pattern c.args.c c.requires.1) in
     (started c.requires.0, root_known)
 
 pub put_own-own-requires : goal.put_own-own-requires
 put_own-own-requires c =
-    let root_known : c.root_at-p.result < patterns c.args.sheet.now =  omega (arith, c.root_at-p.ensures, c.requires.0.checked.ok.is_shaped.root_pattern c.args.c c.requires.1) in
+    let root_known : c.root_at-p.result < patterns c.args.sheet.now = omega (arith, c.root_at-p.ensures, c.requires.0.checked.ok.is_shaped.root_pattern c.args.c c.requires.1) in
     let at = started c.requires.0 in
     (at.ok, at.tabled, at.from_patterns, root_known, c.requires.2)
 

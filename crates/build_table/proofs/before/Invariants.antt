@@ -1,5 +1,4 @@
-use Prim.Native.Nat.{◌+◌, ◌-◌, ◌*◌, ◌≤◌, ◌<◌}
-use lib.ListN.{length}
+use Prim.Native.Nat.{◌+◌, ◌-◌, ◌*◌, ◌≤◌}
 use Rattle.build_table.specs.Table.{indices_at}
 use Rattle.build_table.specs.ClassingLaws.{BeforeFrom}
 use Rattle.build_table.proofs.before.Given as goal

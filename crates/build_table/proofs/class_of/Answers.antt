@@ -1,4 +1,3 @@
-use Prim.Native.Nat.{◌-◌}
 use native.Mathlib.Omega.{arith}
 use Rattle.build_table.specs.ClassingLaws.{class_begins, class_found, class_goes_on, class_is_own}
 use Rattle.build_table.proofs.class_of.Goals as goal

@@ -16,7 +16,7 @@ type_at-ty-requires c =
 pub child_at-requires : goal.child_at-requires
 child_at-requires c =
     let its_type : c.at-tipo.result ≡ type_of c.args.sheet.now c.args.p = c.at-tipo.ensures ∙ c.requires.3.type in
-    let reading : Reading c.args.sheet.now c.args.map c.args.table.now c.args.p c.pattern_at-r.result c.type_at-ty.result (get_or c.args.table.now (192 + c.args.p) 0) = 
+    let reading : Reading c.args.sheet.now c.args.map c.args.table.now c.args.p c.pattern_at-r.result c.type_at-ty.result (get_or c.args.table.now (192 + c.args.p) 0) =
     record {
       checked = c.requires.0;
       long = c.requires.1;
@@ -30,7 +30,7 @@ child_at-requires c =
 pub put_child-requires : goal.put_child-requires
 put_child-requires c =
     let its_type : c.at-tipo.result ≡ type_of c.args.sheet.now c.args.p = c.at-tipo.ensures ∙ c.requires.3.type in
-    let reading : Reading c.args.sheet.now c.args.map c.args.table.now c.args.p c.pattern_at-r.result c.type_at-ty.result (get_or c.args.table.now (192 + c.args.p) 0) = 
+    let reading : Reading c.args.sheet.now c.args.map c.args.table.now c.args.p c.pattern_at-r.result c.type_at-ty.result (get_or c.args.table.now (192 + c.args.p) 0) =
     record {
       checked = c.requires.0;
       long = c.requires.1;
@@ -46,7 +46,7 @@ put_child-requires c =
 pub overflow_add-p-in-5 : goal.overflow_add-p-in-5
 overflow_add-p-in-5 c =
     let its_type : c.at-tipo.result ≡ type_of c.args.sheet.now c.args.p = c.at-tipo.ensures ∙ c.requires.3.type in
-    let reading : Reading c.args.sheet.now c.args.map c.args.table.now c.args.p c.pattern_at-r.result c.type_at-ty.result (get_or c.args.table.now (192 + c.args.p) 0) = 
+    let reading : Reading c.args.sheet.now c.args.map c.args.table.now c.args.p c.pattern_at-r.result c.type_at-ty.result (get_or c.args.table.now (192 + c.args.p) 0) =
     record {
       checked = c.requires.0;
       long = c.requires.1;
@@ -60,7 +60,7 @@ overflow_add-p-in-5 c =
 pub overflow_cast-p : goal.overflow_cast-p
 overflow_cast-p c =
     let its_type : c.at-tipo.result ≡ type_of c.args.sheet.now c.args.p = c.at-tipo.ensures ∙ c.requires.3.type in
-    let reading : Reading c.args.sheet.now c.args.map c.args.table.now c.args.p c.pattern_at-r.result c.type_at-ty.result (get_or c.args.table.now (192 + c.args.p) 0) = 
+    let reading : Reading c.args.sheet.now c.args.map c.args.table.now c.args.p c.pattern_at-r.result c.type_at-ty.result (get_or c.args.table.now (192 + c.args.p) 0) =
     record {
       checked = c.requires.0;
       long = c.requires.1;
@@ -74,7 +74,7 @@ overflow_cast-p c =
 pub put_children-requires : goal.put_children-requires
 put_children-requires c =
     let its_type : c.at-tipo.result ≡ type_of c.args.sheet.now c.args.p = c.at-tipo.ensures ∙ c.requires.3.type in
-    let reading : Reading c.args.sheet.now c.args.map c.args.table.now c.args.p c.pattern_at-r.result c.type_at-ty.result (get_or c.args.table.now (192 + c.args.p) 0) = 
+    let reading : Reading c.args.sheet.now c.args.map c.args.table.now c.args.p c.pattern_at-r.result c.type_at-ty.result (get_or c.args.table.now (192 + c.args.p) 0) =
     record {
       checked = c.requires.0;
       long = c.requires.1;
@@ -88,7 +88,7 @@ put_children-requires c =
 pub place_tailed-requires : goal.place_tailed-requires
 place_tailed-requires c =
     let its_type : c.at-tipo.result ≡ type_of c.args.sheet.now c.args.p = c.at-tipo.ensures ∙ c.requires.3.type in
-    let reading : Reading c.args.sheet.now c.args.map c.args.table.now c.args.p c.pattern_at-r.result c.type_at-ty.result (get_or c.args.table.now (192 + c.args.p) 0) = 
+    let reading : Reading c.args.sheet.now c.args.map c.args.table.now c.args.p c.pattern_at-r.result c.type_at-ty.result (get_or c.args.table.now (192 + c.args.p) 0) =
     record {
       checked = c.requires.0;
       long = c.requires.1;
@@ -102,7 +102,7 @@ place_tailed-requires c =
 pub place_fields-requires : goal.place_fields-requires
 place_fields-requires c =
     let its_type : c.at-tipo.result ≡ type_of c.args.sheet.now c.args.p = c.at-tipo.ensures ∙ c.requires.3.type in
-    let reading : Reading c.args.sheet.now c.args.map c.args.table.now c.args.p c.pattern_at-r.result c.type_at-ty.result (get_or c.args.table.now (192 + c.args.p) 0) = 
+    let reading : Reading c.args.sheet.now c.args.map c.args.table.now c.args.p c.pattern_at-r.result c.type_at-ty.result (get_or c.args.table.now (192 + c.args.p) 0) =
     record {
       checked = c.requires.0;
       long = c.requires.1;
@@ -116,7 +116,7 @@ place_fields-requires c =
 pub put_children-requires-in-8 : goal.put_children-requires-in-8
 put_children-requires-in-8 c =
     let its_type : c.at-tipo.result ≡ type_of c.args.sheet.now c.args.p = c.at-tipo.ensures ∙ c.requires.3.type in
-    let reading : Reading c.args.sheet.now c.args.map c.args.table.now c.args.p c.pattern_at-r.result c.type_at-ty.result (get_or c.args.table.now (192 + c.args.p) 0) = 
+    let reading : Reading c.args.sheet.now c.args.map c.args.table.now c.args.p c.pattern_at-r.result c.type_at-ty.result (get_or c.args.table.now (192 + c.args.p) 0) =
     record {
       checked = c.requires.0;
       long = c.requires.1;
@@ -130,7 +130,7 @@ put_children-requires-in-8 c =
 pub put_children-requires-in-9 : goal.put_children-requires-in-9
 put_children-requires-in-9 c =
     let its_type : c.at-tipo.result ≡ type_of c.args.sheet.now c.args.p = c.at-tipo.ensures ∙ c.requires.3.type in
-    let reading : Reading c.args.sheet.now c.args.map c.args.table.now c.args.p c.pattern_at-r.result c.type_at-ty.result (get_or c.args.table.now (192 + c.args.p) 0) = 
+    let reading : Reading c.args.sheet.now c.args.map c.args.table.now c.args.p c.pattern_at-r.result c.type_at-ty.result (get_or c.args.table.now (192 + c.args.p) 0) =
     record {
       checked = c.requires.0;
       long = c.requires.1;
@@ -144,7 +144,7 @@ put_children-requires-in-9 c =
 pub returns-in-2 : goal.returns-in-2
 returns-in-2 c =
     let its_type : c.at-tipo.result ≡ type_of c.args.sheet.now c.args.p = c.at-tipo.ensures ∙ c.requires.3.type in
-    let reading : Reading c.args.sheet.now c.args.map c.args.table.now c.args.p c.pattern_at-r.result c.type_at-ty.result (get_or c.args.table.now (192 + c.args.p) 0) = 
+    let reading : Reading c.args.sheet.now c.args.map c.args.table.now c.args.p c.pattern_at-r.result c.type_at-ty.result (get_or c.args.table.now (192 + c.args.p) 0) =
     record {
       checked = c.requires.0;
       long = c.requires.1;
@@ -158,7 +158,7 @@ returns-in-2 c =
 pub returns-in-5 : goal.returns-in-5
 returns-in-5 c =
     let its_type : c.at-tipo.result ≡ type_of c.args.sheet.now c.args.p = c.at-tipo.ensures ∙ c.requires.3.type in
-    let reading : Reading c.args.sheet.now c.args.map c.args.table.now c.args.p c.pattern_at-r.result c.type_at-ty.result (get_or c.args.table.now (192 + c.args.p) 0) = 
+    let reading : Reading c.args.sheet.now c.args.map c.args.table.now c.args.p c.pattern_at-r.result c.type_at-ty.result (get_or c.args.table.now (192 + c.args.p) 0) =
     record {
       checked = c.requires.0;
       long = c.requires.1;
@@ -172,7 +172,7 @@ returns-in-5 c =
 pub returns-in-6 : goal.returns-in-6
 returns-in-6 c =
     let its_type : c.at-tipo.result ≡ type_of c.args.sheet.now c.args.p = c.at-tipo.ensures ∙ c.requires.3.type in
-    let reading : Reading c.args.sheet.now c.args.map c.args.table.now c.args.p c.pattern_at-r.result c.type_at-ty.result (get_or c.args.table.now (192 + c.args.p) 0) = 
+    let reading : Reading c.args.sheet.now c.args.map c.args.table.now c.args.p c.pattern_at-r.result c.type_at-ty.result (get_or c.args.table.now (192 + c.args.p) 0) =
     record {
       checked = c.requires.0;
       long = c.requires.1;
@@ -186,7 +186,7 @@ returns-in-6 c =
 pub returns-in-7 : goal.returns-in-7
 returns-in-7 c =
     let its_type : c.at-tipo.result ≡ type_of c.args.sheet.now c.args.p = c.at-tipo.ensures ∙ c.requires.3.type in
-    let reading : Reading c.args.sheet.now c.args.map c.args.table.now c.args.p c.pattern_at-r.result c.type_at-ty.result (get_or c.args.table.now (192 + c.args.p) 0) = 
+    let reading : Reading c.args.sheet.now c.args.map c.args.table.now c.args.p c.pattern_at-r.result c.type_at-ty.result (get_or c.args.table.now (192 + c.args.p) 0) =
     record {
       checked = c.requires.0;
       long = c.requires.1;
@@ -200,7 +200,7 @@ returns-in-7 c =
 pub returns-in-8 : goal.returns-in-8
 returns-in-8 c =
     let its_type : c.at-tipo.result ≡ type_of c.args.sheet.now c.args.p = c.at-tipo.ensures ∙ c.requires.3.type in
-    let reading : Reading c.args.sheet.now c.args.map c.args.table.now c.args.p c.pattern_at-r.result c.type_at-ty.result (get_or c.args.table.now (192 + c.args.p) 0) = 
+    let reading : Reading c.args.sheet.now c.args.map c.args.table.now c.args.p c.pattern_at-r.result c.type_at-ty.result (get_or c.args.table.now (192 + c.args.p) 0) =
     record {
       checked = c.requires.0;
       long = c.requires.1;
@@ -214,7 +214,7 @@ returns-in-8 c =
 pub returns-in-9 : goal.returns-in-9
 returns-in-9 c =
     let its_type : c.at-tipo.result ≡ type_of c.args.sheet.now c.args.p = c.at-tipo.ensures ∙ c.requires.3.type in
-    let reading : Reading c.args.sheet.now c.args.map c.args.table.now c.args.p c.pattern_at-r.result c.type_at-ty.result (get_or c.args.table.now (192 + c.args.p) 0) = 
+    let reading : Reading c.args.sheet.now c.args.map c.args.table.now c.args.p c.pattern_at-r.result c.type_at-ty.result (get_or c.args.table.now (192 + c.args.p) 0) =
     record {
       checked = c.requires.0;
       long = c.requires.1;
@@ -228,7 +228,7 @@ returns-in-9 c =
 pub returns-in_default : goal.returns-in_default
 returns-in_default c =
     let its_type : c.at-tipo.result ≡ type_of c.args.sheet.now c.args.p = c.at-tipo.ensures ∙ c.requires.3.type in
-    let reading : Reading c.args.sheet.now c.args.map c.args.table.now c.args.p c.pattern_at-r.result c.type_at-ty.result (get_or c.args.table.now (192 + c.args.p) 0) = 
+    let reading : Reading c.args.sheet.now c.args.map c.args.table.now c.args.p c.pattern_at-r.result c.type_at-ty.result (get_or c.args.table.now (192 + c.args.p) 0) =
     record {
       checked = c.requires.0;
       long = c.requires.1;

@@ -16,25 +16,25 @@ overflow_cast-table c = omega (arith, c.requires.2, c.requires.0.ok.is_counted.p
 
 pub overflow_mul-table : goal.overflow_mul-table
 overflow_mul-table c =
-    let inside : cells_at + 192 * c.at-clause.result + c.at-class.result < table_size = 
+    let inside : cells_at + 192 * c.at-clause.result + c.at-class.result < table_size =
     cell_inside c.requires.0 c.requires.2 c.requires.3 c.requires.4 c.at-clause.result c.at-class.result c.at-clause.ensures c.at-class.ensures in
     omega (arith, inside)
 
 pub overflow_add-table-then-is_test : goal.overflow_add-table-then-is_test
 overflow_add-table-then-is_test c =
-    let inside : cells_at + 192 * c.at-clause.result + c.at-class.result < table_size = 
+    let inside : cells_at + 192 * c.at-clause.result + c.at-class.result < table_size =
     cell_inside c.requires.0 c.requires.2 c.requires.3 c.requires.4 c.at-clause.result c.at-class.result c.at-clause.ensures c.at-class.ensures in
     omega (arith, inside)
 
 pub overflow_add-table-then-is_test-2 : goal.overflow_add-table-then-is_test-2
 overflow_add-table-then-is_test-2 c =
-    let inside : cells_at + 192 * c.at-clause.result + c.at-class.result < table_size = 
+    let inside : cells_at + 192 * c.at-clause.result + c.at-class.result < table_size =
     cell_inside c.requires.0 c.requires.2 c.requires.3 c.requires.4 c.at-clause.result c.at-class.result c.at-clause.ensures c.at-class.ensures in
     omega (arith, inside)
 
 pub bounds-table-clause : goal.bounds-table-clause
 bounds-table-clause c =
-    let inside : cells_at + 192 * c.at-clause.result + c.at-class.result < table_size = 
+    let inside : cells_at + 192 * c.at-clause.result + c.at-class.result < table_size =
     cell_inside c.requires.0 c.requires.2 c.requires.3 c.requires.4 c.at-clause.result c.at-class.result c.at-clause.ensures c.at-class.ensures in
     omega (arith, inside, c.requires.1)
 

@@ -1,5 +1,4 @@
 -- `test_make::bytes` meets its contract. The loop's invariant: the rest of the text, stored behind its first k bytes, is the whole.
-use Prim.Native.Nat.{◌-◌}
 use native.Mathlib.Omega.{arith}
 use lib.ListN.{length-set}
 use Rattle.test_make.specs.PiecesLaws.{begun_none, begun_more, begun_all}

@@ -15,20 +15,20 @@ overflow_cast-node c = omega (arith, node_word c.requires.0 c.reach-ended.ensure
 
 pub bind-requires : goal.bind-requires
 bind-requires c =
-    let leaf_at : Reached =  Reached.Leaf c.in-Leaf.clause c.in-Leaf.first c.in-Leaf.count in
+    let leaf_at : Reached = Reached.Leaf c.in-Leaf.clause c.in-Leaf.first c.in-Leaf.count in
     let arrived : Arrives c.args.tree.now c.args.panel.now c.reach-ended.result.node (leaf_at) = let e : c.reach-ended.result.end ≡ leaf_at = c.in-Leaf.is in rw e at c.reach-ended.ensures in
     let w = arrived in
     (bindable c.requires.0, w.holds.0, omega (arith, w.holds.1, c.requires.1))
 
 pub overflow_cast-result : goal.overflow_cast-result
 overflow_cast-result c =
-    let leaf_at : Reached =  Reached.Leaf c.in-Leaf.clause c.in-Leaf.first c.in-Leaf.count in
+    let leaf_at : Reached = Reached.Leaf c.in-Leaf.clause c.in-Leaf.first c.in-Leaf.count in
     let arrived : Arrives c.args.tree.now c.args.panel.now c.reach-ended.result.node (leaf_at) = let e : c.reach-ended.result.end ≡ leaf_at = c.in-Leaf.is in rw e at c.reach-ended.ensures in
     omega (arith, (arrived).holds.2)
 
 pub overflow_cast-result-in_default : goal.overflow_cast-result-in_default
 overflow_cast-result-in_default c =
-    let leaf_at : Reached =  Reached.Leaf c.in-Leaf.clause c.in-Leaf.first c.in-Leaf.count in
+    let leaf_at : Reached = Reached.Leaf c.in-Leaf.clause c.in-Leaf.first c.in-Leaf.count in
     let arrived : Arrives c.args.tree.now c.args.panel.now c.reach-ended.result.node (leaf_at) = let e : c.reach-ended.result.end ≡ leaf_at = c.in-Leaf.is in rw e at c.reach-ended.ensures in
     omega (arith, (arrived).holds.1)
 
@@ -37,7 +37,7 @@ shape_of-bound-in_default c = c.bind.auto.bound
 
 pub returns-in_default : goal.returns-in_default
 returns-in_default c =
-    let leaf_at : Reached =  Reached.Leaf c.in-Leaf.clause c.in-Leaf.first c.in-Leaf.count in
+    let leaf_at : Reached = Reached.Leaf c.in-Leaf.clause c.in-Leaf.first c.in-Leaf.count in
     let arrived : Arrives c.args.tree.now c.args.panel.now c.reach-ended.result.node (leaf_at) = let e : c.reach-ended.result.end ≡ leaf_at = c.in-Leaf.is in rw e at c.reach-ended.ensures in
     let a = c.args in
     gives_leaf a.tree.now a.panel.now a.bound.now c.requires.2 _ c.in-Leaf.clause c.in-Leaf.first c.in-Leaf.count
@@ -45,7 +45,7 @@ returns-in_default c =
 
 pub overflow_cast-result-in-Leaf : goal.overflow_cast-result-in-Leaf
 overflow_cast-result-in-Leaf c =
-    let leaf_at : Reached =  Reached.Leaf c.in-Leaf.clause c.in-Leaf.first c.in-Leaf.count in
+    let leaf_at : Reached = Reached.Leaf c.in-Leaf.clause c.in-Leaf.first c.in-Leaf.count in
     let arrived : Arrives c.args.tree.now c.args.panel.now c.reach-ended.result.node (leaf_at) = let e : c.reach-ended.result.end ≡ leaf_at = c.in-Leaf.is in rw e at c.reach-ended.ensures in
     omega (arith, unbound_word c.requires.0 (arrived) c.bind.ensures c.in-Stuck-bind.is)
 
@@ -54,7 +54,7 @@ shape_of-bound c = c.bind.auto.bound
 
 pub returns-in-Stuck-bind : goal.returns-in-Stuck-bind
 returns-in-Stuck-bind c =
-    let leaf_at : Reached =  Reached.Leaf c.in-Leaf.clause c.in-Leaf.first c.in-Leaf.count in
+    let leaf_at : Reached = Reached.Leaf c.in-Leaf.clause c.in-Leaf.first c.in-Leaf.count in
     let arrived : Arrives c.args.tree.now c.args.panel.now c.reach-ended.result.node (leaf_at) = let e : c.reach-ended.result.end ≡ leaf_at = c.in-Leaf.is in rw e at c.reach-ended.ensures in
     let a = c.args in
     gives_unbound a.tree.now a.panel.now a.bound.now c.requires.2 _ c.in-Leaf.clause c.in-Leaf.first c.in-Leaf.count

@@ -1,4 +1,3 @@
-use Prim.Native.Nat.{◌-◌}
 use Rattle.app_listing.specs.WritingLaws.{begun, begun_more, begun_all, begun_full}
 use Rattle.app_listing.specs.RecordsLaws.{lines_start, lines_next, lines_none}
 use borrow.Author.Rules.{rules}

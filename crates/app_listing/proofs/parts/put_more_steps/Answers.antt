@@ -1,5 +1,4 @@
 use native.Mathlib.Omega.{arith}
-use Prim.Native.Nat.{◌-◌}
 use Rattle.app_listing.specs.WritingLaws.{begun, begun_more, begun_all}
 use Rattle.app_listing.specs.RecordsLaws.{run_start, steps_next, steps_none}
 use Rattle.spec_rules.specs.Listing.{more_steps}

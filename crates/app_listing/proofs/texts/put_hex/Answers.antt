@@ -1,5 +1,4 @@
 use mathlib.Core.Path.{refl}
-use Prim.Native.Nat.{◌-◌}
 use Rattle.app_listing.specs.WritingLaws.{begun, begun_more, begun_all}
 use Rattle.app_listing.specs.TextsLaws.{hex_next, hex_none}
 use borrow.Author.Rules.{rules}

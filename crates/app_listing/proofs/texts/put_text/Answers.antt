@@ -1,6 +1,5 @@
 use mathlib.Core.Path.{refl}
 use Rattle.app_listing.specs.TextsLaws.{bytes_none}
-use Prim.Native.Nat.{◌-◌}
 use Rattle.app_listing.specs.WritingLaws.{begun, begun_more, begun_all}
 use Rattle.app_listing.specs.TextsLaws.{bytes_next}
 use borrow.Author.Rules.{rules}

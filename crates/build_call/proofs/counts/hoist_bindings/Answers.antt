@@ -1,5 +1,4 @@
 -- `build_call::counts::hoist_bindings` meets its contract. The loop's invariant: those summed and those to come are all.
-use Prim.Native.Nat.{◌-◌}
 use native.Mathlib.Omega.{arith}
 use Prim.Native.Nat.{ℕ}
 use lib.ListN.{get_or}

@@ -1,5 +1,4 @@
 -- `build_call::counts::hoists` meets its contract. The loop's invariant: those counted and those to come are all.
-use Prim.Native.Nat.{◌-◌}
 use native.Mathlib.Omega.{arith}
 use Prim.Native.Nat.{ℕ}
 use mathlib.Core.Bool.{Bool}

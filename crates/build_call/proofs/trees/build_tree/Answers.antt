@@ -5,7 +5,6 @@ use native.Mathlib.Omega.{arith}
 use Rattle.format_sheet.specs.Check.{SheetAccepts}
 use Rattle.build_call.specs.AnswersLaws.{gives_refusal}
 use Rattle.build_call.specs.RawLaws.{end_12_raw, raw_built}
-use mathlib.Core.Path.{ap}
 use Rattle.build_call.proofs.trees.build_tree.Goals as goal
 
 off : (b : Bool) → not b ≡ true → b ≡ false

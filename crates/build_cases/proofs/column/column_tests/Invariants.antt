@@ -1,7 +1,7 @@
 -- `build_cases::column::column_tests` meets its contract. The loop's invariant: the tests so far, and those of the rows left, are the column's.
 use mathlib.Core.Path.{◌≡◌}
 use mathlib.Core.List.{◌++◌}
-use Prim.Native.Nat.{◌+◌, ◌-◌, ◌≤◌}
+use Prim.Native.Nat.{◌-◌, ◌≤◌}
 use lib.ListN.{take}
 use lib.Seq.{slice}
 use Rattle.build_matrix.specs.HeldRows.{held_tests}

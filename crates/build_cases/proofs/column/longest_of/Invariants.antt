@@ -1,6 +1,6 @@
 -- `build_cases::column::longest_of` meets its contract. The loop's invariant: the longest lengths of the tests from i on.
 use mathlib.Core.Path.{◌≡◌}
-use Prim.Native.Nat.{◌-◌, ◌≤◌}
+use Prim.Native.Nat.{◌≤◌}
 use lib.Seq.{slice}
 use Rattle.build_cases.specs.Rows.{longest_of}
 use Rattle.build_cases.proofs.column.longest_of.Given as goal

@@ -1,7 +1,6 @@
 -- `build_cases::rows::meet_rising` meets its contract. The loop's invariant: the cases of the lengths before i are met.
 use borrow.Author.Rules.{rules}
 use native.Mathlib.Omega.{arith}
-use Prim.Native.Nat.{◌-◌}
 use Rattle.build_cases.specs.SoFarLaws.{meets_begun, meets_length}
 use Rattle.build_cases.specs.RowsLaws.{rise_fit, rise_none, rise_one, rise_ends}
 use Rattle.build_cases.proofs.rows.meet_rising.Goals as goal

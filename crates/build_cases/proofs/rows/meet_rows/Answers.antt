@@ -1,6 +1,5 @@
 -- `build_cases::rows::meet_rows` meets its contract. The loop's invariant: the cases of the tests before i are met.
 use borrow.Author.Rules.{rules}
-use Prim.Native.Nat.{◌-◌}
 use native.Mathlib.Omega.{arith}
 use Rattle.build_matrix.specs.ReadingLaws.{all_at}
 use Rattle.build_matrix.specs.Ready.{TestKnown}

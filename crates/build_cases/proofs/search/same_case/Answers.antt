@@ -4,9 +4,8 @@ use borrow.Author.Rules.{rules}
 use borrow.Author.Count.{below_more}
 use native.Mathlib.Omega.{arith}
 use mathlib.Core.Path.{◌≡◌, sym, ◌∙◌}
-use mathlib.Core.Logic.{⊎_elim}
 use mathlib.Core.Bool.{true, false}
-use Prim.Native.Nat.{◌+◌, ◌-◌}
+use Prim.Native.Nat.{◌+◌}
 use Rattle.build_cases.specs.Fields.{has_test}
 use Rattle.build_cases.specs.FieldsLaws.{not_alike, read_inside, texts_same, texts_other, first_end, first_here, first_past}
 use Rattle.build_cases.proofs.search.same_case.Goals as goal
@@ -35,14 +34,14 @@ cases-preserved c =
     let h = has_test c.args.sheet.now c.args.work.now c.args.fields.kind c.args.fields.number c.args.fields.len in
     let past : h i ≡ false =
     elim c.if-is_alike.branch [
-      then-is_alike+else-k-len+then-sheet-other w ↦
-        texts_other c.requires.laid.0 c.args.work.now i c.requires.laid.2 (c.requires.arena_end_in_bounds.3.fields i (omega arith) (omega arith))
-        (c.args.pool + w.wide-then-is_alike.result) (c.args.pool + c.wide.result)
-        (omega (arith, c.requires.laid.1, w.wide-then-is_alike.ensures, w.case_number.ensures)) (omega (arith, c.requires.laid.1, c.wide.ensures))
-        (sym c.is_alike.ensures ∙ w.if-is_alike.true) w.loop-k.k (omega arith) w.if-sheet-other.true
-    | else-is_alike w ↦
-        not_alike c.requires.laid.0 c.args.work.now i c.requires.laid.2 (c.requires.arena_end_in_bounds.3.fields i (omega arith) (omega arith))
-        (sym c.is_alike.ensures ∙ w.if-is_alike.false)
+      | then-is_alike+else-k-len+then-sheet-other w ↦
+          texts_other c.requires.laid.0 c.args.work.now i c.requires.laid.2 (c.requires.arena_end_in_bounds.3.fields i (omega arith) (omega arith))
+          (c.args.pool + w.wide-then-is_alike.result) (c.args.pool + c.wide.result)
+          (omega (arith, c.requires.laid.1, w.wide-then-is_alike.ensures, w.case_number.ensures)) (omega (arith, c.requires.laid.1, c.wide.ensures))
+          (sym c.is_alike.ensures ∙ w.if-is_alike.true) w.loop-k.k (omega arith) w.if-sheet-other.true
+      | else-is_alike w ↦
+          not_alike c.requires.laid.0 c.args.work.now i c.requires.laid.2 (c.requires.arena_end_in_bounds.3.fields i (omega arith) (omega arith))
+          (sym c.is_alike.ensures ∙ w.if-is_alike.false)
     ] in
     (search rules, search rules, first_past h i c.args.to (omega arith) past ∙ c.cases.invariant.2)
 

@@ -1,6 +1,5 @@
 -- `build_file_nodes::bindings::put_bindings` meets its contract. The loop's invariant: with the bindings from first + i on the whole is stored.
 use native.Mathlib.Omega.{arith}
-use Prim.Native.Nat.{◌-◌}
 use Rattle.build_file_nodes.specs.Uses.{uses_of}
 use Rattle.build_file_nodes.specs.ModelLaws.{binding_asked, bindings_start, bindings_next, bindings_end}
 use Rattle.build_file_nodes.proofs.bindings.put_bindings.Goals as goal

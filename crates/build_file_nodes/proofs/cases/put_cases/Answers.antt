@@ -1,6 +1,5 @@
 -- `build_file_nodes::cases::put_cases` meets its contract. The loop's invariant: with the cases from first + i on the whole is stored.
 use native.Mathlib.Omega.{arith}
-use Prim.Native.Nat.{◌-◌}
 use Rattle.build_file_nodes.specs.Model.{moved_by}
 use Rattle.build_file_nodes.specs.ModelLaws.{cases_start, cases_next, cases_end}
 use Rattle.build_file_nodes.proofs.cases.put_cases.Goals as goal

@@ -1,6 +1,5 @@
 -- `build_file_nodes::hoists::next_hoist` meets its contract. The loop's invariant: no clause from c up to d is hoisted above node k.
 use mathlib.Core.Path.{sym, ◌∙◌}
-use Prim.Native.Nat.{◌-◌}
 use Rattle.build_file_nodes.specs.Model.{node_in}
 use Rattle.build_file_nodes.specs.ModelLaws.{search_start, search_next, search_found, search_end}
 use Rattle.build_file_nodes.proofs.hoists.next_hoist.Goals as goal

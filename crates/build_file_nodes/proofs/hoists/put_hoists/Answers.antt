@@ -1,7 +1,6 @@
 -- `build_file_nodes::hoists::put_hoists` meets its contract. The loop's invariant: the clauses from c on bring the file to the state after all.
 use native.Mathlib.Omega.{arith}
 use mathlib.Core.Path.{sym, subst}
-use Prim.Native.Nat.{◌-◌}
 use Rattle.build_file_nodes.specs.Model.{places_of, reach_of, BoundAsked}
 use Rattle.build_file_nodes.specs.ModelLaws.{hoists_start, hoist_asked, hoists_next, hoists_end, hoists_none, hoist_from}
 use Rattle.build_file_nodes.proofs.hoists.put_hoists.Goals as goal

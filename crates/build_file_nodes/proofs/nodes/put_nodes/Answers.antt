@@ -1,6 +1,5 @@
 -- `build_file_nodes::nodes::put_nodes` meets its contract. The loop's invariant: the nodes from k on bring the file to the state after all.
 use native.Mathlib.Omega.{arith}
-use Prim.Native.Nat.{◌-◌}
 use Rattle.build_file_nodes.specs.Model.{places_of, reach_of}
 use Rattle.build_file_nodes.specs.ModelLaws.{nodes_start, node_asked, nodes_next, nodes_end}
 use Rattle.build_file_nodes.proofs.nodes.put_nodes.Goals as goal

@@ -1,5 +1,4 @@
 -- `build_file_nodes::shift::count_hoists` meets its contract. The loop's invariant: the hoists of the clauses from c on are counted.
-use Prim.Native.Nat.{◌-◌}
 use Rattle.build_file_nodes.specs.Model.{node_in}
 use Rattle.build_file_nodes.specs.ShiftLaws.{CountedFrom}
 use Rattle.build_file_nodes.proofs.shift.count_hoists.Given as goal

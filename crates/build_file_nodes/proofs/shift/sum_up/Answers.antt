@@ -1,6 +1,5 @@
 -- `build_file_nodes::shift::sum_up` meets its contract. The loop's invariant: the table has the sums before node k, and is as it was from k on.
 use native.Mathlib.Omega.{arith}
-use Prim.Native.Nat.{◌-◌}
 use Rattle.build_file_nodes.specs.ShiftLaws.{sum_start, sum_small, sum_next, sum_end}
 use Rattle.build_file_nodes.proofs.shift.sum_up.Goals as goal
 

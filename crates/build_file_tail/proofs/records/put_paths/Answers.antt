@@ -1,6 +1,5 @@
 -- `build_file_tail::records::put_paths` meets its contract. The loop's invariant: the records of the first i paths are there, and `first` is how many steps they have.
 use Rattle.build_file_tail.specs.RecordsLaws.{recorded_none, recorded_small, recorded_more, recorded_all}
-use Prim.Native.Nat.{◌-◌}
 use native.Mathlib.Omega.{arith}
 use Rattle.build_file_tail.proofs.records.put_paths.Goals as goal
 

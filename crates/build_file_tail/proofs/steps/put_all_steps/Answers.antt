@@ -1,6 +1,5 @@
 -- `build_file_tail::steps::put_all_steps` meets its contract. The loop's invariant: the steps of the first i paths are there, and the rest stored behind them is the whole.
 use Rattle.build_file_tail.specs.TailLaws.{stepped_none, stepped_room, stepped_more, stepped_all}
-use Prim.Native.Nat.{◌-◌}
 use native.Mathlib.Omega.{arith}
 use Rattle.build_file_tail.proofs.steps.put_all_steps.Goals as goal
 

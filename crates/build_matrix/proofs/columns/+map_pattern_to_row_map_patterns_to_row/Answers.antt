@@ -5,7 +5,6 @@ use mathlib.Core.Path.{◌≡◌}
 use native.Mathlib.Omega.{arith}
 use Rattle.build_matrix.specs.declared.columns.Given.TheVariants.{Inside}
 use Rattle.build_matrix.specs.PuttingLaws.{nothing_is, itself_puts, itself_is, inside_children, inside_room, inside_is, children_few, none_is, child_there, child_known, child_higher, next_children, next_room, rest_listed, rest_room, each_is}
-use Prim.Native.Nat.{◌-◌}
 use Rattle.build_matrix.proofs.columns.+map_pattern_to_row_map_patterns_to_row.Goals as goal
 
 pub map_pattern_to_row-gives-given-requires : goal.map_pattern_to_row-gives-given-requires

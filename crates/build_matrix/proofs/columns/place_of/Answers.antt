@@ -1,7 +1,6 @@
 -- `columns::place_of`: the place is as many as are passed and what is left to pass.
 use borrow.Author.Rules.{rules}
 use mathlib.Core.Path.{sym, ◌∙◌}
-use Prim.Native.Nat.{◌-◌}
 use native.Mathlib.Omega.{arith}
 use Rattle.build_matrix.specs.ListsLaws.{place_here, place_on, place_end}
 use Rattle.build_matrix.proofs.columns.place_of.Goals as goal

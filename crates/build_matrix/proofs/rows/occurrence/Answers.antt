@@ -1,7 +1,6 @@
 -- `rows::occurrence`: the count is as many as are passed and what is left to count.
 use borrow.Author.Rules.{rules}
 use mathlib.Core.Path.{◌≡◌, sym, ap, ◌∙◌}
-use Prim.Native.Nat.{◌-◌}
 use native.Mathlib.Omega.{arith}
 use lib.ListN.{get_or}
 use Rattle.build_matrix.specs.Reading.{held_in, InTable, has_test}

@@ -1,7 +1,7 @@
 -- `rows::wild_rows`: the rows kept and those that stay of the rows that are left are all that stay.
 use mathlib.Core.Path.{◌≡◌}
 use mathlib.Core.List.{◌++◌}
-use Prim.Native.Nat.{◌+◌, ◌-◌, ◌≤◌}
+use Prim.Native.Nat.{◌-◌, ◌≤◌}
 use lib.ListN.{take}
 use lib.Seq.{slice}
 use Rattle.build_matrix.specs.HeldRows.{wild_of}

@@ -1,6 +1,5 @@
 -- `splitting::all_rows`: the rows there and those from the next clause on are all.
 use mathlib.Core.Path.{refl}
-use Prim.Native.Nat.{◌-◌}
 use native.Mathlib.Omega.{arith}
 use lib.ListN.{length-set}
 use Rattle.build_matrix.specs.RowStates.{up_from}

@@ -1,6 +1,6 @@
 -- `splitting::join_rows`: what was joined and what the rows that are left join is all; the table tells what each row has.
 use mathlib.Core.Path.{◌≡◌, refl, ap, ◌∙◌}
-use Prim.Native.Nat.{◌+◌, ◌-◌, ◌<◌}
+use Prim.Native.Nat.{◌+◌, ◌<◌}
 use native.Mathlib.Omega.{arith}
 use lib.ListN.{get_or, take}
 use lib.Seq.{slice}
@@ -18,13 +18,13 @@ use Rattle.build_matrix.proofs.splitting.join_rows.Goals as goal
 
 pub loop-i-init : goal.loop-i-init
 loop-i-init c = (
-      omega arith,
-      omega arith,
-      omega arith,
-      record { long = c.requires.rows_len.0; most = omega arith; are = refl },
-      record { long = c.requires.rows_len.1; most = omega arith; are = refl },
-      record { rows_are = refl; opens_are = refl },
-    )
+  omega arith,
+  omega arith,
+  omega arith,
+  record { long = c.requires.rows_len.0; most = omega arith; are = refl },
+  record { long = c.requires.rows_len.1; most = omega arith; are = refl },
+  record { rows_are = refl; opens_are = refl },
+)
 
 pub bounds-from-i : goal.bounds-from-i
 bounds-from-i c = omega (arith, c.requires.ready_table.1.most, c.requires.ready_table.1.long, c.loop-i-test.true)

@@ -1,6 +1,6 @@
 -- `splitting::mark`: marking the tests that are left makes the whole.
 use mathlib.Core.Path.{refl}
-use Prim.Native.Nat.{◌-◌, ◌<◌}
+use Prim.Native.Nat.{◌<◌}
 use native.Mathlib.Omega.{arith}
 use lib.ListN.{take, length-set}
 use Rattle.build_matrix.specs.Matrices.{marked}

@@ -9,7 +9,7 @@ use Rattle.build_nodes.specs.ColumnLaws.{tested_room, rows_known, column_in, col
 use Rattle.build_nodes.specs.LeafLaws.{asked_readable, asked_chosen, node_left, clause_asked, leaf_builds, full_builds}
 use Rattle.build_nodes.specs.LoopLaws.{case_asked, case_tree_is, Turn, turn_room, turn_asked, turn_done, turn_over, loop_begin, loop_end}
 use Rattle.build_nodes.specs.ChosenLaws.{Opened, opened, Cased, no_room, switch_open, switch_cases_over, switch_node_asked, switch_met_asked, switch_asked, switch_done, switch_default}
-use Prim.Native.Nat.{◌+◌, ◌-◌}
+use Prim.Native.Nat.{◌+◌}
 use borrow.Author.Tests.{not-true, not-false}
 use Rattle.build_nodes.proofs.build.+build_case_build_cases_build_switch_do_build_tree.Goals as goal
 

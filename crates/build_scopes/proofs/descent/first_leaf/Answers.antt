@@ -2,7 +2,6 @@
 -- The measure is what is left of 1,024: a child has a larger number.
 use Rattle.build_scopes.specs.WayLaws.{OnWay, way_start, way_inside, leaf_found, leaf_child, leaf_on}
 use Rattle.build_scopes.specs.Numbers.{never}
-use Prim.Native.Nat.{◌-◌}
 use mathlib.Core.Path.{sym, ◌∙◌, subst}
 use native.Mathlib.Omega.{arith}
 use Rattle.build_scopes.proofs.descent.first_leaf.Goals as goal

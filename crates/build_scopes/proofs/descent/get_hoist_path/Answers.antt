@@ -2,7 +2,6 @@
 -- The measure is what is left of 1,024: a child has a larger number.
 use Rattle.build_scopes.specs.WayLaws.{OnWay, way_start, way_inside, scope_asked, scope_found, scope_child, scope_on}
 use Rattle.spec_hoist.specs.Descent.{is_scope}
-use Prim.Native.Nat.{◌-◌}
 use mathlib.Core.Path.{sym, ◌∙◌, subst}
 use native.Mathlib.Omega.{arith}
 use Rattle.build_scopes.proofs.descent.get_hoist_path.Goals as goal

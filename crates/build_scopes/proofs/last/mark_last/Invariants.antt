@@ -1,7 +1,7 @@
 -- `build_scopes::last::mark_last` meets its contract. The loop's invariant: the nodes from k on have their last leaf, for every tree that is there.
 use Rattle.build_scopes.specs.Marks.{ReadyWith, LastMarked}
 use lib.ListN.{length}
-use Prim.Native.Nat.{◌-◌, ◌≤◌}
+use Prim.Native.Nat.{◌≤◌}
 use mathlib.Core.Path.{◌≡◌}
 use Rattle.build_scopes.proofs.last.mark_last.Given as goal
 

@@ -2,7 +2,6 @@
 use Rattle.build_scopes.specs.MarksLaws.{first_marked_start, first_marked_found, first_marked_on, first_marked_end}
 use Rattle.build_scopes.specs.SetsLaws.{column_read}
 use Rattle.build_scopes.specs.Marks.{column}
-use Prim.Native.Nat.{◌-◌}
 use mathlib.Core.Path.{sym, ◌∙◌}
 use native.Mathlib.Omega.{arith}
 use Rattle.build_scopes.proofs.marks.first_marked.Goals as goal

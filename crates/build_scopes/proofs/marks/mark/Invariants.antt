@@ -1,7 +1,7 @@
 -- `build_scopes::marks::mark` meets its contract. The loop's invariant: the nodes from k on have the right sets, for every tree that is there.
 use Rattle.build_scopes.specs.Marks.{ReadyWith, SetsMarked}
 use lib.ListN.{length}
-use Prim.Native.Nat.{◌-◌, ◌≤◌}
+use Prim.Native.Nat.{◌≤◌}
 use mathlib.Core.Path.{◌≡◌}
 use Rattle.build_scopes.proofs.marks.mark.Given as goal
 

@@ -4,7 +4,6 @@ use Rattle.build_scopes.specs.MarksLaws.{marked_cases_start, marked_cases_next, 
 use Rattle.build_scopes.specs.SetsLaws.{bit_at_most, column_read}
 use Rattle.build_scopes.specs.Marks.{column, marked_cases}
 use lib.ListN.{get_or}
-use Prim.Native.Nat.{◌-◌}
 use native.Mathlib.Omega.{arith}
 use Rattle.build_scopes.proofs.marks.marked_cases.Goals as goal
 

@@ -1,7 +1,6 @@
 -- `build_scopes::marks::union_cases` meets its contract. The loop's invariant: the set with the cases from i + j on is the whole.
 use Rattle.build_scopes.specs.SetsLaws.{union_start, union_next, union_end}
 use Rattle.build_scopes.specs.Marks.{union_cases}
-use Prim.Native.Nat.{◌-◌}
 use native.Mathlib.Omega.{arith}
 use Rattle.build_scopes.proofs.marks.union_cases.Goals as goal
 

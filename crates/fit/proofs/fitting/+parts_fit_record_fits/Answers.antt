@@ -1,6 +1,5 @@
 -- `fit::fitting::record_fits` and `parts_fit` meet their contracts, and end: what falls is the number of records past the record at
 -- hand, and within one record the number of parts that are left.
-use Prim.Native.Nat.{◌-◌}
 use native.Mathlib.Omega.{arith}
 use mathlib.Core.Path.{◌≡◌, sym, ◌∙◌}
 use borrow.Author.Rules.{rules}

@@ -1,6 +1,5 @@
 -- `format_panel::shape::enter_parts` meets its contract. The loop's invariant: the entries that are left, from what was seen so far, give what
 -- all of them give from the start.
-use Prim.Native.Nat.{◌-◌}
 use native.Mathlib.Omega.{arith}
 use native.Mathlib.Nat.{add-zero, sub-zero}
 use mathlib.Core.Path.{refl, sym, ◌∙◌}

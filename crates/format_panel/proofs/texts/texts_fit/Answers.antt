@@ -1,5 +1,4 @@
 -- `format_panel::texts::texts_fit` meets its contract. The loop's invariant: what is left of the records fits exactly if all do.
-use Prim.Native.Nat.{◌-◌}
 use native.Mathlib.Omega.{arith}
 use native.Mathlib.Nat.{sub-zero}
 use mathlib.Core.Path.{refl, sym, ◌∙◌}

@@ -1,4 +1,3 @@
-use Prim.Native.Nat.{◌-◌}
 use native.Mathlib.Omega.{arith}
 use Rattle.format_parts.specs.TextsLaws.{digits_begin, digits_low, digits_high, digits_go_on, digits_end}
 use Rattle.format_parts.proofs.texts.digits.Goals as goal

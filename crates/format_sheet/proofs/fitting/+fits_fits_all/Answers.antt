@@ -1,5 +1,4 @@
 use borrow.Author.Rules.{rules}
-use Prim.Native.Nat.{◌-◌}
 use native.Mathlib.Omega.{arith}
 use Rattle.format_sheet.specs.FittingLaws.{settled_is, inside_there, inside_is, each_room, each_is, room_few, here, all_none, all_stop, all_go_on}
 use mathlib.Core.Bool.{not}

@@ -1,5 +1,4 @@
 use mathlib.Core.Path.{sym, ◌∙◌}
-use Prim.Native.Nat.{◌-◌}
 use native.Mathlib.Omega.{arith}
 use Rattle.spec_rules.specs.SheetRefusals.{misfit, lowest_misfit}
 use Rattle.spec_rules.specs.SheetFile.{clauses}

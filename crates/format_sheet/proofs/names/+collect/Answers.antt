@@ -4,7 +4,7 @@ use Rattle.spec_accepted.specs.SheetFacts.{owned_entry}
 use Rattle.format_sheet.specs.Sections.{map_of}
 use Rattle.format_sheet.specs.Names.{in_buffer}
 use Rattle.format_sheet.specs.CollectLaws.{run_owned, own_room, collect_begins, child_known, collect_room, collect_goes_on, collect_ends}
-use Prim.Native.Nat.{◌+◌, ◌-◌}
+use Prim.Native.Nat.{◌+◌}
 use Rattle.format_sheet.proofs.names.+collect.Goals as goal
 
 pub add_own-next-requires : goal.add_own-next-requires

@@ -1,4 +1,3 @@
-use Prim.Native.Nat.{◌-◌}
 use native.Mathlib.Omega.{arith}
 use Rattle.format_sheet.specs.NamesLaws.{repeats_begin, repeats_found, repeats_go_on, repeats_end}
 use Rattle.format_sheet.proofs.names.repeats.Goals as goal

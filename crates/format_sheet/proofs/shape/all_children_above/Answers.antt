@@ -1,4 +1,3 @@
-use Prim.Native.Nat.{◌-◌}
 use native.Mathlib.Omega.{arith}
 use Rattle.format_sheet.specs.Shape.{all_above}
 use Rattle.spec_rules.specs.SheetFile.{patterns}

@@ -1,5 +1,5 @@
 use mathlib.Core.Path.{◌∙◌}
-use Prim.Native.Nat.{◌+◌, ◌-◌, ◌<◌}
+use Prim.Native.Nat.{◌+◌, ◌<◌}
 use native.Mathlib.Omega.{arith}
 use Rattle.spec_rules.specs.SheetFile.{children}
 use Rattle.spec_rules.specs.SheetRefusals.{is_above}

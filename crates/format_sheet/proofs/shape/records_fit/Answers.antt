@@ -1,4 +1,3 @@
-use Prim.Native.Nat.{◌-◌}
 use native.Mathlib.Omega.{arith}
 use Rattle.format_sheet.specs.Shape.{record_fits}
 use Rattle.spec_rules.specs.SheetFile.{patterns}

@@ -1,4 +1,3 @@
-use Prim.Native.Nat.{◌-◌}
 use native.Mathlib.Omega.{arith}
 use Rattle.format_sheet.specs.MeetingLaws.{meets_none, meets_more, room_to_meet, meets_all}
 use Rattle.format_sheet.proofs.standing.meet_all.Goals as goal

@@ -1,5 +1,4 @@
 use mathlib.Core.Path.{sym, ◌∙◌}
-use Prim.Native.Nat.{◌-◌}
 use native.Mathlib.Omega.{arith}
 use Rattle.format_sheet.specs.SectionsLaws.{mapped}
 use Rattle.format_sheet.specs.TallyLaws.{entries_begin, entry_room_to_meet, entries_go_on, entries_done}

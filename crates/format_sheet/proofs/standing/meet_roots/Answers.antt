@@ -1,5 +1,4 @@
 use mathlib.Core.Path.{sym, ◌∙◌}
-use Prim.Native.Nat.{◌-◌}
 use native.Mathlib.Omega.{arith}
 use Rattle.format_sheet.specs.SectionsLaws.{mapped}
 use Rattle.format_sheet.specs.TallyLaws.{roots_begin, root_room_to_meet, roots_go_on, roots_done}

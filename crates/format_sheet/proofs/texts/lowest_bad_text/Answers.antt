@@ -1,5 +1,4 @@
 use mathlib.Core.Path.{sym, ◌∙◌}
-use Prim.Native.Nat.{◌-◌}
 use native.Mathlib.Omega.{arith}
 use Rattle.spec_rules.specs.SheetRefusals.{bad_text, lowest_bad_text}
 use Rattle.spec_rules.specs.SheetFile.{patterns}

@@ -1,4 +1,3 @@
-use Prim.Native.Nat.{◌-◌}
 use native.Mathlib.Omega.{arith}
 use Rattle.spec_rules.specs.SheetRefusals.{entry_keeps_rules}
 use Rattle.spec_rules.specs.SheetFile.{entries}

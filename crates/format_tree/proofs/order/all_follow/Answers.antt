@@ -4,7 +4,6 @@ use native.Mathlib.Nat.{sub-zero}
 use mathlib.Core.Path.{sym, ◌∙◌}
 use Rattle.spec_rules.specs.SearchingLaws.{every_on, every_stop, every_end}
 use Rattle.format_tree.specs.PreOrder.{children_follow}
-use Prim.Native.Nat.{◌-◌}
 use Rattle.format_tree.proofs.order.all_follow.Goals as goal
 
 pub loop-k-init : goal.loop-k-init

@@ -2,7 +2,6 @@
 -- The measure is how many nodes come after it: a last child that is gone to is above its node.
 use Rattle.format_tree.specs.OrderLaws.{last_child_in, end_follows, end_reached}
 use Rattle.format_tree.specs.PreOrder.{end_of}
-use Prim.Native.Nat.{◌-◌}
 use native.Mathlib.Omega.{arith}
 use mathlib.Core.Path.{refl}
 use Rattle.format_tree.proofs.order.end_of.Goals as goal

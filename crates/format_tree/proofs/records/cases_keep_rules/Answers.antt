@@ -4,7 +4,6 @@ use native.Mathlib.Nat.{sub-zero}
 use mathlib.Core.Path.{sym, ◌∙◌}
 use Rattle.spec_rules.specs.SearchingLaws.{every_on, every_stop, every_end}
 use Rattle.spec_rules.specs.TreeReader.{case_keeps_rules}
-use Prim.Native.Nat.{◌-◌}
 use Rattle.format_tree.proofs.records.cases_keep_rules.Goals as goal
 
 pub loop-i-init : goal.loop-i-init

@@ -4,7 +4,6 @@ use mathlib.Core.Path.{◌∙◌}
 use borrow.Author.Tests.{eq-eqb, ne_eqb}
 use Rattle.format_tree.specs.RecordsLaws.{every_start, every_rest_on, every_rest_stop, every_rest_end}
 use Rattle.spec_rules.specs.TreeReader.{is_kind}
-use Prim.Native.Nat.{◌-◌}
 use Rattle.format_tree.proofs.records.cases_of_kind.Goals as goal
 
 pub loop-j-init : goal.loop-j-init

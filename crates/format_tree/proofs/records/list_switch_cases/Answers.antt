@@ -13,12 +13,12 @@ returns-then-cases-tails-lt1 c = simp (← c.node_word-cases.ensures, ← c.node
 
 pub cases_of_kind-requires : goal.cases_of_kind-requires
 cases_of_kind-requires c = (
-      c.requires.0,
-      omega (
-        arith,
-        switch_run_in c.requires.0 c.args.k c.node_word-first.result c.node_word-cases.result c.node_word-tails.result c.requires.2 c.node_word-first.ensures c.node_word-cases.ensures c.node_word-tails.ensures,
-      ),
-    )
+  c.requires.0,
+  omega (
+    arith,
+    switch_run_in c.requires.0 c.args.k c.node_word-first.result c.node_word-cases.result c.node_word-tails.result c.requires.2 c.node_word-first.ensures c.node_word-cases.ensures c.node_word-tails.ensures,
+  ),
+)
 
 pub returns-then-not-cases_of_kind : goal.returns-then-not-cases_of_kind
 unfolding list_switch_cases node_first_case node_cases node_tail_cases
@@ -33,12 +33,12 @@ returns-then-not-cases_of_kind c =
 
 pub cases_of_kind-requires-2 : goal.cases_of_kind-requires-2
 cases_of_kind-requires-2 c = (
-      c.requires.0,
-      omega (
-        arith,
-        switch_run_in c.requires.0 c.args.k c.node_word-first.result c.node_word-cases.result c.node_word-tails.result c.requires.2 c.node_word-first.ensures c.node_word-cases.ensures c.node_word-tails.ensures,
-      ),
-    )
+  c.requires.0,
+  omega (
+    arith,
+    switch_run_in c.requires.0 c.args.k c.node_word-first.result c.node_word-cases.result c.node_word-tails.result c.requires.2 c.node_word-first.ensures c.node_word-cases.ensures c.node_word-tails.ensures,
+  ),
+)
 
 pub returns : goal.returns
 unfolding list_switch_cases node_first_case node_cases node_tail_cases

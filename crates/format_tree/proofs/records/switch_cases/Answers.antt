@@ -17,12 +17,12 @@ returns-then-tails-ne0 c =
 
 pub case_kind-kind-requires : goal.case_kind-kind-requires
 case_kind-kind-requires c = (
-      c.requires.0,
-      omega (
-        arith,
-        switch_run_in c.requires.0 c.args.k c.node_word-first.result c.node_word-cases.result c.node_word-tails.result c.requires.2 c.node_word-first.ensures c.node_word-cases.ensures c.node_word-tails.ensures,
-      ),
-    )
+  c.requires.0,
+  omega (
+    arith,
+    switch_run_in c.requires.0 c.args.k c.node_word-first.result c.node_word-cases.result c.node_word-tails.result c.requires.2 c.node_word-first.ensures c.node_word-cases.ensures c.node_word-tails.ensures,
+  ),
+)
 
 pub returns-then-kind-gt-BYTES : goal.returns-then-kind-gt-BYTES
 unfolding switch_cases node_first_case node_cases node_tail_cases
@@ -39,12 +39,12 @@ returns-then-kind-gt-BYTES c =
 
 pub cases_of_kind-requires : goal.cases_of_kind-requires
 cases_of_kind-requires c = (
-      c.requires.0,
-      omega (
-        arith,
-        switch_run_in c.requires.0 c.args.k c.node_word-first.result c.node_word-cases.result c.node_word-tails.result c.requires.2 c.node_word-first.ensures c.node_word-cases.ensures c.node_word-tails.ensures,
-      ),
-    )
+  c.requires.0,
+  omega (
+    arith,
+    switch_run_in c.requires.0 c.args.k c.node_word-first.result c.node_word-cases.result c.node_word-tails.result c.requires.2 c.node_word-first.ensures c.node_word-cases.ensures c.node_word-tails.ensures,
+  ),
+)
 
 pub returns : goal.returns
 unfolding switch_cases node_first_case node_cases node_tail_cases

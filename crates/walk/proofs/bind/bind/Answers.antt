@@ -12,7 +12,7 @@ use Rattle.spec_rules.specs.Rows.{Binding as BindingTo}
 use Rattle.spec_rules.specs.Walking.{panel_root, follow, bound as bound_all}
 use Rattle.spec_rules.specs.WalkPlaces.{steps_taken}
 use Rattle.spec_rules.specs.TreeReader.{path_at}
-use Prim.Native.Nat.{ℕ, ◌+◌, ◌-◌, ◌*◌}
+use Prim.Native.Nat.{ℕ, ◌+◌, ◌*◌}
 use native.Mathlib.Omega.{arith}
 use mathlib.Core.Path.{refl, sym, ap, ◌∙◌}
 use Rattle.walk.proofs.bind.bind.Goals as goal

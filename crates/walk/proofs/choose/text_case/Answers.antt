@@ -6,7 +6,7 @@ use Rattle.spec_rules.specs.TreeReader.{case_text}
 use Rattle.base_words.specs.Words.{text_at, same_text}
 use native.Mathlib.Omega.{arith}
 use mathlib.Core.Bool.{Bool}
-use Prim.Native.Nat.{ℕ, ◌+◌, ◌-◌}
+use Prim.Native.Nat.{ℕ, ◌+◌}
 use mathlib.Core.Path.{sym, ap, ◌∙◌}
 use borrow.Author.Rules.{rules}
 use Rattle.walk.proofs.choose.text_case.Goals as goal

@@ -7,7 +7,7 @@ use Rattle.walk.specs.FollowLaws.{taken_some, taken_none, root_within, step_with
 use Rattle.walk.specs.Positions.{placed}
 use Rattle.spec_rules.specs.Walking.{take_step}
 use Rattle.spec_rules.specs.TreeReader.{step_at, step_of_fields}
-use Prim.Native.Nat.{◌+◌, ◌-◌}
+use Prim.Native.Nat.{◌+◌}
 use native.Mathlib.Omega.{arith}
 use mathlib.Core.Path.{◌≡◌, sym, ap, ◌∙◌}
 use Rattle.walk.proofs.follow.follow.Goals as goal

@@ -71,10 +71,10 @@ overflow_add-start c =
     let found : follow c.args.panel.now (path_at c.args.tree.now c.args.path) panel_root ≡ some (placed (place)) = let a = c.args in
     found_some a.panel.now (path_at a.tree.now a.path) (place) (sym c.follow-found.ensures ∙ c.in-At.is) in
     let asked : c.asked_by-asked.result ≡ asked_by (test_of c.args.tree.now c.args.first) = c.asked_by-asked.ensures ∙ ap asked_by c.requires.6 in
-    let texts : (asked_by (test_of c.args.tree.now c.args.first) ≤ bytes_record) × AllText c.args.tree.now c.args.first c.args.cases = 
+    let texts : (asked_by (test_of c.args.tree.now c.args.first) ≤ bytes_record) × AllText c.args.tree.now c.args.first c.args.cases =
     let a = c.args in
     texts_asked a.tree.now a.first c.requires.4 (λ e. c.if-asked-eq-CONSTRUCTOR.false (asked ∙ e)) a.cases c.requires.5 in
-    let text_in : c.args.places.pool.start + c.record_at-x.result.first + c.record_at-x.result.count ≤ length c.args.panel.now = 
+    let text_in : c.args.places.pool.start + c.record_at-x.result.first + c.record_at-x.result.count ≤ length c.args.panel.now =
     let a = c.args in
     let ready = c.requires.0 in
     let read = c.record_at-x in
@@ -85,13 +85,13 @@ overflow_add-start c =
 pub text_case-chosen-requires : goal.text_case-chosen-requires
 text_case-chosen-requires c =
     let asked : c.asked_by-asked.result ≡ asked_by (test_of c.args.tree.now c.args.first) = c.asked_by-asked.ensures ∙ ap asked_by c.requires.6 in
-    let texts : (asked_by (test_of c.args.tree.now c.args.first) ≤ bytes_record) × AllText c.args.tree.now c.args.first c.args.cases = 
+    let texts : (asked_by (test_of c.args.tree.now c.args.first) ≤ bytes_record) × AllText c.args.tree.now c.args.first c.args.cases =
     let a = c.args in
     texts_asked a.tree.now a.first c.requires.4 (λ e. c.if-asked-eq-CONSTRUCTOR.false (asked ∙ e)) a.cases c.requires.5 in
     let place : Position = c.in-At.p in
     let found : follow c.args.panel.now (path_at c.args.tree.now c.args.path) panel_root ≡ some (placed (place)) = let a = c.args in
     found_some a.panel.now (path_at a.tree.now a.path) (place) (sym c.follow-found.ensures ∙ c.in-At.is) in
-    let text_in : c.args.places.pool.start + c.record_at-x.result.first + c.record_at-x.result.count ≤ length c.args.panel.now = 
+    let text_in : c.args.places.pool.start + c.record_at-x.result.first + c.record_at-x.result.count ≤ length c.args.panel.now =
     let a = c.args in
     let ready = c.requires.0 in
     let read = c.record_at-x in

@@ -5,7 +5,7 @@ use Rattle.format_tree.specs.ReadingLaws.{nodes_count}
 use Rattle.walk.specs.TurnsLaws.{walk_starts, way_starts, steps_on_lem, steps_end}
 use Rattle.walk.specs.declared.nodes.Next.{Next}
 use Rattle.spec_rules.specs.TreeReader.{nodes}
-use Prim.Native.Nat.{◌-◌, ◌<◌}
+use Prim.Native.Nat.{◌<◌}
 use native.Mathlib.Omega.{arith}
 use mathlib.Core.Path.{◌≡◌, ◌∙◌}
 use Rattle.walk.proofs.nodes.reach.Goals as goal
