@@ -1,5 +1,4 @@
 -- `app_report::lines::put_bindings` meets its contract: the loop stands before the lines of the bindings that are left.
-use Prim.Native.Nat.{◌-◌}
 use Rattle.app_listing.specs.WritingLaws.{begun, begun_more, begun_all}
 use Rattle.app_report.specs.LinesLaws.{lines_start, lines_next, lines_none}
 use borrow.Author.Rules.{rules}
