@@ -4,6 +4,7 @@ pub mod RefusalNumbers
 pub mod Sections
 pub mod Searching
 pub mod SearchingLaws
+pub mod Found
 pub mod SheetFile
 pub mod Patterns
 pub mod Texts
