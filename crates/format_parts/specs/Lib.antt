@@ -3,3 +3,4 @@ pub mod Sections
 pub mod SectionsLaws
 pub mod TextsLaws
 pub mod Sums
+pub mod Refusals

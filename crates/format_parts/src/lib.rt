@@ -2,5 +2,6 @@
 // All three files are made of these, so that each check stands on this crate; nothing here knows what a record is of.
 #![tactic(auto)]
 
+pub mod refusals;
 pub mod sections;
 pub mod texts;

@@ -4,7 +4,7 @@ use Rattle.std.specs.Prelude.{ℕ, ◌+◌, ◌-◌, ◌<◌, ◌≤◌, Bool, t
 use Rattle.std.proofs.Common.{◌≡◌, Bor, zero, suc}
 use Rattle.std.proofs.Math.Logic.{⊎_elim}
 use Rattle.std.proofs.Math.Option.{some}
-use Rattle.std.proofs.Math.Path.{refl, ap, ap₂, sym, subst}
+use Rattle.std.proofs.Math.Path.{ap, ap₂, sym, subst}
 use native.Mathlib.Omega.{arith}
 use denote.Param.Members.{Mut}
 use Rattle.std.specs.Bool.{MatchBool}
@@ -49,8 +49,8 @@ module _ {F : Type 0} {g : Mut F (ℕ × Unit {0}) Bool} {s u : Range ℕ} {f : 
       → ((x : ℕ) (b : Bool) (q : F) → Called g f (x, tt) b q → (q ≡ f) × (b ≡ rule x)) → r ≡ every rule a n
   all_from a n ran start end says =
       decided rule a n r
-        (cases_from_all u f r (λ x. rule x ≡ true) (λ x. rule x ≡ false) ran (YieldsList-from_range a (a + n) n (both_ends s a (a + n) start end) (omega arith))
-          (λ x q e. let h = says x true q e in (h.0, sym h.1)) (λ x q e. sym (says x false q e).1))
+      (cases_from_all u f r (λ x. rule x ≡ true) (λ x. rule x ≡ false) ran (YieldsList-from_range a (a + n) n (both_ends s a (a + n) start end) (omega arith))
+      (λ x q e. let h = says x true q e in (h.0, sym h.1)) (λ x q e. sym (says x false q e).1))
 
   -- below n
   pub all_below : (n : ℕ) → ChecksAll nat_range_steps g s f r u → s.start ≡ 0 → s.end ≡ n
@@ -64,10 +64,10 @@ module _ (rule : ℕ → Bool) where
   lowest_is a zero k low high has below = absurd (omega arith)
   lowest_is a (suc n) k low high has below =
       ⊎_elim
-        (λ e. let here : rule a ≡ true = subst (λ x. rule x ≡ true) e has in rw (lowest, here) (ap some (sym e)))
-        (λ w. let not_here : rule a ≡ false = below a (omega arith) (omega (arith, w.0)) in
-          rw (lowest, not_here) (lowest_is (a + 1) n k w.0 w.1 has (λ j x y. below j (omega arith) y)))
-        (first_or_rest a k n low high)
+      (λ e. let here : rule a ≡ true = subst (λ x. rule x ≡ true) e has in rw (lowest, here) (ap some (sym e)))
+      (λ w. let not_here : rule a ≡ false = below a (omega arith) (omega (arith, w.0)) in
+      rw (lowest, not_here) (lowest_is (a + 1) n k w.0 w.1 has (λ j x y. below j (omega arith) y)))
+      (first_or_rest a k n low high)
 
   first_is : (s : Range ℕ) (a n : ℕ) (r : Option ℕ) → s.start ≡ a → s.end ≡ a + n
       → MatchOption r ((k : ℕ) → s.start ≤ k → k < s.end → rule k ≡ false) (λ i. (s.start ≤ i) × (i < s.end) × (rule i ≡ true) × ((k : ℕ) → s.start ≤ k → k < i → rule k ≡ false))
@@ -82,7 +82,7 @@ module _ {F : Type 0} {g : Mut F (Bor ℕ × Unit {0}) Bool} {s : Range ℕ} {f 
       → ((x : ℕ) (b : Bool) (q : F) → CalledAt g f x b q → (q ≡ f) × (b ≡ rule x)) → r ≡ found (lowest rule a n)
   find_from a n ran start end says =
       first_is rule s a n r start end
-        (first_from_Range s u f r (λ k. rule k ≡ true) (λ k. rule k ≡ false) ran (λ x q e. sym (says x true q e).1) (λ x q e. let h = says x false q e in (h.0, sym h.1)))
+      (first_from_Range s u f r (λ k. rule k ≡ true) (λ k. rule k ≡ false) ran (λ x q e. sym (says x true q e).1) (λ x q e. let h = says x false q e in (h.0, sym h.1)))
 
   -- below n
   pub find_below : (n : ℕ) → FindsItem nat_range_steps g s f r u → s.start ≡ 0 → s.end ≡ n
