@@ -1,7 +1,6 @@
 -- What is read from a list of bytes: words of two bytes, low byte first, and texts; and the tests that definitions over them use.
 -- Rests on the library's lists and native numbers alone; the laws are in WordsLaws.
-use Rattle.std.specs.Prelude.{ℕ, zero, suc, ◌+◌, ◌*◌, ◌/◌, ◌%◌, ◌<◌, Bool, true, false, List, [], ◌∷◌, eqb, get_or, set, take, drop, replicate}
-use Rattle.std.specs.Int.Bits.{bit_or}
+use Rattle.std.specs.Prelude.{ℕ, ◌+◌, ◌*◌, ◌/◌, ◌%◌, ◌<◌, Bool, true, false, List, [], ◌∷◌, eqb, get_or, set, take, drop, replicate}
 
 -- the word at i and i + 1
 unfoldable pub word_at : List ℕ → ℕ → ℕ
@@ -49,8 +48,3 @@ same_text (a ∷ xs) (b ∷ ys) = both (eqb a b) (same_text xs ys)
 -- n bytes that are 0
 abbrev pub zeros : ℕ → List ℕ
 zeros n = replicate n 0
-
--- all bits of the n bytes from i on
-unfoldable pub bits_at : List ℕ → ℕ → ℕ → ℕ
-bits_at s i zero = 0
-bits_at s i (suc n) = bit_or (bits_at s i n) (get_or s (i + n) 0)

@@ -1,7 +1,7 @@
 -- The laws of words, of texts and of the tests: what a caller cites in the place of their definitions.
 -- Rests on Words, the library's laws of lists, and arithmetic.
 use Rattle.std.specs.Prelude.{◌≡◌, refl, ◌⊎◌, Bool, true, false, List, [], ◌∷◌, ◌++◌, ℕ, zero, suc, ◌+◌, ◌-◌, ◌<◌, ◌≤◌, eqb, length, get_or, drop}
-use Rattle.std.proofs.Common.{sym, ap, ◌∙◌, inl, inr, true≢false, arith, add-one, below_more, eqb-true, eq-eqb, length-take, length-drop, ext_get_or, get_or-take, get_or-drop, get_or-append-add, drop-drop, take-add, Fits}
+use Rattle.std.proofs.Common.{sym, ap, ◌∙◌, inl, inr, true≢false, arith, eqb-true, eq-eqb, length-take, length-drop, ext_get_or, get_or-take, get_or-drop, get_or-append-add, drop-drop, take-add, Fits}
 use Rattle.std.proofs.Math.Nat.{sub-zero, suc-sub-suc, zero-sub}
 use Rattle.std.specs.Int.Bits.{bit_or, or_add_and}
 use Rattle.std.proofs.lemmas.Nat.{and_le_l, and_le_r}
@@ -9,7 +9,7 @@ use Rattle.std.proofs.Math.ListN.{get_or-append}
 use Rattle.std.proofs.lemmas.List.{take-append-le, drop-append-le}
 use Rattle.std.proofs.Math.Seq.{drop-append-add, take-length}
 use Rattle.std.specs.Int.{w8}
-use Rattle.base_words.specs.Words.{word_at, Bytes, both, either, pick, text_at, same_text, zeros, bits_at}
+use Rattle.base_words.specs.Words.{word_at, Bytes, both, either, pick, text_at, same_text, zeros}
 
 -- ---- tests
 
@@ -173,23 +173,7 @@ drop_zeros (suc m) (suc n) = rw suc-sub-suc (drop_zeros m n)
 
 -- ---- bits
 
-pub bits_at_start : (s : List ℕ) (i : ℕ) → bits_at s i 0 ≡ 0
-unfolding bits_at
-bits_at_start s i = refl
-
-pub bits_at_more : (s : List ℕ) (i n all : ℕ) → all ≡ bits_at s i n → bit_or all (get_or s (i + n) 0) ≡ bits_at s i (n + 1)
-unfolding bits_at
-bits_at_more s i n all e = rw (e, add-one n) refl
-
 -- two numbers without a bit between them are 0
-or_none : (a b : ℕ) → bit_or a b ≡ 0 → (a ≡ 0) × (b ≡ 0)
+pub or_none : (a b : ℕ) → bit_or a b ≡ 0 → (a ≡ 0) × (b ≡ 0)
 or_none a b e =
     (omega (arith, or_add_and a b, and_le_r a b), omega (arith, or_add_and a b, and_le_l a b))
-
--- bytes without a bit between them are 0
-pub bits_at_none : (s : List ℕ) (i n : ℕ) → bits_at s i n ≡ 0 → (k : ℕ) → k < n → get_or s (i + k) 0 ≡ 0
-unfolding bits_at
-bits_at_none s i zero e k h = absurd (omega arith)
-bits_at_none s i (suc n) e k h =
-    let p = or_none (bits_at s i n) (get_or s (i + n) 0) e in
-    below_more (λ (j : ℕ). get_or s (i + j) 0 ≡ 0) n (bits_at_none s i n p.0) p.1 k (omega arith)

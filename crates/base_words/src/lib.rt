@@ -2,15 +2,15 @@
 // Each contract is one equation with a definition of specs/Words or specs/Stored; nothing below this crate is the project's.
 #![tactic(auto)]
 
-ghost use Rattle.std.specs.Prelude.{◌≡◌, ◌+◌, ◌<◌, ◌≤◌, length};
-ghost use Rattle.base_words.specs.Words.{word_at, word_bytes, text_at, same_text, zeros, bits_at};
+ghost use Rattle.std.specs.Prelude.{◌≡◌, true, ◌+◌, ◌<◌, ◌≤◌, length};
+ghost use Rattle.base_words.specs.Words.{word_at, word_bytes, text_at, same_text, zeros};
 ghost use Rattle.base_words.specs.Stored.{stored};
 
 // The byte as a word: a call of it asks a caller only for the byte's index.
 pub fn wide(x: u8) -> u16
     ensures { result ≡ x }
 {
-    x as u16
+    u16::from(x)
 }
 
 // The word at i and i + 1.
@@ -18,9 +18,7 @@ pub fn word_at(s: &[u8], i: usize) -> u16
     requires { i + 1 < length s.now }
     ensures { result ≡ word_at s.now i }
 {
-    let low = wide(s[i]);
-    let high = wide(s[i + 1]);
-    low + 256 * high
+    u16::from_le_bytes([s[i], s[i + 1]])
 }
 
 // The word v stored at i and i + 1.
@@ -28,46 +26,27 @@ pub fn put_word(b: &mut [u8], i: usize, v: u16)
     requires { i + 1 < length b.old }
     ensures { b.new ≡ stored b.old i (word_bytes v) }
 {
-    b[i] = (v % 256) as u8;
-    b[i + 1] = (v / 256) as u8;
+    let [low, high] = v.to_le_bytes();
+    b[i] = low;
+    b[i + 1] = high;
 }
 
 // How many bytes are looked at in one go. The compiler knows this number, so it takes many bytes at once.
 const BLOCK: usize = 1024;
 
-// All bits of the n bytes from i on.
-fn bits_of(b: &[u8], i: usize, n: usize) -> u8
-    requires { i + n ≤ length b.now }
-    ensures { result ≡ bits_at b.now i n }
+// Whether each byte is 0: all their bits at once, since a search that may end early looks at one byte after another.
+fn is_zero(block: &[u8]) -> bool
+    ensures { result ≡ true → block.now ≡ zeros (length block.now) }
 {
-    let mut all = 0;
-    let mut k = 0;
-    while k < n {
-        all = all | b[i + k];
-        k += 1;
-    }
-    all
+    block.iter().fold(0, |all, byte| all | byte) == 0
 }
 
-// The n bytes from i on 0.
-fn zero_bytes(b: &mut [u8], i: usize, n: usize)
-    requires { i + n ≤ length b.old }
-    ensures { b.new ≡ stored b.old i (zeros n) }
+// Every byte of the block 0. Where they are 0 already none is written: to read them is quicker than to write them.
+fn zero_block(block: &mut [u8])
+    ensures { block.new ≡ zeros (length block.old) }
 {
-    let mut k = 0;
-    while k < n {
-        b[i + k] = 0;
-        k += 1;
-    }
-}
-
-// The same. Where they are 0 already none is written: to read them is quicker than to write them.
-fn zero_part(b: &mut [u8], i: usize, n: usize)
-    requires { i + n ≤ length b.old }
-    ensures { b.new ≡ stored b.old i (zeros n) }
-{
-    if bits_of(b, i, n) != 0 {
-        zero_bytes(b, i, n);
+    if !is_zero(block) {
+        block.fill(0);
     }
 }
 
@@ -75,24 +54,18 @@ fn zero_part(b: &mut [u8], i: usize, n: usize)
 pub fn zero_all(b: &mut [u8])
     ensures { b.new ≡ zeros (length b.old) }
 {
-    let mut i = 0;
-    while BLOCK <= b.len() - i {
-        zero_part(b, i, BLOCK);
-        i += BLOCK;
+    let whole = b.len() / BLOCK;
+    for k in 0..whole {
+        zero_block(&mut b[BLOCK * k..BLOCK * (k + 1)]);
     }
-    let rest = b.len() - i;
-    zero_part(b, i, rest);
+    zero_block(&mut b[BLOCK * whole..]);
 }
 
 // Every word 0, of a buffer that holds each word as one element.
 pub fn zero_words(words: &mut [u16])
     ensures { words.new ≡ zeros (length words.old) }
 {
-    let mut i = 0;
-    while i < words.len() {
-        words[i] = 0;
-        i += 1;
-    }
+    words.fill(0);
 }
 
 // Whether the n bytes of s from i on are those of t from j on.
@@ -100,12 +73,5 @@ pub fn same_text(s: &[u8], i: usize, t: &[u8], j: usize, n: usize) -> bool
     requires { (i + n ≤ length s.now) × (j + n ≤ length t.now) }
     ensures { result ≡ same_text (text_at s.now i n) (text_at t.now j n) }
 {
-    let mut k = 0;
-    while k < n {
-        if s[i + k] != t[j + k] {
-            return false;
-        }
-        k += 1;
-    }
-    true
+    s[i..i + n] == t[j..j + n]
 }

@@ -1,0 +1,2 @@
+pub mod TextsSame
+pub mod Bits
