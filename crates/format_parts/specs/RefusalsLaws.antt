@@ -12,3 +12,7 @@ passes false number e = let z : ◌≡◌ {A = ℕ} 0 1 = cc in absurd (omega ar
 pub stops : (test : Bool) (number : ℕ) (further : Verdict) {n place : ℕ} → refused n place ≡ require test number accepted → refused n place ≡ require test number further
 stops true number further e = let z : ◌≡◌ {A = ℕ} 0 1 = cc in absurd (omega arith)
 stops false number further e = e
+
+pub fails : (test : Bool) (number : ℕ) {n place : ℕ} → refused n place ≡ require test number accepted → test ≡ false
+fails true number e = let z : ◌≡◌ {A = ℕ} 0 1 = cc in absurd (omega arith)
+fails false number e = refl
