@@ -17,15 +17,19 @@ use format_parts::sections::run_in;
 fn fields_fit(x: Record, held: usize, pool: usize) -> bool
     ensures { (v : List ℕ) (r : ℕ) → x ≡ record_of v r → held ≡ parts v → pool ≡ panel_pool_size v → result ≡ fields_fit v r }
 {
-    x.zero == 0
-        && match x.kind {
-            record_kinds::INTEGER | record_kinds::BYTES => x.a == 0
-                && run_in(x.first, x.count, pool),
-            record_kinds::LIST | record_kinds::TUPLE => x.a == 0 && run_in(x.first, x.count, held),
-            record_kinds::PAIR => {
-                x.a == 0 && x.count == PAIR_PARTS && run_in(x.first, x.count, held)
-            }
-            record_kinds::CONSTRUCTOR => run_in(x.first, x.count, held),
+    let Record {
+        kind,
+        zero,
+        a,
+        first,
+        count,
+    } = x;
+    zero == 0
+        && match kind {
+            record_kinds::INTEGER | record_kinds::BYTES => a == 0 && run_in(first, count, pool),
+            record_kinds::LIST | record_kinds::TUPLE => a == 0 && run_in(first, count, held),
+            record_kinds::PAIR => a == 0 && count == PAIR_PARTS && run_in(first, count, held),
+            record_kinds::CONSTRUCTOR => run_in(first, count, held),
             _ => false,
         }
 }
