@@ -22,7 +22,7 @@ use Rattle.build_scopes.specs.Numbers.{scope_number, first_number, scope_node, f
 use Rattle.build_scopes.specs.SwitchLaws.{present_nodes}
 use Rattle.build_scopes.specs.NumbersLaws.{descent_in}
 use Rattle.build_scopes.specs.Marks.{ReadyWith, SetsMarked, LastMarked, ClauseMarks, ScopeMarks, bit_at}
-use Rattle.build_scopes.specs.SetsLaws.{column_read}
+use Rattle.build_scopes.specs.SetsLaws.{get_or_column}
 use Rattle.build_scopes.specs.WayLaws.{first_or_more}
 use Rattle.build_scopes.specs.Scoped.{Surveyed, with_clause, Scoped}
 
@@ -33,7 +33,7 @@ root_there w last sets h = omega (arith, h.sets_long, present_nodes h.tree h.rea
 module _ (w last sets : List ℕ) (h : Surveyed w last sets) (c mark : ℕ) (e : mark ≡ bit_at c (get_or sets 0 0)) where
   root_mark : mark ≡ bit (has_leaf c h.tree)
   root_mark =
-      column_read c sets 0 mark e
+      e ∙ sym (get_or_column c sets 0)
       ∙ (h.sets_marked.clause c).mark 0 (omega arith) (present_nodes h.tree h.ready.there)
       ∙ ap (λ z. bit (has_leaf c z)) (subtree_at_root h.tree)
 

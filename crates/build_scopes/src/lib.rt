@@ -70,9 +70,7 @@ fn hoist_paths(
         hoists: 0,
         idle: CLAUSES_MOST,
     };
-    let mut c = clauses;
-    while 0 < c {
-        c -= 1;
+    for c in (0..clauses).rev() {
         scopes = with_clause(work, c, last, sets, scopes);
     }
     scopes

@@ -6,38 +6,38 @@ use mathlib.Core.Path.{sym, ◌∙◌, subst}
 use native.Mathlib.Omega.{arith}
 use Rattle.build_scopes.proofs.descent.first_leaf.Goals as goal
 
-pub loop-c-init : goal.loop-c-init
-loop-c-init c =
+pub loop-k-init : goal.loop-k-init
+loop-k-init c =
     let a = c.args in
     λ h. way_start never a.work.now h.tree a.c h.ready h.leaf_there
 
 pub node_kind-requires : goal.node_kind-requires
 node_kind-requires c =
     let a = c.args in
-    let l = c.loop-c in
+    let l = c.loop-k in
     (c.requires.ready.nodes.room, way_inside never a.work.now c.requires.tree a.c l.k c.requires.ready (l.invariant c.requires))
 
-pub returns-then-node_kind-eq-LEAF : goal.returns-then-node_kind-eq-LEAF
-returns-then-node_kind-eq-LEAF c =
+pub returns : goal.returns
+returns c =
     let a = c.args in
-    let l = c.loop-c in
-    λ h. leaf_found a.work.now a.c a.sets.now h l.k (l.invariant h) (sym c.node_kind.ensures ∙ c.if-node_kind-eq-LEAF.true)
+    let l = c.loop-k in
+    λ h. leaf_found a.work.now a.c a.sets.now h l.k (l.invariant h) (sym c.node_kind.ensures ∙ c.loop-k-test.false)
 
 pub first_child-k-requires : goal.first_child-k-requires
 first_child-k-requires c =
     let a = c.args in
-    let l = c.loop-c in
-    (leaf_child a.work.now a.c a.sets.now c.requires l.k (l.invariant c.requires) (λ x. c.if-node_kind-eq-LEAF.false (c.node_kind.ensures ∙ x)), c.requires.small)
+    let l = c.loop-k in
+    (leaf_child a.work.now a.c a.sets.now c.requires l.k (l.invariant c.requires) (λ x. c.loop-k-test.true (c.node_kind.ensures ∙ x)), c.requires.small)
 
-pub loop-c-smaller : goal.loop-c-smaller
-loop-c-smaller c =
+pub loop-k-smaller : goal.loop-k-smaller
+loop-k-smaller c =
     let a = c.args in
-    let l = c.loop-c in
-    let n = leaf_on a.work.now a.c a.sets.now c.requires l.k (l.invariant c.requires) (λ x. c.if-node_kind-eq-LEAF.false (c.node_kind.ensures ∙ x)) in
+    let l = c.loop-k in
+    let n = leaf_on a.work.now a.c a.sets.now c.requires l.k (l.invariant c.requires) (λ x. c.loop-k-test.true (c.node_kind.ensures ∙ x)) in
     omega (arith, n.above, way_inside never a.work.now c.requires.tree a.c l.k c.requires.ready (l.invariant c.requires), c.first_child-k.ensures)
 
-pub loop-c-preserved : goal.loop-c-preserved
-loop-c-preserved c =
+pub loop-k-preserved : goal.loop-k-preserved
+loop-k-preserved c =
     let a = c.args in
-    let l = c.loop-c in
-    λ h. subst (λ z. OnWay never h.tree a.c z) (sym c.first_child-k.ensures) (leaf_on a.work.now a.c a.sets.now h l.k (l.invariant h) (λ x. c.if-node_kind-eq-LEAF.false (c.node_kind.ensures ∙ x))).next
+    let l = c.loop-k in
+    λ h. subst (λ z. OnWay never h.tree a.c z) (sym c.first_child-k.ensures) (leaf_on a.work.now a.c a.sets.now h l.k (l.invariant h) (λ x. c.loop-k-test.true (c.node_kind.ensures ∙ x))).next
