@@ -29,7 +29,8 @@ pub(crate) fn get_hoist_path(work: &[u8], c: usize, last: &[u8], sets: &[u32]) -
     k
 }
 
-// The leaf of clause c that was built first: default, cases, tail cases.
+// The leaf of clause c that was built first: default, cases, tail cases. A loop of its own: with the test where the way ends as a closure,
+// the contract of the two would be longer than both.
 pub(crate) fn first_leaf(work: &[u8], c: usize, sets: &[u32]) -> usize
     requires { ClauseMarks work.now c sets.now }
     ensures { (h : ClauseMarks work.now c sets.now) → result ≡ first_number c 0 h.tree }

@@ -32,22 +32,18 @@ pub struct Scopes {
     pub idle: usize,
 }
 
-// The scopes with those of clause c, the clauses after c being done.
-fn with_clause(work: &[u8], c: usize, last: &[u8], sets: &[u32], scopes: Scopes) -> Scopes
-    requires { Surveyed work.now last.now sets.now × (c < clauses_most) × (scopes.hoists < clauses_most) }
-    ensures { (h : Surveyed work.now last.now sets.now) → result ≡ with_clause h.tree c scopes }
+// Adds the scope of clause c, the clauses after c being done.
+fn add_clause(work: &[u8], c: usize, last: &[u8], sets: &[u32], scopes: &mut Scopes)
+    requires { Surveyed work.now last.now sets.now × (c < clauses_most) × (scopes.old.hoists < clauses_most) }
+    ensures { (h : Surveyed work.now last.now sets.now) → scopes.new ≡ with_clause h.tree c scopes.old }
 {
-    let mut y = scopes;
     if mark_of(sets[0], c) == 0 {
-        y.idle = c;
-        return y;
+        scopes.idle = c;
+        return;
     }
-    let node = get_hoist_path(work, c, last, sets);
-    let leaf = first_leaf(work, c, sets);
-    y.node[c] = node as u16;
-    y.leaf[c] = leaf as u16;
-    y.hoists = scopes.hoists + 1;
-    y
+    scopes.node[c] = get_hoist_path(work, c, last, sets) as u16;
+    scopes.leaf[c] = first_leaf(work, c, sets) as u16;
+    scopes.hoists += 1;
 }
 
 // Over tables with room for the nodes, whatever stands in them.
@@ -71,7 +67,7 @@ fn hoist_paths(
         idle: CLAUSES_MOST,
     };
     for c in (0..clauses).rev() {
-        scopes = with_clause(work, c, last, sets, scopes);
+        add_clause(work, c, last, sets, &mut scopes);
     }
     scopes
 }

@@ -2,11 +2,8 @@
 use Rattle.std.proofs.Common.{◌≡◌, ◌+◌, ◌-◌, sym, subst, length, arith}
 use Rattle.build_scopes.specs.Marks.{LastMarked}
 use Rattle.build_scopes.specs.ReadyLaws.{node_inside}
-use Rattle.build_scopes.specs.WayLaws.{last_none, last_more}
+use Rattle.build_scopes.specs.WayLaws.{last_more}
 use Rattle.build_scopes.proofs.last.mark_last.Goals as goal
-
-pub loop-k-init : goal.loop-k-init
-loop-k-init c = λ h. last_none h.tree c.args.nodes c.args.last.now (omega (arith, h.count))
 
 pub last_of-requires : goal.last_of-requires
 last_of-requires c =

@@ -2,11 +2,8 @@
 use Rattle.std.proofs.Common.{◌≡◌, ◌+◌, ◌-◌, sym, subst, length, arith}
 use Rattle.build_scopes.specs.Marks.{SetsMarked}
 use Rattle.build_scopes.specs.ReadyLaws.{node_inside}
-use Rattle.build_scopes.specs.WayLaws.{sets_none, sets_more}
+use Rattle.build_scopes.specs.WayLaws.{sets_more}
 use Rattle.build_scopes.proofs.marks.mark.Goals as goal
-
-pub loop-k-init : goal.loop-k-init
-loop-k-init c = λ h. sets_none h.tree c.args.nodes c.args.sets.now (omega (arith, h.count))
 
 pub node_set-requires : goal.node_set-requires
 node_set-requires c =
