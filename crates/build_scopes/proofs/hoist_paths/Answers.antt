@@ -6,25 +6,25 @@ use native.Mathlib.Omega.{arith}
 use Rattle.build_scopes.proofs.hoist_paths.Goals as goal
 
 pub loop-c-init : goal.loop-c-init
-loop-c-init c =
+loop-c-init g c =
     let a = c.args in
     λ h. scoped_start h.tree a.clauses c.requires.1
 
 pub add_clause-requires : goal.add_clause-requires
-add_clause-requires c =
+add_clause-requires g c =
     let a = c.args in
     let q = c.mark_last in
     let m = c.mark in
     let l = c.loop-c in
     let t = c.loop-c-test.true in
     let h = c.requires.0 in (
-      surveyed q.ensures (omega (arith, q.auto.last, c.requires.2)) m.ensures (omega (arith, m.auto.sets, c.requires.3)) h,
+      surveyed q.ensures (omega (arith, q.auto.last, c.requires.2)) m.ensures (omega (arith, m.auto.sets, c.requires.4)) h,
       omega (arith, c.requires.1, t),
       hoists_few h.tree a.clauses l.c l.scopes t c.requires.1 (omega arith) (l.invariant h),
     )
 
 pub loop-c-preserved : goal.loop-c-preserved
-loop-c-preserved c =
+loop-c-preserved g c =
     let a = c.args in
     let q = c.mark_last in
     let m = c.mark in
@@ -33,10 +33,10 @@ loop-c-preserved c =
     let down : l.c ≡ l.c - 1 + 1 = omega arith in
     λ h.
     scoped_more h.tree a.clauses (l.c - 1) l.scopes (omega (arith, t)) c.requires.1 (subst (λ z. ScopedFrom h.tree a.clauses z l.scopes) down (l.invariant h)) c.add_clause.new.scopes
-    (c.add_clause.ensures (surveyed q.ensures (omega (arith, q.auto.last, c.requires.2)) m.ensures (omega (arith, m.auto.sets, c.requires.3)) h))
+    (c.add_clause.ensures (surveyed q.ensures (omega (arith, q.auto.last, c.requires.2)) m.ensures (omega (arith, m.auto.sets, c.requires.4)) h))
 
 pub returns : goal.returns
-returns c =
+returns g c =
     let a = c.args in
     let m = c.mark in
     let l = c.loop-c in

@@ -4,4 +4,4 @@ use Rattle.build_scopes.specs.Marks.{ReadyWith}
 use Rattle.build_scopes.proofs.hoist_paths.Given as goal
 
 abbrev pub invariant-loop-c : goal.invariant-loop-c
-invariant-loop-c l = (h : ReadyWith l.work l.nodes) → ScopedFrom h.tree l.clauses l.c l.scopes
+invariant-loop-c g l = (h : ReadyWith l.work l.nodes) → ScopedFrom h.tree l.clauses l.c l.scopes
