@@ -117,15 +117,13 @@ fn put_switch(
     requires { SwitchAsked work.now k start tree.old (reach_of number.old list.old tops) }
     ensures { out_of tree.new (reach_of number.new list.new result) ≡ switch_out work.now start (moved_by shift.now) k (out_of tree.old (reach_of number.old list.old tops)) }
 {
-    let at = children_of(work, k);
-    let first = at.first;
-    let count = at.count;
+    let run = children_of(work, k);
     let paths = put_switch_node(work, k, shift, tree, number, list, tops);
-    let top = tops.cases;
-    put_cases(work, first, count, shift, tree, start + CASE_SIZE * top);
+    let at = start + CASE_SIZE * tops.cases;
+    put_cases(work, run.first, run.count, shift, tree, at);
     Tops {
         nodes: tops.nodes + 1,
-        cases: top + count,
+        cases: tops.cases + run.count,
         paths,
         ..tops
     }

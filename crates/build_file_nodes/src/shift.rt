@@ -15,8 +15,8 @@ fn count_hoists(node: &[u16; CLAUSES_MOST], clauses: usize, shift: &mut [u8; SHI
     requires { ShiftAsked (node_in node.now) clauses shift.old }
     ensures { HoistsCounted (node_in node.now) clauses shift.new }
 {
-    for c in 0..clauses {
-        shift[usize::from(node[c])] += 1;
+    for &k in &node[..clauses] {
+        shift[usize::from(k)] += 1;
     }
 }
 

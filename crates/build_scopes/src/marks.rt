@@ -109,7 +109,8 @@ fn marked_cases(work: &[u8], i: usize, n: usize, c: usize, sets: &[u32]) -> usiz
     count
 }
 
-// The child of the first of them that is marked, or 1,024.
+// The child of the first of them that is marked, or 1,024. A `for`, which reads each child once: after a `find` the child of the case
+// that was found would be read again.
 #[tactic(auto, using(crate::specs::MarksLaws::first_marked_next, crate::specs::MarksLaws::first_marked_end, crate::specs::SetsLaws::get_or_column))]
 fn first_marked(work: &[u8], i: usize, n: usize, c: usize, sets: &[u32]) -> usize
     requires { CasesInside work.now i n (length sets.now) × (c < clauses_most) }
