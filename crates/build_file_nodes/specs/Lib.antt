@@ -4,7 +4,6 @@ pub mod PiecesLaws
 pub mod Uses
 pub mod UsesLaws
 pub mod Model
-pub mod Promises
 pub mod ShiftLaws
 pub mod ModelLaws
 pub mod Written

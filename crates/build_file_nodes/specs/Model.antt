@@ -169,13 +169,6 @@ pub record BoundAsked (w : List ℕ) (leaf at : ℕ) (tree : List ℕ) (f : Reac
   pub nodes_fit : f.nodes < nodes_most
   pub bindings_fit : f.bindings + node_word w leaf bindings_word ≤ bindings_most
 
--- r is the first clause from c on that is hoisted above node k, or how many clauses there are
-pub record NextHoist (node : ℕ → ℕ) (k c clauses r : ℕ) : Type 0 where
-  pub from : c ≤ r
-  pub most : r ≤ clauses
-  pub passed : (d : ℕ) → c ≤ d → d < r → node d ≡ k → ⊥
-  pub here : r < clauses → node r ≡ k
-
 -- within what refusals 12 and 13 leave
 pub record Within (f : Reach) : Type 0 where
   pub nodes_most_holds : f.nodes ≤ nodes_most

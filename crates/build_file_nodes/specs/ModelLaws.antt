@@ -8,56 +8,39 @@ use native.Mathlib.Omega.{arith}
 use Rattle.std.proofs.Math.Nat.{sub-zero}
 use Rattle.std.proofs.Math.ListN.{length}
 use Rattle.std.proofs.lemmas.Bool.{eqb-false}
-use Rattle.base_words.specs.Words.{word_bytes, pick}
+use Rattle.base_words.specs.Words.{pick}
 use Rattle.base_words.specs.WordsLaws.{pick_true, pick_false}
 use Rattle.base_words.specs.Stored.{stored}
 use Rattle.base_words.specs.StoredLaws.{length_stored, stored_nil, stored_append}
-use Rattle.spec_rules.specs.Limits.{patterns_most, node_size, case_size, binding_size}
-use Rattle.spec_rules.specs.Kinds.{leaf_node, hoist_node, path_word, first_case_word, cases_word, tail_cases_word, default_word, clause_word, first_binding_word, bindings_word}
-use Rattle.spec_rules.specs.TreeFile.{first_of, node_bytes}
-use Rattle.build_arena.specs.Arena.{node_kind, node_word, case_child, binding_name, binding_path}
+use Rattle.spec_rules.specs.Limits.{patterns_most, case_size, binding_size}
+use Rattle.spec_rules.specs.Kinds.{leaf_node, hoist_node, path_word, first_case_word, cases_word, tail_cases_word, default_word, first_binding_word, bindings_word}
+use Rattle.build_arena.specs.Arena.{node_kind, node_word, case_child, binding_path}
 use Rattle.spec_file.specs.RecordsLaws.{case_fields}
 use Rattle.build_scopes.specs.Marks.{SwitchInside}
 use Rattle.build_scopes.specs.WriterLaws.{stands_at}
-use Rattle.build_file_nodes.specs.Uses.{Uses, Counted, with_class, number_in}
+use Rattle.build_file_nodes.specs.Uses.{Uses, Counted, with_class}
 use Rattle.build_file_nodes.specs.UsesLaws.{counted_with, use_some}
 use Rattle.build_file_nodes.specs.ShiftLaws.{no_hoists}
-use Rattle.build_file_nodes.specs.Model.{Places, Reach, bound_binding, bound_bytes, bound_uses, BindingAsked, BindingsAsked, PutBinding, PutBindings, clause_node, moved_by, Shifted, moved_case, moved_cases, moved_default, CasesAsked, Out, out_of, bound_out, hoist_out, hoists_out, LeafSound, BoundAsked, NextHoist, Within, HoistsAsked, switch_bytes, switch_out, PutSwitchNode, own_out, OwnAsked, node_out, nodes_out, NodeAsked, NodesAsked}
+use Rattle.build_file_nodes.specs.Model.{Places, Reach, bound_binding, bound_bytes, bound_uses, BindingsAsked, PutBinding, PutBindings, clause_node, moved_by, Shifted, moved_case, moved_cases, moved_default, Out, out_of, bound_out, hoist_out, hoists_out, LeafSound, BoundAsked, Within, HoistsAsked, switch_bytes, switch_out, own_out, OwnAsked, node_out, nodes_out, NodeAsked, NodesAsked}
 
 -- ---- bindings
-pub binding_asked : (w : List ℕ) (first count i : ℕ) → BindingsAsked w first count → i < count → BindingAsked w (first + i)
-binding_asked w first count i h l = record { room = h.room; inside = omega (arith, h.inside); class = h.classes i l }
-
 pub record BindingsLeft (w : List ℕ) (first count at : ℕ) (u : Uses) (before tree : List ℕ) (v : Uses) (i : ℕ) : Type 0 where
-  pub inside : i ≤ count
   pub counted : Counted v
   pub long : length tree ≡ length before
   pub uses_left : bound_uses w (first + i) (count - i) v ≡ bound_uses w first count u
   pub bytes_left : stored tree (at + binding_size * i) (bound_bytes w (first + i) (count - i) v) ≡ stored before at (bound_bytes w first count u)
 
-module _ (w : List ℕ) (first count at : ℕ) (u : Uses) (before : List ℕ) where
-  pub bindings_start : Counted u → BindingsLeft w first count at u before before u 0
-  bindings_start h =
-      let z : at + binding_size * 0 ≡ at = omega arith in
-      record {
-        inside = omega arith;
-        counted = h;
-        long = refl;
-        uses_left = rw (add-zero first, sub-zero count);
-        bytes_left = rw (z, add-zero first, sub-zero count);
-      }
-
-  pub bindings_next : (tree : List ℕ) (v : Uses) (i : ℕ) → BindingsLeft w first count at u before tree v i → i < count → BindingsAsked w first count
-      → (tree₂ : List ℕ) (v₂ : Uses) → PutBinding w (first + i) (at + binding_size * i) v tree tree₂ v₂ → BindingsLeft w first count at u before tree₂ v₂ (i + 1)
+module _ {w : List ℕ} {first count at : ℕ} {u : Uses} {before tree : List ℕ} {v : Uses} {i : ℕ} (h : BindingsLeft w first count at u before tree v i) where
+  pub bindings_next : i < count → BindingsAsked w first count → {tree₂ : List ℕ} {v₂ : Uses} → PutBinding w (first + i) (at + binding_size * i) v tree tree₂ v₂
+      → BindingsLeft w first count at u before tree₂ v₂ (i + 1)
   unfolding bound_uses bound_bytes
-  bindings_next tree v i h l a tree₂ v₂ p =
+  bindings_next l a p =
       let class = binding_path w (first + i) in
       let v₁ = with_class v class in
       let d : count - i ≡ suc (count - (i + 1)) = omega arith in
       let f : first + i + 1 ≡ first + (i + 1) = omega arith in
       let e : at + binding_size * i + binding_size ≡ at + binding_size * (i + 1) = omega arith in
       record {
-        inside = omega arith;
         counted = rw p.uses_are (counted_with v class h.counted (a.classes i l));
         long = ap length p.bytes_are ∙ length_stored tree (at + binding_size * i) (bound_binding w (first + i) v₁) ∙ h.long;
         uses_left = rw (p.uses_are, ← f) (rw d at h.uses_left);
@@ -67,9 +50,9 @@ module _ (w : List ℕ) (first count at : ℕ) (u : Uses) (before : List ℕ) wh
             ∙ (rw d at h.bytes_left));
       }
 
-  pub bindings_end : (tree : List ℕ) (v : Uses) (i : ℕ) → BindingsLeft w first count at u before tree v i → count ≤ i → PutBindings w first count at u before tree v
+  pub bindings_end : count ≤ i → PutBindings w first count at u before tree v
   unfolding bound_uses bound_bytes
-  bindings_end tree v i h l =
+  bindings_end l =
       let d : count - i ≡ 0 = omega arith in
       record {
         uses_are = rw d at h.uses_left;
@@ -88,57 +71,35 @@ counted_bound w first (suc count) u a h =
     })
     (counted_with u (binding_path w first) h (let e = add-zero first in rw e at (a.classes 0 (omega arith))))
 
--- the two words of a binding
-pub binding_put : (w : List ℕ) (b at : ℕ) (u v : Uses) (before : List ℕ) {t₁ : List ℕ} (name path number : ℕ) → name ≡ binding_name w b → path ≡ binding_path w b
-    → v ≡ with_class u path → number ≡ get_or v.number path 0 → t₁ ≡ stored before at (word_bytes name ++ word_bytes (number - 1)) → PutBinding w b at u before t₁ v
-binding_put w b at u v before name path number n p e q f =
-    record {
-      uses_are = e ∙ ap (with_class u) p;
-      bytes_are =
-          f
-          ∙ (λ i. stored before at (word_bytes (n i) ++ word_bytes ((q ∙ ap (λ z. get_or z.number path 0) e) i - 1)))
-          ∙ ap (λ z. stored before at (word_bytes (binding_name w b) ++ word_bytes (number_in (with_class u z) z))) p;
-    }
-
-pub bindings_asked_as : (w : List ℕ) (first count a b : ℕ) → first ≡ a → count ≡ b → BindingsAsked w a b → BindingsAsked w first count
-bindings_asked_as w first count a b e f h = rw (e, f) h
-
 -- a class that was used has a number
 pub used_some : (u v : Uses) (class : ℕ) → v ≡ with_class u class → Counted u → class < patterns_most → 0 < get_or v.number class 0
 used_some u v class e h l = rw e (use_some u class h l)
 
 -- ---- cases
 pub record CasesLeft (w : List ℕ) (stand : ℕ → ℕ) (first count at : ℕ) (before tree : List ℕ) (i : ℕ) : Type 0 where
-  pub inside : i ≤ count
   pub long : length tree ≡ length before
   pub bytes_left : stored tree (at + case_size * i) (moved_cases w stand (first + i) (count - i)) ≡ stored before at (moved_cases w stand first count)
 
-module _ (w : List ℕ) (stand : ℕ → ℕ) (first count at : ℕ) (before : List ℕ) where
-  pub cases_start : CasesLeft w stand first count at before before 0
-  cases_start =
-      let z : at + case_size * 0 ≡ at = omega arith in
-      record { inside = omega arith; long = refl; bytes_left = rw (z, add-zero first, sub-zero count) }
-
-  pub cases_next : (tree : List ℕ) (i child moved : ℕ) (tree₂ : List ℕ) → CasesLeft w stand first count at before tree i → i < count → child ≡ case_child w (first + i)
-      → moved ≡ stand child → tree₂ ≡ stored tree (at + case_size * i) (moved_case w (first + i) moved) → CasesLeft w stand first count at before tree₂ (i + 1)
+module _ {w : List ℕ} {stand : ℕ → ℕ} {first count at : ℕ} {before tree : List ℕ} {i : ℕ} (h : CasesLeft w stand first count at before tree i) where
+  pub cases_next : i < count → {child moved : ℕ} {tree₂ : List ℕ} → child ≡ case_child w (first + i) → moved ≡ stand child
+      → tree₂ ≡ stored tree (at + case_size * i) (moved_case w (first + i) moved) → CasesLeft w stand first count at before tree₂ (i + 1)
   unfolding moved_cases case_fields
-  cases_next tree i child moved tree₂ h l e f g =
+  cases_next l e f g =
       let d : count - i ≡ suc (count - (i + 1)) = omega arith in
       let q : first + i + 1 ≡ first + (i + 1) = omega arith in
       let x : at + case_size * i + case_size ≡ at + case_size * (i + 1) = omega arith in
       let here = moved_case w (first + i) (stand (case_child w (first + i))) in
-      let g₂ : tree₂ ≡ stored tree (at + case_size * i) here = g ∙ ap (λ z. stored tree (at + case_size * i) (moved_case w (first + i) z)) (f ∙ ap stand e) in
+      let g₂ = g ∙ ap (λ z. stored tree (at + case_size * i) (moved_case w (first + i) z)) (f ∙ ap stand e) in
       record {
-        inside = omega arith;
         long = ap length g₂ ∙ length_stored tree (at + case_size * i) here ∙ h.long;
         bytes_left =
             rw (g₂, ← q)
             (stored_append tree (at + case_size * i) (at + case_size * (i + 1)) here (moved_cases w stand (first + i + 1) (count - (i + 1))) x ∙ (rw d at h.bytes_left));
       }
 
-  pub cases_end : (tree : List ℕ) (i : ℕ) → CasesLeft w stand first count at before tree i → count ≤ i → tree ≡ stored before at (moved_cases w stand first count)
+  pub cases_end : count ≤ i → tree ≡ stored before at (moved_cases w stand first count)
   unfolding moved_cases
-  cases_end tree i h l =
+  cases_end l =
       let d : count - i ≡ 0 = omega arith in
       sym (stored_nil tree (at + case_size * i)) ∙ (rw d at h.bytes_left)
 
@@ -168,31 +129,6 @@ pub moved_some : (stand : ℕ → ℕ) (default : ℕ) → (default ≡ 0 → �
 unfolding moved_default
 moved_some stand default e = pick_false (eqb default 0) 0 (stand (default - 1) + 1) (ne_eqb default 0 e)
 
--- ---- records with their runs
-pub bound_put : (w : List ℕ) (at leaf kind child : ℕ) (t : List ℕ) (f : Reach) (clause from count first : ℕ) (uses : Uses) {t₁ t₂ : List ℕ}
-    → clause ≡ node_word w leaf clause_word → from ≡ node_word w leaf first_binding_word → count ≡ node_word w leaf bindings_word → first ≡ first_of count f.bindings
-    → t₁ ≡ stored t (node_size * f.nodes) (node_bytes kind clause first count child 0) → PutBindings w from count (at + binding_size * f.bindings) f.uses t₁ t₂ uses
-    → out_of t₂ (record { nodes = f.nodes + 1; cases = f.cases; bindings = f.bindings + count; uses = uses }) ≡ bound_out w at leaf kind child (out_of t f)
-unfolding bound_out
-bound_put w at leaf kind child t f clause from count first uses e₀ e₁ e₂ e₃ e₄ p = rw (p.bytes_are, p.uses_are, e₄, e₃, e₂, e₁, e₀)
-
-pub switch_node_put : (w : List ℕ) (stand : ℕ → ℕ) (k : ℕ) (t : List ℕ) (f : Reach) (path cases tails default : ℕ) (uses : Uses) (number kind : ℕ) {t₁ : List ℕ}
-    → path ≡ node_word w k path_word → cases ≡ node_word w k cases_word → tails ≡ node_word w k tail_cases_word → default ≡ moved_default stand (node_word w k default_word)
-    → uses ≡ with_class f.uses path → number ≡ get_or uses.number path 0 → kind ≡ node_kind w k
-    → t₁ ≡ stored t (node_size * f.nodes) (node_bytes kind (number - 1) f.cases cases tails default) → PutSwitchNode w stand k f t t₁ uses
-unfolding switch_bytes
-switch_node_put w stand k t f path cases tails default uses number kind e₀ e₂ e₃ e₄ u m q g =
-    record { uses_are = u ∙ ap (with_class f.uses) e₀; bytes_are = rw (g, q, m, u, e₄, e₃, e₂, e₀) }
-
-pub switch_put : (w : List ℕ) (at : ℕ) (stand : ℕ → ℕ) (k : ℕ) (t : List ℕ) (f : Reach) (first count : ℕ) (uses : Uses) {t₁ t₂ : List ℕ} → first ≡ node_word w k first_case_word
-    → count ≡ node_word w k cases_word + node_word w k tail_cases_word → PutSwitchNode w stand k f t t₁ uses → t₂ ≡ stored t₁ (at + case_size * f.cases) (moved_cases w stand first count)
-    → out_of t₂ (record { nodes = f.nodes + 1; cases = f.cases + count; bindings = f.bindings; uses = uses }) ≡ switch_out w at stand k (out_of t f)
-unfolding switch_out
-switch_put w at stand k t f first count uses e₁ e₂ p g = rw (g, p.bytes_are, p.uses_are, e₂, e₁)
-
-pub cases_asked_as : (w : List ℕ) (first count a b : ℕ) → first ≡ a → count ≡ b → CasesAsked w a b → CasesAsked w first count
-cases_asked_as w first count a b e f h = rw (e, f) h
-
 -- ---- hoists
 module _ (w : List ℕ) (at : ℕ) (x : Places) (k c : ℕ) (o : Out) where
   pub hoist_here : clause_node x c ≡ k → hoist_out w at x k c o ≡ bound_out w at (get_or x.leaf c 0) hoist_node (o.tops.nodes + 1) o
@@ -210,11 +146,6 @@ module _ (w : List ℕ) (at : ℕ) (x : Places) (k c : ℕ) (o : Out) where
       go : (b : Bool) → eqb (clause_node x c) k ≡ b → P (hoist_out w at x k c o)
       go true e = let z = eqb-true (clause_node x c) k e in rw (hoist_here z) (f z)
       go false e = rw (hoist_elsewhere (eqb-false (clause_node x c) k e)) g
-
--- a hoist with the bindings of a leaf, by the number that was read
-pub hoist_from : (w : List ℕ) (at : ℕ) (tree : List ℕ) (g : Reach) (leaf real : ℕ) → leaf ≡ real → (o : Out) → o ≡ bound_out w at leaf hoist_node (g.nodes + 1) (out_of tree g)
-    → o ≡ bound_out w at real hoist_node (g.nodes + 1) (out_of tree g)
-hoist_from w at tree g leaf real e o h = h ∙ ap (λ z. bound_out w at z hoist_node (g.nodes + 1) (out_of tree g)) e
 
 -- nothing written is taken back
 pub record Grown (f g : Reach) : Type 0 where
@@ -260,128 +191,68 @@ hoists_grow w at x k c (suc n) o =
     grown_trans o.tops (hoist_out w at x k c o).tops (hoists_out w at x k (c + 1) n (hoist_out w at x k c o)).tops (hoist_grows w at x k c o)
     (hoists_grow w at x k (c + 1) n (hoist_out w at x k c o))
 
--- ---- the search for the next clause hoisted above a node
-pub record Searched (node : ℕ → ℕ) (k c clauses d : ℕ) : Type 0 where
-  pub from : c ≤ d
-  pub most : d ≤ clauses
-  pub passed : (e : ℕ) → c ≤ e → e < d → node e ≡ k → ⊥
-
-module _ (node : ℕ → ℕ) (k c clauses : ℕ) where
-  pub search_start : c ≤ clauses → Searched node k c clauses c
-  search_start l = record { from = omega arith; most = l; passed = λ e m q z. omega arith }
-
-  module _ (d : ℕ) (h : Searched node k c clauses d) where
-    pub search_next : d < clauses → (node d ≡ k → ⊥) → Searched node k c clauses (d + 1)
-    search_next l n = record { from = omega (arith, h.from); most = omega arith; passed = not_passed }
-      where
-        not_passed : (e : ℕ) → c ≤ e → e < d + 1 → node e ≡ k → ⊥
-        not_passed e m q z = go (eqb e d) refl
-          where
-            go : (b : Bool) → eqb e d ≡ b → ⊥
-            go true x = let y = eqb-true e d x in n (sym (ap node y) ∙ z)
-            go false x = let y = eqb-false e d x in h.passed e m (omega arith) z
-
-    pub search_found : d < clauses → node d ≡ k → NextHoist node k c clauses d
-    search_found l e = record { from = h.from; most = h.most; passed = h.passed; here = λ m. e }
-
-    pub search_end : clauses ≤ d → NextHoist node k c clauses clauses
-    search_end l =
-        record { from = omega (arith, h.from, h.most); most = omega arith; passed = λ e m q z. h.passed e m (omega (arith, h.most)) z; here = λ m. absurd (omega arith) }
-
--- ---- the loop over the clauses hoisted above a node: what is left from clause c on, which is one of them or the end
+-- ---- the loop over the clauses: what is left from clause c on
 pub record HoistsLeft (w : List ℕ) (at : ℕ) (x : Places) (k clauses : ℕ) (before : List ℕ) (f : Reach) (tree : List ℕ) (g : Reach) (c : ℕ) : Type 0 where
-  pub inside : c ≤ clauses
-  pub here : c < clauses → clause_node x c ≡ k
   pub counted : Counted g.uses
   pub long : length tree ≡ length before
   pub left : hoists_out w at x k c (clauses - c) (out_of tree g) ≡ hoists_out w at x k 0 clauses (out_of before f)
 
-module _ (w : List ℕ) (at : ℕ) (x : Places) (k clauses : ℕ) (before : List ℕ) (f : Reach) where
-  hoists_on : (c : ℕ) (o : Out) → c < clauses → hoists_out w at x k c (clauses - c) o ≡ hoists_out w at x k (c + 1) (clauses - (c + 1)) (hoist_out w at x k c o)
+-- with no clause hoisted there nothing is written
+pub hoists_none : (w : List ℕ) (at : ℕ) (x : Places) (k c n : ℕ) (o : Out) → ((d : ℕ) → c ≤ d → d < c + n → clause_node x d ≡ k → ⊥) → o ≡ hoists_out w at x k c n o
+unfolding hoists_out
+hoists_none w at x k c zero o none = refl
+hoists_none w at x k c (suc n) o none =
+    hoists_none w at x k (c + 1) n o (λ d i j. none d (omega arith) (omega arith))
+    ∙ sym (ap (hoists_out w at x k (c + 1) n) (hoist_elsewhere w at x k c o (none c (omega arith) (omega arith))))
+
+pub hoists_start : (w : List ℕ) (at : ℕ) (x : Places) (k clauses : ℕ) (before : List ℕ) (f : Reach) → Counted f.uses → HoistsLeft w at x k clauses before f before f 0
+hoists_start w at x k clauses before f h = record { counted = h; long = refl; left = rw (sub-zero clauses) }
+
+pub hoists_end : {w : List ℕ} {at : ℕ} {x : Places} {k clauses : ℕ} {before : List ℕ} {f : Reach} {tree : List ℕ} {g : Reach} {c : ℕ} → HoistsLeft w at x k clauses before f tree g c
+    → clauses ≤ c → out_of tree g ≡ hoists_out w at x k 0 clauses (out_of before f)
+unfolding hoists_out
+hoists_end {clauses = clauses} {c = c} h l = let d : clauses - c ≡ 0 = omega arith in rw d at h.left
+
+module _ {w : List ℕ} {at : ℕ} {x : Places} {k clauses : ℕ} {before : List ℕ} {f : Reach} {shift tree : List ℕ} {g : Reach} {c : ℕ} (a : HoistsAsked w k x clauses shift at before f)
+    (h : HoistsLeft w at x k clauses before f tree g c) (l : c < clauses) where
+  abbrev hoisted : Out
+  hoisted = hoist_out w at x k c (out_of tree g)
+
+  hoists_on : hoists_out w at x k c (clauses - c) (out_of tree g) ≡ hoists_out w at x k (c + 1) (clauses - (c + 1)) hoisted
   unfolding hoists_out
-  hoists_on c o l = let d : clauses - c ≡ suc (clauses - (c + 1)) = omega arith in rw d
+  hoists_on = let d : clauses - c ≡ suc (clauses - (c + 1)) = omega arith in rw d
 
-  -- clauses hoisted elsewhere are passed over
-  hoists_over : (m c : ℕ) (o : Out) → c + m ≤ clauses → ((d : ℕ) → c ≤ d → d < c + m → clause_node x d ≡ k → ⊥)
-      → hoists_out w at x k c (clauses - c) o ≡ hoists_out w at x k (c + m) (clauses - (c + m)) o
-  hoists_over zero c o l p = ap (λ z. hoists_out w at x k z (clauses - z) o) (sym (add-zero c))
-  hoists_over (suc m) c o l p =
-      let e : c + 1 + m ≡ c + suc m = omega arith in
-      hoists_on c o (omega arith)
-      ∙ ap (hoists_out w at x k (c + 1) (clauses - (c + 1))) (hoist_elsewhere w at x k c o (p c (omega arith) (omega arith)))
-      ∙ hoists_over m (c + 1) o (omega arith) (λ d i j. p d (omega arith) (omega arith))
-      ∙ ap (λ z. hoists_out w at x k z (clauses - z) o) e
+  hoisted_within : Within hoisted.tops
+  hoisted_within =
+      within_before hoisted.tops (hoists_out w at x k (c + 1) (clauses - (c + 1)) hoisted).tops (hoists_grow w at x k (c + 1) (clauses - (c + 1)) hoisted)
+      (subst (λ z. Within z.tops) (sym h.left ∙ hoists_on) a.within)
 
-  hoists_to : (c r : ℕ) (o : Out) → NextHoist (clause_node x) k c clauses r → hoists_out w at x k c (clauses - c) o ≡ hoists_out w at x k r (clauses - r) o
-  hoists_to c r o n =
-      let e : c + (r - c) ≡ r = omega (arith, n.from) in
-      hoists_over (r - c) c o (omega (arith, n.from, n.most)) (λ d i j. n.passed d i (omega arith)) ∙ ap (λ z. hoists_out w at x k z (clauses - z) o) e
-
-  pub hoists_start : (r : ℕ) → Counted f.uses → NextHoist (clause_node x) k 0 clauses r → HoistsLeft w at x k clauses before f before f r
-  hoists_start r h n =
+  pub hoist_asked : clause_node x c ≡ k → BoundAsked w (get_or x.leaf c 0) at tree g
+  unfolding bound_out
+  hoist_asked e =
+      let n = subst (λ z. Within z.tops) (hoist_here w at x k c (out_of tree g) e) hoisted_within in
       record {
-        inside = n.most;
-        here = n.here;
-        counted = h;
-        long = refl;
-        left = sym (hoists_to 0 r (out_of before f) n) ∙ ap (λ z. hoists_out w at x k 0 z (out_of before f)) (sub-zero clauses);
+        sound = a.leaf c l e;
+        tree_room_holds = omega (arith, a.tree_room_holds, h.long);
+        start = a.start;
+        counted = h.counted;
+        nodes_fit = omega (arith, n.nodes_most_holds);
+        bindings_fit = n.bindings_most_holds;
       }
 
-  module _ (shift : List ℕ) (a : HoistsAsked w k x clauses shift at before f) (tree : List ℕ) (g : Reach) (c : ℕ) (h : HoistsLeft w at x k clauses before f tree g c) (l : c < clauses) where
-    abbrev next : Out
-    next = bound_out w at (get_or x.leaf c 0) hoist_node (g.nodes + 1) (out_of tree g)
+  hoisted_counted : Counted hoisted.tops.uses
+  unfolding bound_out
+  hoisted_counted =
+      by_hoist w at x k c (out_of tree g) (λ z. Counted z.tops.uses)
+      (λ e. counted_bound w (node_word w (get_or x.leaf c 0) first_binding_word) (node_word w (get_or x.leaf c 0) bindings_word) g.uses (a.leaf c l e).bindings h.counted) h.counted
 
-    next_is : hoists_out w at x k c (clauses - c) (out_of tree g) ≡ hoists_out w at x k (c + 1) (clauses - (c + 1)) next
-    next_is = hoists_on c (out_of tree g) l ∙ ap (hoists_out w at x k (c + 1) (clauses - (c + 1))) (hoist_here w at x k c (out_of tree g) (h.here l))
-
-    next_within : Within next.tops
-    next_within =
-        within_before next.tops (hoists_out w at x k (c + 1) (clauses - (c + 1)) next).tops (hoists_grow w at x k (c + 1) (clauses - (c + 1)) next)
-        (subst (λ z. Within z.tops) (sym h.left ∙ next_is) a.within)
-
-    pub hoist_asked : BoundAsked w (get_or x.leaf c 0) at tree g
-    unfolding bound_out
-    hoist_asked =
-        let n = next_within in
-        record {
-          sound = a.leaf c l (h.here l);
-          tree_room_holds = omega (arith, a.tree_room_holds, h.long);
-          start = a.start;
-          counted = h.counted;
-          nodes_fit = omega (arith, n.nodes_most_holds);
-          bindings_fit = n.bindings_most_holds;
-        }
-
-    next_counted : Counted next.tops.uses
-    unfolding bound_out
-    next_counted =
-        counted_bound w (node_word w (get_or x.leaf c 0) first_binding_word) (node_word w (get_or x.leaf c 0) bindings_word) g.uses (a.leaf c l (h.here l)).bindings h.counted
-
-    pub hoists_next : (tree₂ : List ℕ) (g₂ : Reach) (r : ℕ) → length tree₂ ≡ length tree → out_of tree₂ g₂ ≡ next → NextHoist (clause_node x) k (c + 1) clauses r
-        → HoistsLeft w at x k clauses before f tree₂ g₂ r
-    hoists_next tree₂ g₂ r m e n =
-        record {
-          inside = n.most;
-          here = n.here;
-          counted = subst (λ z. Counted z.tops.uses) (sym e) next_counted;
-          long = m ∙ h.long;
-          left =
-              sym (hoists_to (c + 1) r (out_of tree₂ g₂) n)
-              ∙ ap (hoists_out w at x k (c + 1) (clauses - (c + 1))) e
-              ∙ sym next_is
-              ∙ h.left;
-        }
-
-  pub hoists_end : (tree : List ℕ) (g : Reach) (c : ℕ) → HoistsLeft w at x k clauses before f tree g c → clauses ≤ c
-      → out_of tree g ≡ hoists_out w at x k 0 clauses (out_of before f)
-  unfolding hoists_out
-  hoists_end tree g c h l = let d : clauses - c ≡ 0 = omega arith in rw d at h.left
-
-  -- with no clause hoisted there nothing is written
-  pub hoists_none : Counted f.uses → ((c : ℕ) → c < clauses → clause_node x c ≡ k → ⊥) → out_of before f ≡ hoists_out w at x k 0 clauses (out_of before f)
-  hoists_none h none =
-      hoists_end before f clauses
-      (hoists_start clauses h (record { from = omega arith; most = omega arith; passed = λ d m q e. none d q e; here = λ l. absurd (omega arith) })) (omega arith)
+  pub hoists_next : {tree₂ : List ℕ} {g₂ : Reach} → length tree₂ ≡ length tree → out_of tree₂ g₂ ≡ hoisted → HoistsLeft w at x k clauses before f tree₂ g₂ (c + 1)
+  hoists_next m e =
+      record {
+        counted = subst (λ z. Counted z.tops.uses) (sym e) hoisted_counted;
+        long = m ∙ h.long;
+        left = ap (hoists_out w at x k (c + 1) (clauses - (c + 1))) e ∙ sym hoists_on ∙ h.left;
+      }
 
 bound_counted : (w : List ℕ) (at leaf kind child : ℕ) (o : Out) → BindingsAsked w (node_word w leaf first_binding_word) (node_word w leaf bindings_word) → Counted o.tops.uses
     → Counted (bound_out w at leaf kind child o).tops.uses
@@ -458,7 +329,7 @@ nodes_grow w cases_at bindings_at x n k (suc m) o =
     grown_trans o.tops next.tops (nodes_out w cases_at bindings_at x n (k + 1) m next).tops (node_grows w cases_at bindings_at x n k o)
     (nodes_grow w cases_at bindings_at x n (k + 1) m next)
 
-module _ (w : List ℕ) (k : ℕ) (x : Places) (clauses : ℕ) (shift : List ℕ) (cases_at bindings_at : ℕ) (tree : List ℕ) (f : Reach)
+module _ {w : List ℕ} {k : ℕ} {x : Places} {clauses : ℕ} {shift : List ℕ} {cases_at bindings_at : ℕ} {tree : List ℕ} {f : Reach}
     (a : NodeAsked w k x clauses shift cases_at bindings_at tree f) where
   abbrev lifted : Out
   lifted = hoists_out w bindings_at x k 0 clauses (out_of tree f)
@@ -483,7 +354,7 @@ module _ (w : List ℕ) (k : ℕ) (x : Places) (clauses : ℕ) (shift : List ℕ
         within = within_before lifted.tops (own_out w cases_at bindings_at (stands_at (clause_node x) clauses) k lifted).tops (own_grows w cases_at bindings_at (stands_at (clause_node x) clauses) k lifted) own_within;
       }
 
-  module _ (tree₂ : List ℕ) (g : Reach) (m : length tree₂ ≡ length tree) (e : out_of tree₂ g ≡ lifted) where
+  module _ {tree₂ : List ℕ} {g : Reach} (m : length tree₂ ≡ length tree) (e : out_of tree₂ g ≡ lifted) where
     g_counted : Counted g.uses
     g_counted =
         subst (λ z. Counted z.tops.uses) (sym e) (hoists_counted w bindings_at x k 0 clauses clauses (out_of tree f) (omega arith) leaves_sound a.counted)
@@ -532,55 +403,47 @@ module _ (w : List ℕ) (k : ℕ) (x : Places) (clauses : ℕ) (shift : List ℕ
 
 -- ---- the loop over the nodes
 pub record NodesLeft (w : List ℕ) (nodes : ℕ) (x : Places) (clauses cases_at bindings_at : ℕ) (before : List ℕ) (f : Reach) (tree : List ℕ) (g : Reach) (k : ℕ) : Type 0 where
-  pub inside : k ≤ nodes
   pub counted : Counted g.uses
   pub long : length tree ≡ length before
   pub left : nodes_out w cases_at bindings_at x clauses k (nodes - k) (out_of tree g) ≡ nodes_out w cases_at bindings_at x clauses 0 nodes (out_of before f)
 
-module _ (w : List ℕ) (nodes : ℕ) (x : Places) (clauses cases_at bindings_at : ℕ) (before : List ℕ) (f : Reach) where
-  pub nodes_start : Counted f.uses → NodesLeft w nodes x clauses cases_at bindings_at before f before f 0
-  nodes_start h = record { inside = omega arith; counted = h; long = refl; left = rw (sub-zero nodes) }
+pub nodes_end : {w : List ℕ} {nodes : ℕ} {x : Places} {clauses cases_at bindings_at : ℕ} {before : List ℕ} {f : Reach} {tree : List ℕ} {g : Reach} {k : ℕ}
+    → NodesLeft w nodes x clauses cases_at bindings_at before f tree g k → nodes ≤ k → out_of tree g ≡ nodes_out w cases_at bindings_at x clauses 0 nodes (out_of before f)
+unfolding nodes_out
+nodes_end {nodes = nodes} {k = k} h l = let d : nodes - k ≡ 0 = omega arith in rw d at h.left
 
-  nodes_on : (k : ℕ) (o : Out) → k < nodes
-      → nodes_out w cases_at bindings_at x clauses k (nodes - k) o ≡ nodes_out w cases_at bindings_at x clauses (k + 1) (nodes - (k + 1)) (node_out w cases_at bindings_at x clauses k o)
+module _ {w : List ℕ} {nodes : ℕ} {x : Places} {clauses cases_at bindings_at : ℕ} {before : List ℕ} {f : Reach} {shift tree : List ℕ} {g : Reach} {k : ℕ}
+    (a : NodesAsked w nodes x clauses shift cases_at bindings_at before f) (h : NodesLeft w nodes x clauses cases_at bindings_at before f tree g k) (l : k < nodes) where
+  abbrev turn : Out
+  turn = node_out w cases_at bindings_at x clauses k (out_of tree g)
+
+  nodes_on : nodes_out w cases_at bindings_at x clauses k (nodes - k) (out_of tree g) ≡ nodes_out w cases_at bindings_at x clauses (k + 1) (nodes - (k + 1)) turn
   unfolding nodes_out
-  nodes_on k o l = let d : nodes - k ≡ suc (nodes - (k + 1)) = omega arith in rw d
+  nodes_on = let d : nodes - k ≡ suc (nodes - (k + 1)) = omega arith in rw d
 
-  module _ (shift : List ℕ) (a : NodesAsked w nodes x clauses shift cases_at bindings_at before f) (tree : List ℕ) (g : Reach) (k : ℕ)
-      (h : NodesLeft w nodes x clauses cases_at bindings_at before f tree g k) (l : k < nodes) where
-    abbrev turn : Out
-    turn = node_out w cases_at bindings_at x clauses k (out_of tree g)
+  pub node_asked : NodeAsked w k x clauses shift cases_at bindings_at tree g
+  node_asked =
+      record {
+        nodes = nodes;
+        sound = a.sound;
+        shifted = a.shifted;
+        inside = l;
+        file = record {
+          tree_room_holds = omega (arith, a.file.tree_room_holds, h.long);
+          cases_start_holds = a.file.cases_start_holds;
+          bindings_start_holds = a.file.bindings_start_holds;
+        };
+        counted = h.counted;
+        within =
+            within_before turn.tops (nodes_out w cases_at bindings_at x clauses (k + 1) (nodes - (k + 1)) turn).tops
+            (nodes_grow w cases_at bindings_at x clauses (k + 1) (nodes - (k + 1)) turn)
+            (subst (λ z. Within z.tops) (sym h.left ∙ nodes_on) a.within);
+      }
 
-    pub node_asked : NodeAsked w k x clauses shift cases_at bindings_at tree g
-    node_asked =
-        record {
-          nodes = nodes;
-          sound = a.sound;
-          shifted = a.shifted;
-          inside = l;
-          file = record {
-            tree_room_holds = omega (arith, a.file.tree_room_holds, h.long);
-            cases_start_holds = a.file.cases_start_holds;
-            bindings_start_holds = a.file.bindings_start_holds;
-          };
-          counted = h.counted;
-          within =
-              within_before turn.tops (nodes_out w cases_at bindings_at x clauses (k + 1) (nodes - (k + 1)) turn).tops
-              (nodes_grow w cases_at bindings_at x clauses (k + 1) (nodes - (k + 1)) turn)
-              (subst (λ z. Within z.tops) (sym h.left ∙ nodes_on k (out_of tree g) l) a.within);
-        }
-
-    pub nodes_next : (tree₂ : List ℕ) (g₂ : Reach) → length tree₂ ≡ length tree → out_of tree₂ g₂ ≡ node_out w cases_at bindings_at x clauses k (out_of tree g)
-        → NodesLeft w nodes x clauses cases_at bindings_at before f tree₂ g₂ (k + 1)
-    nodes_next tree₂ g₂ m e =
-        record {
-          inside = omega arith;
-          counted = subst (λ z. Counted z.tops.uses) (sym e) (node_counted w k x clauses shift cases_at bindings_at tree g node_asked);
-          long = m ∙ h.long;
-          left = ap (nodes_out w cases_at bindings_at x clauses (k + 1) (nodes - (k + 1))) e ∙ sym (nodes_on k (out_of tree g) l) ∙ h.left;
-        }
-
-  pub nodes_end : (tree : List ℕ) (g : Reach) (k : ℕ) → NodesLeft w nodes x clauses cases_at bindings_at before f tree g k → nodes ≤ k
-      → out_of tree g ≡ nodes_out w cases_at bindings_at x clauses 0 nodes (out_of before f)
-  unfolding nodes_out
-  nodes_end tree g k h l = let d : nodes - k ≡ 0 = omega arith in rw d at h.left
+  pub nodes_next : {tree₂ : List ℕ} {g₂ : Reach} → length tree₂ ≡ length tree → out_of tree₂ g₂ ≡ turn → NodesLeft w nodes x clauses cases_at bindings_at before f tree₂ g₂ (k + 1)
+  nodes_next m e =
+      record {
+        counted = subst (λ z. Counted z.tops.uses) (sym e) (node_counted node_asked);
+        long = m ∙ h.long;
+        left = ap (nodes_out w cases_at bindings_at x clauses (k + 1) (nodes - (k + 1))) e ∙ sym nodes_on ∙ h.left;
+      }

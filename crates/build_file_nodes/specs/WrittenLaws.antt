@@ -205,7 +205,7 @@ own_path w all most k (listswitch p cs ts d) short e h = omega (arith, h.path_is
 abbrev nothing_yet : List ℕ → Reach
 nothing_yet l = record { nodes = 0; cases = 0; bindings = 0; uses = unused l }
 
-module _ (w : List ℕ) (nodes cases : ℕ) (x : Scopes) (clauses : ℕ) (h : WritingAsked w nodes cases x clauses) (list : List ℕ) (long : length list ≡ patterns_most) where
+module _ {w : List ℕ} {nodes cases : ℕ} {x : Scopes} {clauses : ℕ} (h : WritingAsked w nodes cases x clauses) (list : List ℕ) (long : length list ≡ patterns_most) where
   abbrev places : Places
   places = places_of x.node x.leaf
 
@@ -425,10 +425,9 @@ module _ (w : List ℕ) (nodes cases : ℕ) (x : Scopes) (clauses : ℕ) (h : Wr
   table_covered = record { among = λ p q. whole_covers.among p ((table_used whole).among p q) }
 
   -- THEOREM: the sections of the hoisted tree's file
-  pub written : (t t₂ number classes : List ℕ) (r : Tops)
-      → out_of t₂ (reach_of number classes r) ≡ nodes_out w cases_at bindings_at places clauses 0 nodes (out_of t (nothing_yet list)) → Written all whole t t₂ classes r
+  pub written : {t t₂ number classes : List ℕ} {r : Tops} → out_of t₂ (reach_of number classes r) ≡ nodes_out w cases_at bindings_at places clauses 0 nodes (out_of t (nothing_yet list)) → Written all whole t t₂ classes r
   unfolding after tree_piece
-  written t t₂ number classes r e =
+  written {t = t} {number = number} {classes = classes} {r = r} e =
       let q = e ∙ run t in
       let u = uses_of number classes r.paths in
       let s : Stand all u table = subst (λ z. Stand all z.tops.uses table) (sym q) whole_stand in

@@ -4,15 +4,14 @@ ghost use Rattle.std.specs.Prelude.{◌+◌, ◌*◌, ◌<◌, ◌≤◌, length
 ghost use Rattle.spec_rules.specs.Limits.{binding_size};
 ghost use Rattle.build_file_nodes.specs.Uses.{uses_of, Counted};
 ghost use Rattle.build_file_nodes.specs.Model.{BindingAsked, BindingsAsked, PutBinding, PutBindings};
-ghost use Rattle.build_file_nodes.specs.Promises.{uses_before, uses_after};
 
 use crate::uses::used;
 use base_numbers::sheet::PATTERNS_MOST;
 use base_numbers::tree::BINDING_SIZE;
-use base_words::wide;
 use build_arena::reading::binding_at;
 use format_records::writing::put_two_words;
 
+#[tactic(auto, using(crate::specs::UsesLaws::use_some))]
 fn put_binding(
     work: &[u8],
     i: usize,
@@ -23,13 +22,13 @@ fn put_binding(
     paths: usize,
 ) -> usize
     requires { BindingAsked work.now i × (at + 3 < length tree.old) × Counted (uses_of number.old list.old paths) }
-    ensures { PutBinding work.now i at (uses_before number.old list.old paths) tree.old tree.new (uses_after number.new list.new result) }
+    ensures { PutBinding work.now i at (uses_of number.old list.old paths) tree.old tree.new (uses_of number.new list.new result) }
 {
     let binding = binding_at(work, i);
     let class = binding.path as usize;
     let count = used(number, list, paths, class);
-    let own = wide(number[class]);
-    put_two_words(tree, at, binding.name, own - 1);
+    let own = u16::from(number[class]) - 1;
+    put_two_words(tree, at, binding.name, own);
     count
 }
 
@@ -45,11 +44,10 @@ pub(crate) fn put_bindings(
     paths: usize,
 ) -> usize
     requires { BindingsAsked work.now first count × (at + binding_size * count ≤ length tree.old) × Counted (uses_of number.old list.old paths) }
-    ensures { PutBindings work.now first count at (uses_before number.old list.old paths) tree.old tree.new (uses_after number.new list.new result) }
+    ensures { PutBindings work.now first count at (uses_of number.old list.old paths) tree.old tree.new (uses_of number.new list.new result) }
 {
     let mut known = paths;
-    let mut i = 0;
-    while i < count {
+    for i in 0..count {
         known = put_binding(
             work,
             first + i,
@@ -59,7 +57,6 @@ pub(crate) fn put_bindings(
             list,
             known,
         );
-        i += 1;
     }
     known
 }

@@ -16,10 +16,11 @@ fn move_by(k: usize, by: u8) -> u16
     requires { k ≤ nodes_most }
     ensures { result ≡ k + by }
 {
-    k as u16 + by as u16
+    k as u16 + u16::from(by)
 }
 
 // A default, which is one more than its node's number, or 0.
+#[tactic(auto, unfolding(crate::specs::Model::moved_default))]
 pub(crate) fn moved_default(shift: &[u8; SHIFTS], default: usize) -> u16
     requires { default ≤ nodes_most }
     ensures { result ≡ moved_default (moved_by shift.now) default }
@@ -53,11 +54,9 @@ pub(crate) fn put_cases(
     requires { CasesAsked work.now first count × (at + case_size * count ≤ length tree.old) }
     ensures { tree.new ≡ stored tree.old at (moved_cases work.now (moved_by shift.now) first count) }
 {
-    let mut i = 0;
-    while i < count {
+    for i in 0..count {
         let child = case_child(work, first + i) as usize;
         let moved = move_by(child, shift[child]);
         put_case(work, first + i, tree, at + CASE_SIZE * i, moved);
-        i += 1;
     }
 }

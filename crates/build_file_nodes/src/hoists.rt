@@ -1,31 +1,14 @@
 // The hoists that stand above a node, in the order of their clauses.
 // A node with none is known by how far it and the next node are moved. For another one pass over the clauses finds those hoisted there.
-ghost use Rattle.std.specs.Prelude.{◌≡◌, ◌+◌, ◌≤◌};
+ghost use Rattle.std.specs.Prelude.{◌≡◌, ◌+◌};
 ghost use Rattle.spec_rules.specs.Kinds.{hoist_node};
-ghost use Rattle.spec_rules.specs.Limits.{clauses_most};
-ghost use Rattle.build_file_nodes.specs.Model.{node_in, places_of, reach_of, BoundAsked, bound_out, HoistsAsked, hoists_out, NextHoist};
-ghost use Rattle.build_file_nodes.specs.Promises.{out_before, out_after, places_before};
+ghost use Rattle.build_file_nodes.specs.Model.{places_of, reach_of, out_of, BoundAsked, bound_out, HoistsAsked, hoists_out};
 
 use crate::Tops;
 use crate::nodes::put_bound;
-use crate::shift::{SHIFTS, as_count};
+use crate::shift::SHIFTS;
 use base_numbers::node_kinds;
 use base_numbers::sheet::{CLAUSES_MOST, PATTERNS_MOST};
-
-// The first clause from c on that is hoisted above node k, or how many clauses there are.
-fn next_hoist(node: &[u16; CLAUSES_MOST], c: usize, clauses: usize, k: usize) -> usize
-    requires { (c ≤ clauses) × (clauses ≤ clauses_most) }
-    ensures { NextHoist (node_in node.now) k c clauses result }
-{
-    let mut d = c;
-    while d < clauses {
-        if as_count(node[d]) == k {
-            return d;
-        }
-        d += 1;
-    }
-    clauses
-}
 
 // A hoist with the clause and the bindings of this leaf, over the node that is written after it.
 fn put_hoist(
@@ -38,7 +21,7 @@ fn put_hoist(
     tops: Tops,
 ) -> Tops
     requires { BoundAsked work.now leaf start tree.old (reach_of number.old list.old tops) }
-    ensures { out_after tree.new number.new list.new result ≡ bound_out work.now start leaf hoist_node (tops.nodes + 1) (out_before tree.old number.old list.old tops) }
+    ensures { out_of tree.new (reach_of number.new list.new result) ≡ bound_out work.now start leaf hoist_node (tops.nodes + 1) (out_of tree.old (reach_of number.old list.old tops)) }
 {
     let child = (tops.nodes + 1) as u16;
     put_bound(
@@ -69,16 +52,16 @@ pub(crate) fn put_hoists(
     tops: Tops,
 ) -> Tops
     requires { HoistsAsked work.now k (places_of node.now leaf.now) clauses shift.now start tree.old (reach_of number.old list.old tops) }
-    ensures { out_after tree.new number.new list.new result ≡ hoists_out work.now start (places_before node.now leaf.now) k 0 clauses (out_before tree.old number.old list.old tops) }
+    ensures { out_of tree.new (reach_of number.new list.new result) ≡ hoists_out work.now start (places_of node.now leaf.now) k 0 clauses (out_of tree.old (reach_of number.old list.old tops)) }
 {
     if shift[k] == shift[k + 1] {
         return tops;
     }
     let mut next = tops;
-    let mut c = next_hoist(node, 0, clauses, k);
-    while c < clauses {
-        next = put_hoist(work, as_count(leaf[c]), tree, start, number, list, next);
-        c = next_hoist(node, c + 1, clauses, k);
+    for c in 0..clauses {
+        if usize::from(node[c]) == k {
+            next = put_hoist(work, usize::from(leaf[c]), tree, start, number, list, next);
+        }
     }
     next
 }

@@ -46,10 +46,8 @@ pub fn write_nodes(
 {
     let second = NODE_SIZE * (nodes + scopes.hoists);
     let third = second + CASE_SIZE * cases;
-    let node = scopes.node;
-    let leaf = scopes.leaf;
     let mut shift = [0u8; SHIFTS];
-    find_shift(&node, clauses, nodes, &mut shift);
+    find_shift(&scopes.node, clauses, nodes, &mut shift);
     let mut number = [0u8; PATTERNS_MOST];
     let starts = Starts {
         cases: second,
@@ -64,8 +62,8 @@ pub fn write_nodes(
     put_nodes(
         work,
         nodes,
-        &node,
-        &leaf,
+        &scopes.node,
+        &scopes.leaf,
         clauses,
         &shift,
         tree,

@@ -2,8 +2,8 @@
 // What is written so far is known by the tops of the sections; each function answers them anew. A section's start is given with them.
 // The path numbers are in two tables that are lent with the tops.
 ghost use Rattle.std.specs.Prelude.{◌≡◌};
-ghost use Rattle.build_file_nodes.specs.Model.{moved_by, places_of, reach_of, BoundAsked, SwitchNodeAsked, PutSwitchNode, SwitchAsked, OwnAsked, NodeAsked, NodesAsked, bound_out, switch_out, own_out, node_out, nodes_out};
-ghost use Rattle.build_file_nodes.specs.Promises.{uses_after, reach_before, out_before, out_after, places_before};
+ghost use Rattle.build_file_nodes.specs.Uses.{uses_of};
+ghost use Rattle.build_file_nodes.specs.Model.{moved_by, places_of, reach_of, out_of, BoundAsked, SwitchNodeAsked, PutSwitchNode, SwitchAsked, OwnAsked, NodeAsked, NodesAsked, bound_out, switch_out, own_out, node_out, nodes_out};
 
 use crate::Tops;
 use crate::bindings::put_bindings;
@@ -14,7 +14,6 @@ use crate::uses::used;
 use base_numbers::sheet::{CLAUSES_MOST, PATTERNS_MOST};
 use base_numbers::tree::{BINDING_SIZE, CASE_SIZE, NODE_SIZE};
 use base_numbers::{node_kinds, node_words};
-use base_words::wide;
 use build_arena::reading::{node_kind, node_word};
 use build_scopes::marks::children_of;
 use format_parts::sections::first_of;
@@ -28,6 +27,7 @@ pub struct Starts {
 }
 
 // A leaf, or a hoist over the child, with the clause and the bindings of the arena's leaf.
+#[tactic(auto, unfolding(crate::specs::Model::bound_out))]
 pub(crate) fn put_bound(
     work: &[u8],
     leaf: usize,
@@ -40,7 +40,7 @@ pub(crate) fn put_bound(
     tops: Tops,
 ) -> Tops
     requires { BoundAsked work.now leaf start tree.old (reach_of number.old list.old tops) }
-    ensures { out_after tree.new number.new list.new result ≡ bound_out work.now start leaf kind child (out_before tree.old number.old list.old tops) }
+    ensures { out_of tree.new (reach_of number.new list.new result) ≡ bound_out work.now start leaf kind child (out_of tree.old (reach_of number.old list.old tops)) }
 {
     let clause = node_word(work, leaf, node_words::CLAUSE);
     let from = node_word(work, leaf, node_words::FIRST_BINDING) as usize;
@@ -62,13 +62,14 @@ pub(crate) fn put_bound(
     let paths = put_bindings(work, from, n, tree, at, number, list, tops.paths);
     Tops {
         nodes: tops.nodes + 1,
-        cases: tops.cases,
         bindings: top + n,
         paths,
+        ..tops
     }
 }
 
 // The record of a switch or a list switch; the answer is how many paths have a number, with its own.
+#[tactic(auto, using(crate::specs::UsesLaws::use_some), unfolding(crate::specs::Model::switch_bytes))]
 fn put_switch_node(
     work: &[u8],
     k: usize,
@@ -79,14 +80,14 @@ fn put_switch_node(
     tops: Tops,
 ) -> usize
     requires { SwitchNodeAsked work.now k tree.old (reach_of number.old list.old tops) }
-    ensures { PutSwitchNode work.now (moved_by shift.now) k (reach_before number.old list.old tops) tree.old tree.new (uses_after number.new list.new result) }
+    ensures { PutSwitchNode work.now (moved_by shift.now) k (reach_of number.old list.old tops) tree.old tree.new (uses_of number.new list.new result) }
 {
     let path = node_word(work, k, node_words::PATH) as usize;
     let cases = node_word(work, k, node_words::CASES);
     let tails = node_word(work, k, node_words::TAIL_CASES);
     let default = moved_default(shift, node_word(work, k, node_words::DEFAULT) as usize);
     let paths = used(number, list, tops.paths, path);
-    let own = wide(number[path]) - 1;
+    let own = u16::from(number[path]) - 1;
     let kind = node_kind(work, k);
     let top = tops.cases as u16;
     put_node(
@@ -102,6 +103,7 @@ fn put_switch_node(
     paths
 }
 
+#[tactic(auto, unfolding(crate::specs::Model::switch_out))]
 fn put_switch(
     work: &[u8],
     k: usize,
@@ -113,22 +115,21 @@ fn put_switch(
     tops: Tops,
 ) -> Tops
     requires { SwitchAsked work.now k start tree.old (reach_of number.old list.old tops) }
-    ensures { out_after tree.new number.new list.new result ≡ switch_out work.now start (moved_by shift.now) k (out_before tree.old number.old list.old tops) }
+    ensures { out_of tree.new (reach_of number.new list.new result) ≡ switch_out work.now start (moved_by shift.now) k (out_of tree.old (reach_of number.old list.old tops)) }
 {
-    let at = children_of(work, k);
-    let first = at.first;
-    let count = at.count;
+    let run = children_of(work, k);
     let paths = put_switch_node(work, k, shift, tree, number, list, tops);
-    let top = tops.cases;
-    put_cases(work, first, count, shift, tree, start + CASE_SIZE * top);
+    let at = start + CASE_SIZE * tops.cases;
+    put_cases(work, run.first, run.count, shift, tree, at);
     Tops {
         nodes: tops.nodes + 1,
-        cases: top + count,
-        bindings: tops.bindings,
+        cases: tops.cases + run.count,
         paths,
+        ..tops
     }
 }
 
+#[tactic(auto, unfolding(crate::specs::Model::own_out))]
 fn put_own(
     work: &[u8],
     k: usize,
@@ -140,7 +141,7 @@ fn put_own(
     tops: Tops,
 ) -> Tops
     requires { OwnAsked work.now k starts.cases starts.bindings tree.old (reach_of number.old list.old tops) }
-    ensures { out_after tree.new number.new list.new result ≡ own_out work.now starts.cases starts.bindings (moved_by shift.now) k (out_before tree.old number.old list.old tops) }
+    ensures { out_of tree.new (reach_of number.new list.new result) ≡ own_out work.now starts.cases starts.bindings (moved_by shift.now) k (out_of tree.old (reach_of number.old list.old tops)) }
 {
     if node_kind(work, k) == node_kinds::LEAF {
         return put_bound(
@@ -173,7 +174,7 @@ fn put_one(
     tops: Tops,
 ) -> Tops
     requires { NodeAsked work.now k (places_of node.now leaf.now) clauses shift.now starts.cases starts.bindings tree.old (reach_of number.old list.old tops) }
-    ensures { out_after tree.new number.new list.new result ≡ node_out work.now starts.cases starts.bindings (places_before node.now leaf.now) clauses k (out_before tree.old number.old list.old tops) }
+    ensures { out_of tree.new (reach_of number.new list.new result) ≡ node_out work.now starts.cases starts.bindings (places_of node.now leaf.now) clauses k (out_of tree.old (reach_of number.old list.old tops)) }
 {
     let next = put_hoists(
         work,
@@ -206,15 +207,13 @@ pub(crate) fn put_nodes(
     tops: Tops,
 ) -> Tops
     requires { NodesAsked work.now nodes (places_of node.now leaf.now) clauses shift.now starts.cases starts.bindings tree.old (reach_of number.old list.old tops) }
-    ensures { out_after tree.new number.new list.new result ≡ nodes_out work.now starts.cases starts.bindings (places_before node.now leaf.now) clauses 0 nodes (out_before tree.old number.old list.old tops) }
+    ensures { out_of tree.new (reach_of number.new list.new result) ≡ nodes_out work.now starts.cases starts.bindings (places_of node.now leaf.now) clauses 0 nodes (out_of tree.old (reach_of number.old list.old tops)) }
 {
     let mut next = tops;
-    let mut k = 0;
-    while k < nodes {
+    for k in 0..nodes {
         next = put_one(
             work, k, node, leaf, clauses, shift, tree, starts, number, list, next,
         );
-        k += 1;
     }
     next
 }

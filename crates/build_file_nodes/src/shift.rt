@@ -10,23 +10,13 @@ use base_numbers::tree::NODES_MOST;
 // A table of how far each node is moved has one place more, behind the last node.
 pub(crate) const SHIFTS: usize = NODES_MOST + 1;
 
-// A number of a table by clause, as wide as a count.
-pub(crate) fn as_count(word: u16) -> usize
-    ensures { result ≡ word }
-{
-    word as usize
-}
-
 // How many of the clauses are hoisted above each node, in a table of zeros.
 fn count_hoists(node: &[u16; CLAUSES_MOST], clauses: usize, shift: &mut [u8; SHIFTS])
     requires { ShiftAsked (node_in node.now) clauses shift.old }
     ensures { HoistsCounted (node_in node.now) clauses shift.new }
 {
-    let mut c = clauses;
-    while 0 < c {
-        c -= 1;
-        let k = as_count(node[c]);
-        shift[k] += 1;
+    for &k in &node[..clauses] {
+        shift[usize::from(k)] += 1;
     }
 }
 
@@ -35,13 +25,11 @@ fn sum_up(nodes: usize, shift: &mut [u8; SHIFTS])
     requires { SumsAsked nodes shift.old }
     ensures { SummedUp nodes shift.old shift.new }
 {
-    let mut sum: u8 = 0;
-    let mut k = 0;
-    while k <= nodes {
+    let mut sum = 0;
+    for k in 0..=nodes {
         let here = shift[k];
         shift[k] = sum;
         sum += here;
-        k += 1;
     }
 }
 

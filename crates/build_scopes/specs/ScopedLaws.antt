@@ -22,18 +22,18 @@ use Rattle.build_scopes.specs.Numbers.{scope_number, first_number, scope_node, f
 use Rattle.build_scopes.specs.SwitchLaws.{present_nodes}
 use Rattle.build_scopes.specs.NumbersLaws.{descent_in}
 use Rattle.build_scopes.specs.Marks.{ReadyWith, SetsMarked, LastMarked, ClauseMarks, ScopeMarks, bit_at}
-use Rattle.build_scopes.specs.SetsLaws.{column_read}
+use Rattle.build_scopes.specs.SetsLaws.{get_or_column}
 use Rattle.build_scopes.specs.WayLaws.{first_or_more}
 use Rattle.build_scopes.specs.Scoped.{Surveyed, with_clause, Scoped}
 
 -- ---- one clause
-pub root_there : (w last sets : List ℕ) → Surveyed w last sets → 0 < length sets
-root_there w last sets h = omega (arith, h.sets_long, present_nodes h.tree h.ready.there)
+pub root_there : {w last sets : List ℕ} → Surveyed w last sets → 0 < length sets
+root_there h = omega (arith, h.sets_long, present_nodes h.tree h.ready.there)
 
-module _ (w last sets : List ℕ) (h : Surveyed w last sets) (c mark : ℕ) (e : mark ≡ bit_at c (get_or sets 0 0)) where
+module _ {w last sets : List ℕ} (h : Surveyed w last sets) (c : ℕ) {mark : ℕ} (e : mark ≡ bit_at c (get_or sets 0 0)) where
   root_mark : mark ≡ bit (has_leaf c h.tree)
   root_mark =
-      column_read c sets 0 mark e
+      e ∙ sym (get_or_column c sets 0)
       ∙ (h.sets_marked.clause c).mark 0 (omega arith) (present_nodes h.tree h.ready.there)
       ∙ ap (λ z. bit (has_leaf c z)) (subtree_at_root h.tree)
 
@@ -177,9 +177,9 @@ scoped_end a clauses c x e s =
     }
 
 -- what the two passes over the nodes find, of every tree that is there
-abbrev pub surveyed : (w : List ℕ) (nodes : ℕ) (last sets : List ℕ) → ((h : ReadyWith w nodes) → LastMarked h.tree 0 last) → nodes ≤ length last
+abbrev pub surveyed : {w : List ℕ} {nodes : ℕ} {last sets : List ℕ} → ((h : ReadyWith w nodes) → LastMarked h.tree 0 last) → nodes ≤ length last
     → ((h : ReadyWith w nodes) → SetsMarked h.tree 0 sets) → nodes ≤ length sets → ReadyWith w nodes → Surveyed w last sets
-surveyed w nodes last sets m l n k h =
+surveyed m l n k h =
     record {
       tree = h.tree;
       ready = h.ready;

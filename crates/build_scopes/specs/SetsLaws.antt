@@ -1,24 +1,21 @@
 -- Laws of sets of clauses, a bit by clause: what their bits are, and that the set of a node has the clauses with a mark there.
--- In a loop over the n cases of a switch from case i on, n - j are left from case i + j on.
+-- In a loop over a run of cases that ends before case `end`, end - j are left from case j on.
 use Rattle.std.specs.Prelude.{◌≡◌, Bool, length, get_or, set, eqb, ltb}
-use Rattle.std.proofs.Math.Path.{refl, sym, ap, ap₂}
-use Rattle.std.proofs.Common.{◌∙◌, true≢false, add-zero, pow-suc, add_comm, pow-add, eq-eqb, ne_eqb, eqb-true, lt-ltb, ltb-true, ltb-false}
+use Rattle.std.proofs.Math.Path.{refl, sym, ap}
+use Rattle.std.proofs.Common.{◌∙◌, true≢false, pow-suc, add_comm, pow-add, eq-eqb, eqb-true, lt-ltb, ltb-true, ltb-false}
 use Rattle.std.proofs.Math.Bool.{true, false}
 use mathlib.Core.List.{List, [], ◌∷◌}
-use Prim.Native.Nat.{ℕ, zero, suc, ◌+◌, ◌-◌, ◌*◌, ◌/◌, ◌%◌, ◌^◌, ◌≤◌, ◌<◌}
+use Prim.Native.Nat.{ℕ, zero, suc, ◌+◌, ◌-◌, ◌/◌, ◌%◌, ◌^◌, ◌≤◌, ◌<◌}
 use native.Mathlib.Omega.{arith}
-use Rattle.std.proofs.Math.Nat.{sub-zero, mul-mod_left}
-use Rattle.std.proofs.Math.Pow.{pow-lt, shl_exact, high}
+use Rattle.std.proofs.Math.Nat.{mul-mod_left}
+use Rattle.std.proofs.Math.Pow.{pow-lt, high}
 use Rattle.std.proofs.lemmas.Nat.{shl-shr, and_mask, or_shr, or_mod}
 use Rattle.std.specs.Int.Bits.{bit_and, bit_or}
 use Rattle.base_words.specs.Words.{pick}
-use Rattle.base_words.specs.WordsLaws.{pick_true, pick_false}
-use Rattle.spec_rules.specs.Limits.{clauses_most}
 use Rattle.spec_rules.specs.Kinds.{leaf_node, first_case_word, cases_word, tail_cases_word, default_word, clause_word}
 use Rattle.spec_rules.specs.Rows.{bit}
 use Rattle.build_arena.specs.Arena.{node_kind, node_word, case_child}
-use Rattle.build_scopes.specs.declared.marks.Children.{Children}
-use Rattle.build_scopes.specs.Marks.{bit_at, column, children_of, marked_cases, marked_default, marked_children, node_marked, union_cases, default_set, node_set}
+use Rattle.build_scopes.specs.Marks.{bit_at, column, marked_cases, marked_default, marked_children, node_marked, union_cases, default_set, node_set}
 
 -- ---- the bits of a set
 pub bit_at_most : (c x : ℕ) → bit_at c x ≤ 1
@@ -75,14 +72,11 @@ bit_at_one c d = go (eqb c d) refl
 
 -- ---- the bits of one clause in a table of sets
 module _ (c : ℕ) where
-  get_or_column : (sets : List ℕ) (j : ℕ) → get_or (column c sets) j 0 ≡ bit_at c (get_or sets j 0)
+  pub get_or_column : (sets : List ℕ) (j : ℕ) → get_or (column c sets) j 0 ≡ bit_at c (get_or sets j 0)
   unfolding column
   get_or_column [] j = sym (bit_at_none c)
   get_or_column (x ∷ sets) zero = refl
   get_or_column (x ∷ sets) (suc j) = get_or_column sets j
-
-  pub column_read : (sets : List ℕ) (j mark : ℕ) → mark ≡ bit_at c (get_or sets j 0) → mark ≡ get_or (column c sets) j 0
-  column_read sets j mark e = e ∙ sym (get_or_column sets j)
 
   pub column_most : (sets : List ℕ) (j : ℕ) → get_or (column c sets) j 0 ≤ 1
   column_most sets j = omega (arith, get_or_column sets j, bit_at_most c (get_or sets j 0))
@@ -156,48 +150,10 @@ module _ (w sets : List ℕ) where
           ∙ ap (λ z. bit (ltb 0 (z + cases))) (marked_default_column c sets (node_word w k default_word))
           ∙ ap (λ z. bit (ltb 0 z)) (add_comm default cases)
 
-  module _ (i n : ℕ) where
-    pub union_start : (all : ℕ) → union_cases w sets (i + 0) (n - 0) all ≡ union_cases w sets i n all
-    union_start all = rw (add-zero, sub-zero)
+  pub union_next : (j end all : ℕ) → j < end → union_cases w sets j (end - j) all ≡ union_cases w sets (j + 1) (end - (j + 1)) (bit_or all (get_or sets (case_child w j) 0))
+  unfolding union_cases
+  union_next j end all l = let d : end - j ≡ suc (end - (j + 1)) = omega arith in rw d
 
-    pub union_next : (j child all total : ℕ) → j < n → child ≡ case_child w (i + j) → union_cases w sets (i + j) (n - j) all ≡ total
-        → union_cases w sets (i + (j + 1)) (n - (j + 1)) (bit_or all (get_or sets child 0)) ≡ total
-    unfolding union_cases
-    union_next j child all total l e h =
-        let d : n - j ≡ suc (n - (j + 1)) = omega arith in
-        let f : i + (j + 1) ≡ i + j + 1 = omega arith in
-        ap₂ (λ x y. union_cases w sets x (n - (j + 1)) (bit_or all (get_or sets y 0))) f e ∙ sym (ap (λ z. union_cases w sets (i + j) z all) d) ∙ h
-
-    pub union_end : (j all total : ℕ) → n ≤ j → union_cases w sets (i + j) (n - j) all ≡ total → all ≡ total
-    unfolding union_cases
-    union_end j all total l h = let d : n - j ≡ 0 = omega arith in rw d at h
-
--- ---- a set, as it is read
-pub default_set_none : (sets : List ℕ) (default : ℕ) → default ≡ 0 → 0 ≡ default_set sets default
-unfolding default_set
-default_set_none sets default e = rw (eq-eqb default 0 e)
-
-pub default_set_some : (sets : List ℕ) (default : ℕ) → (default ≡ 0 → ⊥) → get_or sets (default - 1) 0 ≡ default_set sets default
-unfolding default_set
-default_set_some sets default h = rw (ne_eqb default 0 h)
-
-module _ (w sets : List ℕ) (k kind : ℕ) (e : kind ≡ node_kind w k) where
-  pub node_set_leaf : (word : ℕ) → kind ≡ leaf_node → word ≡ node_word w k clause_word → word < clauses_most → 1 * 2 ^ word % 4294967296 ≡ node_set w sets k
-  unfolding node_set
-  node_set_leaf word h f l =
-      let one : 1 * 2 ^ word ≡ 2 ^ word = omega arith in
-      shl_exact {a = 1} 1 word 32 (omega arith) (omega arith)
-      ∙ one
-      ∙ ap (λ z. 2 ^ z) f
-      ∙ sym (pick_true (eqb (node_kind w k) leaf_node) (2 ^ node_word w k clause_word)
-      (union_cases w sets (node_word w k first_case_word) (node_word w k cases_word + node_word w k tail_cases_word) (default_set sets (node_word w k default_word))) (eq-eqb (node_kind w k) leaf_node (sym e ∙ h)))
-
-  pub node_set_switch : (x : Children) (default r : ℕ) → (kind ≡ leaf_node → ⊥) → x ≡ children_of w k → default ≡ default_set sets x.default
-      → r ≡ union_cases w sets x.first x.count default → r ≡ node_set w sets k
-  unfolding node_set
-  node_set_switch x default r h f g p =
-      p
-      ∙ ap (union_cases w sets x.first x.count) g
-      ∙ ap (λ (z : Children). union_cases w sets z.first z.count (default_set sets z.default)) f
-      ∙ sym (pick_false (eqb (node_kind w k) leaf_node) (2 ^ node_word w k clause_word)
-      (union_cases w sets (node_word w k first_case_word) (node_word w k cases_word + node_word w k tail_cases_word) (default_set sets (node_word w k default_word))) (ne_eqb (node_kind w k) leaf_node (λ z. h (e ∙ z))))
+  pub union_end : (j end all : ℕ) → end ≤ j → union_cases w sets j (end - j) all ≡ all
+  unfolding union_cases
+  union_end j end all l = let d : end - j ≡ 0 = omega arith in rw d

@@ -78,16 +78,16 @@ pub record OnWay (stop : Tree → Bool) (a : Tree) (c k : ℕ) : Type 0 where
   pub leaf_there : has_leaf c (subtree_at a k) ≡ true
   pub same : descent stop c k (subtree_at a k) ≡ descent stop c 0 a
 
-pub way_start : (stop : Tree → Bool) (w : List ℕ) (a : Tree) (c : ℕ) → ReadyTree w a → has_leaf c a ≡ true → OnWay stop a c 0
-way_start stop w a c r h =
+pub way_start : (stop : Tree → Bool) {w : List ℕ} {a : Tree} (c : ℕ) → ReadyTree w a → has_leaf c a ≡ true → OnWay stop a c 0
+way_start stop {a = a} c r h =
     record {
       inside = present_nodes a r.there;
       leaf_there = ap (has_leaf c) (subtree_at_root a) ∙ h;
       same = ap (descent stop c 0) (subtree_at_root a);
     }
 
-pub way_inside : (stop : Tree → Bool) (w : List ℕ) (a : Tree) (c k : ℕ) → ReadyTree w a → OnWay stop a c k → k < nodes_most
-way_inside stop w a c k r o = omega (arith, o.inside, r.nodes.nodes_most_holds)
+pub way_inside : {stop : Tree → Bool} {w : List ℕ} {a : Tree} {c k : ℕ} → ReadyTree w a → OnWay stop a c k → k < nodes_most
+way_inside r o = omega (arith, o.inside, r.nodes.nodes_most_holds)
 
 -- it ends here
 descent_stop : (stop : Tree → Bool) (c k : ℕ) (s : Tree) → stop s ≡ true → descent stop c k s ≡ k
@@ -161,7 +161,7 @@ module _ (w : List ℕ) (a : Tree) (c k : ℕ) (last has : List ℕ) (r : ReadyT
         switch = λ n. (node_inside w a r k l (length sets) y).switch (λ e. omega (arith, (scope_switch n).shown.kind_is));
       }
 
-module _ (w : List ℕ) (c : ℕ) (last sets : List ℕ) (h : ScopeMarks w c last sets) (k : ℕ) (o : OnWay (is_scope c) h.marks.tree c k) where
+module _ {w : List ℕ} {c : ℕ} {last sets : List ℕ} (h : ScopeMarks w c last sets) {k : ℕ} (o : OnWay (is_scope c) h.marks.tree c k) where
   abbrev has : List ℕ
   has = column c sets
 
@@ -191,7 +191,7 @@ module _ (w : List ℕ) (c : ℕ) (last sets : List ℕ) (h : ScopeMarks w c las
       (scope_switch w h.marks.tree c k last has h.marks.ready h.marks.marked h.last_marked o.inside o.leaf_there (not_last e)) (here_is false e)
 
 -- ---- the first leaf
-module _ (w : List ℕ) (c : ℕ) (sets : List ℕ) (h : ClauseMarks w c sets) (k : ℕ) (o : OnWay never h.tree c k) where
+module _ {w : List ℕ} {c : ℕ} {sets : List ℕ} (h : ClauseMarks w c sets) {k : ℕ} (o : OnWay never h.tree c k) where
   pub leaf_found : node_kind w k ≡ leaf_node → k ≡ first_number c 0 h.tree
   unfolding first_number descent
   leaf_found e =

@@ -9,14 +9,12 @@ use base_numbers::node_kinds;
 use build_arena::reading::node_kind;
 
 // Whether node k is the scope of clause c, which has a leaf there: c's leaf is visited last, or two children have a leaf of c.
+#[tactic(auto, unfolding(crate::specs::Marks::scope_here))]
 fn is_scope(work: &[u8], k: usize, c: usize, last: &[u8], sets: &[u32]) -> bool
     requires { ScopeInside work.now last.now sets.now c k }
     ensures { result ≡ scope_here work.now last.now (column c sets.now) c k }
 {
-    if c == last[k] as usize {
-        return true;
-    }
-    2 <= marked_children(work, k, c, sets)
+    c == usize::from(last[k]) || 2 <= marked_children(work, k, c, sets)
 }
 
 // The node above which clause c is hoisted.
@@ -25,24 +23,21 @@ pub(crate) fn get_hoist_path(work: &[u8], c: usize, last: &[u8], sets: &[u32]) -
     ensures { (h : ScopeMarks work.now c last.now sets.now) → result ≡ scope_number c 0 h.marks.tree }
 {
     let mut k = 0;
-    loop {
-        if is_scope(work, k, c, last, sets) {
-            return k;
-        }
+    while !is_scope(work, k, c, last, sets) {
         k = first_child(work, k, c, sets);
     }
+    k
 }
 
-// The leaf of clause c that was built first: default, cases, tail cases.
+// The leaf of clause c that was built first: default, cases, tail cases. A loop of its own: with the test where the way ends as a closure,
+// the contract of the two would be longer than both.
 pub(crate) fn first_leaf(work: &[u8], c: usize, sets: &[u32]) -> usize
     requires { ClauseMarks work.now c sets.now }
     ensures { (h : ClauseMarks work.now c sets.now) → result ≡ first_number c 0 h.tree }
 {
     let mut k = 0;
-    loop {
-        if node_kind(work, k) == node_kinds::LEAF {
-            return k;
-        }
+    while node_kind(work, k) != node_kinds::LEAF {
         k = first_child(work, k, c, sets);
     }
+    k
 }

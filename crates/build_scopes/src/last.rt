@@ -8,6 +8,7 @@ use base_numbers::{node_kinds, node_words};
 use build_arena::reading::{case_child, node_kind, node_word};
 
 // The child of switch k that is visited last: the default, or the last of the cases.
+#[tactic(auto, unfolding(crate::specs::Marks::last_child))]
 fn last_child(work: &[u8], k: usize, nodes: usize) -> usize
     requires { SwitchInside work.now k nodes }
     ensures { result ≡ last_child work.now k }
@@ -20,6 +21,7 @@ fn last_child(work: &[u8], k: usize, nodes: usize) -> usize
 }
 
 // The clause of the leaf visited last at or below node k; those of the nodes after k are known.
+#[tactic(auto, unfolding(crate::specs::Marks::last_of))]
 fn last_of(work: &[u8], k: usize, last: &[u8]) -> u8
     requires { NodeInside work.now k (length last.now) }
     ensures { result ≡ last_of work.now last.now k }
@@ -35,10 +37,7 @@ pub(crate) fn mark_last(work: &[u8], nodes: usize, last: &mut [u8])
     requires { ReadyWith work.now nodes × (nodes ≤ length last.old) }
     ensures { (h : ReadyWith work.now nodes) → LastMarked h.tree 0 last.new }
 {
-    let mut k = nodes;
-    while 0 < k {
-        k -= 1;
-        let clause = last_of(work, k, last);
-        last[k] = clause;
+    for k in (0..nodes).rev() {
+        last[k] = last_of(work, k, last);
     }
 }

@@ -5,7 +5,7 @@
 #![tactic(auto)]
 
 ghost use Rattle.std.specs.Prelude.{◌≡◌, ◌<◌, ◌≤◌, length};
-ghost use Rattle.spec_rules.specs.Limits.{clauses_most};
+ghost use Rattle.spec_rules.specs.Limits.{clauses_most, nodes_most};
 ghost use Rattle.build_scopes.specs.Marks.{ReadyWith};
 ghost use Rattle.build_scopes.specs.Scoped.{Surveyed, with_clause, ScopedWith};
 
@@ -32,36 +32,32 @@ pub struct Scopes {
     pub idle: usize,
 }
 
-// The scopes with those of clause c, the clauses after c being done.
-fn with_clause(work: &[u8], c: usize, last: &[u8], sets: &[u32], scopes: Scopes) -> Scopes
-    requires { Surveyed work.now last.now sets.now × (c < clauses_most) × (scopes.hoists < clauses_most) }
-    ensures { (h : Surveyed work.now last.now sets.now) → result ≡ with_clause h.tree c scopes }
+// Adds the scope of clause c, the clauses after c being done.
+fn add_clause(work: &[u8], c: usize, last: &[u8], sets: &[u32], scopes: &mut Scopes)
+    requires { Surveyed work.now last.now sets.now × (c < clauses_most) × (scopes.old.hoists < clauses_most) }
+    ensures { (h : Surveyed work.now last.now sets.now) → scopes.new ≡ with_clause h.tree c scopes.old }
 {
-    let mut y = scopes;
     if mark_of(sets[0], c) == 0 {
-        y.idle = c;
-        return y;
+        scopes.idle = c;
+        return;
     }
-    let node = get_hoist_path(work, c, last, sets);
-    let leaf = first_leaf(work, c, sets);
-    y.node[c] = node as u16;
-    y.leaf[c] = leaf as u16;
-    y.hoists = scopes.hoists + 1;
-    y
+    scopes.node[c] = get_hoist_path(work, c, last, sets) as u16;
+    scopes.leaf[c] = first_leaf(work, c, sets) as u16;
+    scopes.hoists += 1;
 }
 
-// Over tables with room for the nodes, whatever stands in them.
-fn hoist_paths(
+// With a table of last leaves for N nodes.
+fn hoist_paths<const N: usize>(
     work: &[u8],
     nodes: usize,
     clauses: usize,
-    last: &mut [u8],
     sets: &mut [u32],
 ) -> Scopes
-    requires { ReadyWith work.now nodes × (clauses ≤ clauses_most) × (nodes ≤ length last.old) × (nodes ≤ length sets.old) }
+    requires { ReadyWith work.now nodes × (clauses ≤ clauses_most) × (nodes ≤ N) × (N ≤ nodes_most) × (nodes ≤ length sets.old) }
     ensures { (h : ReadyWith work.now nodes) → ScopedWith h.tree clauses sets.new result }
 {
-    mark_last(work, nodes, last);
+    let mut last = [0u8; N];
+    mark_last(work, nodes, &mut last);
     mark(work, nodes, sets);
     let none = NODES_MOST as u16;
     let mut scopes = Scopes {
@@ -70,10 +66,8 @@ fn hoist_paths(
         hoists: 0,
         idle: CLAUSES_MOST,
     };
-    let mut c = clauses;
-    while 0 < c {
-        c -= 1;
-        scopes = with_clause(work, c, last, sets, scopes);
+    for c in (0..clauses).rev() {
+        add_clause(work, c, &last, sets, &mut scopes);
     }
     scopes
 }
@@ -84,9 +78,8 @@ pub fn get_hoist_paths(work: &[u8], nodes: usize, clauses: usize, sets: &mut [u3
     ensures { (h : ReadyWith work.now nodes) → ScopedWith h.tree clauses sets.new result }
 {
     if nodes <= NODES_FEW {
-        let mut last = [0u8; NODES_FEW];
-        return hoist_paths(work, nodes, clauses, &mut last, sets);
+        hoist_paths::<NODES_FEW>(work, nodes, clauses, sets)
+    } else {
+        hoist_paths::<NODES_MOST>(work, nodes, clauses, sets)
     }
-    let mut last = [0u8; NODES_MOST];
-    hoist_paths(work, nodes, clauses, &mut last, sets)
 }

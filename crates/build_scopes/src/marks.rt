@@ -34,20 +34,20 @@ pub fn children_of(work: &[u8], k: usize) -> Children
 }
 
 // The clauses of `all` and those with a leaf below the n cases from i on.
+#[tactic(auto, using(crate::specs::SetsLaws::union_next, crate::specs::SetsLaws::union_end))]
 fn union_cases(work: &[u8], i: usize, n: usize, all: u32, sets: &[u32]) -> u32
     requires { CasesInside work.now i n (length sets.now) }
     ensures { result ≡ union_cases work.now sets.now i n all }
 {
     let mut set = all;
-    let mut j = 0;
-    while j < n {
-        let child = case_child(work, i + j) as usize;
-        set = set | sets[child];
-        j += 1;
+    for j in i..i + n {
+        let child = case_child(work, j) as usize;
+        set |= sets[child];
     }
     set
 }
 
+#[tactic(auto, unfolding(crate::specs::Marks::default_set))]
 fn default_set(sets: &[u32], default: usize) -> u32
     requires { default ≤ length sets.now }
     ensures { result ≡ default_set sets.now default }
@@ -59,6 +59,7 @@ fn default_set(sets: &[u32], default: usize) -> u32
 }
 
 // The clauses with a leaf at or below node k; the sets of the nodes after k are known.
+#[tactic(auto, unfolding(crate::specs::Marks::node_set))]
 fn node_set(work: &[u8], k: usize, sets: &[u32]) -> u32
     requires { NodeInside work.now k (length sets.now) }
     ensures { result ≡ node_set work.now sets.now k }
@@ -80,15 +81,13 @@ pub(crate) fn mark(work: &[u8], nodes: usize, sets: &mut [u32])
     requires { ReadyWith work.now nodes × (nodes ≤ length sets.old) }
     ensures { (h : ReadyWith work.now nodes) → SetsMarked h.tree 0 sets.new }
 {
-    let mut k = nodes;
-    while 0 < k {
-        k -= 1;
-        let one = node_set(work, k, sets);
-        sets[k] = one;
+    for k in (0..nodes).rev() {
+        sets[k] = node_set(work, k, sets);
     }
 }
 
 // The mark of clause c in a set: 1 where it is in it, or 0.
+#[tactic(auto, using(crate::specs::SetsLaws::bit_at_is, crate::specs::SetsLaws::bit_at_most))]
 pub(crate) fn mark_of(set: u32, c: usize) -> usize
     requires { c < clauses_most }
     ensures { result ≡ bit_at c set }
@@ -97,36 +96,36 @@ pub(crate) fn mark_of(set: u32, c: usize) -> usize
 }
 
 // How many of the n cases from i on have a child that is marked for clause c.
+#[tactic(auto, using(crate::specs::MarksLaws::marked_cases_next, crate::specs::MarksLaws::marked_cases_end, crate::specs::SetsLaws::get_or_column, crate::specs::SetsLaws::bit_at_most))]
 fn marked_cases(work: &[u8], i: usize, n: usize, c: usize, sets: &[u32]) -> usize
     requires { CasesInside work.now i n (length sets.now) × (c < clauses_most) }
     ensures { result ≡ marked_cases work.now (column c sets.now) i n }
 {
-    let mut count: usize = 0;
-    let mut j = 0;
-    while j < n {
-        let child = case_child(work, i + j) as usize;
+    let mut count = 0;
+    for j in i..i + n {
+        let child = case_child(work, j) as usize;
         count += mark_of(sets[child], c);
-        j += 1;
     }
     count
 }
 
-// The child of the first of them that is marked, or 1,024.
+// The child of the first of them that is marked, or 1,024. A `for`, which reads each child once: after a `find` the child of the case
+// that was found would be read again.
+#[tactic(auto, using(crate::specs::MarksLaws::first_marked_next, crate::specs::MarksLaws::first_marked_end, crate::specs::SetsLaws::get_or_column))]
 fn first_marked(work: &[u8], i: usize, n: usize, c: usize, sets: &[u32]) -> usize
     requires { CasesInside work.now i n (length sets.now) × (c < clauses_most) }
     ensures { result ≡ first_marked work.now (column c sets.now) i n }
 {
-    let mut j = 0;
-    while j < n {
-        let child = case_child(work, i + j) as usize;
+    for j in i..i + n {
+        let child = case_child(work, j) as usize;
         if mark_of(sets[child], c) == 1 {
             return child;
         }
-        j += 1;
     }
     NODES_MOST
 }
 
+#[tactic(auto, using(crate::specs::SetsLaws::marked_default_column))]
 fn marked_default(sets: &[u32], c: usize, default: usize) -> usize
     requires { (default ≤ length sets.now) × (c < clauses_most) }
     ensures { result ≡ marked_default (column c sets.now) default }
@@ -135,6 +134,7 @@ fn marked_default(sets: &[u32], c: usize, default: usize) -> usize
 }
 
 // How many children of switch k are marked for clause c.
+#[tactic(auto, unfolding(crate::specs::Marks::marked_children))]
 pub(crate) fn marked_children(work: &[u8], k: usize, c: usize, sets: &[u32]) -> usize
     requires { SwitchInside work.now k (length sets.now) × (c < clauses_most) }
     ensures { result ≡ marked_children work.now (column c sets.now) k }
@@ -145,6 +145,7 @@ pub(crate) fn marked_children(work: &[u8], k: usize, c: usize, sets: &[u32]) -> 
 }
 
 // The child of switch k marked for clause c that was built first: the default, then the cases in order.
+#[tactic(auto, unfolding(crate::specs::Marks::first_child))]
 pub(crate) fn first_child(work: &[u8], k: usize, c: usize, sets: &[u32]) -> usize
     requires { SwitchInside work.now k (length sets.now) × (c < clauses_most) }
     ensures { result ≡ first_child work.now (column c sets.now) k }

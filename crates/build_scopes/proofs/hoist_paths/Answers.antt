@@ -5,50 +5,39 @@ use mathlib.Core.Path.{◌≡◌, subst}
 use native.Mathlib.Omega.{arith}
 use Rattle.build_scopes.proofs.hoist_paths.Goals as goal
 
-pub mark_last-requires : goal.mark_last-requires
-mark_last-requires c = (c.requires.0, c.requires.2)
-
-pub mark-requires : goal.mark-requires
-mark-requires c = (c.requires.0, c.requires.3)
-
 pub loop-c-init : goal.loop-c-init
-loop-c-init c =
+loop-c-init g c =
     let a = c.args in
-    (omega arith, λ h. scoped_start h.tree a.clauses c.requires.1)
+    λ h. scoped_start h.tree a.clauses c.requires.1
 
-pub with_clause-scopes-requires : goal.with_clause-scopes-requires
-with_clause-scopes-requires c =
+pub add_clause-requires : goal.add_clause-requires
+add_clause-requires g c =
     let a = c.args in
     let q = c.mark_last in
     let m = c.mark in
     let l = c.loop-c in
     let t = c.loop-c-test.true in
     let h = c.requires.0 in (
-      surveyed a.work.now a.nodes q.new.last m.new.sets q.ensures (omega (arith, q.auto.last, c.requires.2)) m.ensures (omega (arith, m.auto.sets, c.requires.3)) h,
-      omega (arith, c.requires.1, l.invariant.0, t),
-      hoists_few h.tree a.clauses l.c l.scopes t c.requires.1 l.invariant.0 (l.invariant.1 h),
+      surveyed q.ensures (omega (arith, q.auto.last, c.requires.2)) m.ensures (omega (arith, m.auto.sets, c.requires.4)) h,
+      omega (arith, c.requires.1, t),
+      hoists_few h.tree a.clauses l.c l.scopes t c.requires.1 (omega arith) (l.invariant h),
     )
 
-pub loop-c-smaller : goal.loop-c-smaller
-loop-c-smaller c = omega (arith, c.loop-c-test.true)
-
 pub loop-c-preserved : goal.loop-c-preserved
-loop-c-preserved c =
+loop-c-preserved g c =
     let a = c.args in
     let q = c.mark_last in
     let m = c.mark in
     let l = c.loop-c in
     let t = c.loop-c-test.true in
-    let down : l.c ≡ l.c - 1 + 1 = omega arith in (
-      omega (arith, l.invariant.0),
-      λ h.
-          scoped_more h.tree a.clauses (l.c - 1) l.scopes (omega (arith, l.invariant.0, t)) c.requires.1 (subst (λ z. ScopedFrom h.tree a.clauses z l.scopes) down (l.invariant.1 h)) c.with_clause-scopes.result
-          (c.with_clause-scopes.ensures (surveyed a.work.now a.nodes q.new.last m.new.sets q.ensures (omega (arith, q.auto.last, c.requires.2)) m.ensures (omega (arith, m.auto.sets, c.requires.3)) h)),
-    )
+    let down : l.c ≡ l.c - 1 + 1 = omega arith in
+    λ h.
+    scoped_more h.tree a.clauses (l.c - 1) l.scopes (omega (arith, t)) c.requires.1 (subst (λ z. ScopedFrom h.tree a.clauses z l.scopes) down (l.invariant h)) c.add_clause.new.scopes
+    (c.add_clause.ensures (surveyed q.ensures (omega (arith, q.auto.last, c.requires.2)) m.ensures (omega (arith, m.auto.sets, c.requires.4)) h))
 
 pub returns : goal.returns
-returns c =
+returns g c =
     let a = c.args in
     let m = c.mark in
     let l = c.loop-c in
-    λ h. record { scopes = scoped_end h.tree a.clauses l.c l.scopes (omega (arith, c.loop-c-test.false)) (l.invariant.1 h); sets_marked = m.ensures h }
+    λ h. record { scopes = scoped_end h.tree a.clauses l.c l.scopes (omega (arith, c.loop-c-test.false)) (l.invariant h); sets_marked = m.ensures h }

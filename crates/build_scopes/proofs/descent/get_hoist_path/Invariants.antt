@@ -7,8 +7,8 @@ use Rattle.spec_rules.specs.Limits.{nodes_most}
 use Prim.Native.Nat.{◌-◌}
 use Rattle.build_scopes.proofs.descent.get_hoist_path.Given as goal
 
-abbrev pub invariant-loop-c : goal.invariant-loop-c
-invariant-loop-c l = (h : ScopeMarks l.work l.c l.last l.sets) → OnWay (is_scope l.c) h.marks.tree l.c l.k
+abbrev pub invariant-loop-k : goal.invariant-loop-k
+invariant-loop-k l = (h : ScopeMarks l.work l.c l.last l.sets) → OnWay (is_scope l.c) h.marks.tree l.c l.k
 
-abbrev pub decreases-loop-c : goal.decreases-loop-c
-decreases-loop-c l = nodes_most - l.k
+abbrev pub decreases-loop-k : goal.decreases-loop-k
+decreases-loop-k l = nodes_most - l.k
