@@ -44,10 +44,7 @@ fn list_below(x: Record, y: TypeRecord) -> Below
 fn parts_below(x: Record, y: TypeRecord, kind: u8) -> Below
     ensures { result ≡ parts_below x y kind }
 {
-    if y.kind != kind {
-        return Below::Alone(false);
-    }
-    if y.count != x.count {
+    if y.kind != kind || y.count != x.count {
         return Below::Alone(false);
     }
     Below::Parts {
@@ -63,10 +60,7 @@ fn fields_below(sheet: &[u8], map: SheetMap, x: Record, y: TypeRecord) -> Below
     requires { Typing sheet.now map y }
     ensures { result ≡ fields_below sheet.now x y }
 {
-    if y.kind != type_kinds::DATA {
-        return Below::Alone(false);
-    }
-    if y.count <= x.a {
+    if y.kind != type_kinds::DATA || y.count <= x.a {
         return Below::Alone(false);
     }
     let c = constructor_at(sheet, map, y.first + x.a);
@@ -82,6 +76,7 @@ fn fields_below(sheet: &[u8], map: SheetMap, x: Record, y: TypeRecord) -> Below
 }
 
 // Record r and type t agree in kind and count, and what is left.
+#[tactic(auto, using(crate::specs::FitLaws::below_read), unfolding(crate::specs::Fit::below_of_kind, spec_rules::specs::PanelFile::record_kind_of))]
 fn below_record(
     sheet: &[u8],
     map: SheetMap,
@@ -95,8 +90,7 @@ fn below_record(
 {
     let x = record_at(panel, r);
     let y = type_at(sheet, map, t);
-    let kind = x.kind;
-    match kind {
+    match x.kind {
         record_kinds::INTEGER => Below::Alone(y.kind == type_kinds::INT),
         record_kinds::BYTES => Below::Alone(y.kind == type_kinds::BYTES),
         record_kinds::LIST => list_below(x, y),
