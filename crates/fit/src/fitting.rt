@@ -1,5 +1,5 @@
-// Refusal 25: a panel fits the subject type of a sheet. Fitting a record calls fitting its parts, which calls fitting a record; a type
-// may contain itself, and it ends because a part's record has a larger number than its owner.
+// Refusal 25: a panel fits the subject type of a sheet. Fitting a record fits its parts; a type may contain itself, and it ends because
+// a part's record has a larger number than its owner.
 ghost use Rattle.std.specs.Prelude.{◌≡◌, ◌<◌};
 ghost use Rattle.spec_rules.specs.Limits.{records_most};
 ghost use Rattle.spec_rules.specs.SheetFile.{types, subject};
@@ -101,8 +101,7 @@ fn below_record(
     }
 }
 
-// Record r is of type t.
-#[cycle(parts_fit_record_fits)]
+// Record r is of type t: so are its parts, each of the type at its own entry, the first at `entry`, each next one `step` further on.
 fn record_fits(
     sheet: &[u8],
     map: SheetMap,
@@ -121,46 +120,20 @@ fn record_fits(
             count,
             entry,
             step,
-        } => parts_fit(sheet, map, panel, places, r, first, count, entry, step),
+        } => {
+            // A `for` and no `all`: the type entry goes on beside the part.
+            let mut e = entry;
+            for k in 0..count {
+                let part = part_at(panel, places, first + k);
+                let of = entry_at(sheet, map, e);
+                if !record_fits(sheet, map, panel, places, part, of) {
+                    return false;
+                }
+                e += step;
+            }
+            true
+        }
     }
-}
-
-// The n parts from entry j of the owner's list on are each of the type at its own type entry: the first at e, each next one `step`
-// further on.
-#[cycle(parts_fit_record_fits)]
-fn parts_fit(
-    sheet: &[u8],
-    map: SheetMap,
-    panel: &[u8],
-    places: PanelMap,
-    owner: usize,
-    j: usize,
-    n: usize,
-    e: usize,
-    step: usize,
-) -> bool
-    requires { ReadyToFit sheet.now map panel.now places × Run sheet.now panel.now owner j n e step }
-    ensures { result ≡ parts_fit (has_type_to records_most sheet.now panel.now) sheet.now panel.now j n e step }
-{
-    if n == 0 {
-        return true;
-    }
-    let r = part_at(panel, places, j);
-    let t = entry_at(sheet, map, e);
-    if !record_fits(sheet, map, panel, places, r, t) {
-        return false;
-    }
-    parts_fit(
-        sheet,
-        map,
-        panel,
-        places,
-        owner,
-        j + 1,
-        n - 1,
-        e + step,
-        step,
-    )
 }
 
 // 25: the root is of the subject's type.

@@ -1,8 +1,8 @@
 // The fit check: whether a panel fits the subject type of a sheet, refusals 2 to 11 of the sheet, 21 to 24 of the panel, then 25. Its contract is one
 // equation with a definition of the crate spec_rules.
 //
-// Cost. Beside the two checks, fitting reads each record and each part once, with its type and its type entry; its calls are at most 544
-// deep, one for each of 511 parts and 32 levels.
+// Cost. Beside the two checks, fitting reads each record and each part once, with its type and its type entry; its calls are as deep
+// as the panel, at most 32 levels.
 #![tactic(auto)]
 
 ghost use Rattle.std.specs.Prelude.{◌≡◌};
