@@ -6,10 +6,10 @@ ghost use Rattle.spec_rules.specs.SheetRefusals.{type_keeps_rules, constructor_k
 ghost use Rattle.spec_accepted.specs.SheetFacts.{Laid, Counted, Typed};
 ghost use Rattle.format_sheet.specs.Sections.{map_of};
 ghost use Rattle.format_sheet.specs.Types.{parts_fit, flags_fit};
-ghost use Rattle.format_sheet.specs.Found.{found_of};
+ghost use Rattle.spec_rules.specs.Found.{found};
 
+use crate::SheetMap;
 use crate::records::{TypeRecord, constructor_at, entry_at, no_run, type_at};
-use crate::{Found, SheetMap};
 use base_numbers::sheet::{
     DATA_CONSTRUCTORS_LEAST, LIST_ENTRIES, PAIR_ENTRIES, TUPLE_ENTRIES_LEAST,
 };
@@ -169,16 +169,11 @@ fn transparent(sheet: &[u8], map: SheetMap, t: usize) -> bool
 }
 
 // 7.
-pub(crate) fn lowest_transparent(sheet: &[u8], map: SheetMap) -> Found
+pub(crate) fn lowest_transparent(sheet: &[u8], map: SheetMap) -> Option<u16>
     requires { Laid sheet.now × Counted sheet.now × Typed sheet.now × (map ≡ map_of sheet.now) }
-    ensures { result ≡ found_of (lowest_transparent sheet.now) }
+    ensures { result ≡ found (lowest_transparent sheet.now) }
 {
-    let mut t: usize = 0;
-    while t < map.types.count {
-        if transparent(sheet, map, t) {
-            return Found::At(t as u16);
-        }
-        t += 1;
-    }
-    Found::Nothing
+    (0..map.types.count)
+        .find(|&t| transparent(sheet, map, t))
+        .map(|t| t as u16)
 }
