@@ -30,13 +30,7 @@ pub fn test_at(
         return None;
     }
     let owner = at(table, OWNER + p);
-    if owner == 0 {
-        return Some(p);
-    }
-    if opened[owner - 1] == 0 {
-        return None;
-    }
-    Some(p)
+    (owner == 0 || opened[owner - 1] != 0).then_some(p)
 }
 
 // The first n of these rows before the column's first wildcard.
