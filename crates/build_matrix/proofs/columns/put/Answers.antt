@@ -12,14 +12,6 @@ use Rattle.build_matrix.specs.ReadingLaws.{all_at}
 use Rattle.build_matrix.specs.PuttingLaws.{put_there, put_before, put_behind, put_last, insert_room}
 use Rattle.build_matrix.proofs.columns.put.Goals as goal
 
-pub loop-i-init : goal.loop-i-init
-loop-i-init c = (refl, omega arith, refl)
-
-pub bounds-list-i : goal.bounds-list-i
-bounds-list-i c =
-    let l = c.loop-i in
-    omega (arith, c.requires.whole.most, c.requires.whole.long, ap length l.invariant.0, c.loop-i-test.true)
-
 pub returns-then-other-class : goal.returns-then-other-class
 returns-then-other-class c =
     let a = c.args in

@@ -9,13 +9,6 @@ use Rattle.build_matrix.specs.Reading.{held_in, InTable, bettered}
 use Rattle.build_matrix.specs.ReadingLaws.{best_more, best_end, all_in, left_on, left_end}
 use Rattle.build_matrix.proofs.rows.highest_occurrence.Goals as goal
 
-pub occurrence-requires : goal.occurrence-requires
-occurrence-requires c =
-    let a = c.args in
-    let l = c.loop-column in
-    let class = c.from-class in
-    (c.requires.0, all_in (λ k. All (InTable a.table.now k) (take a.height a.rows.now)) (take a.width a.columns.now) l.column-index class.result 0 c.loop-column-test.true class.ensures c.requires.2)
-
 pub loop-column-preserved : goal.loop-column-preserved
 loop-column-preserved c =
     let a = c.args in

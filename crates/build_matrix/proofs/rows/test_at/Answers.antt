@@ -10,22 +10,11 @@ use Rattle.build_matrix.proofs.rows.test_at.Goals as goal
 pub returns-then-cell-eq0 : goal.returns-then-cell-eq0
 returns-then-cell-eq0 c = let a = c.args in held_none a.table.now a.opened.now a.class a.c c.at-cell.result c.at-cell.ensures c.if-cell-eq0.true
 
-pub bounds-opened-p : goal.bounds-opened-p
-bounds-opened-p c = omega (arith, c.requires.cell, c.at-cell.ensures, c.if-cell-eq0.false)
-
 pub returns-then-opened-p-ne0 : goal.returns-then-opened-p-ne0
 returns-then-opened-p-ne0 c =
     let a = c.args in
     let at = c.at-cell in
     held_opened a.table.now a.opened.now a.class a.c at.result at.ensures c.if-cell-eq0.false c.if-opened-p-ne0.true
-
-pub at-owner-requires : goal.at-owner-requires
-at-owner-requires c =
-    omega (arith, c.requires.cell, c.requires.long, c.at-cell.ensures)
-
-pub bounds-opened-owner : goal.bounds-opened-owner
-bounds-opened-owner c =
-    omega (arith, owner_most c.args.table.now c.args.class c.args.c c.requires c.at-cell.result c.at-cell.ensures c.at-owner.result c.at-owner.ensures, c.if-owner-eq0.false)
 
 pub returns : goal.returns
 returns c =

@@ -12,14 +12,6 @@ use Rattle.build_matrix.specs.Reading.{held_in, InTable, kept}
 use Rattle.build_matrix.specs.ReadingLaws.{kept_most, wild_step, wild_end, all_in, left_on, left_end}
 use Rattle.build_matrix.proofs.rows.wild_rows.Goals as goal
 
-pub loop-c-init : goal.loop-c-init
-loop-c-init c = (omega arith, record { long = c.requires.2; most = omega arith; are = refl }, refl)
-
-pub test_at-requires : goal.test_at-requires
-test_at-requires c =
-    let a = c.args in
-    all_in (InTable a.table.now a.class) (take a.n a.rows.now) c.loop-c.c-index c.from.result 0 c.loop-c-test.true c.from.ensures c.requires.1
-
 pub loop-c-preserved : goal.loop-c-preserved
 loop-c-preserved c =
     let a = c.args in

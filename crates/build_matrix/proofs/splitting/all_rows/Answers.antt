@@ -6,9 +6,6 @@ use Rattle.build_matrix.specs.RowStates.{up_from}
 use Rattle.build_matrix.specs.SplitLaws.{rows_none, rows_more, rows_all}
 use Rattle.build_matrix.proofs.splitting.all_rows.Goals as goal
 
-pub loop-c-init : goal.loop-c-init
-loop-c-init c = (omega arith, refl, rows_none c.args.n)
-
 pub loop-c-preserved : goal.loop-c-preserved
 loop-c-preserved c =
     let l = c.loop-c in

@@ -19,10 +19,6 @@ loop-c-init c =
       holds_same h (sym (ap (columns_from c.args.sheet.now) e ∙ columns_none c.args.sheet.now)),
     )
 
-pub root_at-requires : goal.root_at-requires
-root_at-requires c =
-    (c.requires.checked.ok.is_laid, c.requires.checked.is_map, omega (arith, c.loop-c.invariant.0, c.loop-c-test.true))
-
 pub map_pattern_to_row-count-requires : goal.map_pattern_to_row-count-requires
 map_pattern_to_row-count-requires c =
     let l = c.loop-c in
@@ -38,9 +34,3 @@ loop-c-preserved c =
       next_columns c.requires l.c c.loop-c-test.true l.invariant.0 r.result r.ensures (as_classes l.list l.count) l.invariant.1 l.invariant.2 c.map_pattern_to_row-count.ensures,
     )
 
-pub returns : goal.returns
-returns c =
-    let s = c.args.sheet.now in
-    let l = c.loop-c in
-    let e : l.c ≡ 0 = omega (arith, c.loop-c-test.false) in
-    holds_same l.invariant.2 (ap (columns_from s) e ∙ columns_all s)

@@ -13,12 +13,6 @@ loop-i-init c =
     let h : Holds (as_classes a.list.now 0) [] = record { long = c.requires.list_len; most = omega arith; are = refl } in
     (omega arith, record { whole = whole h; each = tt }, holds_same h (sym (opens_none a.sheet.now a.opens.now a.n)))
 
-pub bounds-opens-i : goal.bounds-opens-i
-bounds-opens-i c = omega (arith, c.requires.opens_asked.1.most, c.requires.opens_asked.1.long, c.loop-i.invariant.0, c.loop-i-test.true)
-
-pub from-requires : goal.from-requires
-from-requires c = tt
-
 pub open-count-requires : goal.open-count-requires
 open-count-requires c =
     let a = c.args in
@@ -36,9 +30,3 @@ loop-i-preserved c =
       opened_columns c.requires.opens_asked.0 a.opens.now a.n (omega (arith, c.requires.opens_asked.1.long, c.requires.opens_asked.1.most)) c.requires.opens_asked.2 c.requires.opens_asked.3 l.i c.loop-i-test.true l.invariant.0 p.result p.ensures (as_classes l.list l.count) l.invariant.1 l.invariant.2 c.open-count.ensures,
     )
 
-pub returns : goal.returns
-returns c =
-    let a = c.args in
-    let l = c.loop-i in
-    let e : l.i ≡ 0 = omega (arith, c.loop-i-test.false) in
-    holds_same l.invariant.2 (ap (opens_from a.sheet.now a.opens.now a.n) e)
