@@ -65,7 +65,14 @@ fn covers_text(
     ensures { result ≡ covers_text sheet.now r kind start count }
 {
     r.kind == text_pattern(kind)
-        && same_texts(sheet, map, usize::from(start), usize::from(count), r.first, r.count)
+        && same_texts(
+            sheet,
+            map,
+            usize::from(start),
+            usize::from(count),
+            r.first,
+            r.count,
+        )
 }
 
 fn covers_tailed(r: PatternRecord, count: u16) -> bool

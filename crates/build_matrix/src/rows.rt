@@ -12,12 +12,7 @@ use build_table::{CELL, OWNER, at};
 
 // What clause c's row has in the column of this class: its test there, by the pattern's number, if it is not opened and the test that it
 // is inside of is; None for a wildcard.
-pub fn test_at(
-    table: &[u8],
-    opened: &[u8; PATTERNS_MOST],
-    c: usize,
-    class: usize,
-) -> Option<usize>
+pub fn test_at(table: &[u8], opened: &[u8; PATTERNS_MOST], c: usize, class: usize) -> Option<usize>
     requires { InTable table.now class c }
     ensures { result ≡ held_in table.now opened.now class c }
 {
@@ -128,7 +123,12 @@ pub(crate) fn wild_rows<'a>(
 {
     let mut count: usize = 0;
     for c in &rows[..n] {
-        count = keep_wild(list, count, *c, test_at(table, opened, usize::from(*c), class));
+        count = keep_wild(
+            list,
+            count,
+            *c,
+            test_at(table, opened, usize::from(*c), class),
+        );
     }
     count
 }

@@ -24,8 +24,8 @@ returns c =
     let o = get_or a.opened.now (owner.result - 1) 0 in
     let live : c.if-owner-eq0.then_some ≡ either (eqb owner.result 0) (not (eqb o 0)) =
     elim c.if-owner-eq0.branch [
-      then-owner-eq0 w ↦ w.then_some-is ∙ rw (eq-eqb owner.result 0 w.if-owner-eq0.true)
-    | else-owner-eq0 w ↦ w.then_some-is ∙ rw (ne_eqb owner.result 0 w.if-owner-eq0.false)
+      | then-owner-eq0 w ↦ w.then_some-is ∙ rw (eq-eqb owner.result 0 w.if-owner-eq0.true)
+      | else-owner-eq0 w ↦ w.then_some-is ∙ rw (ne_eqb owner.result 0 w.if-owner-eq0.false)
     ]
     in
     c.then_some.ensures ∙ held_owned a.table.now a.opened.now a.class a.c at.result at.ensures c.if-cell-eq0.false c.if-opened-p-ne0.false owner.result owner.ensures c.if-owner-eq0.then_some live

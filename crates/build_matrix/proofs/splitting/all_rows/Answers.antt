@@ -10,13 +10,12 @@ pub loop-c-preserved : goal.loop-c-preserved
 loop-c-preserved c =
     let l = c.loop-c in
     let n = c.args.n in (
-      omega arith,
-      simp length-set l.invariant.1,
-      rows_more l.list l.c n (up_from 0 n) (omega (arith, l.invariant, c.requires, c.loop-c-test.true)) c.loop-c-test.true l.invariant.2,
+      simp length-set l.invariant.0,
+      rows_more l.list l.c n (up_from 0 n) (omega (arith, l.invariant.0, c.requires, c.loop-c-test.true)) c.loop-c-test.true l.invariant.1,
     )
 
 pub returns : goal.returns
 returns c =
     let l = c.loop-c in
     let n = c.args.n in
-    record { long = l.invariant.1; most = c.requires; are = rows_all l.list l.c n (up_from 0 n) (omega arith) l.invariant.2 }
+    record { long = l.invariant.0; most = c.requires; are = rows_all l.list l.c n (up_from 0 n) (omega arith) l.invariant.1 }

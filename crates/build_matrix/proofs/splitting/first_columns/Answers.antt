@@ -1,6 +1,7 @@
 -- `splitting::first_columns`: the columns of the clauses from one on, the last first.
 use mathlib.Core.Path.{◌≡◌, refl, sym, ap, ◌∙◌}
 use mathlib.Core.List.{[]}
+use Prim.Native.Nat.{◌≤◌}
 use native.Mathlib.Omega.{arith}
 use Rattle.base_words.specs.Words.{zeros}
 use Rattle.spec_rules.specs.SheetFile.{clauses}
@@ -14,7 +15,6 @@ pub loop-c-init : goal.loop-c-init
 loop-c-init c =
     let h : Holds (as_classes (zeros 192) 0) [] = record { long = refl; most = omega arith; are = refl } in
     let e : c.args.map.clauses.count ≡ clauses c.args.sheet.now = ap (λ (m : SheetMap). m.clauses.count) c.requires.checked.is_map in (
-      omega arith,
       record { whole = whole h; each = tt },
       holds_same h (sym (ap (columns_from c.args.sheet.now) e ∙ columns_none c.args.sheet.now)),
     )
@@ -22,15 +22,15 @@ loop-c-init c =
 pub map_pattern_to_row-count-requires : goal.map_pattern_to_row-count-requires
 map_pattern_to_row-count-requires c =
     let l = c.loop-c in
+    let high : l.c ≤ clauses c.args.sheet.now = omega (arith, ap (λ (m : SheetMap). m.clauses.count) c.requires.checked.is_map) in
     let r = c.root_at in
-    (c.requires, l.invariant.1, root_known c.requires l.c c.loop-c-test.true l.invariant.0 r.result r.ensures (as_classes l.list l.count) l.invariant.1 l.invariant.2, root_room c.requires l.c c.loop-c-test.true l.invariant.0 r.result r.ensures (as_classes l.list l.count) l.invariant.1 l.invariant.2)
+    (c.requires, l.invariant.0, root_known c.requires l.c c.loop-c-test.true high r.result r.ensures (as_classes l.list l.count) l.invariant.0 l.invariant.1, root_room c.requires l.c c.loop-c-test.true high r.result r.ensures (as_classes l.list l.count) l.invariant.0 l.invariant.1)
 
 pub loop-c-preserved : goal.loop-c-preserved
 loop-c-preserved c =
     let l = c.loop-c in
+    let high : l.c ≤ clauses c.args.sheet.now = omega (arith, ap (λ (m : SheetMap). m.clauses.count) c.requires.checked.is_map) in
     let r = c.root_at in (
-      omega (arith, l.invariant.0),
-      next_listed c.requires l.c c.loop-c-test.true l.invariant.0 r.result r.ensures (as_classes l.list l.count) l.invariant.1 l.invariant.2 c.map_pattern_to_row-count.ensures,
-      next_columns c.requires l.c c.loop-c-test.true l.invariant.0 r.result r.ensures (as_classes l.list l.count) l.invariant.1 l.invariant.2 c.map_pattern_to_row-count.ensures,
+      next_listed c.requires l.c c.loop-c-test.true high r.result r.ensures (as_classes l.list l.count) l.invariant.0 l.invariant.1 c.map_pattern_to_row-count.ensures,
+      next_columns c.requires l.c c.loop-c-test.true high r.result r.ensures (as_classes l.list l.count) l.invariant.0 l.invariant.1 c.map_pattern_to_row-count.ensures,
     )
-
