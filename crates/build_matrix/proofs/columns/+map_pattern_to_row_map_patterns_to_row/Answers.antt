@@ -1,10 +1,8 @@
 -- `columns::map_pattern_to_row` and `columns::map_patterns_to_row`: one law for each way out; 192 less the pattern number falls, and
 -- among the children of one pattern their number.
 use borrow.Author.Rules.{rules}
-use mathlib.Core.Path.{◌≡◌}
 use native.Mathlib.Omega.{arith}
-use Rattle.build_matrix.specs.declared.columns.Given.TheVariants.{Inside}
-use Rattle.build_matrix.specs.PuttingLaws.{nothing_is, itself_puts, itself_is, inside_children, inside_room, inside_is, children_few, none_is, child_there, child_known, child_higher, next_children, next_room, rest_listed, rest_room, each_is}
+use Rattle.build_matrix.specs.PuttingLaws.{nothing_is, itself_puts, itself_is, none_is, child_known, child_higher, next_children, next_room, rest_listed, rest_room, each_is}
 use Rattle.build_matrix.proofs.columns.+map_pattern_to_row_map_patterns_to_row.Goals as goal
 
 pub map_pattern_to_row-put-requires : goal.map_pattern_to_row-put-requires

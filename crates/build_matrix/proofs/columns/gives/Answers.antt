@@ -1,6 +1,6 @@
 -- `columns::gives`: one law for each arm of the kinds.
 use native.Mathlib.Omega.{arith}
-use Rattle.build_matrix.specs.PuttingLaws.{gives_none, gives_assigned, gives_parts, gives_itself, gives_by_test, kind_known}
+use Rattle.build_matrix.specs.PuttingLaws.{gives_none, gives_assigned, gives_parts, gives_itself, gives_by_test}
 use Rattle.build_matrix.proofs.columns.gives.Goals as goal
 
 pub returns-in-7 : goal.returns-in-7

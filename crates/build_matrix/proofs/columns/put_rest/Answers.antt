@@ -1,7 +1,7 @@
 -- `columns::put_rest`: all before the class's place and all behind it are the list without the class.
 use native.Mathlib.Omega.{arith}
 use Rattle.build_matrix.specs.Lists.{as_classes}
-use Rattle.build_matrix.specs.ListsLaws.{rest_place, rest_count, rest_are, whole}
+use Rattle.build_matrix.specs.ListsLaws.{rest_place, rest_count, rest_are}
 use Rattle.build_matrix.proofs.columns.put_rest.Goals as goal
 
 pub put_part-front-requires-clause-from_le_to : goal.put_part-front-requires-clause-from_le_to

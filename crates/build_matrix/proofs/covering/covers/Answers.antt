@@ -3,7 +3,7 @@ use borrow.Author.Rules.{rules}
 use mathlib.Core.Path.{◌≡◌, sym, ap, ◌∙◌}
 use Rattle.format_records.specs.declared.reading.Test.{Test}
 use Rattle.build_matrix.specs.Meant.{covers_read}
-use Rattle.build_matrix.specs.MeantLaws.{pool_text_lem, covers_by, record_text}
+use Rattle.build_matrix.specs.MeantLaws.{covers_by}
 use Rattle.build_matrix.proofs.covering.covers.Goals as goal
 
 pub returns-in-Constr : goal.returns-in-Constr

@@ -3,10 +3,9 @@ use mathlib.Core.Path.{sym, ap, ◌∙◌}
 use Prim.Native.Nat.{ℕ, ◌+◌}
 use lib.ListN.{get_or, take}
 use lib.Seq.{slice}
-use Rattle.spec_rules.specs.SplittingLaws.{All}
 use Rattle.build_matrix.specs.HeldRows.{count_of, best_of}
-use Rattle.build_matrix.specs.Reading.{held_in, InTable, bettered}
-use Rattle.build_matrix.specs.ReadingLaws.{best_more, best_end, all_in, left_on, left_end}
+use Rattle.build_matrix.specs.Reading.{held_in, bettered}
+use Rattle.build_matrix.specs.ReadingLaws.{best_more, best_end, left_on, left_end}
 use Rattle.build_matrix.proofs.rows.highest_occurrence.Goals as goal
 
 pub loop-column-preserved : goal.loop-column-preserved

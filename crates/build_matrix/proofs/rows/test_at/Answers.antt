@@ -1,9 +1,8 @@
 -- `rows::test_at`: one law for each way out.
 use borrow.Author.Tests.{eq-eqb, ne_eqb}
-use native.Mathlib.Omega.{arith}
 use Rattle.std.proofs.Common.{◌≡◌, ◌∙◌, ◌-◌, eqb, not, get_or}
 use Rattle.base_words.specs.Words.{either}
-use Rattle.build_matrix.specs.ReadingLaws.{held_none, held_opened, held_owned, owner_most}
+use Rattle.build_matrix.specs.ReadingLaws.{held_none, held_opened, held_owned}
 use Rattle.build_matrix.proofs.rows.test_at.Goals.{then-owner-eq0, else-owner-eq0}
 use Rattle.build_matrix.proofs.rows.test_at.Goals as goal
 

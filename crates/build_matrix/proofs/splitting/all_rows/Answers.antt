@@ -1,9 +1,8 @@
 -- `splitting::all_rows`: the rows there and those from the next clause on are all.
-use mathlib.Core.Path.{refl}
 use native.Mathlib.Omega.{arith}
 use lib.ListN.{length-set}
 use Rattle.build_matrix.specs.RowStates.{up_from}
-use Rattle.build_matrix.specs.SplitLaws.{rows_none, rows_more, rows_all}
+use Rattle.build_matrix.specs.SplitLaws.{rows_more, rows_all}
 use Rattle.build_matrix.proofs.splitting.all_rows.Goals as goal
 
 pub loop-c-preserved : goal.loop-c-preserved

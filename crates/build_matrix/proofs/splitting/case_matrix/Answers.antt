@@ -1,5 +1,4 @@
 -- `splitting::case_matrix`: its parts are those of the case by numbers; the case's own soundness gives the room.
-use mathlib.Core.Path.{refl}
 use Prim.Native.Nat.{◌+◌}
 use native.Mathlib.Omega.{arith}
 use Rattle.spec_rules.specs.SheetFile.{clauses}

@@ -1,7 +1,6 @@
 -- `splitting::default_matrix`: a matrix is what its parts hold.
 use mathlib.Core.Path.{refl}
 use Prim.Native.Nat.{◌+◌}
-use native.Mathlib.Omega.{arith}
 use Rattle.build_matrix.specs.InNumbers.{in_numbers, matrix_of, default_read}
 use Rattle.build_matrix.specs.InNumbersLaws.{stands_for}
 use Rattle.build_matrix.proofs.splitting.default_matrix.Goals as goal

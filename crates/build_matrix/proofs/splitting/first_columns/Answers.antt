@@ -8,7 +8,7 @@ use Rattle.spec_rules.specs.SheetFile.{clauses}
 use Rattle.format_sheet.specs.declared.SheetMap.{SheetMap}
 use Rattle.build_matrix.specs.Lists.{as_classes, Holds}
 use Rattle.build_matrix.specs.ListsLaws.{whole, holds_same}
-use Rattle.build_matrix.specs.SplitLaws.{columns_from, columns_none, columns_all, root_known, root_room, next_listed, next_columns}
+use Rattle.build_matrix.specs.SplitLaws.{columns_from, columns_none, root_known, root_room, next_listed, next_columns}
 use Rattle.build_matrix.proofs.splitting.first_columns.Goals as goal
 
 pub loop-c-init : goal.loop-c-init

@@ -1,6 +1,5 @@
 -- `splitting::first_matrix`: a matrix is what its parts hold.
 use mathlib.Core.Path.{◌≡◌, refl, ap}
-use native.Mathlib.Omega.{arith}
 use Rattle.base_words.specs.Words.{zeros}
 use Rattle.spec_rules.specs.Limits.{patterns_most}
 use Rattle.spec_rules.specs.SheetFile.{clauses}

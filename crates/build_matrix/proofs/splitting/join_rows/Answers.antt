@@ -3,7 +3,6 @@ use mathlib.Core.Path.{◌≡◌, refl, ap, ◌∙◌}
 use Prim.Native.Nat.{◌+◌, ◌<◌}
 use native.Mathlib.Omega.{arith}
 use lib.ListN.{get_or, take}
-use Rattle.std.proofs.lemmas.List.{length-take-le}
 use lib.Seq.{slice}
 use Rattle.spec_rules.specs.SheetFile.{clauses}
 use Rattle.build_matrix.specs.Live.{live_in}

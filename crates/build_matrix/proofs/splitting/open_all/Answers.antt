@@ -1,10 +1,10 @@
 -- `splitting::open_all`: the columns that the tests from one on open to, the last first.
-use mathlib.Core.Path.{◌≡◌, refl, sym, ap}
+use mathlib.Core.Path.{refl, sym}
 use mathlib.Core.List.{[]}
 use native.Mathlib.Omega.{arith}
 use Rattle.build_matrix.specs.Lists.{as_classes, Holds}
 use Rattle.build_matrix.specs.ListsLaws.{whole, holds_same}
-use Rattle.build_matrix.specs.SplitLaws.{opens_from, opens_none, test_known, test_room, opened_listed, opened_columns}
+use Rattle.build_matrix.specs.SplitLaws.{opens_none, test_known, test_room, opened_listed, opened_columns}
 use Rattle.build_matrix.proofs.splitting.open_all.Goals as goal
 
 pub loop-i-init : goal.loop-i-init
