@@ -9,15 +9,13 @@ use borrow.Author.Tests.{ne_eqb}
 use Rattle.std.proofs.Math.Seq.{slice, slice-cons, slice_empty, drop-cons}
 use Rattle.std.proofs.lemmas.List.{drop_all}
 use Rattle.base_words.specs.Words.{either, pick}
-use Rattle.spec_rules.specs.Limits.{patterns_most}
 use Rattle.spec_rules.specs.SplittingLaws.{All}
 use Rattle.build_matrix.specs.declared.PerRow.{PerRow}
 use Rattle.build_matrix.specs.Columns.{Held}
 use Rattle.build_matrix.specs.declared.rows.Best.{Best}
 use Rattle.build_matrix.specs.HeldRows.{count_of, best_of, wild_of}
-use Rattle.build_matrix.specs.Lists.{numbers_in, WholeRows, HoldsRows}
-use Rattle.build_matrix.specs.ListsLaws.{holds_rows_same}
-use Rattle.build_matrix.specs.Reading.{cell_in, owner_in, held_in, InTable, bettered, kept}
+use Rattle.build_matrix.specs.Lists.{numbers_in, HoldsRows}
+use Rattle.build_matrix.specs.Reading.{cell_in, owner_in, held_in, bettered, kept}
 
 -- ---- what a row has, by what was read
 module _ (t opened : List ℕ) (class c cell : ℕ) (is : cell ≡ cell_in t class c) where
@@ -41,10 +39,6 @@ module _ (t opened : List ℕ) (class c cell : ℕ) (is : cell ≡ cell_in t cla
           go : (b : Bool) → then_some b (cell - 1) ≡ pick b (Some (cell - 1)) None
           go true = refl
           go false = refl
-
--- what a test is inside of is a pattern
-pub owner_most : (t : List ℕ) (class c : ℕ) → InTable t class c → (cell : ℕ) → cell ≡ cell_in t class c → (owner : ℕ) → owner ≡ owner_in t (cell - 1) → owner ≤ patterns_most
-owner_most t class c h cell e owner f = omega (arith, h.owner, f ∙ ap (λ (x : ℕ). owner_in t (x - 1)) e)
 
 -- ---- rows counted from the front: up to the place of the first that has no test
 pub count_found : (held : ℕ → Held) (cs : List ℕ) → count_of held cs ≡ position_or_len (λ c. not (is_some (held c))) cs
@@ -90,12 +84,6 @@ wild_step held r next c h cs e w =
 pub wild_end : (held : ℕ → Held) (l cs : List ℕ) → cs ≡ [] → l ≡ l ++ wild_of held cs
 unfolding wild_of
 wild_end held l cs e = sym (ap (λ (x : List ℕ). l ++ wild_of held x) e ∙ append-nil l)
-
-pub keep_none : (r : PerRow) (h : Held) (c : ℕ) {p : ℕ} → WholeRows r → h ≡ Some p → HoldsRows r (numbers_in r ++ kept h c)
-keep_none r h c w e = holds_rows_same w (sym (ap (λ (x : Held). numbers_in r ++ kept x c) e ∙ append-nil (numbers_in r)))
-
-pub keep_one : (r next : PerRow) (h : Held) (c : ℕ) → HoldsRows next (numbers_in r ++ c ∷ []) → h ≡ None → HoldsRows next (numbers_in r ++ kept h c)
-keep_one r next h c w e = holds_rows_same w (sym (ap (λ (x : Held). numbers_in r ++ kept x c) e))
 
 pub kept_most : (h : Held) (c : ℕ) → length (kept h c) ≤ 1
 kept_most (Some p) c = omega arith
