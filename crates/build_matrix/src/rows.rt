@@ -98,7 +98,7 @@ pub fn put_row(list: &mut [u8; CLAUSES_MOST], count: usize, number: u8) -> usize
     count + 1
 }
 
-// Clause c's number behind the others, if its row has no test in the column.
+// Clause c's number behind the others, if its row has a wildcard in the column, which is None.
 fn keep_wild(list: &mut [u8; CLAUSES_MOST], count: usize, c: u8, held: Option<usize>) -> usize
     requires { WholeRows (as_rows list.old count) × (count < clauses_most) }
     ensures { HoldsRows (as_rows list.new result) (take count list.old ++ kept held c) }
