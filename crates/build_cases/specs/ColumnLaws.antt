@@ -15,8 +15,8 @@ use Rattle.format_sheet.specs.declared.records.PatternRecord.{PatternRecord}
 use Rattle.format_sheet.specs.Records as records
 use Rattle.build_table.specs.Standing.{pattern_of}
 use Rattle.spec_rules.specs.SplittingLaws.{All}
-use Rattle.build_matrix.specs.declared.Held.{Held}
-use Rattle.build_matrix.specs.declared.Held.TheVariants.{Test as HeldTest, Wildcard}
+use Rattle.std.specs.Prelude.{Some as HeldTest, None as Wildcard}
+use Rattle.build_matrix.specs.Columns.{Held}
 use Rattle.build_matrix.specs.declared.PerRow.{PerRow}
 use Rattle.build_matrix.specs.HeldRows.{held_tests}
 use Rattle.build_matrix.specs.Lists.{numbers_in, HoldsRows, WholeRows}

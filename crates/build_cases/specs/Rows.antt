@@ -8,8 +8,8 @@ use Rattle.spec_match.specs.Depth.{is_tail, is_exact}
 use Rattle.format_sheet.specs.declared.records.PatternRecord.{PatternRecord}
 use Rattle.format_records.specs.declared.reading.Test as tests
 use Rattle.build_table.specs.Standing.{pattern_of}
-use Rattle.build_matrix.specs.declared.Held.{Held}
-use Rattle.build_matrix.specs.declared.Held.TheVariants.{Test as HeldTest, Wildcard}
+use Rattle.std.specs.Prelude.{Some as HeldTest, None as Wildcard}
+use Rattle.build_matrix.specs.Columns.{Held}
 use Rattle.build_cases.specs.declared.tests.Longest.{Longest}
 use Rattle.build_cases.specs.Passes.{meet_row, meet_rows, up_to}
 

@@ -28,7 +28,7 @@ use build_cases::{CasesMet, Meeting, meet_cases};
 use build_leaves::leaf_bindings;
 use build_matrix::rows::highest_occurrence;
 use build_matrix::splitting::{case_matrix, default_matrix};
-use build_matrix::{Choice, Sizes, wide};
+use build_matrix::{Sizes, wide};
 use format_parts::sections::first_of;
 use format_records::reading::Test;
 use format_sheet::SheetMap;
@@ -262,7 +262,8 @@ pub(crate) fn do_build_tree<'a>(
         return Built { fits: false, tops };
     }
     let choice = highest_occurrence(table, rows, sizes.rows, columns, sizes.columns, opened);
-    let Choice::Column(class) = choice else {
+    // None: the first row's leaf.
+    let Some(class) = choice else {
         let next = put_leaf(
             sheet,
             map,

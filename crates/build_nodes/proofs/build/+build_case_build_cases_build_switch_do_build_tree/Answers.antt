@@ -205,7 +205,7 @@ pub do_build_tree-returns-in_default : goal.do_build_tree-returns-in_default
 do_build_tree-returns-in_default t c = (leaf_builds c.requires.ready.checked.ok c.requires.there c.args.work.now c.put_leaf-next.new.work c.args.tops c.put_leaf-next.result (record { fits = true; tops = c.put_leaf-next.result }) c.wide.result (asked_chosen c.requires c.highest_occurrence-choice.result c.highest_occurrence-choice.ensures c.in_default.is) c.wide.ensures refl c.put_leaf-next.ensures, still c.requires.there.whole.whole_tested.long)
 
 pub do_build_tree-build_switch-requires : goal.do_build_tree-build_switch-requires
-do_build_tree-build_switch-requires t c = (omega (arith, c.decreases), (record { ready = c.requires.ready; there = c.requires.there; chosen = asked_chosen c.requires c.highest_occurrence-choice.result c.highest_occurrence-choice.ensures c.in-Column.is }, c.requires.room, (node_left c.requires.room.nodes_most_holds c.if-tops-eq-NODES_MOST.false)))
+do_build_tree-build_switch-requires t c = (omega (arith, c.decreases), (record { ready = c.requires.ready; there = c.requires.there; chosen = asked_chosen c.requires c.highest_occurrence-choice.result c.highest_occurrence-choice.ensures c.in-Some.is }, c.requires.room, (node_left c.requires.room.nodes_most_holds c.if-tops-eq-NODES_MOST.false)))
 
 pub do_build_tree-shape_of-work : goal.do_build_tree-shape_of-work
 do_build_tree-shape_of-work t c = c.build_switch.auto.work
