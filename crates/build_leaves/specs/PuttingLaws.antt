@@ -25,7 +25,7 @@ use Rattle.build_table.specs.Standing.{kind_of, owner_of, is_test, cell_of}
 use Rattle.build_table.specs.StandingLaws.{child_owner, owner_below}
 use Rattle.build_table.specs.Seen.{inside_of, binds_of, binds_of_each, opened_binds}
 use Rattle.build_table.specs.SeenLaws.{no_test_of_plain, binds_a_name, binds_no_name, binds_of_test, binds_of_name, binds_of_parts, opened_binds_each, binds_discard, binds_variable, binds_text_or_list, binds_each_none, binds_each_some}
-use Rattle.build_table.specs.Table.{cells_at}
+use Rattle.build_table.specs.Table.{owner_at, cells_at}
 use Rattle.build_table.specs.Tabled.{Tabled}
 use Rattle.build_matrix.specs.declared.Matrix.{Matrix}
 use Rattle.build_matrix.specs.Live.{opened_test, IsClass}
@@ -37,7 +37,6 @@ use Rattle.build_matrix.specs.Ready.{ReadyTable}
 use Rattle.build_matrix.specs.Lists.{numbers_in, classes_in}
 use Rattle.build_leaves.specs.declared.Given.{Given}
 use Rattle.build_leaves.specs.Bindings.{Bound, bound, bound_one, bound_all, own_of, first_clause, Room, Started, Entries, Parts, Gives, LeafAsked, WithRow}
-use Rattle.build_leaves.specs.declared.Given.{Given}
 use Rattle.build_leaves.specs.BindingsLaws.{bound_none, bound_single, bound_append, bound_top, bound_length}
 
 -- ---- the store, by its answers
@@ -150,6 +149,10 @@ module _ (s : List ℕ) (ok : Accepted s) (p : ℕ) where
       first_owned = record { parent = x.parent; from = omega (arith, x.is_first); to = omega (arith, x.is_first, x.is_count) }
 
       -- the test that the first child is inside of, as it was read
+      pub owner_read : {t : List ℕ} (q owner : ℕ) → Tabled s t → q ≡ child s first → owner ≡ get_or t (owner_at + q) 0 → owner ≡ owner_of s (child s first)
+      owner_read q owner tabled e o =
+          o ∙ (tabled.placed q (omega (arith, owned_pattern sh p first x.known first_owned))).owner ∙ ap (owner_of s) e
+
       module _ (owner : ℕ) (read : owner ≡ owner_of s (child s first)) where
         owner_is : owner ≡ pick (is_test s p) (p + 1) (owner_of s p)
         owner_is = read ∙ child_owner sh p first x.known first_owned few
@@ -227,20 +230,21 @@ module _ (s t : List ℕ) (tabled : Tabled s t) (c class : ℕ) (hc : c < clause
     unfolding opened_test
     empty_cell e = rw (sym cell_is ∙ e)
 
-  module _ (some : cell ≡ 0 → ⊥) where
-    cell_back : cell_of s c class ≡ suc (cell - 1)
+  -- of test p
+  module _ (p : ℕ) (some : cell ≡ p + 1) where
+    cell_back : cell_of s c class ≡ suc p
     cell_back = sym cell_is ∙ omega arith
 
-    pub cell_known : cell - 1 < patterns s
-    cell_known = (cell_some s c class (cell - 1) cell_back).test_of.known
+    pub cell_known : p < patterns s
+    cell_known = (cell_some s c class p cell_back).test_of.known
 
     -- when it was opened, as that was read
-    module _ (opened : List ℕ) (time when : ℕ) (is_when : when ≡ get_or opened (cell - 1) 0) where
+    module _ (opened : List ℕ) (time when : ℕ) (is_when : when ≡ get_or opened p 0) where
       pub other_time : (when ≡ time + 1 → ⊥) → numbers_held s (opened_test s opened c time class) ≡ []
       unfolding opened_test
       other_time n = rw (cell_back, ← is_when, ne_eqb when (time + 1) n)
 
-      pub same_time : when ≡ time + 1 → numbers_held s (opened_test s opened c time class) ≡ opened_binds s (cell - 1)
+      pub same_time : when ≡ time + 1 → numbers_held s (opened_test s opened c time class) ≡ opened_binds s p
       unfolding opened_test
       same_time e = rw (cell_back, ← is_when, eq-eqb when (time + 1) e)
 

@@ -18,7 +18,6 @@ use base_numbers::pattern_kinds;
 use base_numbers::sheet::PATTERNS_MOST;
 use base_numbers::tree::BINDINGS_MOST;
 use build_arena::writing;
-use build_matrix::wide;
 use build_table::{CELL, CLASS, OWNER, at};
 use format_sheet::SheetMap;
 use format_sheet::records::{child_in, children_of, pattern_in, root_at};
@@ -70,10 +69,7 @@ fn parts_given(
         first: 0,
         count: 0,
     };
-    if count == 0 {
-        return nothing;
-    }
-    if at(table, OWNER + child_in(sheet, list, first)) == p + 1 {
+    if count == 0 || at(table, OWNER + child_in(sheet, list, first)) == p + 1 {
         return nothing;
     }
     Given {
@@ -89,8 +85,7 @@ fn gives(sheet: &[u8], records: usize, list: usize, table: &[u8], p: usize) -> G
     ensures { Gives sheet.now p result }
 {
     let r = pattern_in(sheet, records, p);
-    let kind = r.kind;
-    match kind {
+    match r.kind {
         pattern_kinds::VARIABLE => Given {
             named: true,
             first: 0,
@@ -170,11 +165,9 @@ fn put_all_bindings(
     ensures { Binds sheet.now work.old work.new top (binds_of_each sheet.now j n) result }
 {
     let mut next = top;
-    let mut k: usize = 0;
-    while k < n {
+    for k in 0..n {
         let q = child_in(sheet, list, j + k);
         next = put_bindings(sheet, records, list, table, q, work, next);
-        k += 1;
     }
     next
 }
@@ -218,12 +211,10 @@ fn put_opened(
     requires { ReadyTable sheet.now map table.now × (c < clauses sheet.now) × (class < patterns_most) × (time < patterns_most) × Room work.old top }
     ensures { Binds sheet.now work.old work.new top (numbers_held sheet.now (opened_test sheet.now opened.now c time class)) result }
 {
-    let cell = at(table, CELL + PATTERNS_MOST * c + class);
-    if cell == 0 {
+    let Some(p) = at(table, CELL + PATTERNS_MOST * c + class).checked_sub(1) else {
         return top;
-    }
-    let p = cell - 1;
-    if wide(opened[p]) != time + 1 {
+    };
+    if usize::from(opened[p]) != time + 1 {
         return top;
     }
     let run = children_of(sheet, map, p);
@@ -243,14 +234,6 @@ fn put_opened(
     )
 }
 
-// The class at a place of a list.
-fn class_at(list: &[u8; PATTERNS_MOST], i: usize) -> usize
-    requires { i < patterns_most }
-    ensures { result ≡ get_or list.now i 0 }
-{
-    wide(list[i])
-}
-
 // What the leaf of clause c binds, where the first n classes of `tested` were tested, behind the `top` bindings there are; the number of all.
 pub fn leaf_bindings<'a>(
     sheet: &[u8],
@@ -267,11 +250,9 @@ pub fn leaf_bindings<'a>(
     ensures { Binds sheet.now work.old work.new top (leaf_numbers sheet.now opened.now (take n tested.now) c) result }
 {
     let mut next = put_root(sheet, map, table, c, work, top);
-    let mut time: usize = 0;
-    while time < n {
-        let class = class_at(tested, time);
+    for time in 0..n {
+        let class = usize::from(tested[time]);
         next = put_opened(sheet, map, table, opened, c, time, class, work, next);
-        time += 1;
     }
     next
 }

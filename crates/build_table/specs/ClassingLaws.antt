@@ -1,19 +1,24 @@
 -- What finding a class, its indices and the order of two paths computes on the bytes of a table, as the code's loops and branches do.
 -- Rests on Table, the laws of searches and the laws of stores.
-use Rattle.std.specs.Prelude.{◌≡◌, Bool, true, false, List, [], ◌∷◌, ◌++◌, eqb, ltb, length, set, take, drop}
+use Rattle.std.specs.Prelude.{◌≡◌, Bool, true, false, List, [], ◌∷◌, ◌++◌, Some, eqb, length, set, take, drop}
 use Rattle.std.proofs.Math.Path.{refl, sym, ap, ap₂}
-use Rattle.std.proofs.Common.{◌∙◌, add-zero, le_antisymm, add-one, length-set, drop-cons}
+use Rattle.std.proofs.Common.{◌∙◌, add-one, length-set}
 use Rattle.std.proofs.Math.Bool.{not}
-use Rattle.std.proofs.Math.Option.{Option, none, some}
+use Rattle.std.proofs.Math.Option.{Option as Lowest, none, some}
+use Rattle.std.specs.Option.{unwrap_or}
+use Rattle.std.specs.Ordering.{is_lt, is_some_and, nat_cmp}
+use Rattle.std.specs.Cmp.Lexicographic.{slice_partial_cmp}
+use Rattle.std.proofs.lemmas.Bool.Decides.{nat_tests}
+use Rattle.std.proofs.lemmas.Cmp.{same_from_slice_cmp_tested}
 use Prim.Native.Nat.{ℕ, zero, suc, ◌+◌, ◌-◌, ◌*◌, ◌≤◌, ◌<◌}
 use native.Mathlib.Omega.{arith}
 use Rattle.std.proofs.Math.Nat.{sub-zero}
-use borrow.Author.Tests.{eq-eqb, ne_eqb, lt-ltb, le-ltb, ltb-true, ltb-false}
+use borrow.Author.Tests.{eq-eqb, ne_eqb}
 use Rattle.std.proofs.Math.ListN.{get_or}
 use Rattle.base_words.specs.Words.{both, text_at}
-use Rattle.base_words.specs.WordsLaws.{pick_true, pick_false, length_text_at, text_at_add}
+use Rattle.base_words.specs.WordsLaws.{pick_true, pick_false, length_text_at}
 use Rattle.base_words.specs.Stored.{stored}
-use Rattle.base_words.specs.StoredLaws.{set_stored, stored_append, get_or_stored_below}
+use Rattle.base_words.specs.StoredLaws.{set_stored, stored_append, stored_is}
 use Rattle.spec_rules.specs.Limits.{patterns_most, depth_most}
 use Rattle.spec_rules.specs.Kinds.{data_type, integer_pattern, list_with_tail_pattern, constructor_pattern}
 use Rattle.spec_rules.specs.SheetFile.{subject, patterns, root}
@@ -23,62 +28,39 @@ use Rattle.format_sheet.specs.declared.records.PatternRecord.{PatternRecord}
 use Rattle.format_sheet.specs.declared.records.TypeRecord.{TypeRecord}
 use Rattle.format_sheet.specs.Records.{pattern_of, type_of as type_of_record}
 use Rattle.spec_rules.specs.Searching.{lowest}
-use Rattle.spec_rules.specs.SearchingLaws.{lowest_some, lowest_found, lowest_on, lowest_end}
+use Rattle.spec_rules.specs.Found.{found}
+use Rattle.spec_rules.specs.SearchingLaws.{lowest_some, lowest_on}
 use Rattle.build_table.specs.Standing.{or_self, type_of, is_test}
 use Rattle.build_table.specs.StandingLaws.{clause_known}
 use Rattle.build_table.specs.ClassLaws.{class_below}
 use Rattle.build_table.specs.SeenLaws.{test_of_text_or_list, no_test_of_plain, no_test_of_pair, test_of_constructor}
 use Rattle.build_table.specs.PlacingLaws.{kind_is}
-use Rattle.build_table.specs.Table.{class_at, type_at, step_at, index_at, depth_at, clause_at, indices_at, cells_at, table_size, same_number, rooted, rooted_each, above_in, same_step_in, class_in, classed, indexed, tested, first_before}
+use Rattle.build_table.specs.Table.{class_at, step_at, index_at, depth_at, clause_at, indices_at, cells_at, table_size, same_number, rooted, rooted_each, above_in, same_step_in, class_in, classed, indexed, tested, first_before}
 use Rattle.format_sheet.specs.Check.{SheetAccepts}
 use Rattle.build_table.specs.Tabled.{Placed, Classed, RowBelow}
 
--- ---- the same step: each test in turn
-module _ (t : List ℕ) (a b : ℕ) where
-  pub step_differs : (get_or t (step_at + a) 0 ≡ get_or t (step_at + b) 0 → ⊥) → false ≡ same_step_in t a b
-  unfolding same_step_in
-  step_differs e = rw (ne_eqb _ _ e)
-
-  module _ (step : get_or t (step_at + a) 0 ≡ get_or t (step_at + b) 0) where
-    pub index_differs : (get_or t (index_at + a) 0 ≡ get_or t (index_at + b) 0 → ⊥) → false ≡ same_step_in t a b
-    unfolding same_step_in
-    index_differs e = rw (eq-eqb _ _ step, ne_eqb _ _ e)
-
-    module _ (index : get_or t (index_at + a) 0 ≡ get_or t (index_at + b) 0) (x y : ℕ) (ex : x ≡ above_in t a) (ey : y ≡ above_in t b) where
-      pub class_differs : (get_or t (class_at + x) 0 ≡ get_or t (class_at + y) 0 → ⊥) → false ≡ same_step_in t a b
-      unfolding same_step_in
-      class_differs e = rw (eq-eqb _ _ step, eq-eqb _ _ index, ne_eqb (get_or t (class_at + above_in t a) 0) (get_or t (class_at + above_in t b) 0) (rw (ex, ey) at e))
-
-      pub types_compared : get_or t (class_at + x) 0 ≡ get_or t (class_at + y) 0 → eqb (get_or t (type_at + x) 0) (get_or t (type_at + y) 0) ≡ same_step_in t a b
-      unfolding same_step_in
-      types_compared e =
-          rw (ex, ey, eq-eqb _ _ step, eq-eqb _ _ index, eq-eqb (get_or t (class_at + above_in t a) 0) (get_or t (class_at + above_in t b) 0) (rw (ex, ey) at e))
-
 -- ---- the lowest pattern with the same step
 module _ (t : List ℕ) (p : ℕ) where
-  abbrev pub LowestFrom : ℕ → Type 0
+  abbrev LowestFrom : ℕ → Type 0
   LowestFrom q = lowest (λ k. same_step_in t k p) q (p - q) ≡ lowest (λ k. same_step_in t k p) 0 p
 
   -- none before the n-th
-  pub class_begins : (n : ℕ) → n ≤ p → ((q : ℕ) → q < n → same_step_in t q p ≡ false) → LowestFrom n
+  class_begins : (n : ℕ) → n ≤ p → ((q : ℕ) → q < n → same_step_in t q p ≡ false) → LowestFrom n
   class_begins zero l none_before = ap (lowest (λ k. same_step_in t k p) 0) (sub-zero p)
   class_begins (suc n) l none_before =
       let on : LowestFrom (n + 1) = lowest_on (λ k. same_step_in t k p) n p (omega arith) (none_before n (omega arith)) ∙ class_begins n (omega arith) (λ q below. none_before q (omega arith)) in
       ap (λ (k : ℕ). lowest (λ k. same_step_in t k p) k (p - k)) (sym (add-one n)) ∙ on
 
-  module _ (q : ℕ) (left : LowestFrom q) where
-    pub class_found : (r : Bool) → q < p → r ≡ same_step_in t q p → r ≡ true → q ≡ class_in t p
-    unfolding class_in
-    class_found r l e yes_same = ap (λ (found : Option ℕ). or_self found p) (sym (lowest_found (λ k. same_step_in t k p) q p l (sym e ∙ yes_same)) ∙ left)
+  or_found : (x : Lowest ℕ) → unwrap_or (found x) p ≡ or_self x p
+  or_found none = refl
+  or_found (some k) = refl
 
-    pub class_goes_on : (r : Bool) → q < p → r ≡ same_step_in t q p → r ≡ false → LowestFrom (q + 1)
-    class_goes_on r l e none_same = lowest_on (λ k. same_step_in t k p) q p l (sym e ∙ none_same) ∙ left
+  -- so the search may begin there
+  pub class_from : (n : ℕ) → n ≤ p → ((q : ℕ) → q < n → same_step_in t q p ≡ false) → unwrap_or (found (lowest (λ k. same_step_in t k p) n (p - n))) p ≡ class_in t p
+  unfolding class_in
+  class_from n l none_before = or_found (lowest (λ k. same_step_in t k p) n (p - n)) ∙ ap (λ (x : Lowest ℕ). or_self x p) (class_begins n l none_before)
 
-    pub class_is_own : p ≤ q → p ≡ class_in t p
-    unfolding class_in
-    class_is_own l = ap (λ (found : Option ℕ). or_self found p) (sym (lowest_end (λ k. same_step_in t k p) q p l) ∙ left)
-
-  or_self_most : (found : Option ℕ) → ((k : ℕ) → found ≡ some k → k < p) → or_self found p ≤ p
+  or_self_most : (x : Lowest ℕ) → ((k : ℕ) → x ≡ some k → k < p) → or_self x p ≤ p
   or_self_most none h = omega arith
   or_self_most (some k) h = let l = h k refl in omega arith
 
@@ -98,115 +80,37 @@ module _ (t : List ℕ) (p : ℕ) where
     classed_step e c ec = rw (is_above, ec) (sym (pick_false (eqb (get_or t (step_at + p) 0) same_number) _ _ (ne_eqb _ _ e)))
 
 -- ---- the indices copied
--- a text of one byte; one byte more
-text_at_one : (t : List ℕ) (k : ℕ) → k < length t → text_at t k 1 ≡ get_or t k 0 ∷ []
-text_at_one t k l = ap (take 1) (drop-cons t k 0 l)
+-- n bytes of t copied, and one more behind them
+module _ (t : List ℕ) (from to n : ℕ) (here : from + n ≤ length t) (there : to + n ≤ length t) where
+  copied : take to t ++ take (from + n - from) (drop from t) ++ drop (to + (from + n - from)) t ≡ stored t to (text_at t from n)
+  copied =
+      let k : from + n - from ≡ n = omega arith in
+      let long : length (text_at t from n) ≡ n = length_text_at t from n here in
+      ap (λ (m : ℕ). take to t ++ take m (drop from t) ++ drop (to + m) t) k
+      ∙ ap (λ (m : ℕ). take to t ++ text_at t from n ++ drop (to + m) t) (sym long)
+      ∙ sym (stored_is t to (text_at t from n) (omega (arith, long)))
 
-pub text_at_more : (t : List ℕ) (k n : ℕ) → k + n < length t → text_at t k (n + 1) ≡ text_at t k n ++ get_or t (k + n) 0 ∷ []
-text_at_more t k n l = text_at_add t k n 1 ∙ ap (λ (x : List ℕ). text_at t k n ++ x) (text_at_one t (k + n) l)
-
--- u is t with i bytes copied
-abbrev pub Copied : List ℕ → ℕ → ℕ → List ℕ → ℕ → Type 0
-Copied t from to u i = u ≡ stored t to (text_at t from i)
-
-module _ (t : List ℕ) (from to depth : ℕ) (long : length t ≡ table_size) (below : from + depth ≤ to) (room : to + depth < table_size) where
-  -- one more element behind those copied
-  behind : (u : List ℕ) (i x : ℕ) → i ≤ depth → Copied t from to u i → set u (to + i) x ≡ stored t to (text_at t from i ++ x ∷ [])
-  behind u i x l e =
-      set_stored u (to + i) x
-      ∙ ap (λ (w : List ℕ). stored w (to + i) (x ∷ [])) e
-      ∙ stored_append t to (to + i) (text_at t from i) (x ∷ []) (omega (arith, length_text_at t from i (omega arith)))
-
-  pub copied_more : (u : List ℕ) (i : ℕ) → i < depth → Copied t from to u i → Copied t from to (set u (to + i) (get_or u (from + i) 0)) (i + 1)
-  copied_more u i l e =
-      let same : get_or u (from + i) 0 ≡ get_or t (from + i) 0 = ap (λ (w : List ℕ). get_or w (from + i) 0) e ∙ get_or_stored_below t to (text_at t from i) (from + i) 0 (omega arith) in
-      behind u i (get_or u (from + i) 0) (omega arith) e
-      ∙ ap (λ (x : ℕ). stored t to (text_at t from i ++ x ∷ [])) same
-      ∙ ap (stored t to) (sym (text_at_more t from i (omega arith)))
-
-  pub copied_all : (u : List ℕ) (i x : ℕ) → i ≡ depth → Copied t from to u i → set u (to + depth) x ≡ stored t to (text_at t from depth ++ x ∷ [])
-  copied_all u i x l e = behind u depth x (omega arith) (e ∙ ap (λ (k : ℕ). stored t to (text_at t from k)) l)
+  pub copied_and_one : (u : List ℕ) (x : ℕ) → u ≡ take to t ++ take (from + n - from) (drop from t) ++ drop (to + (from + n - from)) t
+      → set u (to + n) x ≡ stored t to (text_at t from n ++ x ∷ [])
+  copied_and_one u x e =
+      ap (λ (w : List ℕ). set w (to + n) x) (e ∙ copied)
+      ∙ set_stored _ (to + n) x
+      ∙ stored_append t to (to + n) (text_at t from n) (x ∷ []) (omega (arith, length_text_at t from n here))
 
 -- ---- which of two paths comes first, by their indices
-text_at_next : (t : List ℕ) (k n : ℕ) → k < length t → 0 < n → text_at t k n ≡ get_or t k 0 ∷ text_at t (k + 1) (n - 1)
-text_at_next t k n l some_left =
-    let e : n ≡ suc (n - 1) = omega arith in
-    ap (λ (x : ℕ). take x (drop k t)) e ∙ ap (take (suc (n - 1))) (drop-cons t k 0 l) ∙ rw (add-one k)
-
-first_before_step : (x y : ℕ) (xs ys : List ℕ) → x ≡ y → first_before (x ∷ xs) (y ∷ ys) ≡ first_before xs ys
+-- the library's order of two texts
+less_is_before : (xs ys : List ℕ) (r : Bool) → r ≡ is_some_and is_lt (slice_partial_cmp (λ x y. Some (nat_cmp x y)) xs ys) → r ≡ first_before xs ys
 unfolding first_before
-first_before_step x y xs ys e = rw (le-ltb x y (omega arith), first_before, eq-eqb x y e)
+less_is_before = same_from_slice_cmp_tested nat_cmp is_lt first_before refl (λ _ _. refl) (λ _ _. refl) (λ x y xs ys o e. grind (arith, nat_tests))
 
-first_before_less : (x y : ℕ) (xs ys : List ℕ) → x < y → first_before (x ∷ xs) (y ∷ ys) ≡ true
-unfolding first_before
-first_before_less x y xs ys l = rw (lt-ltb x y l, first_before)
-
-first_before_more : (x y : ℕ) (xs ys : List ℕ) → y < x → first_before (x ∷ xs) (y ∷ ys) ≡ false
-unfolding first_before
-first_before_more x y xs ys l = rw (le-ltb x y (omega arith), first_before, ne_eqb x y (λ e. omega arith))
-
--- what is left from the i-th index on is the whole
-abbrev pub BeforeFrom : List ℕ → ℕ → ℕ → ℕ → ℕ → ℕ → Type 0
-BeforeFrom t a b x y i = first_before (text_at t (a + i) (x - i)) (text_at t (b + i) (y - i)) ≡ first_before (text_at t a x) (text_at t b y)
-
--- one step on
-text_at_on : (t : List ℕ) (a x i : ℕ) → text_at t (a + (i + 1)) (x - (i + 1)) ≡ text_at t (a + i + 1) (x - i - 1)
-text_at_on t a x i =
-    let at : a + (i + 1) ≡ a + i + 1 = omega arith in
-    let long : x - (i + 1) ≡ x - i - 1 = omega arith in
-    ap₂ (text_at t) at long
-
-module _ (t : List ℕ) (a b x y : ℕ) (left : a + x ≤ length t) (right : b + y ≤ length t) where
-  pub before_begins : BeforeFrom t a b x y 0
-  before_begins = rw (add-zero a, add-zero b, sub-zero x, sub-zero y)
-
-  module _ (i : ℕ) (inv : BeforeFrom t a b x y i) where
-    pub second_ends : i < x → i ≡ y → false ≡ first_before (text_at t a x) (text_at t b y)
-    second_ends l e =
-        let none_left : y - i ≡ 0 = omega arith in
-        sym (ap₂ first_before (text_at_next t (a + i) (x - i) (omega arith) (omega arith)) (ap (text_at t (b + i)) none_left) ∙ ended (get_or t (a + i) 0) (text_at t (a + i + 1) (x - i - 1))) ∙ inv
-      where
-        ended : (z : ℕ) (zs : List ℕ) → first_before (z ∷ zs) [] ≡ false
-        ended z zs = unfold first_before in refl
-
-    both_go : i < x → i ≤ y → (i ≡ y → ⊥)
-        → first_before (get_or t (a + i) 0 ∷ text_at t (a + i + 1) (x - i - 1)) (get_or t (b + i) 0 ∷ text_at t (b + i + 1) (y - i - 1))
-        ≡ first_before (text_at t a x) (text_at t b y)
-    both_go l k n =
-        sym (ap₂ first_before (text_at_next t (a + i) (x - i) (omega arith) (omega arith)) (text_at_next t (b + i) (y - i) (omega arith) (omega arith))) ∙ inv
-
-    pub before_less : i < x → i ≤ y → (i ≡ y → ⊥) → get_or t (a + i) 0 < get_or t (b + i) 0 → true ≡ first_before (text_at t a x) (text_at t b y)
-    before_less l k n h = sym (first_before_less _ _ _ _ h) ∙ both_go l k n
-
-    pub before_more : i < x → i ≤ y → (i ≡ y → ⊥) → get_or t (b + i) 0 < get_or t (a + i) 0 → false ≡ first_before (text_at t a x) (text_at t b y)
-    before_more l k n h = sym (first_before_more _ _ _ _ h) ∙ both_go l k n
-
-    pub before_goes_on : i < x → i ≤ y → (i ≡ y → ⊥) → get_or t (b + i) 0 ≤ get_or t (a + i) 0 → get_or t (a + i) 0 ≤ get_or t (b + i) 0 → BeforeFrom t a b x y (i + 1)
-    before_goes_on l k n g h =
-        ap₂ first_before (text_at_on t a x i) (text_at_on t b y i)
-        ∙ sym (first_before_step _ _ (text_at t (a + i + 1) (x - i - 1)) (text_at t (b + i + 1) (y - i - 1)) (le_antisymm h g))
-        ∙ both_go l k n
-
-    pub before_ends : i ≤ x → x ≤ i → i ≤ y → ltb x y ≡ first_before (text_at t a x) (text_at t b y)
-    before_ends l k n = go (ltb x y) refl
-      where
-        more : (z : ℕ) (zs : List ℕ) → first_before [] (z ∷ zs) ≡ true
-        more z zs = unfold first_before in refl
-
-        both_end : first_before [] [] ≡ false
-        both_end = unfold first_before in refl
-
-        none_left : x - i ≡ 0
-        none_left = omega arith
-
-        go : (test : Bool) → ltb x y ≡ test → test ≡ first_before (text_at t a x) (text_at t b y)
-        go true e =
-            let h = ltb-true x y e in
-            sym (ap₂ first_before (ap (text_at t (a + i)) none_left) (text_at_next t (b + i) (y - i) (omega arith) (omega arith)) ∙ more _ _) ∙ inv
-        go false e =
-            let h = ltb-false x y e in
-            let none_right : y - i ≡ 0 = omega arith in
-            sym (ap₂ first_before (ap (text_at t (a + i)) none_left) (ap (text_at t (b + i)) none_right) ∙ both_end) ∙ inv
+-- of the rows from a on and from b on, as long as v and w
+pub rows_compared : (t : List ℕ) (a b x y v w : ℕ) → x ≡ v → y ≡ w → (r : Bool)
+    → r ≡ is_some_and is_lt (slice_partial_cmp (λ i k. Some (nat_cmp i k)) (take (a + x - a) (drop a t)) (take (b + y - b) (drop b t)))
+    → r ≡ first_before (text_at t a v) (text_at t b w)
+rows_compared t a b x y v w ex ey r e =
+    let first : a + x - a ≡ v = omega arith in
+    let second : b + y - b ≡ w = omega arith in
+    less_is_before _ _ r e ∙ ap₂ (λ (i k : ℕ). first_before (text_at t a i) (text_at t b k)) first second
 
 -- ---- the row of p and of the pattern above, as the code has read them
 pub record Row (p above depth : ℕ) : Type 0 where

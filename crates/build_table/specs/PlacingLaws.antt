@@ -1,15 +1,15 @@
 -- What storing the children of a pattern asks and gives, over plain values as the code has them.
 -- Rests on the facts of an accepted sheet and on Table.
-use Rattle.std.specs.Prelude.{◌≡◌, Bool, true, false, List, eqb, length}
+use Rattle.std.specs.Prelude.{◌≡◌, Bool, true, List, eqb, length, get_or}
 use Rattle.std.proofs.Math.Path.{refl, ap, ap₂}
-use Rattle.std.proofs.Common.{sym, ◌∙◌, ⊎_elim, eq-eqb, ne_eqb, length-set}
+use Rattle.std.proofs.Common.{sym, ◌∙◌, ⊎_elim, length-set}
 use Rattle.std.proofs.Math.Logic.{inl, inr}
 use Prim.Native.Nat.{ℕ, zero, suc, ◌+◌, ◌-◌, ◌*◌, ◌≤◌, ◌<◌}
 use native.Mathlib.Omega.{arith}
 use Rattle.base_words.specs.Words.{both, pick}
 use Rattle.spec_rules.specs.Limits.{patterns_most}
 use Rattle.spec_rules.specs.Kinds.{data_type, assign_pattern, list_pattern, list_with_tail_pattern, constructor_pattern, pair_pattern, tuple_pattern, pair_step, tuple_step, constr_step, list_step, listtail_step}
-use Rattle.spec_rules.specs.SheetFile.{constructors, entries, children, type_first, constructor_first, entry, pattern_kind, pattern_a, pattern_first, pattern_count, child}
+use Rattle.spec_rules.specs.SheetFile.{constructors, patterns, entries, children, type_first, constructor_first, entry, pattern_kind, pattern_a, pattern_first, pattern_count, child}
 use Rattle.spec_rules.specs.Patterns.{PatternKind, Discard, Variable, Assign, Integer, ByteString, ListOfAll, ListWithRest, Constructor, Pair, Tuple, Unknown, one_constructor, constructor_of, pattern, fits}
 use Rattle.spec_rules.specs.SheetRefusals.{has_children}
 use Rattle.spec_accepted.specs.KindsLaws.{pattern_number, byte_pattern, pattern_byte}
@@ -18,12 +18,12 @@ use Rattle.format_sheet.specs.declared.SheetMap.{SheetMap}
 use Rattle.format_sheet.specs.declared.records.PatternRecord.{PatternRecord}
 use Rattle.format_sheet.specs.declared.records.TypeRecord.{TypeRecord}
 use Rattle.format_sheet.specs.declared.records.Run.{Run}
-use Rattle.format_sheet.specs.Records.{pattern_of, constructor_of as run_of}
+use Rattle.format_sheet.specs.Records.{pattern_of, constructor_of as run_of, type_of as type_of_record}
 use Rattle.build_table.specs.Standing.{kind_of, type_of, owner_of}
 use Rattle.build_table.specs.TypesLaws.{pattern_fits, type_known, list_entry, tailed_entry, pair_entry, tuple_entry, constructor_inside, constructor_entry}
-use Rattle.build_table.specs.Table.{same_number, placed, placed_each, placed_below}
+use Rattle.build_table.specs.Table.{same_number, type_at, owner_at, table_size, placed, placed_each, placed_below}
 use Rattle.format_sheet.specs.Check.{SheetAccepts}
-use Rattle.build_table.specs.Tabled.{Parts, Reading}
+use Rattle.build_table.specs.Tabled.{Placed, Parts, Reading}
 
 -- ---- a record's fields, as numbers of the sheet
 module _ (s : List ℕ) (p : ℕ) (r : PatternRecord) (e : r ≡ pattern_of s p) where
@@ -96,14 +96,12 @@ module _ {s : List ℕ} {m : SheetMap} (ch : SheetAccepts s m) {p n e stride : �
       let typed = ch.ok.is_typed.entry_type (e + stride * i) (parts_type i l) in
       (omega (arith, parts.known), omega arith, omega (arith, parts_few), omega (arith, ch.ok.is_counted.types_most_holds))
 
--- ---- a type of one constructor
-pub other_kind : (kind count : ℕ) → (kind ≡ data_type → ⊥) → false ≡ both (eqb kind data_type) (eqb count 1)
-other_kind kind count e = rw (ne_eqb kind data_type e)
-
-pub data_kind : (kind count : ℕ) → kind ≡ data_type → eqb count 1 ≡ both (eqb kind data_type) (eqb count 1)
-data_kind kind count e = rw (eq-eqb kind data_type e)
-
 -- ---- what the record of a pattern and of its type say, as the code has read them
+pub reading_here : {s : List ℕ} {m : SheetMap} {t : List ℕ} {p tipo : ℕ} {r : PatternRecord} {ty : TypeRecord} → SheetAccepts s m → length t ≡ table_size → p < patterns s → Placed s t p
+    → r ≡ pattern_of s p → tipo ≡ get_or t (type_at + p) 0 → ty ≡ type_of_record s tipo → Reading s m t p r ty (get_or t (owner_at + p) 0)
+reading_here {s} ch long known placed_p er et ey =
+    record { checked = ch; long = long; known = known; is_pattern = er; is_type = ey ∙ ap (type_of_record s) (et ∙ placed_p.type); is_owner = placed_p.owner }
+
 module _ {s : List ℕ} {m : SheetMap} {t : List ℕ} {p : ℕ} {r : PatternRecord} {ty : TypeRecord} {owner : ℕ} (rd : Reading s m t p r ty owner) where
   pub reading_kind : (kind : PatternKind) → r.kind ≡ pattern_number kind → kind_of s p ≡ kind
   unfolding kind_of

@@ -53,7 +53,7 @@ pub fn at(table: &[u8], i: usize) -> usize
     requires { i < length table.now }
     ensures { result ≡ get_or table.now i 0 }
 {
-    table[i] as usize
+    usize::from(table[i])
 }
 
 // What pattern p gives to its child q.
@@ -92,8 +92,7 @@ fn put_children(
     ensures { table.new ≡ placed_each sheet.now table.old p step types.first types.stride owner 0 types.count }
 {
     let r = pattern_at(sheet, map, p);
-    let mut i: usize = 0;
-    while i < types.count {
+    for i in 0..types.count {
         put_child(
             table,
             p,
@@ -103,7 +102,6 @@ fn put_children(
             entry_at(sheet, map, types.first + types.stride * i),
             owner,
         );
-        i += 1;
     }
 }
 
@@ -111,10 +109,7 @@ fn put_children(
 fn one_constructor(ty: TypeRecord) -> bool
     ensures { result ≡ both (eqb ty.kind data_type) (eqb ty.count 1) }
 {
-    if ty.kind != type_kinds::DATA {
-        return false;
-    }
-    ty.count == 1
+    ty.kind == type_kinds::DATA && ty.count == 1
 }
 
 // The fields of constructor pattern p: inside p, if it is a test.
@@ -136,19 +131,12 @@ fn place_fields(
         first: fields.first,
         stride: 1,
     };
-    if one_constructor(ty) {
-        put_children(sheet, map, table, p, types, step_kinds::CONSTR, owner);
-        return;
-    }
-    put_children(
-        sheet,
-        map,
-        table,
-        p,
-        types,
-        step_kinds::CONSTR,
-        (p + 1) as u8,
-    );
+    let inside = if one_constructor(ty) {
+        owner
+    } else {
+        (p + 1) as u8
+    };
+    put_children(sheet, map, table, p, types, step_kinds::CONSTR, inside);
 }
 
 // The elements and the tail of list p, all inside p.
@@ -191,8 +179,7 @@ fn place_children(sheet: &[u8], map: SheetMap, table: &mut [u8], p: usize)
     let tipo = at(table, TYPE + p);
     let owner = table[OWNER + p];
     let ty = type_at(sheet, map, tipo);
-    let kind = r.kind;
-    match kind {
+    match r.kind {
         pattern_kinds::ASSIGN => put_child(
             table,
             p,
@@ -252,18 +239,12 @@ fn same_step(table: &[u8], p: usize, q: usize) -> bool
     requires { (length table.now ≡ table_size) × (p < patterns_most) × (q < patterns_most) × (above_in table.now p < patterns_most) × (above_in table.now q < patterns_most) }
     ensures { result ≡ same_step_in table.now p q }
 {
-    if table[STEP + p] != table[STEP + q] {
-        return false;
-    }
-    if table[INDEX + p] != table[INDEX + q] {
-        return false;
-    }
     let x = at(table, ABOVE + p);
     let y = at(table, ABOVE + q);
-    if table[CLASS + x] != table[CLASS + y] {
-        return false;
-    }
-    table[TYPE + x] == table[TYPE + y]
+    table[STEP + p] == table[STEP + q]
+        && table[INDEX + p] == table[INDEX + q]
+        && table[CLASS + x] == table[CLASS + y]
+        && table[TYPE + x] == table[TYPE + y]
 }
 
 // The lowest pattern that the same step leads to; none is below `from`.
@@ -272,14 +253,7 @@ fn class_of(table: &[u8], p: usize, from: usize) -> usize
     requires from_le_p { (from ≤ p) × ((q : ℕ) → q < from → same_step_in table.now q p ≡ false) }
     ensures { result ≡ class_in table.now p }
 {
-    let mut q = from;
-    while q < p {
-        if same_step(table, q, p) {
-            return q;
-        }
-        q += 1;
-    }
-    p
+    (from..p).find(|&q| same_step(table, q, p)).unwrap_or(p)
 }
 
 // The class of p, and how many steps its path has. What a step from a path leads to comes after the lowest pattern with that path.
@@ -295,7 +269,7 @@ fn put_class(table: &mut [u8], p: usize)
         table[DEPTH + p] = depth;
         return;
     }
-    let first = class_of(table, p, class as usize);
+    let first = class_of(table, p, usize::from(class));
     table[CLASS + p] = first as u8;
     table[DEPTH + p] = depth + 1;
 }
@@ -308,12 +282,10 @@ fn put_indices(table: &mut [u8], p: usize)
     let above = at(table, ABOVE + p);
     let depth = at(table, DEPTH + above);
     let own = table[INDEX + p];
-    let mut i: usize = 0;
-    while i < depth {
-        table[INDICES + DEPTH_MOST * p + i] = table[INDICES + DEPTH_MOST * above + i];
-        i += 1;
-    }
-    table[INDICES + DEPTH_MOST * p + depth] = own;
+    let from = INDICES + DEPTH_MOST * above;
+    let to = INDICES + DEPTH_MOST * p;
+    table.copy_within(from..from + depth, to);
+    table[to + depth] = own;
 }
 
 // Whether pattern p stands in a column: an integer, byte string, list, or constructor of a several-constructor type.
@@ -323,8 +295,7 @@ pub fn is_test(sheet: &[u8], map: SheetMap, table: &[u8], p: usize) -> bool
 {
     let r = pattern_at(sheet, map, p);
     let ty = type_at(sheet, map, at(table, TYPE + p));
-    let kind = r.kind;
-    match kind {
+    match r.kind {
         pattern_kinds::INTEGER
         | pattern_kinds::BYTE_STRING
         | pattern_kinds::LIST
@@ -361,10 +332,8 @@ fn put_roots(sheet: &[u8], map: SheetMap, table: &mut [u8])
     requires { SheetAccepts sheet.now map × (length table.old ≡ table_size) }
     ensures { table.new ≡ rooted_each sheet.now table.old 0 (clauses sheet.now) }
 {
-    let mut c: usize = 0;
-    while c < map.clauses.count {
+    for c in 0..map.clauses.count {
         put_root(table, root_at(sheet, map, c), c, map.subject);
-        c += 1;
     }
 }
 
@@ -385,10 +354,8 @@ pub fn fill(sheet: &[u8], map: SheetMap, table: &mut [u8])
     ensures { Tabled sheet.now table.new }
 {
     put_roots(sheet, map, table);
-    let mut p: usize = 0;
-    while p < map.patterns.count {
+    for p in 0..map.patterns.count {
         fill_at(sheet, map, table, p);
-        p += 1;
     }
 }
 
@@ -398,22 +365,9 @@ pub fn before(table: &[u8], p: usize, q: usize) -> bool
     requires p_bound { (get_or table.now (depth_at + p) 0 < depth_most) × (get_or table.now (depth_at + q) 0 < depth_most) }
     ensures { result ≡ first_before (indices_in table.now p) (indices_in table.now q) }
 {
-    let x = at(table, DEPTH + p);
-    let y = at(table, DEPTH + q);
-    let mut i: usize = 0;
-    while i < x {
-        if i == y {
-            return false;
-        }
-        let one = table[INDICES + DEPTH_MOST * p + i];
-        let other = table[INDICES + DEPTH_MOST * q + i];
-        if one < other {
-            return true;
-        }
-        if other < one {
-            return false;
-        }
-        i += 1;
-    }
-    x < y
+    let a = INDICES + DEPTH_MOST * p;
+    let b = INDICES + DEPTH_MOST * q;
+    let one = &table[a..a + at(table, DEPTH + p)];
+    let other = &table[b..b + at(table, DEPTH + q)];
+    one < other
 }

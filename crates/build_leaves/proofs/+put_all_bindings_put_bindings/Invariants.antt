@@ -1,6 +1,5 @@
 use mathlib.Core.Path.{◌≡◌}
-use Prim.Native.Nat.{◌+◌, ◌-◌, ◌*◌, ◌≤◌}
-use lib.ListN.{length}
+use Prim.Native.Nat.{◌+◌, ◌-◌, ◌*◌}
 use Rattle.build_table.specs.Seen.{binds_of_each}
 use Rattle.build_leaves.specs.Bindings.{bound, bound_all, Room}
 use Rattle.build_leaves.specs.PuttingLaws.{each_from}
@@ -13,7 +12,4 @@ abbrev pub decreases-put_bindings : goal.decreases-put_bindings
 decreases-put_bindings l = (192 - l.p) * 2
 
 abbrev pub invariant-put_all_bindings-loop-k : goal.invariant-put_all_bindings-loop-k
-invariant-put_all_bindings-loop-k l = (l.k ≤ l.n) × Room l.work l.next × (length l.work ≡ length l.initial.work) × (bound_all l.sheet (bound l.work l.next) (each_from l.sheet l.j l.n l.k) ≡ bound_all l.sheet (bound l.initial.work l.initial.next) (binds_of_each l.sheet l.j l.n))
-
-abbrev pub decreases-put_all_bindings-loop-k : goal.decreases-put_all_bindings-loop-k
-decreases-put_all_bindings-loop-k l = l.n - l.k
+invariant-put_all_bindings-loop-k l = Room l.work l.next × (bound_all l.sheet (bound l.work l.next) (each_from l.sheet l.j l.n l.k) ≡ bound_all l.sheet (bound l.initial.work l.initial.next) (binds_of_each l.sheet l.j l.n))

@@ -1,5 +1,4 @@
 use mathlib.Core.Path.{ap, ◌∙◌}
-use Prim.Native.Nat.{◌+◌}
 use native.Mathlib.Omega.{arith}
 use Rattle.base_words.specs.WordsLaws.{bytes_of_fits}
 use Rattle.format_sheet.specs.declared.records.PatternRecord.{PatternRecord}
@@ -12,9 +11,6 @@ returns-then-top-ge-BINDINGS_MOST c = one_past c.args.sheet.now c.args.work.now 
 
 pub overflow_cast-r : goal.overflow_cast-r
 overflow_cast-r c = omega (arith, name_small c.args.sheet.now c.args.p c.pattern_in-r.result c.pattern_in-r.ensures (bytes_of_fits c.args.sheet.now c.shared_slice_known-1.given))
-
-pub overflow_cast-class : goal.overflow_cast-class
-overflow_cast-class c = omega (arith, c.at-class.ensures, c.shared_slice_known-2-1.given (0 + c.args.p))
 
 pub returns : goal.returns
 returns c =

@@ -1,22 +1,9 @@
 use mathlib.Core.Path.{sym, ap, ◌∙◌}
-use Prim.Native.Nat.{◌<◌}
-use native.Mathlib.Omega.{arith}
-use Rattle.spec_rules.specs.SheetFile.{patterns, root}
+use Rattle.spec_rules.specs.SheetFile.{root}
 use Rattle.build_table.specs.Seen.{binds_of, binds_of_each}
 use Rattle.build_leaves.specs.Bindings.{bound, own_of}
 use Rattle.build_leaves.specs.PuttingLaws.{put_run, put_more, room_after, started, nothing_more}
 use Rattle.build_leaves.proofs.put_root.Goals as goal
-
-pub gives-g-requires : goal.gives-g-requires
-gives-g-requires c =
-    let root_known : c.root_at-p.result < patterns c.args.sheet.now = omega (arith, c.root_at-p.ensures, c.requires.0.checked.ok.is_shaped.root_pattern c.args.c c.requires.1) in
-    (started c.requires.0, root_known)
-
-pub put_own-own-requires : goal.put_own-own-requires
-put_own-own-requires c =
-    let root_known : c.root_at-p.result < patterns c.args.sheet.now = omega (arith, c.root_at-p.ensures, c.requires.0.checked.ok.is_shaped.root_pattern c.args.c c.requires.1) in
-    let at = started c.requires.0 in
-    (at.ok, at.tabled, at.from_patterns, root_known, c.requires.2)
 
 pub returns-then-g-eq0 : goal.returns-then-g-eq0
 returns-then-g-eq0 c =

@@ -1,4 +1,4 @@
-use Prim.Native.Nat.{ℕ, ◌+◌}
+use Prim.Native.Nat.{ℕ}
 use mathlib.Core.List.{List}
 use mathlib.Core.Path.{◌≡◌}
 use native.Mathlib.Omega.{arith}
@@ -15,37 +15,28 @@ put_class-requires c = let pre = c.requires in ranged pre.0.ok pre.1 pre.2 (omeg
 
 pub put_indices-requires : goal.put_indices-requires
 put_indices-requires c =
-    let with_class : Filled c.args.sheet.now c.put_class.new.table c.args.p (c.args.p + 1) c.args.p c.args.p = let pre = c.requires in filled_as c.put_class.ensures (class_filled pre.0.ok pre.1 pre.2) in
     let pre = c.requires in
-    row_below pre.0.ok pre.1 (with_class) (omega arith)
+    row_below pre.0.ok pre.1 (filled_as c.put_class.ensures (class_filled pre.0.ok pre.1 pre.2)) (omega arith)
 
 pub put_test-requires : goal.put_test-requires
 put_test-requires c =
-    let with_class : Filled c.args.sheet.now c.put_class.new.table c.args.p (c.args.p + 1) c.args.p c.args.p = let pre = c.requires in filled_as c.put_class.ensures (class_filled pre.0.ok pre.1 pre.2) in
-    let with_indices : Filled c.args.sheet.now c.put_indices.new.table c.args.p (c.args.p + 1) (c.args.p + 1) c.args.p = let pre = c.requires in
-    filled_as c.put_indices.ensures (indices_filled pre.0.ok pre.1 (with_class)) in
     let pre = c.requires in
-    let filled = with_indices in
+    let classed = filled_as c.put_class.ensures (class_filled pre.0.ok pre.1 pre.2) in
+    let filled = filled_as c.put_indices.ensures (indices_filled pre.0.ok pre.1 classed) in
     (pre.0, filled.long, pre.1, placed_here pre.0.ok pre.1 filled (omega arith), filled.classed c.args.p pre.1 (omega arith))
 
 pub place_children-requires : goal.place_children-requires
 place_children-requires c =
-    let with_class : Filled c.args.sheet.now c.put_class.new.table c.args.p (c.args.p + 1) c.args.p c.args.p = let pre = c.requires in filled_as c.put_class.ensures (class_filled pre.0.ok pre.1 pre.2) in
-    let with_indices : Filled c.args.sheet.now c.put_indices.new.table c.args.p (c.args.p + 1) (c.args.p + 1) c.args.p = let pre = c.requires in
-    filled_as c.put_indices.ensures (indices_filled pre.0.ok pre.1 (with_class)) in
-    let with_test : Filled c.args.sheet.now c.put_test.new.table c.args.p (c.args.p + 1) (c.args.p + 1) (c.args.p + 1) = let pre = c.requires in
-    filled_as c.put_test.ensures (test_filled pre.0.ok pre.1 (with_indices)) in
     let pre = c.requires in
-    let filled = with_test in
+    let classed = filled_as c.put_class.ensures (class_filled pre.0.ok pre.1 pre.2) in
+    let indexed = filled_as c.put_indices.ensures (indices_filled pre.0.ok pre.1 classed) in
+    let filled = filled_as c.put_test.ensures (test_filled pre.0.ok pre.1 indexed) in
     (pre.0, filled.long, pre.1, placed_here pre.0.ok pre.1 filled (omega arith))
 
 pub returns : goal.returns
 returns c =
-    let with_class : Filled c.args.sheet.now c.put_class.new.table c.args.p (c.args.p + 1) c.args.p c.args.p = let pre = c.requires in filled_as c.put_class.ensures (class_filled pre.0.ok pre.1 pre.2) in
-    let with_indices : Filled c.args.sheet.now c.put_indices.new.table c.args.p (c.args.p + 1) (c.args.p + 1) c.args.p = let pre = c.requires in
-    filled_as c.put_indices.ensures (indices_filled pre.0.ok pre.1 (with_class)) in
-    let with_test : Filled c.args.sheet.now c.put_test.new.table c.args.p (c.args.p + 1) (c.args.p + 1) (c.args.p + 1) = let pre = c.requires in
-    filled_as c.put_test.ensures (test_filled pre.0.ok pre.1 (with_indices)) in
     let pre = c.requires in
-    let filled = with_test in
+    let classed = filled_as c.put_class.ensures (class_filled pre.0.ok pre.1 pre.2) in
+    let indexed = filled_as c.put_indices.ensures (indices_filled pre.0.ok pre.1 classed) in
+    let filled = filled_as c.put_test.ensures (test_filled pre.0.ok pre.1 indexed) in
     filled_as c.place_children.ensures (children_filled pre.0.ok pre.1 filled (placed_here pre.0.ok pre.1 filled (omega arith)))

@@ -17,4 +17,4 @@ pub returns-in_default : goal.returns-in_default
 returns-in_default c = plain_tests_not c.args.sheet.now c.args.p c.pattern_at-r.result c.pattern_at-r.ensures (omega arith)
 
 pub returns-in_default-2 : goal.returns-in_default-2
-returns-in_default-2 c = pair_tests_not c.args.sheet.now c.args.p c.pattern_at-r.result c.pattern_at-r.ensures (omega arith) c.in_default.in_default-own.rest.1
+returns-in_default-2 c = pair_tests_not c.args.sheet.now c.args.p c.pattern_at-r.result c.pattern_at-r.ensures (omega arith) (λ e. omega arith)

@@ -1,11 +1,8 @@
 use mathlib.Core.Path.{ap, ◌∙◌}
 use native.Mathlib.Omega.{arith}
 use lib.ListN.{length}
-use Rattle.build_table.specs.PlacingLaws.{length_placed_each, known_small, type_small, elements, tail_some, tail_entry, tail_put, with_tail}
+use Rattle.build_table.specs.PlacingLaws.{length_placed_each, type_small, elements, tail_entry, tail_put, with_tail}
 use Rattle.build_table.proofs.place_tailed.Goals as goal
-
-pub overflow_sub-n : goal.overflow_sub-n
-overflow_sub-n c = omega (arith, tail_some c.requires.0 c.requires.1)
 
 pub overflow_add-r : goal.overflow_add-r
 overflow_add-r c = omega (arith, tail_entry c.requires.0 c.requires.1, c.requires.0.checked.ok.is_counted.children_most_holds)
@@ -13,20 +10,8 @@ overflow_add-r c = omega (arith, tail_entry c.requires.0 c.requires.1, c.require
 pub child_at-tail-requires : goal.child_at-tail-requires
 child_at-tail-requires c = (c.requires.0.checked.ok.is_laid, c.requires.0.checked.is_map, tail_entry c.requires.0 c.requires.1)
 
-pub overflow_add-p : goal.overflow_add-p
-overflow_add-p c = omega (arith, known_small c.requires.0)
-
-pub overflow_cast-p : goal.overflow_cast-p
-overflow_cast-p c = omega (arith, known_small c.requires.0)
-
 pub put_children-requires : goal.put_children-requires
 put_children-requires c = (c.requires.0.checked, c.requires.0.long, elements c.requires.0 c.requires.1)
-
-pub overflow_add-p-2 : goal.overflow_add-p-2
-overflow_add-p-2 c = omega (arith, known_small c.requires.0)
-
-pub overflow_cast-p-2 : goal.overflow_cast-p-2
-overflow_cast-p-2 c = omega (arith, known_small c.requires.0)
 
 pub put_child-requires : goal.put_child-requires
 put_child-requires c =
