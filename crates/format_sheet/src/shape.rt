@@ -102,14 +102,7 @@ fn records_fit(sheet: &[u8], map: SheetMap) -> bool
     requires { Laid sheet.now × (map ≡ map_of sheet.now) × ChildrenKnown sheet.now }
     ensures { result ≡ every (record_fits sheet.now) 0 (patterns sheet.now) }
 {
-    let mut p: usize = 0;
-    while p < map.patterns.count {
-        if !record_fits(sheet, map, p) {
-            return false;
-        }
-        p += 1;
-    }
-    true
+    (0..map.patterns.count).all(|p| record_fits(sheet, map, p))
 }
 
 fn root_known(sheet: &[u8], map: SheetMap, c: usize) -> bool
@@ -124,14 +117,7 @@ fn roots_known(sheet: &[u8], map: SheetMap) -> bool
     requires { Laid sheet.now × (map ≡ map_of sheet.now) }
     ensures { result ≡ every (root_keeps_rules sheet.now) 0 (clauses sheet.now) }
 {
-    let mut c: usize = 0;
-    while c < map.clauses.count {
-        if !root_known(sheet, map, c) {
-            return false;
-        }
-        c += 1;
-    }
-    true
+    (0..map.clauses.count).all(|c| root_known(sheet, map, c))
 }
 
 fn child_known(sheet: &[u8], map: SheetMap, j: usize) -> bool
@@ -146,14 +132,7 @@ fn children_known(sheet: &[u8], map: SheetMap) -> bool
     requires { Laid sheet.now × (map ≡ map_of sheet.now) }
     ensures { result ≡ every (child_known sheet.now) 0 (children sheet.now) }
 {
-    let mut j: usize = 0;
-    while j < map.children.count {
-        if !child_known(sheet, map, j) {
-            return false;
-        }
-        j += 1;
-    }
-    true
+    (0..map.children.count).all(|j| child_known(sheet, map, j))
 }
 
 fn is_above(sheet: &[u8], map: SheetMap, p: usize, j: usize) -> bool
@@ -169,28 +148,14 @@ fn children_above(sheet: &[u8], map: SheetMap, p: usize) -> bool
     ensures { result ≡ all_above sheet.now p }
 {
     let run = children_of(sheet, map, p);
-    let mut k: usize = 0;
-    while k < run.count {
-        if !is_above(sheet, map, p, run.first + k) {
-            return false;
-        }
-        k += 1;
-    }
-    true
+    (run.first..run.first + run.count).all(|j| is_above(sheet, map, p, j))
 }
 
 fn all_children_above(sheet: &[u8], map: SheetMap) -> bool
     requires { Laid sheet.now × (map ≡ map_of sheet.now) × ChildrenKnown sheet.now × RunsInside sheet.now }
     ensures { result ≡ every (all_above sheet.now) 0 (patterns sheet.now) }
 {
-    let mut p: usize = 0;
-    while p < map.patterns.count {
-        if !children_above(sheet, map, p) {
-            return false;
-        }
-        p += 1;
-    }
-    true
+    (0..map.patterns.count).all(|p| children_above(sheet, map, p))
 }
 
 // Pattern p and what is inside it reach no further than `deep` levels. Of the map it takes the starts of the patterns and of the child list.
@@ -237,14 +202,7 @@ fn depths_fit(sheet: &[u8], map: SheetMap) -> bool
     requires roots_known { RootsKnown sheet.now }
     ensures { result ≡ every (depth_fits sheet.now) 0 (clauses sheet.now) }
 {
-    let mut c: usize = 0;
-    while c < map.clauses.count {
-        if !depth_fits(sheet, map, c) {
-            return false;
-        }
-        c += 1;
-    }
-    true
+    (0..map.clauses.count).all(|c| depth_fits(sheet, map, c))
 }
 
 // 8.

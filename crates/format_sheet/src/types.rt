@@ -94,42 +94,21 @@ fn types_keep_rules(sheet: &[u8], map: SheetMap) -> bool
     requires { Laid sheet.now × (map ≡ map_of sheet.now) }
     ensures { result ≡ every (type_keeps_rules sheet.now) 0 (types sheet.now) }
 {
-    let mut t: usize = 0;
-    while t < map.types.count {
-        if !type_keeps_rules(sheet, map, t) {
-            return false;
-        }
-        t += 1;
-    }
-    true
+    (0..map.types.count).all(|t| type_keeps_rules(sheet, map, t))
 }
 
 fn constructors_keep_rules(sheet: &[u8], map: SheetMap) -> bool
     requires { Laid sheet.now × (map ≡ map_of sheet.now) }
     ensures { result ≡ every (constructor_keeps_rules sheet.now) 0 (constructors sheet.now) }
 {
-    let mut c: usize = 0;
-    while c < map.constructors.count {
-        if !constructor_keeps_rules(sheet, map, c) {
-            return false;
-        }
-        c += 1;
-    }
-    true
+    (0..map.constructors.count).all(|c| constructor_keeps_rules(sheet, map, c))
 }
 
 fn entries_keep_rules(sheet: &[u8], map: SheetMap) -> bool
     requires { Laid sheet.now × (map ≡ map_of sheet.now) }
     ensures { result ≡ every (entry_keeps_rules sheet.now) 0 (entries sheet.now) }
 {
-    let mut e: usize = 0;
-    while e < map.entries.count {
-        if !entry_keeps_rules(sheet, map, e) {
-            return false;
-        }
-        e += 1;
-    }
-    true
+    (0..map.entries.count).all(|e| entry_keeps_rules(sheet, map, e))
 }
 
 // 6.
