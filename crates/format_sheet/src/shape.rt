@@ -142,18 +142,11 @@ fn within(sheet: &[u8], records: usize, list: usize, p: usize, deep: usize) -> b
         return false;
     }
     let run = children_in(sheet, records, p);
-    let mut k: usize = 0;
-    while k < run.count {
-        if !within(
-            sheet,
-            records,
-            list,
-            child_in(sheet, list, run.first + k),
-            deep - 1,
-        ) {
+    for k in 0..run.count {
+        let child = child_in(sheet, list, run.first + k);
+        if !within(sheet, records, list, child, deep - 1) {
             return false;
         }
-        k += 1;
     }
     true
 }
