@@ -1,7 +1,7 @@
 -- Refusal 8 from what the code reads and asks: the parts of Shape are refusal 8, and each part that holds makes the next ones safe.
 use Rattle.std.specs.Prelude.{◌≡◌, Bool, false, not, List, ℕ, zero, suc, ◌+◌, ◌-◌, ◌≤◌, ◌<◌, eqb, leb, ltb}
 use Rattle.std.proofs.Math.Path.{refl, ap, sym}
-use Rattle.std.proofs.Common.{ap₂, ◌∙◌, arith, leb-true, leb-false, ltb-true, eqb-true, eq-eqb, ne_eqb, le-leb, lt-ltb}
+use Rattle.std.proofs.Common.{ap₂, ◌∙◌, arith, leb-true, leb-false, ltb-true, eqb-true, ne_eqb, le-leb, lt-ltb}
 use Rattle.std.proofs.Math.Bool.{true}
 use Rattle.std.proofs.lemmas.Bool.{lt-leb, eqb-false}
 use Rattle.base_words.specs.Words.{both, either, pick}
@@ -21,7 +21,6 @@ use Rattle.format_sheet.specs.declared.records.Run.{Run}
 use Rattle.format_sheet.specs.Sections.{map_of}
 use Rattle.format_sheet.specs.SectionsLaws.{mapped}
 use Rattle.format_sheet.specs.Records.{pattern_of}
-use Rattle.format_sheet.specs.TestsLaws.{passed, stopped}
 use Rattle.format_sheet.specs.Shape.{children_first, children_count, children_of, plain_run, own_fields, record_fits, child_known, ChildrenKnown, RootsKnown, RunsInside, listed_once, all_above}
 
 -- ---- Bools

@@ -1,6 +1,6 @@
 use Rattle.spec_rules.specs.SheetFile.{child}
 use Rattle.format_sheet.specs.Names.{joined, names_in, in_buffer, Lacks}
-use Prim.Native.Nat.{◌+◌, ◌-◌, ◌≤◌}
+use Prim.Native.Nat.{◌+◌, ◌-◌}
 use Rattle.format_sheet.proofs.names.+collect.Given as goal
 
 abbrev pub decreases-collect : goal.decreases-collect

@@ -1,12 +1,8 @@
-use mathlib.Core.Path.{refl}
 use Prim.Native.Nat.{◌+◌}
 use native.Mathlib.Omega.{arith}
 use lib.ListN.{get_or}
 use Rattle.format_sheet.specs.NamesLaws.{among_found, among_goes_on, among_ends}
 use Rattle.format_sheet.proofs.names.again.Goals as goal
-
-pub loop-k-init : goal.loop-k-init
-loop-k-init c = refl
 
 pub returns-then-found-i : goal.returns-then-found-i
 returns-then-found-i c =

@@ -1,4 +1,4 @@
-use Prim.Native.Nat.{◌+◌, ◌-◌, ◌≤◌}
+use Prim.Native.Nat.{◌+◌}
 use lib.ListN.{get_or}
 use Rattle.format_sheet.specs.NamesLaws.{AmongLeft}
 use Rattle.format_sheet.proofs.names.again.Given as goal

@@ -1,25 +1,10 @@
 use mathlib.Core.Path.{sym, ◌∙◌}
-use Prim.Native.Nat.{ℕ}
 use native.Mathlib.Omega.{arith}
-use lib.ListN.{length-replicate}
 use Rattle.spec_rules.specs.SheetRefusals.{name_twice, lowest_name_twice}
 use Rattle.spec_rules.specs.SheetFile.{clauses}
 use Rattle.format_sheet.specs.SectionsLaws.{mapped}
-use Rattle.format_sheet.specs.LoopsLaws.{lowest_begins, lowest_goes_on, lowest_stops, lowest_ends}
+use Rattle.format_sheet.specs.LoopsLaws.{lowest_goes_on, lowest_stops, lowest_ends}
 use Rattle.format_sheet.proofs.names.lowest_name_twice.Goals as goal
-
-pub loop-c-init : goal.loop-c-init
-loop-c-init c = (length-replicate {A = ℕ} 192 0, lowest_begins (name_twice c.args.sheet.now) (clauses c.args.sheet.now))
-
-pub slice_bounds-name_twice-end : goal.slice_bounds-name_twice-end
-slice_bounds-name_twice-end c = sym c.loop-c.invariant.0
-
-pub name_twice-requires : goal.name_twice-requires
-name_twice-requires c =
-    (c.requires, omega (arith, c.loop-c-test.true, (mapped c.args.sheet.now c.args.map c.requires.is_map).of_clauses), c.loop-c.invariant.0)
-
-pub overflow_cast-result : goal.overflow_cast-result
-overflow_cast-result c = omega (arith, c.loop-c-test.true, (mapped c.args.sheet.now c.args.map c.requires.is_map).of_clauses, c.requires.is_counted.clauses_most_holds)
 
 pub returns-then-name_twice : goal.returns-then-name_twice
 unfolding lowest_name_twice

@@ -1,5 +1,4 @@
 use mathlib.Core.Path.{◌≡◌}
-use Prim.Native.Nat.{◌-◌, ◌≤◌}
 use lib.ListN.{length}
 use Rattle.spec_rules.specs.SheetRefusals.{name_twice}
 use Rattle.spec_rules.specs.SheetFile.{clauses}

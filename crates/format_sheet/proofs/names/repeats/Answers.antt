@@ -1,12 +1,6 @@
 use native.Mathlib.Omega.{arith}
-use Rattle.format_sheet.specs.NamesLaws.{repeats_begin, repeats_found, repeats_go_on, repeats_end}
+use Rattle.format_sheet.specs.NamesLaws.{repeats_found, repeats_go_on, repeats_end}
 use Rattle.format_sheet.proofs.names.repeats.Goals as goal
-
-pub loop-i-init : goal.loop-i-init
-loop-i-init c = repeats_begin c.args.found.now c.args.count
-
-pub again-requires : goal.again-requires
-again-requires c = (c.requires.0, c.requires.1, c.loop-i-test.true)
 
 pub returns-then-again : goal.returns-then-again
 returns-then-again c =

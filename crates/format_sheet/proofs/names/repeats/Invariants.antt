@@ -1,4 +1,3 @@
-use Prim.Native.Nat.{◌-◌, ◌≤◌}
 use Rattle.format_sheet.specs.NamesLaws.{RepeatsLeft}
 use Rattle.format_sheet.proofs.names.repeats.Given as goal
 

@@ -1,4 +1,4 @@
-use Prim.Native.Nat.{◌-◌, ◌≤◌}
+use Prim.Native.Nat.{◌-◌}
 use Rattle.spec_rules.specs.SheetFile.{child}
 use Rattle.spec_rules.specs.SheetRefusals.{within as Within}
 use Rattle.format_sheet.specs.LoopsLaws.{EveryFrom}

@@ -1,5 +1,3 @@
-use Prim.Native.Nat.{◌-◌, ◌≤◌}
-use Rattle.spec_rules.specs.SheetFile.{patterns}
 use Rattle.format_sheet.specs.TallyLaws.{ListTally}
 use Rattle.format_sheet.proofs.standing.entries_listed_once.Given as goal
 

@@ -1,5 +1,5 @@
 use native.Mathlib.Omega.{arith}
-use Rattle.format_sheet.specs.MeetingLaws.{meets_none, meets_more, room_to_meet, meets_all}
+use Rattle.format_sheet.specs.MeetingLaws.{meets_none, meets_more, room_to_meet}
 use Rattle.format_sheet.proofs.standing.meet_all.Goals as goal
 
 pub loop-k-init : goal.loop-k-init
@@ -12,9 +12,3 @@ meet-requires c =
 
 pub loop-k-preserved : goal.loop-k-preserved
 loop-k-preserved c = meets_more c.args.first c.loop-k.k c.loop-k.invariant c.meet.ensures
-
-pub shape_of-times : goal.shape_of-times
-shape_of-times c = c.loop-k.invariant.kept
-
-pub returns : goal.returns
-returns c = meets_all c.args.first c.args.count c.loop-k.k (omega arith) c.loop-k-test.false c.loop-k.invariant

@@ -1,4 +1,3 @@
-use Prim.Native.Nat.{◌-◌, ◌≤◌}
 use Rattle.format_sheet.specs.Meeting.{Meets}
 use Rattle.format_sheet.proofs.standing.meet_all.Given as goal
 

@@ -1,5 +1,3 @@
-use Prim.Native.Nat.{◌-◌, ◌≤◌}
-use Rattle.spec_rules.specs.SheetFile.{children}
 use Rattle.format_sheet.specs.TallyLaws.{EntryTally}
 use Rattle.format_sheet.proofs.standing.meet_children.Given as goal
 

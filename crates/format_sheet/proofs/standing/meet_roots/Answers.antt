@@ -1,15 +1,7 @@
-use mathlib.Core.Path.{sym, ◌∙◌}
 use native.Mathlib.Omega.{arith}
 use Rattle.format_sheet.specs.SectionsLaws.{mapped}
-use Rattle.format_sheet.specs.TallyLaws.{roots_begin, root_room_to_meet, roots_go_on, roots_done}
+use Rattle.format_sheet.specs.TallyLaws.{root_room_to_meet, roots_go_on, roots_done}
 use Rattle.format_sheet.proofs.standing.meet_roots.Goals as goal
-
-pub loop-c-init : goal.loop-c-init
-loop-c-init c = roots_begin c.args.sheet.now c.requires.4
-
-pub root_at-requires : goal.root_at-requires
-root_at-requires c =
-    (c.requires.0, c.requires.1, omega (arith, c.loop-c-test.true, (mapped c.args.sheet.now c.args.map c.requires.1).of_clauses))
 
 pub meet-requires : goal.meet-requires
 meet-requires c =
@@ -21,9 +13,6 @@ loop-c-preserved c =
     let l = c.loop-c in
     let more = (mapped c.args.sheet.now c.args.map c.requires.1).of_clauses in
     roots_go_on c.args.sheet.now l.c c.root_at.result (omega (arith, c.loop-c-test.true, more)) c.root_at.ensures l.invariant c.meet.ensures
-
-pub shape_of-times : goal.shape_of-times
-shape_of-times c = c.loop-c.invariant.long ∙ sym c.requires.4.long
 
 pub returns : goal.returns
 returns c = roots_done c.args.sheet.now c.loop-c.c (omega (arith, c.loop-c-test.false, (mapped c.args.sheet.now c.args.map c.requires.1).of_clauses)) c.loop-c.invariant

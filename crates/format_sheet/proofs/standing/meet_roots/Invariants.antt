@@ -1,5 +1,3 @@
-use Prim.Native.Nat.{◌-◌, ◌≤◌}
-use Rattle.spec_rules.specs.SheetFile.{clauses}
 use Rattle.format_sheet.specs.TallyLaws.{RootTally}
 use Rattle.format_sheet.proofs.standing.meet_roots.Given as goal
 
