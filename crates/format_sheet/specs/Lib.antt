@@ -12,7 +12,6 @@ pub mod MeetingLaws
 pub mod Shape
 pub mod ShapeLaws
 pub mod TallyLaws
-pub mod TextsLaws
 pub mod Fitting
 pub mod FittingLaws
 pub mod AskingLaws

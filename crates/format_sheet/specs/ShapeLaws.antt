@@ -279,26 +279,12 @@ within_more deep s p = go (has_children (pattern_kind_of (pattern_kind s p)))
     go false = refl
 
 -- ---- a tail
-pub tail_known : (s : List ℕ) → ChildrenKnown s → (first count : ℕ) {last : ℕ} → 2 ≤ count → first + count ≤ children s
-    → last ≡ child s (first + (count - 1)) → last < patterns s
-tail_known s known first count h inside e = omega (arith, e, known.child_known_holds (first + (count - 1)) (omega arith))
-
-pub tail_kind : (s : List ℕ) (j last : ℕ) (tail : PatternRecord) → last ≡ child s j → tail ≡ pattern_of s last
-    → leb tail.kind 1 ≡ leb (pattern_kind s (child s j)) variable_pattern
-tail_kind s j last tail e f = rw (f, e)
-
 pub above_known : (s : List ℕ) → ChildrenKnown s → (p j : ℕ) {q : ℕ} → j < children s → q ≡ child s j → ltb p q ≡ is_above s p j
 unfolding is_above
 above_known s known p j h e = rw (e, lt-ltb (child s j) (patterns s) (known.child_known_holds j h)) (sym (both_end _))
 
 -- ---- going over the children of a pattern
 module _ (s : List ℕ) where
-  pub run_entry : RunsInside s → (p : ℕ) → p < patterns s → (r : Run) → r ≡ children_of s p → (k : ℕ) → k < r.count → r.first + k < children s
-  run_entry inside p h r e k l =
-      let first : r.first ≡ children_first s p = ap (λ (x : Run). x.first) e in
-      let count : r.count ≡ children_count s p = ap (λ (x : Run). x.count) e in
-      omega (arith, inside.run_inside p h)
-
   pub every_of_children : (p : ℕ) (r : Run) → r ≡ children_of s p → (f : ℕ → Bool) → every f r.first r.count ≡ every f (children_first s p) (children_count s p)
   every_of_children p r e f = ap (λ (x : Run). every f x.first x.count) e
 
