@@ -2,11 +2,9 @@
 pub mod Sections
 pub mod SectionsLaws
 pub mod Records
-pub mod RecordsLaws
 pub mod TestsLaws
 pub mod LoopsLaws
 pub mod Types
-pub mod TypesLaws
 pub mod Meeting
 pub mod MeetingLaws
 pub mod Shape

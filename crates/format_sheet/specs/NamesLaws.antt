@@ -103,9 +103,6 @@ module _ (s : List ℕ) (sh : Shaped s) where
 pub adds_none : (h : Names) → Adds h [] h
 adds_none h = record { kept = refl; counted = omega arith; holds = sym (append-nil (held h)) }
 
-pub lacks_all : (h : Names) (all : List ℕ) → Lacks h all h all
-lacks_all h all = record { kept = refl; counted = refl; holds = refl }
-
 pub lacks_less : (h r r' : Names) (all xs rest rest' : List ℕ) → Lacks h all r rest → rest ≡ xs ++ rest' → Adds r xs r' → Lacks h all r' rest'
 lacks_less h r r' all xs rest rest' l e a = record {
   kept = a.kept ∙ l.kept;
@@ -169,9 +166,6 @@ module _ (s : List ℕ) (g : ℕ → List ℕ) (first n k : ℕ) where
   pub joined_end : n ≤ k → joined g (first + k) (n - k) ≡ []
   unfolding joined
   joined_end h = let e : n - k ≡ 0 = omega arith in ap (joined g (first + k)) e
-
-pub joined_begin : (g : ℕ → List ℕ) (first n : ℕ) → joined g (first + 0) (n - 0) ≡ joined g first n
-joined_begin g first n = let e : first + 0 ≡ first = omega arith in let d : n - 0 ≡ n = omega arith in rw (e, d)
 
 -- ---- a name among those after it
 module _ (l : List ℕ) (x first n : ℕ) where

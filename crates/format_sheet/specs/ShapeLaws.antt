@@ -77,22 +77,6 @@ module _ (k : ℕ) where
           let e : pattern_number (pattern_kind_of k) ≡ suc tuple_pattern = pattern_number_lem k ∙ omega arith in
           x ∙ sym (children_by_number (pattern_kind_of k) ∙ rw e)
 
--- ---- the children of a pattern
-module _ (s : List ℕ) (p : ℕ) (r : PatternRecord) (f : r ≡ pattern_of s p) (b : Bool) (q : b ≡ has_children (pattern_kind_of r.kind)) where
-  has_is : b ≡ has_children (pattern_kind_of (pattern_kind s p))
-  has_is = q ∙ ap (λ (x : PatternRecord). has_children (pattern_kind_of x.kind)) f
-
-  pub children_there : b ≡ true → ◌≡◌ {A = Run} (record { first = r.first; count = r.count }) (children_of s p)
-  unfolding children_first children_count
-  children_there y =
-      let first : r.first ≡ pattern_first s p = ap (λ (x : PatternRecord). x.first) f in
-      let count : r.count ≡ pattern_count s p = ap (λ (x : PatternRecord). x.count) f in
-      rw (sym has_is ∙ y, first, count)
-
-  pub children_absent : b ≡ false → ◌≡◌ {A = Run} (record { first = 0; count = 0 }) (children_of s p)
-  unfolding children_first children_count
-  children_absent n = rw (sym has_is ∙ n)
-
 -- ---- the fields of a pattern
 tail_rule : List ℕ → ℕ → PatternKind → Bool
 tail_rule s p Discard = true

@@ -27,6 +27,7 @@ pub(crate) fn length_fits(sheet: &[u8]) -> bool
 }
 
 // Start k of the trailer.
+#[tactic(auto, unfolding(spec_rules::specs::SheetFile::sheet_start))]
 fn start(sheet: &[u8], k: usize) -> usize
     requires { (sheet_trailer ≤ length sheet.now) × (k < sheet_starts) }
     ensures { result ≡ sheet_start sheet.now k }
@@ -58,6 +59,7 @@ pub(crate) fn layout_fits(sheet: &[u8]) -> bool
 }
 
 // The subject's type number.
+#[tactic(auto, unfolding(spec_rules::specs::SheetFile::subject))]
 fn subject_of(sheet: &[u8]) -> usize
     requires { sheet_trailer ≤ length sheet.now }
     ensures { result ≡ subject sheet.now }

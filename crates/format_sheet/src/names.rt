@@ -115,6 +115,7 @@ pub(crate) fn lowest_name_twice(sheet: &[u8], map: SheetMap) -> Option<u16>
     ensures { result ≡ found (lowest_name_twice sheet.now) }
 {
     let mut found = [0u16; PATTERNS_MOST];
+    // A loop: the laws of `find` are for a closure that stays as it was, and this one would write the buffer.
     for c in 0..map.clauses.count {
         if name_twice(sheet, map, c, &mut found) {
             return Some(c as u16);

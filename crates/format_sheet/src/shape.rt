@@ -36,9 +36,10 @@ fn fields_fit(r: PatternRecord, children: usize, pool: usize) -> bool
         pattern_kinds::DISCARD => r.a == 0 && no_run(r.first, r.count),
         pattern_kinds::VARIABLE => no_run(r.first, r.count),
         pattern_kinds::ASSIGN => r.count == ASSIGN_CHILDREN && run_in(r.first, r.count, children),
-        pattern_kinds::INTEGER => plain_run(r.a, r.first, r.count, pool),
-        pattern_kinds::BYTE_STRING => plain_run(r.a, r.first, r.count, pool),
-        pattern_kinds::LIST => plain_run(r.a, r.first, r.count, children),
+        pattern_kinds::INTEGER | pattern_kinds::BYTE_STRING => {
+            plain_run(r.a, r.first, r.count, pool)
+        }
+        pattern_kinds::LIST | pattern_kinds::TUPLE => { plain_run(r.a, r.first, r.count, children) }
         pattern_kinds::LIST_WITH_TAIL => {
             TAILED_CHILDREN_LEAST <= r.count && plain_run(r.a, r.first, r.count, children)
         }
@@ -46,7 +47,6 @@ fn fields_fit(r: PatternRecord, children: usize, pool: usize) -> bool
         pattern_kinds::PAIR => {
             r.count == PAIR_CHILDREN && plain_run(r.a, r.first, r.count, children)
         }
-        pattern_kinds::TUPLE => plain_run(r.a, r.first, r.count, children),
         _ => false,
     }
 }
@@ -80,6 +80,7 @@ fn records_fit(sheet: &[u8], map: SheetMap) -> bool
     (0..map.patterns.count).all(|p| record_fits(sheet, map, p))
 }
 
+#[tactic(auto, unfolding(spec_rules::specs::SheetRefusals::root_keeps_rules))]
 fn root_known(sheet: &[u8], map: SheetMap, c: usize) -> bool
     requires { Laid sheet.now × (map ≡ map_of sheet.now) × (c < clauses sheet.now) }
     ensures { result ≡ root_keeps_rules sheet.now c }
@@ -95,6 +96,7 @@ fn roots_known(sheet: &[u8], map: SheetMap) -> bool
     (0..map.clauses.count).all(|c| root_known(sheet, map, c))
 }
 
+#[tactic(auto, unfolding(crate::specs::Shape::child_known))]
 fn child_known(sheet: &[u8], map: SheetMap, j: usize) -> bool
     requires { Laid sheet.now × (map ≡ map_of sheet.now) × (j < children sheet.now) }
     ensures { result ≡ child_known sheet.now j }
@@ -142,6 +144,7 @@ fn within(sheet: &[u8], records: usize, list: usize, p: usize, deep: usize) -> b
         return false;
     }
     let run = children_in(sheet, records, p);
+    // A loop: of a closure that calls this function itself the check infers nothing.
     for k in 0..run.count {
         let child = child_in(sheet, list, run.first + k);
         if !within(sheet, records, list, child, deep - 1) {
@@ -151,6 +154,7 @@ fn within(sheet: &[u8], records: usize, list: usize, p: usize, deep: usize) -> b
     true
 }
 
+#[tactic(auto, unfolding(spec_rules::specs::SheetRefusals::depth_fits))]
 fn depth_fits(sheet: &[u8], map: SheetMap, c: usize) -> bool
     requires laid { Laid sheet.now × (map ≡ map_of sheet.now) × ChildrenKnown sheet.now × RunsInside sheet.now }
     requires roots_known { RootsKnown sheet.now × (c < clauses sheet.now) }

@@ -51,6 +51,7 @@ fn type_keeps_rules(sheet: &[u8], map: SheetMap, t: usize) -> bool
     parts_fit(r, map.entries.count, map.constructors.count) && flags_fit(r.kind, r.flag)
 }
 
+#[tactic(auto, unfolding(spec_rules::specs::SheetRefusals::constructor_keeps_rules))]
 fn constructor_keeps_rules(sheet: &[u8], map: SheetMap, c: usize) -> bool
     requires { Laid sheet.now × (map ≡ map_of sheet.now) × (c < constructors sheet.now) }
     ensures { result ≡ constructor_keeps_rules sheet.now c }
@@ -59,6 +60,7 @@ fn constructor_keeps_rules(sheet: &[u8], map: SheetMap, c: usize) -> bool
     run_in(r.first, r.count, map.entries.count)
 }
 
+#[tactic(auto, unfolding(spec_rules::specs::SheetRefusals::entry_keeps_rules))]
 fn entry_keeps_rules(sheet: &[u8], map: SheetMap, e: usize) -> bool
     requires { Laid sheet.now × (map ≡ map_of sheet.now) × (e < entries sheet.now) }
     ensures { result ≡ entry_keeps_rules sheet.now e }
@@ -88,7 +90,7 @@ fn entries_keep_rules(sheet: &[u8], map: SheetMap) -> bool
 }
 
 // 6.
-#[tactic(auto, using(crate::specs::TypesLaws::subject_known), unfolding(spec_rules::specs::SheetRefusals::types_fit))]
+#[tactic(auto, unfolding(spec_rules::specs::SheetRefusals::types_fit))]
 pub(crate) fn types_fit(sheet: &[u8], map: SheetMap) -> bool
     requires { Laid sheet.now × (map ≡ map_of sheet.now) }
     ensures { result ≡ types_fit sheet.now }

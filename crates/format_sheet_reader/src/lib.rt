@@ -1,6 +1,6 @@
 // The thin reader that holds the file: a struct with the sheet's slice and its seven starts, and the few functions over it.
-// No function over a struct that holds a reference is covered, so each only takes the reader apart and calls a covered function
-// on plain parameters; `clause_pattern`, above them, has plain parameters and asks nothing of its caller.
+// Each takes the reader apart and calls a function on plain parameters; `clause_pattern`, above them, has plain parameters and
+// asks nothing of its caller.
 #![tactic(auto)]
 
 mod places;
