@@ -114,12 +114,3 @@ tests_end held l cs e = sym (ap (λ (x : List ℕ). l ++ held_tests held x) e �
 pub held_test_most : (h : Held) → length (held_test h) ≤ 1
 held_test_most (HeldTest p) = omega arith
 held_test_most Wildcard = omega arith
-
-pub test_in_byte : (held : Held) (p : ℕ) → held ≡ HeldTest p → TestSmall held → p < 256
-test_in_byte held p e h = rw e at h
-
-pub keep_one : (r next : PerRow) (held : Held) (p : ℕ) → held ≡ HeldTest p → HoldsRows next (numbers_in r ++ p ∷ []) → HoldsRows next (numbers_in r ++ held_test held)
-keep_one r next held p e h = rw e h
-
-pub keep_none : (r : PerRow) (held : Held) → held ≡ Wildcard → WholeRows r → HoldsRows r (numbers_in r ++ held_test held)
-keep_none r held e h = holds_rows_same h (sym (ap (λ (x : Held). numbers_in r ++ held_test x) e ∙ append-nil (numbers_in r)))

@@ -12,7 +12,7 @@ ghost use Rattle.build_cases.specs.Promises.{TestsAsked};
 use crate::tests::{Longest, longer_of};
 use base_numbers::sheet::{CLAUSES_MOST, PATTERNS_MOST};
 use build_matrix::rows::{put_row, test_at};
-use build_matrix::{Held, wide};
+use build_matrix::Held;
 use format_sheet::SheetMap;
 use format_sheet::records::pattern_at;
 
@@ -40,10 +40,8 @@ pub(crate) fn column_tests<'a>(
     ensures { HoldsRows (as_rows list.new result) (held_tests (held_in table.now opened.now class) (take n rows.now)) }
 {
     let mut count: usize = 0;
-    let mut i: usize = 0;
-    while i < n {
-        count = keep_test(list, count, test_at(table, opened, wide(rows[i]), class));
-        i += 1;
+    for i in 0..n {
+        count = keep_test(list, count, test_at(table, opened, usize::from(rows[i]), class));
     }
     count
 }
@@ -62,10 +60,8 @@ pub(crate) fn longest_of(
         tailless: 0,
         tails: 0,
     };
-    let mut i = n;
-    while 0 < i {
-        i -= 1;
-        longest = longer_of(pattern_at(sheet, map, wide(tests[i])), longest);
+    for i in (0..n).rev() {
+        longest = longer_of(pattern_at(sheet, map, usize::from(tests[i])), longest);
     }
     longest
 }

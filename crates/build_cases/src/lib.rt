@@ -37,12 +37,6 @@ pub struct CasesMet {
     pub list: bool,
 }
 
-#[derive(Drop)]
-pub enum Meeting {
-    Met(CasesMet),
-    TooMany,
-}
-
 // The cases of the first n of these tests, from case `first` on: those without a tail, then those with one.
 fn meet_both(
     sheet: &[u8],
@@ -51,7 +45,7 @@ fn meet_both(
     n: usize,
     work: &mut [u8],
     first: usize,
-) -> Meeting
+) -> Option<CasesMet>
     requires tests_asked { TestsAsked sheet.now map tests.now n }
     requires arena_end_in_bounds { (arena_end ≤ length work.old) × (first ≤ cases_most) }
     ensures { MeetsTo sheet.now (column_of sheet.now (take n tests.now)) first work.old work.new result }
@@ -68,9 +62,9 @@ fn meet_both(
     let mid = meet_rows(sheet, map, tests, n, tailless, work, first);
     let end = meet_rows(sheet, map, tests, n, tailed, work, mid);
     if end == CASES_MOST {
-        return Meeting::TooMany;
+        return None;
     }
-    Meeting::Met(CasesMet {
+    Some(CasesMet {
         mid,
         end,
         list: 0 < longest.tailless + longest.tails,
@@ -88,7 +82,7 @@ pub fn meet_cases<'a>(
     class: usize,
     work: &mut [u8],
     first: usize,
-) -> Meeting
+) -> Option<CasesMet>
     requires ready_table { ReadyTable sheet.now map table.now × WholeRows (as_rows rows.now n) × All (λ c. c < clauses sheet.now) (take n rows.now) × (class < patterns_most) }
     requires arena_end_in_bounds { (arena_end ≤ length work.old) × (first ≤ cases_most) }
     ensures { MeetsTo sheet.now (live_column sheet.now opened.now class (take n rows.now)) first work.old work.new result }

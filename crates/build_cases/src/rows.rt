@@ -13,7 +13,6 @@ use crate::meet::meet;
 use crate::tests::{Longest, list_test, longest_with, test_of};
 use base_numbers::pattern_kinds;
 use base_numbers::sheet::CLAUSES_MOST;
-use build_matrix::wide;
 use format_sheet::SheetMap;
 use format_sheet::records::pattern_at;
 
@@ -40,10 +39,8 @@ fn meet_rising(
     ensures { Meets sheet.now work.old from to (rise_to from tail least (end - least)) result work.new }
 {
     let mut top = to;
-    let mut i = least;
-    while i < end {
+    for i in least..end {
         top = meet(sheet, map, work, from, top, list_test(tail, i));
-        i += 1;
     }
     top
 }
@@ -89,10 +86,8 @@ pub(crate) fn meet_rows(
     ensures { Meets sheet.now work.old from from (meet_tests sheet.now from pass.tail pass.longest (take n tests.now)) result work.new }
 {
     let mut top = from;
-    let mut i: usize = 0;
-    while i < n {
-        top = meet_test(sheet, map, pass, wide(tests[i]), work, from, top);
-        i += 1;
+    for i in 0..n {
+        top = meet_test(sheet, map, pass, usize::from(tests[i]), work, from, top);
     }
     top
 }

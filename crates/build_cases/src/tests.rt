@@ -21,24 +21,17 @@ pub(crate) fn longer_of(r: PatternRecord, longest: Longest) -> Longest
     requires { Small r }
     ensures { result ≡ longer r longest }
 {
-    if r.kind == pattern_kinds::LIST {
-        if longest.tailless <= r.count {
-            return Longest {
-                tailless: r.count + 1,
-                tails: longest.tails,
-            };
-        }
-        return longest;
+    match r.kind {
+        pattern_kinds::LIST => Longest {
+            tailless: longest.tailless.max(r.count + 1),
+            ..longest
+        },
+        pattern_kinds::LIST_WITH_TAIL => Longest {
+            tails: longest.tails.max(r.count),
+            ..longest
+        },
+        _ => longest,
     }
-    if r.kind == pattern_kinds::LIST_WITH_TAIL {
-        if longest.tails < r.count {
-            return Longest {
-                tailless: longest.tailless,
-                tails: r.count,
-            };
-        }
-    }
-    longest
 }
 
 // The test of a pattern without a tail.
@@ -82,7 +75,8 @@ pub(crate) fn longest_with(longest: Longest, tail: bool) -> usize
     ensures { result ≡ pick tail longest.tails longest.tailless }
 {
     if tail {
-        return longest.tails;
+        longest.tails
+    } else {
+        longest.tailless
     }
-    longest.tailless
 }

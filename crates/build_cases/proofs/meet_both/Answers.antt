@@ -11,13 +11,13 @@ pub meet_rows-mid-requires : goal.meet_rows-mid-requires
 meet_rows-mid-requires c =
     let a = c.args in
     let l = c.longest_of-longest in
-    let few = longest_few (bytes_of_fits a.sheet.now c.shared_slice_known-1.given) c.requires.tests_asked.0.ok (take a.n a.tests.now) c.requires.tests_asked.2 l.result l.ensures in record { pass_asked = (c.requires.tests_asked.0, c.requires.tests_asked.1, c.requires.tests_asked.2, few.0, few.1); begun = pass_begins a.sheet.now a.work.now a.first c.requires.arena_end_in_bounds.0 c.requires.arena_end_in_bounds.1 }
+    let few = longest_few (bytes_of_fits a.sheet.now c.type_inv.sheet) c.requires.tests_asked.0.ok (take a.n a.tests.now) c.requires.tests_asked.2 l.result l.ensures in record { pass_asked = (c.requires.tests_asked.0, c.requires.tests_asked.1, c.requires.tests_asked.2, few.0, few.1); begun = pass_begins a.sheet.now a.work.now a.first c.requires.arena_end_in_bounds.0 c.requires.arena_end_in_bounds.1 }
 
 pub meet_rows-end-requires : goal.meet_rows-end-requires
 meet_rows-end-requires c =
     let a = c.args in
     let l = c.longest_of-longest in
-    let few = longest_few (bytes_of_fits a.sheet.now c.shared_slice_known-1.given) c.requires.tests_asked.0.ok (take a.n a.tests.now) c.requires.tests_asked.2 l.result l.ensures in record { pass_asked = (c.requires.tests_asked.0, c.requires.tests_asked.1, c.requires.tests_asked.2, few.0, few.1); begun = second_begins (take a.n a.tests.now) l.result l.ensures c.requires.arena_end_in_bounds.0 c.requires.arena_end_in_bounds.1 c.meet_rows-mid.ensures }
+    let few = longest_few (bytes_of_fits a.sheet.now c.type_inv.sheet) c.requires.tests_asked.0.ok (take a.n a.tests.now) c.requires.tests_asked.2 l.result l.ensures in record { pass_asked = (c.requires.tests_asked.0, c.requires.tests_asked.1, c.requires.tests_asked.2, few.0, few.1); begun = second_begins (take a.n a.tests.now) l.result l.ensures c.requires.arena_end_in_bounds.0 c.requires.arena_end_in_bounds.1 c.meet_rows-mid.ensures }
 
 pub returns-then-end-eq-CASES_MOST : goal.returns-then-end-eq-CASES_MOST
 returns-then-end-eq-CASES_MOST c =
@@ -29,7 +29,7 @@ pub overflow_add-result : goal.overflow_add-result
 overflow_add-result c =
     let a = c.args in
     let l = c.longest_of-longest in
-    let few = longest_few (bytes_of_fits a.sheet.now c.shared_slice_known-1.given) c.requires.tests_asked.0.ok (take a.n a.tests.now) c.requires.tests_asked.2 l.result l.ensures in
+    let few = longest_few (bytes_of_fits a.sheet.now c.type_inv.sheet) c.requires.tests_asked.0.ok (take a.n a.tests.now) c.requires.tests_asked.2 l.result l.ensures in
     omega (arith, few.0, few.1)
 
 pub returns : goal.returns
