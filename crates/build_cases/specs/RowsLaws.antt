@@ -1,7 +1,7 @@
 -- The laws of what a row's test meets, from what the code reads of its pattern: by its kind it is rule 4's meeting of that row.
 -- Rests on the laws by which patterns are read from a sheet.
 use Rattle.std.specs.Prelude.{◌≡◌, refl, Bool, true, false, List, [], ◌∷◌, ◌++◌, map, eqb, leb, max, length, get_or, take}
-use Rattle.std.proofs.Common.{sym, ◌∙◌, true≢false, take-suc}
+use Rattle.std.proofs.Common.{sym, ◌∙◌, true≢false, take-suc, take_all}
 use Rattle.std.proofs.Math.Path.{ap, ap₂}
 use Prim.Native.Nat.{ℕ, suc, ◌+◌, ◌-◌, ◌≤◌, ◌<◌}
 use native.Mathlib.Omega.{arith}
@@ -278,5 +278,5 @@ module _ {s w : List ℕ} {from to : ℕ} (tail : Bool) (l : Longest) (ps : List
       ∙ ap (λ (q : ℕ). map (pattern_of s) (take i ps) ++ pattern_of s q ∷ []) (sym is))))
       (meets_then (meet_tests s from tail l (take i ps)) (meet_test s from tail l p) a b)
 
-  pub pass_ends : (i n : ℕ) → i ≡ n → {next : ℕ} {w' : List ℕ} → Meets s w from to (meet_tests s from tail l (take i ps)) next w' → Meets s w from to (meet_tests s from tail l (take n ps)) next w'
-  pass_ends i n e a = rw (← e) a
+  pub pass_ends : (i : ℕ) → length ps ≤ i → {next : ℕ} {w' : List ℕ} → Meets s w from to (meet_tests s from tail l (take i ps)) next w' → Meets s w from to (meet_tests s from tail l ps) next w'
+  pass_ends i e a = rw (take_all i ps e) at a

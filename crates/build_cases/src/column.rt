@@ -46,21 +46,16 @@ pub(crate) fn column_tests<'a>(
     count
 }
 
-// The longest lengths of the lists among the first n of these tests.
-pub(crate) fn longest_of(
-    sheet: &[u8],
-    map: SheetMap,
-    tests: &[u8; CLAUSES_MOST],
-    n: usize,
-) -> Longest
-    requires { TestsAsked sheet.now map tests.now n }
-    ensures { result ≡ longest_of sheet.now (take n tests.now) }
+// The longest lengths of the lists among these tests.
+pub(crate) fn longest_of(sheet: &[u8], map: SheetMap, tests: &[u8]) -> Longest
+    requires { TestsAsked sheet.now map tests.now }
+    ensures { result ≡ longest_of sheet.now tests.now }
 {
     let mut longest = Longest {
         tailless: 0,
         tails: 0,
     };
-    for i in (0..n).rev() {
+    for i in (0..tests.len()).rev() {
         longest = longer_of(pattern_at(sheet, map, usize::from(tests[i])), longest);
     }
     longest

@@ -37,20 +37,19 @@ pub struct CasesMet {
     pub list: bool,
 }
 
-// The cases of the first n of these tests, from case `first` on: those without a tail, then those with one.
+// The cases of these tests, from case `first` on: those without a tail, then those with one.
 fn meet_both(
     sheet: &[u8],
     map: SheetMap,
-    tests: &[u8; CLAUSES_MOST],
-    n: usize,
+    tests: &[u8],
     work: &mut [u8],
     first: usize,
 ) -> Option<CasesMet>
-    requires tests_asked { TestsAsked sheet.now map tests.now n }
+    requires tests_asked { TestsAsked sheet.now map tests.now }
     requires arena_end_in_bounds { (arena_end ≤ length work.old) × (first ≤ cases_most) }
-    ensures { MeetsTo sheet.now (column_of sheet.now (take n tests.now)) first work.old work.new result }
+    ensures { MeetsTo sheet.now (column_of sheet.now tests.now) first work.old work.new result }
 {
-    let longest = longest_of(sheet, map, tests, n);
+    let longest = longest_of(sheet, map, tests);
     let tailless = Pass {
         tail: false,
         longest,
@@ -59,8 +58,8 @@ fn meet_both(
         tail: true,
         longest,
     };
-    let mid = meet_rows(sheet, map, tests, n, tailless, work, first);
-    let end = meet_rows(sheet, map, tests, n, tailed, work, mid);
+    let mid = meet_rows(sheet, map, tests, tailless, work, first);
+    let end = meet_rows(sheet, map, tests, tailed, work, mid);
     if end == CASES_MOST {
         return None;
     }
@@ -89,5 +88,5 @@ pub fn meet_cases<'a>(
 {
     let mut tests = [0u8; CLAUSES_MOST];
     let found = column_tests(table, rows, n, opened, class, &mut tests);
-    meet_both(sheet, map, &tests, found, work, first)
+    meet_both(sheet, map, &tests[..found], work, first)
 }
