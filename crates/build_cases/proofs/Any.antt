@@ -1,6 +1,6 @@
 -- What `any` answers over a range of numbers, where the closure answers for each number by one rule and stays as it was.
 use Rattle.std.specs.Prelude.{ℕ, ◌+◌, ◌-◌, ◌<◌, ◌≤◌, Bool, true, false, List, length, get_or}
-use Rattle.std.proofs.Common.{◌≡◌, ◌⊎◌, zero, suc}
+use Rattle.std.proofs.Common.{◌≡◌, zero, suc}
 use Rattle.std.proofs.Math.Logic.{⊎_elim}
 use Rattle.std.proofs.Math.Path.{ap₂, sym, subst, refl}
 use Rattle.std.proofs.Common.{◌∙◌}

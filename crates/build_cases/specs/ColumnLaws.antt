@@ -1,10 +1,10 @@
 -- The laws of a column by the numbers of its tests: the tests read row by row from the table, and the longest lengths found from the
 -- last test on, each a number that two bytes hold. Rests on what one pattern says of its lengths.
-use Rattle.std.specs.Prelude.{◌≡◌, refl, Bool, true, false, not, ℕ, zero, suc, ◌+◌, ◌-◌, ◌≤◌, ◌<◌, eqb, leb, length, get_or, take, drop}
+use Rattle.std.specs.Prelude.{◌≡◌, refl, Bool, true, false, not, ℕ, zero, suc, ◌-◌, ◌≤◌, ◌<◌, eqb, leb, length, get_or, drop}
 use Rattle.std.proofs.Common.{sym, ap, ap₂, ◌∙◌}
 use mathlib.Core.List.{List, [], ◌∷◌, ◌++◌, map, append_assoc, append-nil}
 use native.Mathlib.Omega.{arith}
-use Rattle.std.proofs.Math.Seq.{slice, take-length, drop-length, drop-cons}
+use Rattle.std.proofs.Math.Seq.{take-length, drop-length, drop-cons}
 use Rattle.base_words.specs.Words.{pick, both, either, Bytes as IsBytes}
 use Rattle.base_words.specs.WordsLaws.{word_at_small}
 use Rattle.spec_rules.specs.Kinds.{list_pattern, list_with_tail_pattern}
@@ -19,10 +19,9 @@ use Rattle.build_matrix.specs.declared.Held.{Held}
 use Rattle.build_matrix.specs.declared.Held.TheVariants.{Test as HeldTest, Wildcard}
 use Rattle.build_matrix.specs.declared.PerRow.{PerRow}
 use Rattle.build_matrix.specs.HeldRows.{held_tests}
-use Rattle.build_matrix.specs.Lists.{numbers_in, HoldsRows, WholeRows}
-use Rattle.build_matrix.specs.ListsLaws.{holds_rows_same}
+use Rattle.build_matrix.specs.Lists.{numbers_in, HoldsRows}
 use Rattle.build_matrix.specs.Reading.{cell_in, owner_in, cell_held, held_in, InTable}
-use Rattle.build_matrix.specs.ReadingLaws.{all_at, slice_on}
+use Rattle.build_matrix.specs.ReadingLaws.{all_at}
 use Rattle.build_matrix.specs.Ready.{TestKnown}
 use Rattle.build_cases.specs.declared.tests.Longest.{Longest}
 use Rattle.build_cases.specs.Rows.{longest_of, longer, held_test, TestSmall}

@@ -1,7 +1,7 @@
 -- A case's test by the fields of its record: a kind, a number and a length, a text by where it is in the sheet's pool; and the search
 -- for an equal test among the cases of the arena. Rests on the arena's records; FieldsLaws has what each comparison of fields tells.
 use Rattle.std.specs.Prelude.{◌≡◌, Bool, true, false, List, ℕ, zero, suc, ◌+◌, ◌≤◌, ◌<◌, eqb}
-use Rattle.base_words.specs.Words.{both, either, pick}
+use Rattle.base_words.specs.Words.{either, pick}
 use Rattle.spec_rules.specs.Kinds.{constr_case, int_case, bytes_case, list_case, list_with_tail_case}
 use Rattle.spec_rules.specs.SheetFile.{pool_size, pool_text}
 use Rattle.spec_rules.specs.Splitting.{Test, Constr, Int, Bytes, ListOf, ListWithTail, Met, same_test}

@@ -1,17 +1,16 @@
 -- The laws of tests by their fields: a test gives its fields back, so that a comparison of fields, and of bytes in the pool, decides
 -- whether two tests are the same. Rests on the laws of texts and of a sheet that is laid out.
-use Rattle.std.specs.Prelude.{◌≡◌, Bool, List, eqb, get_or}
+use Rattle.std.specs.Prelude.{◌≡◌, Bool, List, eqb}
 use Rattle.std.proofs.Math.Path.{refl, sym, ap}
 use Rattle.std.proofs.Common.{ap₂, ◌∙◌, true≢false}
-use Rattle.std.proofs.Math.Logic.{⊎_elim}
 use Rattle.std.proofs.Math.Bool.{true, false}
-use Prim.Native.Nat.{ℕ, zero, suc, ◌+◌, ◌-◌, ◌≤◌, ◌<◌}
+use Prim.Native.Nat.{ℕ, zero, suc, ◌+◌, ◌≤◌}
 use native.Mathlib.Omega.{arith}
-use borrow.Author.Tests.{eqb-true, eqb-false, eq-eqb, ne_eqb}
+use borrow.Author.Tests.{eqb-true, eqb-false}
 use Rattle.std.proofs.Math.ListN.{length, drop}
 use Rattle.base_words.specs.Words.{text_at, same_text}
 use Rattle.base_words.specs.WordsLaws.{length_text_at, same_text_sound, same_text_false}
-use Rattle.spec_rules.specs.Kinds.{int_case, bytes_case, list_with_tail_case}
+use Rattle.spec_rules.specs.Kinds.{list_with_tail_case}
 use Rattle.spec_rules.specs.SheetFile.{pool_at, pool_size, pool_text}
 use Rattle.spec_rules.specs.Splitting.{Test, Int, Bytes, test_fields, same_test}
 use Rattle.spec_rules.specs.SplittingLaws.{same_test_sound, same_test_make}

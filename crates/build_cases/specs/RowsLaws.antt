@@ -6,7 +6,7 @@ use Rattle.std.proofs.Math.Path.{ap, ap₂}
 use Prim.Native.Nat.{ℕ, suc, ◌+◌, ◌-◌, ◌≤◌, ◌<◌}
 use native.Mathlib.Omega.{arith}
 use Rattle.std.proofs.Math.Numerals.{add-one}
-use borrow.Author.Tests.{le-leb, leb-true, leb-false, not-true, ne_eqb}
+use borrow.Author.Tests.{le-leb, leb-true, leb-false, not-true}
 use Rattle.base_words.specs.Words.{pick, Bytes as IsBytes}
 use Rattle.base_words.specs.WordsLaws.{word_at_small}
 use Rattle.spec_rules.specs.Kinds.{integer_pattern, byte_string_pattern, list_pattern, list_with_tail_pattern, constructor_pattern, constr_case, int_case, bytes_case, list_case, list_with_tail_case}

@@ -1,10 +1,10 @@
 -- The laws of the cases met so far: they are read back from their records, so that the search finds a test exactly where it is met;
 -- and one more case, or none, is what rule 4's meeting makes of them. Rests on the laws of fields, of stores and of standing records.
-use Rattle.std.specs.Prelude.{◌≡◌, refl, Bool, true, false, ℕ, suc, ◌+◌, ◌-◌, ◌*◌, ◌≤◌, ◌<◌, eqb, ltb, length}
-use Rattle.std.proofs.Common.{sym, ap, ap₂, ◌∙◌, arith, eqb-true, lt-ltb, le-ltb, length-append, take_all}
+use Rattle.std.specs.Prelude.{◌≡◌, refl, Bool, true, false, ℕ, ◌+◌, ◌-◌, ◌*◌, ◌≤◌, ◌<◌, eqb, length}
+use Rattle.std.proofs.Common.{sym, ap, ap₂, ◌∙◌, arith, eqb-true, length-append, take_all}
 use mathlib.Core.List.{List, [], ◌∷◌, ◌++◌, append-nil, append_assoc}
 use Rattle.std.proofs.lemmas.Bool.{eqb-false}
-use Rattle.base_words.specs.Words.{either, pick}
+use Rattle.base_words.specs.Words.{either}
 use Rattle.base_words.specs.Stored.{stored}
 use Rattle.base_words.specs.StoredLaws.{length_stored, stored_append, stored_again}
 use Rattle.spec_rules.specs.Limits.{case_size}

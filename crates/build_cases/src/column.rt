@@ -11,8 +11,8 @@ ghost use Rattle.build_cases.specs.Promises.{TestsAsked};
 
 use crate::tests::{Longest, longer_of};
 use base_numbers::sheet::{CLAUSES_MOST, PATTERNS_MOST};
-use build_matrix::rows::{put_row, test_at};
 use build_matrix::Held;
+use build_matrix::rows::{put_row, test_at};
 use format_sheet::SheetMap;
 use format_sheet::records::pattern_at;
 
@@ -41,7 +41,11 @@ pub(crate) fn column_tests<'a>(
 {
     let mut count: usize = 0;
     for i in 0..n {
-        count = keep_test(list, count, test_at(table, opened, usize::from(rows[i]), class));
+        count = keep_test(
+            list,
+            count,
+            test_at(table, opened, usize::from(rows[i]), class),
+        );
     }
     count
 }

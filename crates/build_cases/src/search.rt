@@ -63,10 +63,7 @@ fn has_test(sheet: &[u8], pool: usize, work: &[u8], i: usize, fields: Fields) ->
     requires arena_end_in_bounds { (arena_end ≤ length work.now) × (i < cases_most) × Fit sheet.now (case_kind work.now i) (case_number work.now i) (case_length work.now i) }
     ensures { result ≡ has_test sheet.now work.now fields.kind fields.number fields.len i }
 {
-    if case_kind(work, i) != fields.kind {
-        return false;
-    }
-    if case_length(work, i) != fields.len {
+    if case_kind(work, i) != fields.kind || case_length(work, i) != fields.len {
         return false;
     }
     let number = case_number(work, i);

@@ -9,7 +9,7 @@ use format_records::reading::Test;
 use format_sheet::records::PatternRecord;
 
 // The longest lengths of lists in a column, each one more than it is, or 0 where there is none: of those without a tail, and of those
-// with, whose tail is not counted.
+// with, whose tail is not counted. They are the ends of ranges of lengths, as the rules have them: an option would be no plainer.
 #[derive(Clone, Copy)]
 pub struct Longest {
     pub tailless: usize,

@@ -2,7 +2,6 @@
 use mathlib.Core.Path.{refl}
 use lib.ListN.{take}
 use Rattle.build_matrix.specs.Lists.{as_rows}
-use Rattle.build_matrix.specs.ListsLaws.{whole_rows}
 use Rattle.build_matrix.specs.InNumbersLaws.{cells_in}
 use Rattle.build_cases.specs.MadeLaws.{column_known, column_meets}
 use Rattle.build_cases.proofs.meet_cases.Goals as goal

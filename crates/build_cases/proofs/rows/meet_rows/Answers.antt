@@ -1,5 +1,4 @@
 -- `build_cases::rows::meet_rows` meets its contract. The loop's invariant: the cases of the tests so far are met.
-use borrow.Author.Rules.{rules}
 use native.Mathlib.Omega.{arith}
 use Rattle.build_matrix.specs.Ready.{TestKnown}
 use Rattle.build_cases.specs.SoFarLaws.{meets_begun, meets_length}

@@ -1,21 +1,21 @@
 -- `build_cases::search::has_test` meets its contract: fields are compared, and texts byte by byte.
-use Rattle.std.proofs.Common.{◌≡◌, ◌∙◌, sym, ap, ap₂, arith, eqb, ◌+◌, ℕ, true, false}
+use Rattle.std.proofs.Common.{◌≡◌, ◌∙◌, sym, ap, ap₂, arith, eqb, ◌+◌, ℕ}
 use Rattle.base_words.specs.Words.{same_text, text_at}
 use Rattle.spec_rules.specs.SheetFile.{pool_at}
 use Rattle.build_arena.specs.Arena.{case_number}
-use Rattle.build_cases.specs.Fields.{is_text}
 use Rattle.build_cases.specs.FieldsLaws.{other_kind, other_length, texts_inside, by_text, by_number}
 use Rattle.build_cases.proofs.search.has_test.Goals as goal
+use Rattle.build_cases.proofs.search.has_test.Goals.{then-case_kind-fields-via-then-case_kind-fields, then-case_kind-fields-via-else-case_kind-fields+then-case_length-fields}
 
 pub returns-then-case_kind-fields : goal.returns-then-case_kind-fields
 returns-then-case_kind-fields c =
     let a = c.args in
-    sym (other_kind c.requires.laid.0 a.work.now a.i c.requires.laid.2 c.requires.arena_end_in_bounds.2 (λ e. c.if-case_kind-fields.true (c.case_kind.ensures ∙ e)))
-
-pub returns-then-case_length-fields : goal.returns-then-case_length-fields
-returns-then-case_length-fields c =
-    let a = c.args in
-    sym (other_length c.requires.laid.0 a.work.now a.i c.requires.laid.2 c.requires.arena_end_in_bounds.2 (λ e. c.if-case_length-fields.true (c.case_length.ensures ∙ e)))
+    elim c.then-case_kind-fields.branch [
+      | then-case_kind-fields-via-then-case_kind-fields w ↦
+          sym (other_kind c.requires.laid.0 a.work.now a.i c.requires.laid.2 c.requires.arena_end_in_bounds.2 (λ e. w.if-case_kind-fields.true (c.case_kind.ensures ∙ e)))
+      | then-case_kind-fields-via-else-case_kind-fields+then-case_length-fields w ↦
+          sym (other_length c.requires.laid.0 a.work.now a.i c.requires.laid.2 c.requires.arena_end_in_bounds.2 (λ e. w.if-case_length-fields.true (w.case_length.ensures ∙ e)))
+    ]
 
 pub same_text-requires : goal.same_text-requires
 same_text-requires c =
