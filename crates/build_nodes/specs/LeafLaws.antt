@@ -1,6 +1,6 @@
 -- The leaf of a matrix in which no column is chosen, as the code puts it; and a matrix for whose tree there is no node more.
 -- Rests on the bindings put by the crate build_leaves.
-use Rattle.std.specs.Prelude.{◌≡◌, true, false, List, map, ℕ, ◌+◌, ◌-◌, ◌*◌, ◌≤◌, ◌<◌, length, take, set}
+use Rattle.std.specs.Prelude.{◌≡◌, true, false, List, map, ℕ, ◌+◌, ◌-◌, ◌*◌, ◌≤◌, ◌<◌, length, take, set, None}
 use Rattle.std.proofs.Math.Path.{sym}
 use Rattle.std.proofs.Common.{ap, ◌∙◌, arith}
 use Rattle.std.proofs.lemmas.Bool.{false≢true}
@@ -16,8 +16,7 @@ use Rattle.format_sheet.specs.declared.SheetMap.{SheetMap}
 use Rattle.build_table.specs.Standing.{sheet_paths}
 use Rattle.build_table.specs.Seen.{binding_at}
 use Rattle.build_matrix.specs.declared.Matrix.{Matrix}
-use Rattle.build_matrix.specs.declared.Choice.{Choice}
-use Rattle.build_matrix.specs.declared.Choice.TheVariants.{Leaf}
+use Rattle.build_matrix.specs.Columns.{Choice}
 use Rattle.build_matrix.specs.HeldRows.{count_of, best_of}
 use Rattle.build_matrix.specs.Lists.{classes_in, numbers_in}
 use Rattle.build_matrix.specs.Reading.{held_in}
@@ -83,11 +82,11 @@ module _ {s : List ℕ} (ok : Accepted s) {x : Matrix} (there : MatrixThere s x)
   pub clause_asked : (c : ℕ) → c ≡ first_clause x → LeafAsked s c x.tested.list x.tested.count
   clause_asked c e = leaf_asked s x with_row ok.is_counted.patterns_most_holds c e
 
-  leaf_tree : chosen_in s (in_numbers x) ≡ Leaf → (c : ℕ) → c ≡ first_clause x → tree_at s (in_numbers x) ≡ clause_leaf s x.opened (classes_in x.tested) c
+  leaf_tree : chosen_in s (in_numbers x) ≡ None → (c : ℕ) → c ≡ first_clause x → tree_at s (in_numbers x) ≡ clause_leaf s x.opened (classes_in x.tested) c
   leaf_tree e c is = tree_leaf ok (in_numbers x) there.sound e ∙ leaf_is s ok x with_row ∙ ap (clause_leaf s x.opened (classes_in x.tested)) (sym is)
 
   -- it is built
-  pub leaf_builds : (w w' : List ℕ) (tops to : Tops) (r : Built) (c : ℕ) → chosen_in s (in_numbers x) ≡ Leaf → c ≡ first_clause x → r ≡ record { fits = true; tops = to }
+  pub leaf_builds : (w w' : List ℕ) (tops to : Tops) (r : Built) (c : ℕ) → chosen_in s (in_numbers x) ≡ None → c ≡ first_clause x → r ≡ record { fits = true; tops = to }
       → Put (sheet_paths s) w w' (clause_leaf s x.opened (classes_in x.tested) c) tops to → Builds (sheet_paths s) w w' (tree_at s (in_numbers x)) tops r
   leaf_builds w w' tops to r c e is r_is p =
       rw (r_is, leaf_tree e c is)
@@ -113,7 +112,7 @@ module _ {s : List ℕ} {m : SheetMap} {t : List ℕ} {x : Matrix} {w : List ℕ
   pub asked_readable : Readable t x
   asked_readable = readable asked.ready x asked.there.whole asked.there.sound
 
-  pub asked_chosen : (r : Choice) → r ≡ best_of (λ k. count_of (held_in t x.opened k) (numbers_in x.rows)) Leaf 0 (classes_in x.columns) → {o : Choice} → r ≡ o
+  pub asked_chosen : (r : Choice) → r ≡ best_of (λ k. count_of (held_in t x.opened k) (numbers_in x.rows)) None 0 (classes_in x.columns) → {o : Choice} → r ≡ o
       → chosen_in s (in_numbers x) ≡ o
   unfolding chosen_read
   asked_chosen r e f = sym (chosen_read_lem asked.ready (in_numbers x) asked.there.sound) ∙ sym e ∙ f

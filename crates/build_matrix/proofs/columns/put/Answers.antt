@@ -1,6 +1,6 @@
 -- `columns::put`: those passed come before the class, so that putting it goes on behind them.
 use borrow.Author.Rules.{rules}
-use mathlib.Core.Path.{◌≡◌, refl, sym, ap, ◌∙◌}
+use mathlib.Core.Path.{◌≡◌, refl, sym, ap, ap₂, ◌∙◌}
 use mathlib.Core.List.{List, ◌∷◌, ◌++◌}
 use Prim.Native.Nat.{ℕ}
 use native.Mathlib.Omega.{arith}
@@ -72,10 +72,11 @@ insert-requires-2 c =
     let a = c.args in
     let l = c.loop-i in
     let e = put_last (first_in a.table.now) a.class a.list.now a.count l.i (omega (arith, c.requires.whole.long, c.requires.whole.most)) l.invariant.2 (omega (arith, l.invariant.1, c.loop-i-test.false)) in
-    (rw l.invariant.0 c.requires.whole, l.invariant.1, omega (arith, insert_room a.list.now a.count l.i a.class l.invariant.1 (omega (arith, c.requires.whole.long, c.requires.whole.most)), ap length e, c.requires.room), c.requires.ranked.known)
+    (rw l.invariant.0 c.requires.whole, omega arith, omega (arith, insert_room a.list.now a.count l.i a.class l.invariant.1 (omega (arith, c.requires.whole.long, c.requires.whole.most)), ap length e, c.requires.room), c.requires.ranked.known)
 
 pub returns : goal.returns
 returns c =
     let a = c.args in
     let l = c.loop-i in
-    holds_same c.insert-2.ensures (ap (λ (x : List ℕ). take l.i x ++ a.class ∷ slice l.i a.count x) l.invariant.0 ∙ sym (put_last (first_in a.table.now) a.class a.list.now a.count l.i (omega (arith, c.requires.whole.long, c.requires.whole.most)) l.invariant.2 (omega (arith, l.invariant.1, c.loop-i-test.false))))
+    let all : l.i ≡ a.count = omega (arith, l.invariant.1, c.loop-i-test.false) in
+    holds_same c.insert-2.ensures (ap₂ (λ (i : ℕ) (x : List ℕ). take i x ++ a.class ∷ slice i a.count x) (sym all) l.invariant.0 ∙ sym (put_last (first_in a.table.now) a.class a.list.now a.count l.i (omega (arith, c.requires.whole.long, c.requires.whole.most)) l.invariant.2 all))
