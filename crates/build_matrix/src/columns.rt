@@ -13,7 +13,7 @@ ghost use Rattle.build_matrix.specs.Reading.{first_in};
 ghost use Rattle.build_matrix.specs.Ready.{ReadyTable, Puts, put_tests, itself_or_inside, Gives};
 ghost use Rattle.build_matrix.specs.Promises.{PatternAsked, ChildrenAsked, TestAsked};
 
-use crate::{Classes, wide};
+use crate::Classes;
 use base_numbers::pattern_kinds;
 use base_numbers::sheet::PATTERNS_MOST;
 use build_table::{CLASS, at, before, is_test};
@@ -70,7 +70,7 @@ fn place_of(cs: &[u8; PATTERNS_MOST], n: usize, class: usize) -> usize
     requires { Whole (as_classes cs.now n) }
     ensures { result ≡ first_place class (take n cs.now) }
 {
-    cs[..n].iter().position(|c| wide(*c) == class).unwrap_or(n)
+    cs[..n].iter().position(|c| usize::from(*c) == class).unwrap_or(n)
 }
 
 // The first n of cs without the one tested, behind those in the list.
@@ -95,7 +95,7 @@ fn put(table: &[u8], list: &mut [u8; PATTERNS_MOST], count: usize, class: usize)
     ensures { Holds (as_classes list.new result) (put_class (first_in table.now) class (take count list.old)) }
 {
     for i in 0..count {
-        let other = wide(list[i]);
+        let other = usize::from(list[i]);
         if other == class {
             return count;
         }

@@ -7,7 +7,6 @@ ghost use Rattle.build_matrix.specs.HeldRows.{count_of, best_of, wild_of};
 ghost use Rattle.build_matrix.specs.Lists.{as_classes, as_rows, Whole, WholeRows, HoldsRows};
 ghost use Rattle.build_matrix.specs.Reading.{held_in, InTable, bettered, kept};
 
-use crate::wide;
 use base_numbers::sheet::{CLAUSES_MOST, PATTERNS_MOST};
 use build_table::{CELL, OWNER, at};
 
@@ -53,7 +52,7 @@ fn occurrence(
 {
     rows[..n]
         .iter()
-        .position(|c| test_at(table, opened, wide(*c), class).is_none())
+        .position(|c| test_at(table, opened, usize::from(*c), class).is_none())
         .unwrap_or(n)
 }
 
@@ -95,7 +94,7 @@ pub fn highest_occurrence<'a>(
         amount: 0,
     };
     for column in &columns[..width] {
-        let class = wide(*column);
+        let class = usize::from(*column);
         best = better_of(best, class, occurrence(table, rows, height, opened, class));
     }
     best.choice
@@ -135,7 +134,7 @@ pub(crate) fn wild_rows<'a>(
 {
     let mut count: usize = 0;
     for c in &rows[..n] {
-        count = keep_wild(list, count, *c, test_at(table, opened, wide(*c), class));
+        count = keep_wild(list, count, *c, test_at(table, opened, usize::from(*c), class));
     }
     count
 }

@@ -18,7 +18,7 @@ ghost use Rattle.build_matrix.specs.Promises.{rows_before, rows_after, matrix_no
 use crate::columns::{empty, map_pattern_to_row, open, push, put_rest};
 use crate::covering::covers;
 use crate::rows::{put_row, test_at, wild_rows};
-use crate::{Classes, Matrix, PerRow, Sizes, wide};
+use crate::{Classes, Matrix, PerRow, Sizes};
 use base_numbers::sheet::{CLAUSES_MOST, PATTERNS_MOST};
 use format_records::reading::Test;
 use format_sheet::SheetMap;
@@ -148,7 +148,7 @@ fn join_rows<'a, 'b>(
 {
     let mut counts = Counts { rows: 0, opens: 0 };
     for c in &from[..n] {
-        let held = test_at(table, opened, wide(*c), class);
+        let held = test_at(table, opened, usize::from(*c), class);
         counts = join_row(sheet, map, rows, opens, counts, *c, held, test);
     }
     counts
@@ -160,7 +160,7 @@ fn mark(opened: &mut [u8; PATTERNS_MOST], opens: &[u8; CLAUSES_MOST], n: usize, 
     ensures { opened.new ≡ marked time opened.old (take n opens.now) }
 {
     for p in &opens[..n] {
-        opened[wide(*p)] = time as u8;
+        opened[usize::from(*p)] = time as u8;
     }
 }
 
@@ -179,7 +179,7 @@ fn open_all(
 {
     let mut count: usize = 0;
     for i in (0..n).rev() {
-        count = open(sheet, map, table, list, count, wide(opens[i]));
+        count = open(sheet, map, table, list, count, usize::from(opens[i]));
     }
     count
 }

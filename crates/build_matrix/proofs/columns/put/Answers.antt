@@ -24,7 +24,7 @@ pub returns-then-other-class : goal.returns-then-other-class
 returns-then-other-class c =
     let a = c.args in
     let l = c.loop-i in
-    let seen = c.wide-other in
+    let seen = c.from-other in
     let other : seen.result ≡ get_or a.list.now l.i 0 = seen.ensures ∙ ap (λ (x : List ℕ). get_or x l.i 0) l.invariant.0 in
     rw l.invariant.0 (holds_same c.requires.whole (sym (put_there (first_in a.table.now) a.class a.list.now a.count l.i (omega (arith, c.requires.whole.long, c.requires.whole.most)) l.invariant.2 c.loop-i-test.true (sym other ∙ c.if-other-class.true))))
 
@@ -32,7 +32,7 @@ pub before-requires : goal.before-requires
 before-requires c =
     let a = c.args in
     let l = c.loop-i in
-    let seen = c.wide-other in
+    let seen = c.from-other in
     let other : seen.result ≡ get_or a.list.now l.i 0 = seen.ensures ∙ ap (λ (x : List ℕ). get_or x l.i 0) l.invariant.0 in
     let ranked : Ranked a.table.now seen.result = rw other (all_at (Ranked a.table.now) a.list.now a.count l.i c.loop-i-test.true (omega (arith, c.requires.whole.long, c.requires.whole.most)) c.requires.each) in record { table_len = (c.requires.long, c.requires.ranked.known, ranked.known); p_bound = (c.requires.ranked.depth, ranked.depth) }
 
@@ -40,7 +40,7 @@ pub insert-requires : goal.insert-requires
 insert-requires c =
     let a = c.args in
     let l = c.loop-i in
-    let seen = c.wide-other in
+    let seen = c.from-other in
     let other : seen.result ≡ get_or a.list.now l.i 0 = seen.ensures ∙ ap (λ (x : List ℕ). get_or x l.i 0) l.invariant.0 in
     let less = c.before-in-loop-i in
     let told : first_in a.table.now a.class (get_or a.list.now l.i 0) ≡ less.result = ap (first_in a.table.now a.class) (sym other) ∙ sym less.ensures in
@@ -51,7 +51,7 @@ pub returns-then-before : goal.returns-then-before
 returns-then-before c =
     let a = c.args in
     let l = c.loop-i in
-    let seen = c.wide-other in
+    let seen = c.from-other in
     let other : seen.result ≡ get_or a.list.now l.i 0 = seen.ensures ∙ ap (λ (x : List ℕ). get_or x l.i 0) l.invariant.0 in
     let less = c.before-in-loop-i in
     let told : first_in a.table.now a.class (get_or a.list.now l.i 0) ≡ less.result = ap (first_in a.table.now a.class) (sym other) ∙ sym less.ensures in
@@ -61,7 +61,7 @@ pub loop-i-preserved : goal.loop-i-preserved
 loop-i-preserved c =
     let a = c.args in
     let l = c.loop-i in
-    let seen = c.wide-other in
+    let seen = c.from-other in
     let other : seen.result ≡ get_or a.list.now l.i 0 = seen.ensures ∙ ap (λ (x : List ℕ). get_or x l.i 0) l.invariant.0 in
     let less = c.before-in-loop-i in
     let told : first_in a.table.now a.class (get_or a.list.now l.i 0) ≡ less.result = ap (first_in a.table.now a.class) (sym other) ∙ sym less.ensures in

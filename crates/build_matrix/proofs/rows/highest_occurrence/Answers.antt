@@ -13,7 +13,7 @@ pub occurrence-requires : goal.occurrence-requires
 occurrence-requires c =
     let a = c.args in
     let l = c.loop-column in
-    let class = c.wide-class in
+    let class = c.from-class in
     (c.requires.0, all_in (λ k. All (InTable a.table.now k) (take a.height a.rows.now)) (take a.width a.columns.now) l.column-index class.result 0 c.loop-column-test.true class.ensures c.requires.2)
 
 pub loop-column-preserved : goal.loop-column-preserved
@@ -22,7 +22,7 @@ loop-column-preserved c =
     let l = c.loop-column in
     let counts : ℕ → ℕ = λ k. count_of (held_in a.table.now a.opened.now k) (take a.height a.rows.now) in
     let k = get_or (take a.width a.columns.now) l.column-index 0 in
-    let class = c.wide-class in
+    let class = c.from-class in
     let amount = c.occurrence in
     best_more counts l.best c.better_of-best.result k amount.result (slice (l.column-index + 1) a.width a.columns.now)
     (amount.ensures ∙ ap counts class.ensures) (c.better_of-best.ensures ∙ ap (λ (x : ℕ). bettered l.best x amount.result) class.ensures)

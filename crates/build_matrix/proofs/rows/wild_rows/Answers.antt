@@ -18,7 +18,7 @@ loop-c-init c = (omega arith, record { long = c.requires.2; most = omega arith; 
 pub test_at-requires : goal.test_at-requires
 test_at-requires c =
     let a = c.args in
-    all_in (InTable a.table.now a.class) (take a.n a.rows.now) c.loop-c.c-index c.wide.result 0 c.loop-c-test.true c.wide.ensures c.requires.1
+    all_in (InTable a.table.now a.class) (take a.n a.rows.now) c.loop-c.c-index c.from.result 0 c.loop-c-test.true c.from.ensures c.requires.1
 
 pub loop-c-preserved : goal.loop-c-preserved
 loop-c-preserved c =
@@ -26,7 +26,7 @@ loop-c-preserved c =
     let l = c.loop-c in
     let held = held_in a.table.now a.opened.now a.class in
     let row = get_or (take a.n a.rows.now) l.c-index 0 in
-    let one : held row ≡ c.test_at.result = sym (c.test_at.ensures ∙ ap held c.wide.ensures) in
+    let one : held row ≡ c.test_at.result = sym (c.test_at.ensures ∙ ap held c.from.ensures) in
     let out = as_rows l.list l.count in
     let next = c.keep_wild-count.ensures in (
       omega (arith, holds_rows_count next, length-append (numbers_in out) (kept c.test_at.result row), kept_most c.test_at.result row, holds_rows_count l.invariant.1, l.invariant.0),

@@ -30,8 +30,8 @@ pub test_at-held-requires : goal.test_at-held-requires
 test_at-held-requires c =
     let a = c.args in
     let p = c.requires.ready_table in
-    let low = all_in (λ k. k < clauses a.sheet.now) (take a.n a.from.now) c.loop-c.c-index c.wide.result 0 c.loop-c-test.true c.wide.ensures p.2 in
-    in_table p.0 c.wide.result a.class low p.3
+    let low = all_in (λ k. k < clauses a.sheet.now) (take a.n a.from.now) c.loop-c.c-index c.from.result 0 c.loop-c-test.true c.from.ensures p.2 in
+    in_table p.0 c.from.result a.class low p.3
 
 pub join_row-counts-requires : goal.join_row-counts-requires
 join_row-counts-requires c =
@@ -42,7 +42,7 @@ join_row-counts-requires c =
     let low = all_in (λ k. k < clauses a.sheet.now) (take a.n a.from.now) l.c-index row 0 c.loop-c-test.true refl p.2 in
     let read = c.test_at-held in
     let held : read.result ≡ live_in a.sheet.now a.opened.now a.class row =
-    read.ensures ∙ ap (held_in a.table.now a.opened.now a.class) c.wide.ensures ∙ held_read p.0 row a.class low p.3 a.opened.now
+    read.ensures ∙ ap (held_in a.table.now a.opened.now a.class) c.from.ensures ∙ held_read p.0 row a.class low p.3 a.opened.now
     in
     let all = length-take-le a.n a.from.now (omega (arith, p.1)) in
     record { sheet_accepts = (p.0.checked, held_live a.sheet.now a.opened.now a.class row read.result held, p.4); whole_rows = (l.invariant.2, l.invariant.3, omega (arith, l.invariant.0, c.loop-c-test.true, all, p.1.most), omega (arith, l.invariant.1, c.loop-c-test.true, all, p.1.most)) }
@@ -56,7 +56,7 @@ loop-c-preserved c =
     let low = all_in (λ k. k < clauses a.sheet.now) (take a.n a.from.now) l.c-index row 0 c.loop-c-test.true refl p.2 in
     let read = c.test_at-held in
     let held : read.result ≡ live_in a.sheet.now a.opened.now a.class row =
-    read.ensures ∙ ap (held_in a.table.now a.opened.now a.class) c.wide.ensures ∙ held_read p.0 row a.class low p.3 a.opened.now
+    read.ensures ∙ ap (held_in a.table.now a.opened.now a.class) c.from.ensures ∙ held_read p.0 row a.class low p.3 a.opened.now
     in
     let joins = joins_case a.sheet.now (meant a.sheet.now a.test) in
     let live = live_in a.sheet.now a.opened.now a.class in

@@ -9,7 +9,7 @@ loop-p-preserved c =
     let a = c.args in
     let l = c.loop-p in
     let whole = marked a.time a.opened.now (take a.n a.opens.now) in
-    (simp length-set l.invariant.0, mark_on a.time l.opened whole a.opens.now a.n l.p-index c.wide.result c.loop-p-test.true c.wide.ensures l.invariant.1)
+    (simp length-set l.invariant.0, mark_on a.time l.opened whole a.opens.now a.n l.p-index c.from.result c.loop-p-test.true c.from.ensures l.invariant.1)
 
 pub returns : goal.returns
 returns c =
