@@ -1,6 +1,6 @@
 -- The laws of a column by the numbers of its tests: the tests read row by row from the table, and the longest lengths found from the
 -- last test on, each a number that two bytes hold. Rests on what one pattern says of its lengths.
-use Rattle.std.specs.Prelude.{◌≡◌, refl, Bool, true, false, not, ℕ, zero, suc, ◌-◌, ◌≤◌, ◌<◌, eqb, leb, length, get_or, drop}
+use Rattle.std.specs.Prelude.{◌≡◌, refl, Bool, true, false, not, ℕ, zero, suc, ◌-◌, ◌≤◌, ◌<◌, eqb, leb, length, get_or, drop, Some, None}
 use Rattle.std.proofs.Common.{sym, ap, ap₂, ◌∙◌}
 use mathlib.Core.List.{List, [], ◌∷◌, ◌++◌, map, append_assoc, append-nil}
 use native.Mathlib.Omega.{arith}
@@ -15,8 +15,7 @@ use Rattle.format_sheet.specs.declared.records.PatternRecord.{PatternRecord}
 use Rattle.format_sheet.specs.Records as records
 use Rattle.build_table.specs.Standing.{pattern_of}
 use Rattle.spec_rules.specs.SplittingLaws.{All}
-use Rattle.build_matrix.specs.declared.Held.{Held}
-use Rattle.build_matrix.specs.declared.Held.TheVariants.{Test as HeldTest, Wildcard}
+use Rattle.build_matrix.specs.Columns.{Held}
 use Rattle.build_matrix.specs.declared.PerRow.{PerRow}
 use Rattle.build_matrix.specs.HeldRows.{held_tests}
 use Rattle.build_matrix.specs.Lists.{numbers_in, HoldsRows}
@@ -84,7 +83,7 @@ held_in_small : (t opened : List ℕ) (class c : ℕ) → InTable t class c → 
 unfolding held_in
 held_in_small t opened class c x = go (cell_in t class c) refl
   where
-    in_byte : (b : Bool) (p : ℕ) → p < 256 → TestSmall (pick b (HeldTest p) Wildcard)
+    in_byte : (b : Bool) (p : ℕ) → p < 256 → TestSmall (pick b (Some p) None)
     in_byte true p h = h
     in_byte false p h = tt
 
@@ -100,8 +99,8 @@ unfolding held_tests
 tests_more held c cs = go (held c) refl
   where
     go : (h : Held) → held c ≡ h → held_tests held (c ∷ cs) ≡ held_test (held c) ++ held_tests held cs
-    go (HeldTest p) e = rw (e, held_tests)
-    go Wildcard e = rw (e, held_tests)
+    go (Some p) e = rw (e, held_tests)
+    go None e = rw (e, held_tests)
 
 pub tests_step : (held : ℕ → Held) (r next : PerRow) (c : ℕ) (h : Held) (cs : List ℕ) → held c ≡ h → HoldsRows next (numbers_in r ++ held_test h)
     → numbers_in next ++ held_tests held cs ≡ numbers_in r ++ held_tests held (c ∷ cs)
@@ -114,5 +113,5 @@ unfolding held_tests
 tests_end held l cs e = sym (ap (λ (x : List ℕ). l ++ held_tests held x) e ∙ append-nil l)
 
 pub held_test_most : (h : Held) → length (held_test h) ≤ 1
-held_test_most (HeldTest p) = omega arith
-held_test_most Wildcard = omega arith
+held_test_most (Some p) = omega arith
+held_test_most None = omega arith

@@ -11,19 +11,18 @@ ghost use Rattle.build_cases.specs.Promises.{TestsAsked};
 
 use crate::tests::{Longest, longer_of};
 use base_numbers::sheet::{CLAUSES_MOST, PATTERNS_MOST};
-use build_matrix::Held;
 use build_matrix::rows::{put_row, test_at};
 use format_sheet::SheetMap;
 use format_sheet::records::pattern_at;
 
 // One test more, if the row has one.
-fn keep_test(list: &mut [u8; CLAUSES_MOST], count: usize, held: Held) -> usize
+fn keep_test(list: &mut [u8; CLAUSES_MOST], count: usize, held: Option<usize>) -> usize
     requires { WholeRows (as_rows list.old count) × (count < clauses_most) × TestSmall held }
     ensures { HoldsRows (as_rows list.new result) (take count list.old ++ held_test held) }
 {
     match held {
-        Held::Test(p) => put_row(list, count, p as u8),
-        Held::Wildcard => count,
+        Some(p) => put_row(list, count, p as u8),
+        None => count,
     }
 }
 
