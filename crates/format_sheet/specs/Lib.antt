@@ -1,5 +1,4 @@
 -- The definitions that the contracts of this crate cite, and their laws.
-pub mod Found
 pub mod Sections
 pub mod SectionsLaws
 pub mod Records

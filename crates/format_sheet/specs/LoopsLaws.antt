@@ -9,9 +9,8 @@ use Rattle.std.proofs.Math.Nat.{sub-zero}
 use Rattle.base_words.specs.Words.{both}
 use Rattle.spec_rules.specs.Searching.{every, lowest}
 use Rattle.spec_rules.specs.SearchingLaws.{every_on, every_stop, every_end, lowest_found, lowest_on, lowest_end}
-use Rattle.format_sheet.specs.declared.Found.{Found}
-use Rattle.format_sheet.specs.declared.Found.TheVariants.{At, Nothing}
-use Rattle.format_sheet.specs.Found.{found_of}
+use Rattle.std.specs.Prelude.{Option, Some, None}
+use Rattle.spec_rules.specs.Found.{found}
 
 module _ (f : ℕ → Bool) (n : ℕ) where
   -- ---- a loop that asks every number
@@ -67,8 +66,8 @@ module _ (f : ℕ → Bool) (n : ℕ) where
     pub lowest_goes_on : f i ≡ false → LowestLeft (i + 1)
     lowest_goes_on e = lowest_on f i n h e ∙ left
 
-    pub lowest_stops : f i ≡ true → ◌≡◌ {A = Found} (At i) (found_of (lowest f 0 n))
-    lowest_stops e = ap found_of (sym (lowest_found f i n h e) ∙ left)
+    pub lowest_stops : f i ≡ true → ◌≡◌ {A = Option ℕ} (Some i) (found (lowest f 0 n))
+    lowest_stops e = ap found (sym (lowest_found f i n h e) ∙ left)
 
-  pub lowest_ends : (i : ℕ) → n ≤ i → LowestLeft i → ◌≡◌ {A = Found} Nothing (found_of (lowest f 0 n))
-  lowest_ends i h left = ap found_of (sym (lowest_end f i n h) ∙ left)
+  pub lowest_ends : (i : ℕ) → n ≤ i → LowestLeft i → ◌≡◌ {A = Option ℕ} None (found (lowest f 0 n))
+  lowest_ends i h left = ap found (sym (lowest_end f i n h) ∙ left)

@@ -7,12 +7,12 @@ ghost use Rattle.spec_rules.specs.SheetFile.{patterns, clauses, patterns_at, chi
 ghost use Rattle.spec_rules.specs.SheetRefusals.{is_in, repeats as Repeats, name_twice, lowest_name_twice};
 ghost use Rattle.spec_accepted.specs.SheetFacts.{Laid};
 ghost use Rattle.format_sheet.specs.Sections.{map_of};
-ghost use Rattle.format_sheet.specs.Found.{found_of};
+ghost use Rattle.spec_rules.specs.Found.{found};
 ghost use Rattle.format_sheet.specs.Fitting.{ReadySheet};
 ghost use Rattle.format_sheet.specs.Names.{own_name, names_in, in_buffer, held, Adds};
 
+use crate::SheetMap;
 use crate::records::{child_in, children_in, pattern_in, root_at};
-use crate::{Found, SheetMap};
 use base_numbers::pattern_kinds;
 use base_numbers::sheet::PATTERNS_MOST;
 
@@ -116,17 +116,17 @@ fn name_twice(sheet: &[u8], map: SheetMap, c: usize, found: &mut [u16]) -> bool
 }
 
 // 11.
-pub(crate) fn lowest_name_twice(sheet: &[u8], map: SheetMap) -> Found
+pub(crate) fn lowest_name_twice(sheet: &[u8], map: SheetMap) -> Option<u16>
     requires { ReadySheet sheet.now map }
-    ensures { result ≡ found_of (lowest_name_twice sheet.now) }
+    ensures { result ≡ found (lowest_name_twice sheet.now) }
 {
     let mut found = [0u16; PATTERNS_MOST];
     let mut c: usize = 0;
     while c < map.clauses.count {
         if name_twice(sheet, map, c, &mut found) {
-            return Found::At(c as u16);
+            return Some(c as u16);
         }
         c += 1;
     }
-    Found::Nothing
+    None
 }

@@ -146,22 +146,13 @@ pub fn root_at(sheet: &[u8], map: SheetMap, c: usize) -> usize
 pub fn no_run(first: usize, count: usize) -> bool
     ensures { result ≡ no_run first count }
 {
-    if first != 0 {
-        return false;
-    }
-    count == 0
+    first == 0 && count == 0
 }
 
 fn has_children(kind: u8) -> bool
     ensures { result ≡ has_children (pattern_kind_of kind) }
 {
-    if kind == pattern_kinds::ASSIGN {
-        return true;
-    }
-    if kind < pattern_kinds::LIST {
-        return false;
-    }
-    kind <= pattern_kinds::TUPLE
+    kind == pattern_kinds::ASSIGN || (pattern_kinds::LIST <= kind && kind <= pattern_kinds::TUPLE)
 }
 
 // The children of pattern p, by the start of the patterns alone: none where its kind has none.
