@@ -11,7 +11,6 @@ use base_numbers::tree::BINDING_SIZE;
 use build_arena::reading::binding_at;
 use format_records::writing::put_two_words;
 
-#[tactic(auto, using(crate::specs::UsesLaws::use_some))]
 fn put_binding(
     work: &[u8],
     i: usize,

@@ -21,7 +21,8 @@ pub(crate) fn used(
     if number[class] != 0 {
         return count;
     }
-    number[class] = (count + 1) as u8;
+    let more = count + 1;
+    number[class] = more as u8;
     list[count] = class as u8;
-    count + 1
+    more
 }

@@ -1,6 +1,6 @@
 -- Laws of what is read at one node, over plain values, as the code has them.
 -- In a loop over a run of cases that ends before case `end`, end - j are left from case j on.
-use Rattle.std.specs.Prelude.{◌≡◌, refl, Bool, true, false, List, eqb}
+use Rattle.std.specs.Prelude.{◌≡◌, Bool, true, false, List, eqb}
 use Rattle.std.proofs.Common.{subst}
 use Prim.Native.Nat.{ℕ, zero, suc, ◌+◌, ◌-◌, ◌≤◌, ◌<◌}
 use native.Mathlib.Omega.{arith}
@@ -40,10 +40,6 @@ module _ (w has : List ℕ) where
   first_marked_end j end l = let d : end - j ≡ 0 = omega arith in rw d
 
 -- ---- the default
-marked_default_zero : (has : List ℕ) → marked_default has 0 ≡ 0
-unfolding marked_default
-marked_default_zero has = refl
-
 pub marked_default_most : (has : List ℕ) (default : ℕ) → ((j : ℕ) → get_or has j 0 ≤ 1) → marked_default has default ≤ 1
 unfolding marked_default
 marked_default_most has default most = go (eqb default 0)

@@ -60,13 +60,6 @@ module _ (w : List ℕ) (a : Tree) (r : ReadyTree w a) (k : ℕ) (l : k < nodes_
           ⊎_elim (λ x. rw x (last_of_lem w a last r k l m ∙ ap some (sym (get_or-set_same last k clause 0 h ∙ e))))
           (λ x. m.last_leaf_holds j x g ∙ ap some (sym (get_or-set_other last k j clause 0 (λ y. omega arith)))) (first_or_more k j f)
 
--- none yet
-pub sets_none : (a : Tree) (k : ℕ) (sets : List ℕ) → nodes_in a ≤ k → SetsMarked a k sets
-sets_none a k sets l = record { clause = λ c. record { mark = λ j f g. absurd (omega arith) } }
-
-pub last_none : (a : Tree) (k : ℕ) (last : List ℕ) → nodes_in a ≤ k → LastMarked a k last
-last_none a k last l = record { last_leaf_holds = λ j f g. absurd (omega arith) }
-
 -- marks from a lower node on are marks from a higher one on
 mark_from : (a : Tree) (c k : ℕ) (has : List ℕ) → Marked a c 0 has → Marked a c k has
 mark_from a c k has m = record { mark = λ j f g. m.mark j (omega arith) g }
