@@ -1,19 +1,16 @@
 -- The check of a sheet: its conditions, one after the other, and what its answer says of the verdict.
-use Rattle.std.specs.Prelude.{◌≡◌, refl, Bool, true, false, List, [], ◌∷◌, ℕ, ◌≤◌, leb, length, ltb, drop, get_or, zero, suc, ◌+◌, Option, Result, Ok, Err, IfOk}
-use Rattle.std.proofs.Common.{ap, sym, ◌∙◌, arith}
+use Rattle.std.specs.Prelude.{◌≡◌, refl, Bool, true, false, List, [], ◌∷◌, ℕ, ◌≤◌, leb, length, ltb, drop, get_or, zero, suc, Option}
+use Rattle.std.proofs.Common.{ap, sym, ◌∙◌}
 use Rattle.std.proofs.Math.Option.{Option as Lowest, none, some}
 use Rattle.std.proofs.Math.Seq.{drop-nil}
 use Rattle.spec_rules.specs.Found.{found, sought, sought_found}
 use Rattle.base_words.specs.WordsLaws.{both_true}
 use borrow.Author.Tests.{leb-true}
 use Rattle.spec_rules.specs.Limits.{sheet_trailer}
-use Rattle.spec_rules.specs.SheetFile.{clauses}
 use Rattle.spec_rules.specs.SheetRefusals.{Verdict, accepted, refused, require, require_none, and_then, length_fits, layout_fits, has_clause, counts_fit, types_fit, lowest_transparent, shape_fits, lowest_bad_text, lowest_misfit, lowest_name_twice, verdict}
 use Rattle.spec_rules.specs.SheetRefusalsLaws.{verdict_in_order}
 use Rattle.spec_rules.specs.RefusalNumbers.{length_refusal, layout_refusal, no_clause_refusal, count_refusal, types_refusal, transparent_refusal, shape_refusal, text_refusal, misfit_refusal, name_twice_refusal}
 use Rattle.spec_accepted.specs.SheetFacts.{accepted_sheet}
-use Rattle.format_parts.specs.declared.refusals.Refusal.{Refusal}
-use Rattle.format_parts.specs.Refusals.{number_of, verdict_of}
 use Rattle.format_sheet.specs.declared.SheetMap.{SheetMap}
 use Rattle.format_sheet.specs.Sections.{map_of, few_enough}
 use Rattle.format_sheet.specs.SectionsLaws.{few_enough_is}
@@ -23,15 +20,9 @@ pub long_enough : (s : List ℕ) → length_fits s ≡ true → sheet_trailer �
 unfolding length_fits
 long_enough s h = leb-true sheet_trailer (length s) (both_true (leb sheet_trailer (length s)) _ h).0
 
--- ---- what an answer says of the verdict
-module _ (s : List ℕ) (r : Result SheetMap Refusal) (says : verdict_of r ≡ verdict s) where
-  pub sheet_accepts : (m : SheetMap) → IfOk r (λ x. x ≡ map_of s) → r ≡ Ok m → SheetAccepts s m
-  sheet_accepts m is_map e =
-      let w : verdict s ≡ accepted = sym says ∙ ap verdict_of e in
-      record { verdict = w; ok = accepted_sheet s w; is_map = rw e at is_map }
-
-  pub sheet_refuses : (why : Refusal) → r ≡ Err why → verdict s ≡ refused (number_of why.reason) why.place
-  sheet_refuses why e = sym says ∙ ap verdict_of e
+-- ---- what the check says of a sheet that it accepts
+pub sheet_accepts : (s : List ℕ) (m : SheetMap) → accepted ≡ verdict s → m ≡ map_of s → SheetAccepts s m
+sheet_accepts s m told is_map = record { verdict = sym told; ok = accepted_sheet s (sym told); is_map = is_map }
 
 -- ---- the conditions in their order: each by itself, and what is left of the verdict after the first k
 abbrev pub conditions : List ℕ → List Verdict

@@ -2,17 +2,14 @@
 pub mod Sections
 pub mod SectionsLaws
 pub mod Records
-pub mod RecordsLaws
 pub mod TestsLaws
 pub mod LoopsLaws
 pub mod Types
-pub mod TypesLaws
 pub mod Meeting
 pub mod MeetingLaws
 pub mod Shape
 pub mod ShapeLaws
 pub mod TallyLaws
-pub mod TextsLaws
 pub mod Fitting
 pub mod FittingLaws
 pub mod AskingLaws

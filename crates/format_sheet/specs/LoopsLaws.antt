@@ -1,41 +1,20 @@
--- The laws of a loop over the numbers below n: what is left from i on is the whole, as long as each number passed.
--- Rests on the laws of `every` and `lowest` in spec_rules.
+-- The laws of the loops that call what a closure could not: what is left is the whole, as long as each number passed.
+-- Rests on the laws of `lowest` in spec_rules.
 use Rattle.std.specs.Prelude.{◌≡◌, Bool, true, false}
 use Rattle.std.proofs.Math.Path.{ap, sym}
 use Rattle.std.proofs.Common.{◌∙◌}
 use Prim.Native.Nat.{ℕ, suc, ◌+◌, ◌-◌, ◌≤◌, ◌<◌}
 use native.Mathlib.Omega.{arith}
-use Rattle.std.proofs.Math.Nat.{sub-zero}
 use Rattle.base_words.specs.Words.{both}
 use Rattle.spec_rules.specs.Searching.{every, lowest}
-use Rattle.spec_rules.specs.SearchingLaws.{every_on, every_stop, every_end, lowest_found, lowest_on, lowest_end}
+use Rattle.spec_rules.specs.SearchingLaws.{lowest_found, lowest_on, lowest_end}
 use Rattle.std.specs.Prelude.{Option, Some, None}
 use Rattle.spec_rules.specs.Found.{found}
 
 module _ (f : ℕ → Bool) (n : ℕ) where
-  -- ---- a loop that asks every number
-  abbrev pub EveryLeft : ℕ → Type 0
-  EveryLeft i = every f i (n - i) ≡ every f 0 n
-
-  pub every_begins : EveryLeft 0
-  every_begins = ap (every f 0) (sub-zero n)
-
-  module _ (i : ℕ) (h : i < n) (left : EveryLeft i) where
-    pub every_goes_on : f i ≡ true → EveryLeft (i + 1)
-    every_goes_on e = every_on f i n h e ∙ left
-
-    pub every_stops : f i ≡ false → false ≡ every f 0 n
-    every_stops e = sym (every_stop f i n h e) ∙ left
-
-  pub every_ends : (i : ℕ) → n ≤ i → EveryLeft i → true ≡ every f 0 n
-  every_ends i h left = sym (every_end f i n h) ∙ left
-
   -- ---- a loop that asks n numbers from `first` on, and counts k from 0
   abbrev pub EveryFrom : ℕ → ℕ → Type 0
   EveryFrom first k = every f (first + k) (n - k) ≡ every f first n
-
-  pub from_begins : (first : ℕ) → EveryFrom first 0
-  from_begins first = let e : first + 0 ≡ first = omega arith in rw (e, sub-zero n)
 
   module _ (first k : ℕ) (h : k < n) (left : EveryFrom first k) where
     from_next : every f (first + k) (n - k) ≡ both (f (first + k)) (every f (first + (k + 1)) (n - (k + 1)))
@@ -58,9 +37,6 @@ module _ (f : ℕ → Bool) (n : ℕ) where
   -- ---- a loop that looks for the lowest number
   abbrev pub LowestLeft : ℕ → Type 0
   LowestLeft i = lowest f i (n - i) ≡ lowest f 0 n
-
-  pub lowest_begins : LowestLeft 0
-  lowest_begins = ap (lowest f 0) (sub-zero n)
 
   module _ (i : ℕ) (h : i < n) (left : LowestLeft i) where
     pub lowest_goes_on : f i ≡ false → LowestLeft (i + 1)

@@ -55,8 +55,7 @@ fn collect(
 {
     let mut next = add_own(sheet, records, p, found, count);
     let run = children_in(sheet, records, p);
-    let mut k: usize = 0;
-    while k < run.count {
+    for k in 0..run.count {
         next = collect(
             sheet,
             records,
@@ -65,7 +64,6 @@ fn collect(
             found,
             next,
         );
-        k += 1;
     }
     next
 }
@@ -75,12 +73,10 @@ fn again(found: &[u16], count: usize, i: usize) -> bool
     requires { (length found.now ≡ patterns_most) × (count ≤ patterns_most) × (i < count) }
     ensures { result ≡ is_in (get_or found.now i 0) (text_at found.now (i + 1) (count - (i + 1))) }
 {
-    let mut k = i + 1;
-    while k < count {
+    for k in i + 1..count {
         if found[i] == found[k] {
             return true;
         }
-        k += 1;
     }
     false
 }
@@ -89,12 +85,10 @@ fn repeats(found: &[u16], count: usize) -> bool
     requires { (length found.now ≡ patterns_most) × (count ≤ patterns_most) }
     ensures { result ≡ Repeats (held (in_buffer found.now count)) }
 {
-    let mut i: usize = 0;
-    while i < count {
+    for i in 0..count {
         if again(found, count, i) {
             return true;
         }
-        i += 1;
     }
     false
 }
@@ -121,12 +115,11 @@ pub(crate) fn lowest_name_twice(sheet: &[u8], map: SheetMap) -> Option<u16>
     ensures { result ≡ found (lowest_name_twice sheet.now) }
 {
     let mut found = [0u16; PATTERNS_MOST];
-    let mut c: usize = 0;
-    while c < map.clauses.count {
+    // A loop: the laws of `find` are for a closure that stays as it was, and this one would write the buffer.
+    for c in 0..map.clauses.count {
         if name_twice(sheet, map, c, &mut found) {
             return Some(c as u16);
         }
-        c += 1;
     }
     None
 }

@@ -12,6 +12,7 @@ use base_numbers::pattern_kinds;
 use base_numbers::sheet::TEXT_MOST;
 use format_parts::texts::canonical;
 
+#[tactic(auto, unfolding(spec_rules::specs::SheetRefusals::bad_text, spec_rules::specs::SheetRefusals::text_of_kind, spec_rules::specs::Patterns::pattern_kind_of))]
 fn bad_text(sheet: &[u8], map: SheetMap, p: usize) -> bool
     requires { Laid sheet.now × (map ≡ map_of sheet.now) × Shaped sheet.now × (p < patterns sheet.now) }
     ensures { result ≡ bad_text sheet.now p }
@@ -20,10 +21,7 @@ fn bad_text(sheet: &[u8], map: SheetMap, p: usize) -> bool
     let kind = r.kind;
     match kind {
         pattern_kinds::INTEGER => {
-            if TEXT_MOST < r.count {
-                return true;
-            }
-            !canonical(sheet, map.pool.start + r.first, r.count)
+            TEXT_MOST < r.count || !canonical(sheet, map.pool.start + r.first, r.count)
         }
         pattern_kinds::BYTE_STRING => TEXT_MOST < r.count,
         _ => false,

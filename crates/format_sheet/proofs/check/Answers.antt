@@ -1,7 +1,7 @@
 -- `format_sheet::check` meets its contract: it goes through the verdict's conditions in their order, each asked of what the earlier ones found.
 use Rattle.std.proofs.Common.{◌≡◌, true, rules}
 use Rattle.spec_rules.specs.SheetRefusals.{length_fits}
-use Rattle.spec_accepted.specs.SheetFacts.{Laid, Counted, Typed, Shaped, laid, counted, typed, shaped}
+use Rattle.spec_accepted.specs.SheetFacts.{Laid, Counted, Typed, laid, counted, typed, shaped}
 use Rattle.format_sheet.specs.Fitting.{ReadySheet}
 use Rattle.format_sheet.specs.CheckLaws.{Left, all_left, goes_on, stops, held, tested, searched, long_enough, few_enough_read, has_clause_read}
 use Rattle.format_sheet.proofs.check.Goals.{In_ok-require, In_ok-require-2, In_ok-require-3, In_ok-require-4, In_ok-require-5, In_ok-require-6, In_ok-require_none, In_ok-require_none-2, In_ok-require_none-3, In_ok-require_none-4}
