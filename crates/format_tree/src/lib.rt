@@ -25,19 +25,11 @@ fn records_keep_rules(tree: &[u8], map: TreeMap) -> bool
     requires { Mapped tree.now map }
     ensures { result ≡ records_keep_rules tree.now }
 {
-    if !nodes_keep_rules(tree, map) {
-        return false;
-    }
-    if !cases_keep_rules(tree, map) {
-        return false;
-    }
-    if !bindings_keep_rules(tree, map) {
-        return false;
-    }
-    if !paths_keep_rules(tree, map) {
-        return false;
-    }
-    steps_keep_rules(tree, map)
+    nodes_keep_rules(tree, map)
+        && cases_keep_rules(tree, map)
+        && bindings_keep_rules(tree, map)
+        && paths_keep_rules(tree, map)
+        && steps_keep_rules(tree, map)
 }
 
 // The map of a file that keeps every rule, else 31.
