@@ -4,21 +4,21 @@
 -- its tree `sheet_tree s`, with zeros after it, the work buffer is zero, and the three numbers are the file's own. The file says the whole tree: a reader accepts it and reads
 -- that tree back. `sheet_tree` is rules 1 to 7 of 01 (crate spec_rules: Rows, Columns, Splitting, Building, Hoisting), and nothing else.
 use Rattle.std.proofs.Math.Path.{◌≡◌, ap}
-use Rattle.std.specs.Prelude.{refl, true, List, ◌++◌, ℕ, ◌-◌, ◌<◌, ◌≤◌, length}
+use Rattle.std.specs.Prelude.{refl, Result, Ok, Err, true, List, ◌++◌, ℕ, ◌-◌, ◌<◌, ◌≤◌, length}
 use Rattle.std.proofs.Common.{sym, ◌∙◌, arith}
 use Rattle.base_words.specs.Words.{zeros}
 use Rattle.spec_rules.specs.Limits.{tree_room, work_room}
 use Rattle.spec_rules.specs.TreeReader.{tree_fits, tree_of, nodes, bindings}
-use Rattle.spec_rules.specs.Calls.{answers, Built as BuiltTree, BuildCall, built_of, build_answer, build_call, sheet_tree, sheet_tree_file}
+use Rattle.spec_rules.specs.Calls.{answers, Built, BuildCall, built_of, build_answer, build_call, sheet_tree, sheet_tree_file}
 use Rattle.spec_theorems.specs.Said.{Builds}
 use Rattle.spec_theorems.specs.CallsLaws.{build_answers, build_answers_only, build_writes}
 use Rattle.spec_theorems.proofs.Theorems.{the_file_fits, the_file_says_the_tree, the_answer_tells_the_file}
-use Rattle.build_call.specs.declared.Built.{Built}
-use Rattle.build_call.specs.declared.Built.TheVariants.{Tree}
+use Rattle.format_parts.specs.declared.refusals.Refusal.{Refusal}
+use Rattle.build_call.specs.declared.BuiltTree.{BuiltTree}
 use Rattle.build_call.specs.Answers.{answer_of}
 use Rattle.dewmycel.specs.Promises.{BuildFits}
 
--- what holds of the answer Tree bytes nodes bindings, with these buffers
+-- what holds of the answer of so many bytes, nodes and bindings, with these buffers
 pub record IsTheTree (s : List ℕ) (n m : ℕ) (bytes node_count binding_count : ℕ) (tree work : List ℕ) : Type 0 where
   pub builds : Builds s
   pub tree_buffer : tree ≡ sheet_tree_file s ++ zeros (n - bytes)
@@ -30,17 +30,17 @@ pub record IsTheTree (s : List ℕ) (n m : ℕ) (bytes node_count binding_count 
   pub file_read : tree_fits (sheet_tree_file s) ≡ true
   pub file_says : tree_of (sheet_tree_file s) ≡ sheet_tree s
 
-module _ (s : List ℕ) (n m : ℕ) (r : Built) (tree work : List ℕ) (fits : BuildFits s n m r tree work) where
+module _ (s : List ℕ) (n m : ℕ) (r : Result BuiltTree Refusal) (tree work : List ℕ) (fits : BuildFits s n m r tree work) where
   the_answer : answer_of r ≡ build_answer s n m
   unfolding build_call
   the_answer = ap (λ (x : BuildCall). x.answer) fits
 
-  pub the_tree_is_the_rules : (bytes node_count binding_count : ℕ) → r ≡ Tree bytes node_count binding_count → IsTheTree s n m bytes node_count binding_count tree work
-  the_tree_is_the_rules bytes node_count binding_count e =
-      let x : BuiltTree = record { bytes = bytes; nodes = node_count; bindings = binding_count } in
-      let a : build_answer s n m ≡ answers x = sym the_answer ∙ ap answer_of e in
-      let o = build_answers_only s n m x a in
-      let told = the_answer_tells_the_file s n m x a in
+  pub the_tree_is_the_rules : (a : BuiltTree) → r ≡ Ok a → IsTheTree s n m a.length a.nodes a.bindings tree work
+  the_tree_is_the_rules a e =
+      let x : Built = record { bytes = a.length; nodes = a.nodes; bindings = a.bindings } in
+      let is : build_answer s n m ≡ answers x = sym the_answer ∙ ap answer_of e in
+      let o = build_answers_only s n m x is in
+      let told = the_answer_tells_the_file s n m x is in
       let w = build_writes s n m o.tree_room_holds o.work_room_holds o.builds in
       record {
         builds = o.builds;
@@ -55,10 +55,10 @@ module _ (s : List ℕ) (n m : ℕ) (r : Built) (tree work : List ℕ) (fits : B
       }
 
   -- and a sheet that builds, in buffers of 65,536 bytes, is answered with its tree
-  pub a_sheet_that_builds_is_answered : Builds s → tree_room ≤ n → work_room ≤ m → (bytes : ℕ) × (node_count : ℕ) × (binding_count : ℕ) × (r ≡ Tree bytes node_count binding_count)
+  pub a_sheet_that_builds_is_answered : Builds s → tree_room ≤ n → work_room ≤ m → (a : BuiltTree) × (r ≡ Ok a)
   unfolding built_of
   a_sheet_that_builds_is_answered b room work_room_holds = go r (the_answer ∙ build_answers s n m room work_room_holds b)
     where
-      go : (q : Built) → answer_of q ≡ answers (built_of (sheet_tree_file s) (sheet_tree s)) → (bytes : ℕ) × (node_count : ℕ) × (binding_count : ℕ) × (q ≡ Tree bytes node_count binding_count)
-      go (Tree bytes node_count binding_count) e = (bytes, node_count, binding_count, refl)
-      go (Built.Refused number place) e = let z : ◌≡◌ {A = ℕ} 0 1 = cc in absurd (omega arith)
+      go : (q : Result BuiltTree Refusal) → answer_of q ≡ answers (built_of (sheet_tree_file s) (sheet_tree s)) → (a : BuiltTree) × (q ≡ Ok a)
+      go (Ok a) e = (a, refl)
+      go (Err why) e = let z : ◌≡◌ {A = ℕ} 0 1 = cc in absurd (omega arith)

@@ -1,6 +1,6 @@
--- Each way out of a call, packed: from what the code has of its enum to the rules' answer.
--- Rests on Answers and Packed, and for the bounds of a text on what an accepted panel gives.
-use Rattle.std.specs.Prelude.{◌≡◌, refl, Bool, true, false, List, ℕ, ◌+◌, ◌<◌}
+-- Each way out of a call, packed: from what the code has answered to the rules' answer.
+-- Rests on Packed, and for the bounds of a text on what an accepted panel gives.
+use Rattle.std.specs.Prelude.{◌≡◌, refl, Bool, true, false, Some, None, Ok, Err, List, ℕ, ◌+◌, ◌<◌}
 use Rattle.std.proofs.Common.{sym, ◌∙◌, arith, ltb-true, leb-true}
 use Rattle.std.proofs.Math.Path.{ap}
 use Rattle.base_words.specs.WordsLaws.{both_true}
@@ -8,95 +8,71 @@ use Rattle.spec_rules.specs.RefusalNumbers.{stuck_refusal, no_text_refusal}
 use Rattle.spec_rules.specs.PanelFile.{record_first, record_count, panel_pool_at}
 use Rattle.spec_rules.specs.SheetRefusals.{Verdict, accepted, refused, require}
 use Rattle.spec_rules.specs.PanelFile.{panel_verdict}
-use Rattle.spec_rules.specs.Calls.{Answer, answers, refuses, unless, BuildCall, WalkCall, Span, fit_call, text_call, has_text}
+use Rattle.spec_rules.specs.Calls.{Answer, answers, refuses, unless, BuildCall, WalkCall, Span, text_call, has_text}
 use Rattle.spec_accepted.specs.PanelFacts.{PanelAccepted, accepted_panel, panel_text_inside}
-use Rattle.fit.specs.declared.Fitted.{Fitted}
-use Rattle.fit.specs.declared.Fitted.TheVariants.{Fits, Refused as NotFitted}
-use Rattle.format_panel.specs.declared.Located.{Located}
-use Rattle.format_panel.specs.declared.Located.TheVariants.{At, Refused as NotLocated}
-use Rattle.format_panel.specs.Answers.{located, located_by}
-use Rattle.fit.specs.Answers.{fitted, fitted_by}
-use Rattle.walk.specs.declared.Walked.{Walked}
-use Rattle.walk.specs.declared.Walked.TheVariants.{Leaf, NoLeaf, Stuck, Refused as NotWalked}
+use Rattle.format_parts.specs.declared.refusals.Refusal.{Refusal}
+use Rattle.format_parts.specs.Refusals.{number_of}
+use Rattle.walk.specs.declared.Leaf.{Leaf}
+use Rattle.walk.specs.declared.WalkError.TheVariants.{Refused, Stuck}
 use Rattle.walk.specs.Answers.{answer_of, call_of}
-use Rattle.build_call.specs.declared.Built.{Built}
-use Rattle.build_call.specs.declared.Built.TheVariants.{Tree as BuiltTree, Refused as NotBuilt}
+use Rattle.build_call.specs.declared.BuiltTree.{BuiltTree}
 use Rattle.build_call.specs.Answers.{answer_of as build_answer_of, call_of as build_of}
-use Rattle.dewmycel.specs.Answers.{verdict_of, span_of}
 use Rattle.dewmycel.specs.Packed.{packed, packed_build, packed_fit, packed_walk, packed_text}
 use Rattle.dewmycel.specs.Face.{BuildFace, WalkFace}
 
--- ---- the calls' answers are those of the crates below
-pub fitted_verdict : (s v : List ℕ) (r : Fitted) → r ≡ fitted s v → verdict_of r ≡ fit_call s v
-unfolding fitted fitted_by
-fitted_verdict s v r e = ap verdict_of e ∙ same (fit_call s v)
-  where
-    same : (w : Verdict) → verdict_of (fitted_by w) ≡ w
-    same accepted = refl
-    same (refused number place) = refl
+-- ---- packed: y is the word, and r a refusal
+abbrev packs : ℕ → Refusal → Type 0
+packs y r = y ≡ packed (number_of r.reason) r.place 0 0
 
-pub located_span : (v : List ℕ) (place dropped : ℕ) (r : Located) → r ≡ located v place dropped → span_of r ≡ text_call v place dropped
-unfolding located located_by
-located_span v place dropped r e = ap span_of e ∙ same (text_call v place dropped)
-  where
-    same : (a : Answer Span) → span_of (located_by a) ≡ a
-    same (answers x) = refl
-    same (refuses number place) = refl
+pub fits_packed : {w : Verdict} → accepted ≡ w → 0 ≡ packed_fit w
+unfolding packed_fit
+fits_packed is = ap packed_fit is
 
--- ---- packed
-module _ (r : Fitted) (w : Verdict) (is : verdict_of r ≡ w) where
-  pub fits_packed : r ≡ Fits → 0 ≡ packed_fit w
-  unfolding packed_fit
-  fits_packed e = ap packed_fit (sym (ap verdict_of e) ∙ is)
+pub unfit_packed : {w : Verdict} (r : Refusal) (y : ℕ) → refused (number_of r.reason) r.place ≡ w → packs y r → y ≡ packed_fit w
+unfolding packed_fit
+unfit_packed r y is p = p ∙ ap packed_fit is
 
-  pub unfit_packed : (number place y : ℕ) → r ≡ NotFitted number place → y ≡ packed number place 0 0 → y ≡ packed_fit w
-  unfolding packed_fit
-  unfit_packed number place y e p = p ∙ ap packed_fit (sym (ap verdict_of e) ∙ is)
+pub text_packed : {a : Answer Span} (x : Span) (y : ℕ) → answers x ≡ a → y ≡ packed 0 x.start x.count 0 → y ≡ packed_text a
+unfolding packed_text
+text_packed x y is p = p ∙ ap packed_text is
 
-module _ (r : Located) (a : Answer Span) (is : span_of r ≡ a) where
-  pub text_packed : (start count y : ℕ) → r ≡ At start count → y ≡ packed 0 start count 0 → y ≡ packed_text a
-  unfolding packed_text
-  text_packed start count y e p = p ∙ ap packed_text (sym (ap span_of e) ∙ is)
+pub no_text_packed : {a : Answer Span} (r : Refusal) (y : ℕ) → refuses (number_of r.reason) r.place ≡ a → packs y r → y ≡ packed_text a
+unfolding packed_text
+no_text_packed r y is p = p ∙ ap packed_text is
 
-  pub no_text_packed : (number place y : ℕ) → r ≡ NotLocated number place → y ≡ packed number place 0 0 → y ≡ packed_text a
-  unfolding packed_text
-  no_text_packed number place y e p = p ∙ ap packed_text (sym (ap span_of e) ∙ is)
-
-module _ (r : Built) (tree work : List ℕ) (call : BuildCall) (is : build_of r tree work ≡ call) where
-  build_face : (y : ℕ) → y ≡ packed_build (build_answer_of r) → BuildFace y tree work call
-  build_face y e = record {
-    answer = e ∙ ap (λ (x : BuildCall). packed_build x.answer) is;
+module _ {tree work : List ℕ} {call : BuildCall} where
+  pub tree_packed : (t : BuiltTree) (y : ℕ) → build_of (Ok t) tree work ≡ call → y ≡ packed 0 t.length t.nodes t.bindings → BuildFace y tree work call
+  unfolding packed_build
+  tree_packed t y is p = record {
+    answer = p ∙ ap (λ (x : BuildCall). packed_build x.answer) is;
     tree_bytes = ap (λ (x : BuildCall). x.tree) is;
     work_bytes = ap (λ (x : BuildCall). x.work) is;
   }
 
-  pub tree_packed : (bytes nodes bindings y : ℕ) → r ≡ BuiltTree bytes nodes bindings → y ≡ packed 0 bytes nodes bindings → BuildFace y tree work call
+  pub unbuilt_packed : (r : Refusal) (y : ℕ) → build_of (Err r) tree work ≡ call → packs y r → BuildFace y tree work call
   unfolding packed_build
-  tree_packed bytes nodes bindings y e p = build_face y (p ∙ ap (λ x. packed_build (build_answer_of x)) (sym e))
+  unbuilt_packed r y is p = record {
+    answer = p ∙ ap (λ (x : BuildCall). packed_build x.answer) is;
+    tree_bytes = ap (λ (x : BuildCall). x.tree) is;
+    work_bytes = ap (λ (x : BuildCall). x.work) is;
+  }
 
-  pub unbuilt_packed : (number place y : ℕ) → r ≡ NotBuilt number place → y ≡ packed number place 0 0 → BuildFace y tree work call
-  unfolding packed_build
-  unbuilt_packed number place y e p = build_face y (p ∙ ap (λ x. packed_build (build_answer_of x)) (sym e))
-
-module _ (r : Walked) (l : List ℕ) (call : WalkCall) (is : call_of r l ≡ call) where
-  face : (y : ℕ) → y ≡ packed_walk (answer_of r) → WalkFace y l call
-  face y e = record { answer = e ∙ ap (λ (x : WalkCall). packed_walk x.answer) is; words = ap (λ (x : WalkCall). x.bound) is }
-
-  pub leaf_packed : (clause count y : ℕ) → r ≡ Leaf clause count → y ≡ packed 0 clause count 1 → WalkFace y l call
+module _ {l : List ℕ} {call : WalkCall} where
+  pub leaf_packed : (leaf : Leaf) (y : ℕ) → call_of (Ok (Some leaf)) l ≡ call → y ≡ packed 0 leaf.clause leaf.count 1 → WalkFace y l call
   unfolding packed_walk
-  leaf_packed clause count y e p = face y (p ∙ ap (λ x. packed_walk (answer_of x)) (sym e))
+  leaf_packed leaf y is p = record { answer = p ∙ ap (λ (x : WalkCall). packed_walk x.answer) is; words = ap (λ (x : WalkCall). x.bound) is }
 
-  pub no_leaf_packed : r ≡ NoLeaf → WalkFace 0 l call
+  pub no_leaf_packed : call_of (Ok None) l ≡ call → WalkFace 0 l call
   unfolding packed_walk
-  no_leaf_packed e = face 0 (ap (λ x. packed_walk (answer_of x)) (sym e))
+  no_leaf_packed is = record { answer = ap (λ (x : WalkCall). packed_walk x.answer) is; words = ap (λ (x : WalkCall). x.bound) is }
 
-  pub stuck_packed : (node step y : ℕ) → r ≡ Stuck node step → y ≡ packed stuck_refusal node step 0 → WalkFace y l call
+  pub stuck_packed : (node step y : ℕ) → call_of (Err (Stuck node step)) l ≡ call → y ≡ packed stuck_refusal node step 0 → WalkFace y l call
   unfolding packed_walk
-  stuck_packed node step y e p = face y (p ∙ ap (λ x. packed_walk (answer_of x)) (sym e))
+  stuck_packed node step y is p = record { answer = p ∙ ap (λ (x : WalkCall). packed_walk x.answer) is; words = ap (λ (x : WalkCall). x.bound) is }
 
-  pub unwalked_packed : (number place y : ℕ) → r ≡ NotWalked number place → y ≡ packed number place 0 0 → WalkFace y l call
+  pub unwalked_packed : (r : Refusal) (y : ℕ) → call_of (Err (Refused r)) l ≡ call → packs y r → WalkFace y l call
   unfolding packed_walk
-  unwalked_packed number place y e p = face y (p ∙ ap (λ x. packed_walk (answer_of x)) (sym e))
+  unwalked_packed r y is p = record { answer = p ∙ ap (λ (x : WalkCall). packed_walk x.answer) is; words = ap (λ (x : WalkCall). x.bound) is }
 
 -- ---- a text lies inside its panel, so a word holds where it starts and how long it is
 pub record Within (x : Span) : Type 0 where
@@ -126,8 +102,3 @@ text_within v place dropped x e = verdict_first (panel_verdict v) refl e
     verdict_first : (w : Verdict) → panel_verdict v ≡ w → unless w (unless (require (has_text v place dropped) no_text_refusal accepted) (answers span)) ≡ answers x → Within x
     verdict_first accepted h d = has_text_lem (accepted_panel v h) (has_text v place dropped) refl d
     verdict_first (refused number p) h d = let z : ◌≡◌ {A = ℕ} 0 1 = cc in absurd (omega arith)
-
--- the same of what the code has of it
-pub text_at : (r : Located) (v : List ℕ) (place dropped : ℕ) → span_of r ≡ text_call v place dropped → (start count : ℕ) → r ≡ At start count
-    → Within (record { start = start; count = count })
-text_at r v place dropped is start count e = text_within v place dropped (record { start = start; count = count }) (sym is ∙ ap span_of e)

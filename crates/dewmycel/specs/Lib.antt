@@ -1,5 +1,4 @@
 pub mod Promises
-pub mod Answers
 pub mod Packed
 pub mod Face
 pub mod AnswersLaws

@@ -3,20 +3,26 @@
 // The crate dewmycel_c exports them.
 ghost use Rattle.std.specs.Prelude.{◌≡◌, length};
 ghost use Rattle.spec_rules.specs.Calls.{build_call, fit_call, walk_call, text_call};
+ghost use Rattle.format_parts.specs.Refusals.{number_of};
 ghost use Rattle.dewmycel.specs.Packed.{packed, packed_fit, packed_text};
 ghost use Rattle.dewmycel.specs.Face.{BuildFace, WalkFace};
 
-use base_numbers::refusals;
-use build_call::Built;
-use fit::Fitted;
-use format_panel::Located;
-use walk::Walked;
+use format_parts::refusals::{Reason, Refusal};
+use walk::WalkError;
 
 // Four words in one, the first lowest.
+#[tactic(auto, unfolding(crate::specs::Packed::packed))]
 fn pack(a: u16, b: u16, c: u16, d: u16) -> u64
     ensures { result ≡ packed a b c d }
 {
     a as u64 + 65536 * (b as u64) + 4294967296 * (c as u64) + 281474976710656 * (d as u64)
+}
+
+// The number of a refusal and its place.
+fn pack_refusal(refusal: Refusal) -> u64
+    ensures { result ≡ packed (number_of refusal.reason) refusal.place 0 0 }
+{
+    pack(refusal.reason.number(), refusal.place, 0, 0)
 }
 
 // Built: bits 16 to 31 are the length of the tree file, 32 to 47 its nodes, 48 to 63 its bindings.
@@ -24,12 +30,8 @@ pub fn dewmycel_build(sheet: &[u8], tree: &mut [u8], work: &mut [u8]) -> u64
     ensures { BuildFace result tree.new work.new (build_call sheet.now (length tree.old) (length work.old)) }
 {
     match crate::build(sheet, tree, work) {
-        Built::Tree {
-            length,
-            nodes,
-            bindings,
-        } => pack(0, length, nodes, bindings),
-        Built::Refused { number, place } => pack(number, place, 0, 0),
+        Ok(built) => pack(0, built.length, built.nodes, built.bindings),
+        Err(refusal) => pack_refusal(refusal),
     }
 }
 
@@ -38,8 +40,8 @@ pub fn dewmycel_fit(sheet: &[u8], panel: &[u8]) -> u64
     ensures { result ≡ packed_fit (fit_call sheet.now panel.now) }
 {
     match crate::fit(sheet, panel) {
-        Fitted::Fits => 0,
-        Fitted::Refused { number, place } => pack(number, place, 0, 0),
+        Ok(()) => 0,
+        Err(refusal) => pack_refusal(refusal),
     }
 }
 
@@ -49,10 +51,10 @@ pub fn dewmycel_walk(tree: &[u8], panel: &[u8], bound: &mut [u16]) -> u64
     ensures { WalkFace result bound.new (walk_call tree.now panel.now (length bound.old)) }
 {
     match crate::walk(tree, panel, bound) {
-        Walked::Leaf { clause, count } => pack(0, clause, count, 1),
-        Walked::NoLeaf => 0,
-        Walked::Stuck { node, step } => pack(refusals::STUCK, node, step, 0),
-        Walked::Refused { number, place } => pack(number, place, 0, 0),
+        Ok(Some(leaf)) => pack(0, leaf.clause, leaf.count, 1),
+        Ok(None) => 0,
+        Err(WalkError::Stuck { node, step }) => pack(Reason::Stuck.number(), node, step, 0),
+        Err(WalkError::Refused(refusal)) => pack_refusal(refusal),
     }
 }
 
@@ -61,7 +63,7 @@ pub fn dewmycel_text(panel: &[u8], record: u16, dropped: u16) -> u64
     ensures { result ≡ packed_text (text_call panel.now «record» dropped) }
 {
     match crate::text(panel, record, dropped) {
-        Located::At { start, count } => pack(0, start as u16, count as u16, 0),
-        Located::Refused { number, place } => pack(number, place, 0, 0),
+        Ok(part) => pack(0, part.start as u16, part.count as u16, 0),
+        Err(refusal) => pack_refusal(refusal),
     }
 }

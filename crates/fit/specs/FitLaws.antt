@@ -22,7 +22,6 @@ use Rattle.format_panel.specs.declared.records.Record.{Record}
 use Rattle.fit.specs.declared.fitting.Below.{Below}
 use Rattle.fit.specs.declared.fitting.Below.TheVariants.{Alone, Parts}
 use Rattle.format_panel.specs.Opened.{record_of}
-use Rattle.format_panel.specs.CountingLaws.{same_or_not}
 use Rattle.fit.specs.Fit.{fields_below, below_of_kind, below, fits_below, ReadyToFit, Typing, EachTyped, Run}
 
 -- ---- a record fits exactly if what is left below it does
@@ -145,13 +144,6 @@ module _ (s : List ℕ) (sm : SheetMap) (v : List ℕ) (vm : PanelMap) (ready : 
 
   -- ---- where a part is left
   module _ (owner j n e step : ℕ) (run : Run s v owner j n e step) where
-    -- a record's parts are parts of the panel
-    pub run_short : n ≤ parts v
-    run_short =
-        ⊎_elim (λ z. omega arith)
-        (λ some. omega (arith, held_entry ready.is_shaped owner (j + n - 1) run.known (run.listed (j + n - 1) (omega arith) (omega arith))))
-        (same_or_not n 0)
-
     pub run_next : (n ≡ 0 → ⊥) → Run s v owner (j + 1) (n - 1) (e + step) step
     run_next some = record {
       known = run.known;
@@ -197,6 +189,54 @@ module _ (s : List ℕ) (sm : SheetMap) (v : List ℕ) (vm : PanelMap) (ready : 
     pub part_fits : (rest : Bool) → b ≡ true → rest ≡ parts_fit (has_type_to records_most s v) s v (j + 1) (n - 1) (e + step) step
         → rest ≡ parts_fit (has_type_to records_most s v) s v j n e step
     part_fits rest h e' = e' ∙ sym (first_fits ∙ rw h)
+
+-- ---- after k of the parts
+module _ (s : List ℕ) (sm : SheetMap) (v : List ℕ) (vm : PanelMap) (ready : ReadyToFit s sm v vm) (first count step : ℕ) where
+  abbrev fits_from : ℕ → ℕ → Bool
+  fits_from k e = parts_fit (has_type_to records_most s v) s v (first + k) (count - k) e step
+
+  pub parts_start : (owner e : ℕ) → Run s v owner first count e step
+      → Run s v owner (first + 0) (count - 0) e step × (fits_from 0 e ≡ parts_fit (has_type_to records_most s v) s v first count e step)
+  parts_start owner e run = let a : first + 0 ≡ first = omega arith in let b : count - 0 ≡ count = omega arith in rw (a, b) (run, refl)
+
+  module _ (owner e k : ℕ) (left : k < count) (run : Run s v owner (first + k) (count - k) e step) where
+    some_left : count - k ≡ 0 → ⊥
+    some_left z = omega arith
+
+    -- what is known of the part at hand
+    pub part_entry : first + k < parts v
+    part_entry = next_entry s sm v vm ready owner (first + k) (count - k) e step run some_left
+
+    pub part_type_entry : e < entries s
+    part_type_entry = next_type_entry s sm v vm ready owner (first + k) (count - k) e step run some_left
+
+    pub part_above : owner < part v (first + k)
+    part_above = next_above s sm v vm ready owner (first + k) (count - k) e step run some_left
+
+    pub part_record : part v (first + k) < records v
+    part_record = next_record s sm v vm ready owner (first + k) (count - k) e step run some_left
+
+    pub part_type : entry s e < types s
+    part_type = next_type s sm v vm ready owner (first + k) (count - k) e step run some_left
+
+    pub part_step : e + step ≤ entries s
+    part_step = next_step s sm v vm ready owner (first + k) (count - k) e step run some_left
+
+    module _ (q u : ℕ) (part_is : q ≡ part v (first + k)) (type_is : u ≡ entry s e) (b : Bool) (fits : b ≡ has_type_to records_most s v q u) where
+      pub parts_stop : b ≡ false → false ≡ fits_from k e
+      parts_stop h = part_misfits s sm v vm ready (first + k) (count - k) e step q u some_left part_is type_is b fits h
+
+      pub parts_on : b ≡ true → Run s v owner (first + (k + 1)) (count - (k + 1)) (e + step) step × (fits_from (k + 1) (e + step) ≡ fits_from k e)
+      parts_on h =
+          let a : first + (k + 1) ≡ first + k + 1 = omega arith in
+          let c : count - (k + 1) ≡ count - k - 1 = omega arith in
+          rw (a, c) (
+            run_next s sm v vm ready owner (first + k) (count - k) e step run some_left,
+            part_fits s sm v vm ready (first + k) (count - k) e step q u some_left part_is type_is b fits _ h refl,
+          )
+
+  pub parts_end : (e k : ℕ) → count ≤ k → true ≡ fits_from k e
+  parts_end e k h = parts_done s sm v vm ready (first + k) (count - k) e step (omega arith)
 
 -- ---- a constructor that has as many parts as fields
 pub fields_left : (s : List ℕ) (x : Record) (y : TypeRecord) (c : Fields) → y.kind ≡ data_type → x.a < y.count → c ≡ constructor_at s (y.first + x.a)

@@ -1,5 +1,4 @@
 -- The definitions that the contracts of this crate cite, and their laws.
-pub mod Answers
 pub mod Fit
 pub mod FitLaws
 pub mod AnswersLaws

@@ -1,5 +1,5 @@
-// Refusal 25: a panel fits the subject type of a sheet. Fitting a record calls fitting its parts, which calls fitting a record; a type
-// may contain itself, and it ends because a part's record has a larger number than its owner.
+// Refusal 25: a panel fits the subject type of a sheet. Fitting a record fits its parts; a type may contain itself, and it ends because
+// a part's record has a larger number than its owner.
 ghost use Rattle.std.specs.Prelude.{◌≡◌, ◌<◌};
 ghost use Rattle.spec_rules.specs.Limits.{records_most};
 ghost use Rattle.spec_rules.specs.SheetFile.{types, subject};
@@ -44,10 +44,7 @@ fn list_below(x: Record, y: TypeRecord) -> Below
 fn parts_below(x: Record, y: TypeRecord, kind: u8) -> Below
     ensures { result ≡ parts_below x y kind }
 {
-    if y.kind != kind {
-        return Below::Alone(false);
-    }
-    if y.count != x.count {
+    if y.kind != kind || y.count != x.count {
         return Below::Alone(false);
     }
     Below::Parts {
@@ -63,10 +60,7 @@ fn fields_below(sheet: &[u8], map: SheetMap, x: Record, y: TypeRecord) -> Below
     requires { Typing sheet.now map y }
     ensures { result ≡ fields_below sheet.now x y }
 {
-    if y.kind != type_kinds::DATA {
-        return Below::Alone(false);
-    }
-    if y.count <= x.a {
+    if y.kind != type_kinds::DATA || y.count <= x.a {
         return Below::Alone(false);
     }
     let c = constructor_at(sheet, map, y.first + x.a);
@@ -82,6 +76,7 @@ fn fields_below(sheet: &[u8], map: SheetMap, x: Record, y: TypeRecord) -> Below
 }
 
 // Record r and type t agree in kind and count, and what is left.
+#[tactic(auto, using(crate::specs::FitLaws::below_read), unfolding(crate::specs::Fit::below_of_kind, spec_rules::specs::PanelFile::record_kind_of))]
 fn below_record(
     sheet: &[u8],
     map: SheetMap,
@@ -95,8 +90,7 @@ fn below_record(
 {
     let x = record_at(panel, r);
     let y = type_at(sheet, map, t);
-    let kind = x.kind;
-    match kind {
+    match x.kind {
         record_kinds::INTEGER => Below::Alone(y.kind == type_kinds::INT),
         record_kinds::BYTES => Below::Alone(y.kind == type_kinds::BYTES),
         record_kinds::LIST => list_below(x, y),
@@ -107,8 +101,7 @@ fn below_record(
     }
 }
 
-// Record r is of type t.
-#[cycle(parts_fit_record_fits)]
+// Record r is of type t: so are its parts, each of the type at its own entry, the first at `entry`, each next one `step` further on.
 fn record_fits(
     sheet: &[u8],
     map: SheetMap,
@@ -127,46 +120,20 @@ fn record_fits(
             count,
             entry,
             step,
-        } => parts_fit(sheet, map, panel, places, r, first, count, entry, step),
+        } => {
+            // A `for` and no `all`: the type entry goes on beside the part.
+            let mut e = entry;
+            for k in 0..count {
+                let part = part_at(panel, places, first + k);
+                let of = entry_at(sheet, map, e);
+                if !record_fits(sheet, map, panel, places, part, of) {
+                    return false;
+                }
+                e += step;
+            }
+            true
+        }
     }
-}
-
-// The n parts from entry j of the owner's list on are each of the type at its own type entry: the first at e, each next one `step`
-// further on.
-#[cycle(parts_fit_record_fits)]
-fn parts_fit(
-    sheet: &[u8],
-    map: SheetMap,
-    panel: &[u8],
-    places: PanelMap,
-    owner: usize,
-    j: usize,
-    n: usize,
-    e: usize,
-    step: usize,
-) -> bool
-    requires { ReadyToFit sheet.now map panel.now places × Run sheet.now panel.now owner j n e step }
-    ensures { result ≡ parts_fit (has_type_to records_most sheet.now panel.now) sheet.now panel.now j n e step }
-{
-    if n == 0 {
-        return true;
-    }
-    let r = part_at(panel, places, j);
-    let t = entry_at(sheet, map, e);
-    if !record_fits(sheet, map, panel, places, r, t) {
-        return false;
-    }
-    parts_fit(
-        sheet,
-        map,
-        panel,
-        places,
-        owner,
-        j + 1,
-        n - 1,
-        e + step,
-        step,
-    )
 }
 
 // 25: the root is of the subject's type.

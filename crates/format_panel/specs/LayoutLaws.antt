@@ -1,11 +1,14 @@
 -- The layout and the map of a panel, and one record of it, from what was read.
 -- Rests on the definitions of the crate spec_rules alone.
-use Rattle.std.specs.Prelude.{◌≡◌, Bool, List, [], ◌∷◌, ℕ, ◌+◌, ◌-◌, ◌*◌, ◌/◌, eqb, leb, length, get_or}
-use Rattle.std.proofs.Common.{zero-add, div-one}
+use Rattle.std.specs.Prelude.{◌≡◌, Bool, List, ℕ, zero, suc, ◌+◌, ◌-◌, ◌*◌, ◌/◌, eqb, leb, length, get_or}
+use Rattle.std.proofs.Common.{ap, sym, arith, zero-add, div-one}
+use borrow.Author.Tests.{ne_eqb}
+use native.Mathlib.Nat.{sub-zero}
 use Rattle.base_words.specs.Words.{word_at, both}
+use Rattle.base_words.specs.WordsLaws.{both_assoc}
 use Rattle.spec_rules.specs.Limits.{record_size, part_size, panel_trailer, records_most}
-use Rattle.spec_rules.specs.SheetRefusals.{whole_between}
-use Rattle.spec_rules.specs.PanelFile.{panel_start, records_at, parts_at, panel_pool_at, panel_pool_end, panel_sizes, records, parts, panel_pool_size, record_kind, record_zero, record_a, record_first, record_count, panel_layout_fits}
+use Rattle.spec_rules.specs.SheetRefusals.{whole_records}
+use Rattle.spec_rules.specs.PanelFile.{panel_start, records_at, parts_at, panel_pool_at, panel_pool_end, records, parts, panel_pool_size, record_kind, record_zero, record_a, record_first, record_count, panel_layout_fits}
 use Rattle.spec_accepted.specs.PanelFacts.{PanelLaid}
 use Rattle.format_parts.specs.declared.sections.Section.{Section}
 use Rattle.format_parts.specs.Sections.{section_of}
@@ -13,18 +16,23 @@ use Rattle.format_panel.specs.declared.PanelMap.{PanelMap}
 use Rattle.format_panel.specs.declared.records.Record.{Record}
 use Rattle.format_panel.specs.Opened.{map_of, record_of}
 
--- the layout of sections that start at a, b and c, before a trailer at e
-abbrev pub starts_fit : ℕ → ℕ → ℕ → ℕ → Bool
-starts_fit a b c e =
-    both (eqb a 0)
-    (both (whole_between panel_sizes (a ∷ b ∷ c ∷ e ∷ []))
-    (both (leb 1 ((b - a) / record_size)) (leb ((b - a) / record_size) records_most)))
+regroup : (a b c d : Bool) → both (both a (both b c)) d ≡ both a (both b (both c d))
+regroup a b c d = simp both_assoc
 
 module _ (v : List ℕ) where
+  -- the layout of sections that start at a, b and c
   pub layout_read : (a b c : ℕ) → a ≡ panel_start v 0 → b ≡ panel_start v 1 → c ≡ panel_start v 2
-      → panel_layout_fits v ≡ starts_fit a b c (length v - panel_trailer)
+      → both (eqb a 0)
+      (both (whole_records record_size a b)
+      (both (whole_records part_size b c)
+      (both (whole_records 1 c (length v - panel_trailer))
+      (both (leb 1 (b / record_size)) (leb (b / record_size) records_most)))))
+      ≡ panel_layout_fits v
   unfolding panel_layout_fits records records_at parts_at panel_pool_at panel_pool_end
-  layout_read a b c ea eb ec = rw (ea, eb, ec)
+  layout_read zero b c ea eb ec =
+      let from_zero : (b - 0) / record_size ≡ b / record_size = ap (λ (x : ℕ). x / record_size) (sub-zero b) in
+      rw (← ea, ← eb, ← ec, from_zero) (sym (regroup (whole_records record_size 0 b) (whole_records part_size b c) (whole_records 1 c (length v - panel_trailer)) (both (leb 1 (b / record_size)) (leb (b / record_size) records_most))))
+  layout_read (suc a) b c ea eb ec = rw (← ea, ne_eqb (suc a) 0 (λ e. omega arith))
 
   -- the map, made of sections from one start to the next
   pub map_read : (a b c : ℕ) → a ≡ panel_start v 0 → b ≡ panel_start v 1 → c ≡ panel_start v 2

@@ -6,12 +6,12 @@ use Rattle.std.proofs.Math.Logic.{⊎_elim}
 use Prim.Native.Nat.{ℕ, suc, ◌+◌, ◌-◌, ◌*◌, ◌≤◌, ◌<◌}
 use native.Mathlib.Omega.{arith}
 use borrow.Author.Tests.{eq-eqb, ne_eqb, lt-ltb, le-ltb}
-use Rattle.base_words.specs.Words.{word_at, both}
-use Rattle.base_words.specs.WordsLaws.{both_make, both_first_false, both_second_false}
+use Rattle.base_words.specs.Words.{word_at, both, pick}
+use Rattle.base_words.specs.WordsLaws.{both_true, both_assoc}
 use Rattle.spec_rules.specs.Limits.{part_size, panel_depth_most}
 use Rattle.spec_rules.specs.Kinds.{bytes_record, list_record, pair_record, tuple_record, constructor_record}
 use Rattle.spec_rules.specs.SheetFile.{run_in}
-use Rattle.spec_rules.specs.PanelFile.{records, parts, panel_pool_size, record_kind, record_zero, record_a, record_first, record_count, part, RecordKind, Integer_record, Bytes_record, List_record, Pair_record, Tuple_record, Constructor_record, Unknown_record, record_kind_of, has_parts, record_fields_fit, is_higher}
+use Rattle.spec_rules.specs.PanelFile.{records, parts, panel_pool_size, record_kind, record_zero, part, RecordKind, Integer_record, Bytes_record, List_record, Pair_record, Tuple_record, Constructor_record, Unknown_record, record_kind_of, has_parts, record_fields_fit, is_higher}
 use Rattle.spec_accepted.specs.KindsLaws.{record_unknown}
 use Rattle.spec_accepted.specs.PanelFacts.{kind_holder}
 use Rattle.format_panel.specs.declared.PanelMap.{PanelMap}
@@ -19,7 +19,7 @@ use Rattle.format_panel.specs.declared.records.Record.{Record}
 use Rattle.format_panel.specs.Opened.{Opened, record_of}
 use Rattle.format_panel.specs.CountingLaws.{same_or_not}
 use Rattle.format_panel.specs.Shape.{Seen, seen, met, fields_fit, broken, enters_first, enter_part, enter_parts, record_met, enter_record, enter_records}
-use Rattle.format_panel.specs.ShapeLaws.{listed, parts_on, parts_stop, records_on, records_stop, higher_make, list_inside, fit_kind}
+use Rattle.format_panel.specs.ShapeLaws.{listed, parts_on, parts_stop, records_on, records_stop, list_inside, fit_kind}
 
 -- ---- the fields of a record, by its kind byte
 pub past_kinds : (k : ℕ) → list_record ≤ k → ((k ≡ list_record) ⊎ (k ≡ tuple_record) → ⊥) → (k ≡ pair_record → ⊥) → (k ≡ constructor_record → ⊥) → constructor_record < k
@@ -28,60 +28,43 @@ past_kinds k low h three five =
     let four : k ≡ tuple_record → ⊥ = λ e. h (inr e) in
     omega arith
 
-module _ (v : List ℕ) (r : ℕ) where
-  pub zero_used : (record_zero v r ≡ 0 → ⊥) → false ≡ fields_fit v r
+-- x is record r as it was read, in a panel of so many parts and so many bytes of text
+module _ (v : List ℕ) (r : ℕ) (x : Record) (read : x ≡ record_of v r) where
+  pub zero_used : (x.zero ≡ 0 → ⊥) → fields_fit v r ≡ false
   unfolding fields_fit
-  zero_used h = rw (ne_eqb _ _ h)
+  zero_used h = rw (ne_eqb _ _ (rw read at h))
 
-  module _ (zero : record_zero v r ≡ 0) where
+  module _ (zero : x.zero ≡ 0) where
     of_kind : (kind : RecordKind) → record_kind_of (record_kind v r) ≡ kind → fields_fit v r ≡ record_fields_fit v r kind
     unfolding fields_fit
-    of_kind kind k = rw (eq-eqb _ _ zero, k)
+    of_kind kind k = rw (eq-eqb (record_zero v r) 0 (rw read at zero), k)
 
     -- an integer or a byte string
-    text_fields : record_kind v r < list_record → fields_fit v r ≡ both (eqb (record_a v r) 0) (run_in (record_first v r) (record_count v r) (panel_pool_size v))
+    pub text_fields : (pool : ℕ) → pool ≡ panel_pool_size v → x.kind < list_record → fields_fit v r ≡ both (eqb x.a 0) (run_in x.first x.count pool)
     unfolding record_kind_of record_fields_fit
-    text_fields h =
-        ⊎_elim (λ e. of_kind Integer_record (rw e)) (λ d. let e : record_kind v r ≡ bytes_record = omega arith in of_kind Bytes_record (rw e))
-        (same_or_not (record_kind v r) 0)
+    text_fields pool size h =
+        let low : record_kind v r < list_record = rw read at h in
+        rw (read, size)
+        (⊎_elim (λ e. of_kind Integer_record (rw e)) (λ d. let e : record_kind v r ≡ bytes_record = omega arith in of_kind Bytes_record (rw e))
+        (same_or_not (record_kind v r) 0))
 
-    pub text_a : record_kind v r < list_record → (record_a v r ≡ 0 → ⊥) → false ≡ fields_fit v r
-    text_a h a = rw (text_fields h, ne_eqb _ _ a)
+    module _ (held : ℕ) (are : held ≡ parts v) where
+      -- a list or a tuple
+      pub list_fields : (x.kind ≡ list_record) ⊎ (x.kind ≡ tuple_record) → fields_fit v r ≡ both (eqb x.a 0) (run_in x.first x.count held)
+      unfolding record_kind_of record_fields_fit
+      list_fields h = rw (read, are) (⊎_elim (λ e. of_kind List_record (rw e)) (λ e. of_kind Tuple_record (rw e)) (rw read at h))
 
-    pub text_run : (b : Bool) → record_kind v r < list_record → record_a v r ≡ 0 → b ≡ run_in (record_first v r) (record_count v r) (panel_pool_size v) → b ≡ fields_fit v r
-    text_run b h a e = rw (text_fields h, eq-eqb _ _ a) e
+      pub pair_fields : x.kind ≡ pair_record → fields_fit v r ≡ both (eqb x.a 0) (both (eqb x.count 2) (run_in x.first x.count held))
+      unfolding record_kind_of record_fields_fit
+      pair_fields h = let e : record_kind v r ≡ pair_record = rw read at h in rw (read, are) (of_kind Pair_record (rw e))
 
-    -- a list or a tuple
-    list_fields : (record_kind v r ≡ list_record) ⊎ (record_kind v r ≡ tuple_record) → fields_fit v r ≡ both (eqb (record_a v r) 0) (run_in (record_first v r) (record_count v r) (parts v))
-    unfolding record_kind_of record_fields_fit
-    list_fields h = ⊎_elim (λ e. of_kind List_record (rw e)) (λ e. of_kind Tuple_record (rw e)) h
+      pub constructor_fields : x.kind ≡ constructor_record → fields_fit v r ≡ run_in x.first x.count held
+      unfolding record_kind_of record_fields_fit
+      constructor_fields h = let e : record_kind v r ≡ constructor_record = rw read at h in rw (read, are) (of_kind Constructor_record (rw e))
 
-    pub list_a : (record_kind v r ≡ list_record) ⊎ (record_kind v r ≡ tuple_record) → (record_a v r ≡ 0 → ⊥) → false ≡ fields_fit v r
-    list_a h a = rw (list_fields h, ne_eqb _ _ a)
-
-    pub list_run : (b : Bool) → (record_kind v r ≡ list_record) ⊎ (record_kind v r ≡ tuple_record) → record_a v r ≡ 0 → b ≡ run_in (record_first v r) (record_count v r) (parts v) → b ≡ fields_fit v r
-    list_run b h a e = rw (list_fields h, eq-eqb _ _ a) e
-
-    pair_fields : record_kind v r ≡ pair_record → fields_fit v r ≡ both (eqb (record_a v r) 0) (both (eqb (record_count v r) 2) (run_in (record_first v r) (record_count v r) (parts v)))
-    unfolding record_kind_of record_fields_fit
-    pair_fields h = of_kind Pair_record (rw h)
-
-    pub pair_a : record_kind v r ≡ pair_record → (record_a v r ≡ 0 → ⊥) → false ≡ fields_fit v r
-    pair_a h a = rw (pair_fields h, ne_eqb _ _ a)
-
-    pub pair_count : record_kind v r ≡ pair_record → record_a v r ≡ 0 → (record_count v r ≡ 2 → ⊥) → false ≡ fields_fit v r
-    pair_count h a n = rw (pair_fields h, eq-eqb _ _ a, ne_eqb _ _ n)
-
-    pub pair_run : (b : Bool) → record_kind v r ≡ pair_record → record_a v r ≡ 0 → record_count v r ≡ 2 → b ≡ run_in (record_first v r) (record_count v r) (parts v) → b ≡ fields_fit v r
-    pair_run b h a n e = rw (pair_fields h, eq-eqb _ _ a, eq-eqb _ _ n) e
-
-    pub constructor_run : (b : Bool) → record_kind v r ≡ constructor_record → b ≡ run_in (record_first v r) (record_count v r) (parts v) → b ≡ fields_fit v r
-    unfolding record_kind_of record_fields_fit
-    constructor_run b h e = rw (of_kind Constructor_record (rw h)) e
-
-    pub no_kind : constructor_record < record_kind v r → false ≡ fields_fit v r
+    pub no_kind : constructor_record < x.kind → fields_fit v r ≡ false
     unfolding record_fields_fit
-    no_kind h = rw (of_kind Unknown_record (record_unknown (record_kind v r) h))
+    no_kind h = of_kind Unknown_record (record_unknown (record_kind v r) (rw read at h))
 
 -- ---- an entry
 module _ (v : List ℕ) (m : PanelMap) (o : Opened v m) where
@@ -89,49 +72,31 @@ module _ (v : List ℕ) (m : PanelMap) (o : Opened v m) where
   unfolding part
   part_read j p e = e ∙ rw o.parts_from
 
-module _ (v : List ℕ) (s : Seen) (r j p : ℕ) (is : p ≡ part v j) where
-  enters_not : enters_first v s.depths r j ≡ false → broken s ≡ enter_part v s r j
-  unfolding enter_part
-  enters_not h = rw (enter_part, h)
-
-  pub part_low : p ≤ r → broken s ≡ enter_part v s r j
-  unfolding enters_first is_higher
-  part_low h = enters_not (rw (← is, le-ltb r p h))
-
-  pub part_high : records v ≤ p → broken s ≡ enter_part v s r j
-  unfolding enters_first is_higher
-  part_high h =
-      enters_not (both_first_false (is_higher v r j) _ (both_second_false (ltb r (part v j)) _ (le-ltb _ _ (rw is at h))))
-
-  pub part_again : (get_or s.depths p 0 ≡ 0 → ⊥) → broken s ≡ enter_part v s r j
-  unfolding enters_first
-  part_again h =
-      enters_not (both_second_false (is_higher v r j) _ (both_first_false (eqb (get_or s.depths (part v j) 0) 0) _ (ne_eqb _ _ (rw is at h))))
-
-  pub part_deep : panel_depth_most ≤ get_or s.depths r 0 → broken s ≡ enter_part v s r j
-  unfolding enters_first
-  part_deep h =
-      enters_not (both_second_false (is_higher v r j) _ (both_second_false (eqb (get_or s.depths (part v j) 0) 0) _ (le-ltb _ _ h)))
-
-  pub part_enters : r < p → p < records v → get_or s.depths p 0 ≡ 0 → get_or s.depths r 0 < panel_depth_most
-      → seen (set s.depths p (get_or s.depths r 0 + 1)) s.sound ≡ enter_part v s r j
-  unfolding enters_first enter_part
-  part_enters low high new shallow =
-      rw (enter_part, higher_make v r j (rw is at low) (rw is at high), eq-eqb _ _ (rw is at new), lt-ltb _ _ shallow, is)
+-- entry j is record p, of so many records
+pub entry : (v : List ℕ) (s : Seen) (r j p count : ℕ) → p ≡ part v j → count ≡ records v
+    → enter_part v s r j
+    ≡ pick (both (ltb r p) (both (ltb p count) (both (eqb (get_or s.depths p 0) 0) (ltb (get_or s.depths r 0) panel_depth_most))))
+    (seen (set s.depths p (get_or s.depths r 0 + 1)) s.sound)
+    (broken s)
+unfolding enters_first enter_part is_higher
+entry v s r j p count is are =
+    rw (is, are, enter_part)
+    (ap (λ (b : Bool). pick b (seen (set s.depths (part v j) (get_or s.depths r 0 + 1)) s.sound) (broken s))
+    (both_assoc (ltb r (part v j)) (ltb (part v j) (records v)) (both (eqb (get_or s.depths (part v j) 0) 0) (ltb (get_or s.depths r 0) panel_depth_most))))
 
 -- ---- a record
 module _ (v : List ℕ) (s : Seen) (r : ℕ) where
-  pub record_unmet : get_or s.depths r 0 ≡ 0 → broken s ≡ enter_record v s r
-  unfolding enter_record record_met
-  record_unmet h = rw (enter_record, h)
-
-  pub record_unfit : fields_fit v r ≡ false → broken s ≡ enter_record v s r
-  unfolding enter_record record_met
-  record_unfit h = rw (enter_record, both_second_false (ltb 0 (get_or s.depths r 0)) (fields_fit v r) h)
-
-  met_fit : (get_or s.depths r 0 ≡ 0 → ⊥) → fields_fit v r ≡ true → record_met v s.depths r ≡ true
+  pub met_fit : {b : Bool} → 0 < get_or s.depths r 0 → b ≡ fields_fit v r → b ≡ record_met v s.depths r
   unfolding record_met
-  met_fit d f = both_make (ltb 0 (get_or s.depths r 0)) _ (lt-ltb 0 (get_or s.depths r 0) (omega arith)) f
+  met_fit some e = rw (lt-ltb 0 (get_or s.depths r 0) some) e
+
+  pub met_not : get_or s.depths r 0 ≤ 0 → ltb 0 (get_or s.depths r 0) ≡ record_met v s.depths r
+  unfolding record_met
+  met_not none = rw (le-ltb 0 (get_or s.depths r 0) none)
+
+  pub record_broke : record_met v s.depths r ≡ false → broken s ≡ enter_record v s r
+  unfolding enter_record
+  record_broke h = rw (enter_record, h)
 
   text_unlisted : record_kind v r < list_record → listed v r ≡ false
   unfolding has_parts record_kind_of
@@ -139,13 +104,17 @@ module _ (v : List ℕ) (s : Seen) (r : ℕ) where
       ⊎_elim (λ e. rw e) (λ n. let e : record_kind v r ≡ bytes_record = omega arith in rw e) (same_or_not (record_kind v r) 0)
 
   -- x is record r as it was read
-  module _ (x : Record) (read : x ≡ record_of v r) (fit : fields_fit v r ≡ true) where
+  module _ (x : Record) (read : x ≡ record_of v r) (is : record_met v s.depths r ≡ true) where
+    fit : fields_fit v r ≡ true
+    unfolding record_met
+    fit = (both_true (ltb 0 (get_or s.depths r 0)) (fields_fit v r) is).1
+
     kind_read : x.kind ≡ record_kind v r
     kind_read = ap (λ (y : Record). y.kind) read
 
-    pub record_text : (get_or s.depths r 0 ≡ 0 → ⊥) → x.kind < list_record → s ≡ enter_record v s r
+    pub record_text : x.kind < list_record → s ≡ enter_record v s r
     unfolding enter_record
-    record_text d h = rw (enter_record, met_fit d fit, text_unlisted (omega (arith, kind_read)))
+    record_text h = rw (enter_record, is, text_unlisted (omega (arith, kind_read)))
 
     holds_parts : list_record ≤ x.kind → listed v r ≡ true
     holds_parts h = kind_holder v r (omega (arith, kind_read)) (fit_kind v r fit)
@@ -153,9 +122,9 @@ module _ (v : List ℕ) (s : Seen) (r : ℕ) where
     pub parts_inside : list_record ≤ x.kind → x.first + x.count ≤ parts v
     parts_inside h = rw read (list_inside v r fit (holds_parts h))
 
-    pub record_parts : (y : Seen) → (get_or s.depths r 0 ≡ 0 → ⊥) → list_record ≤ x.kind → y ≡ enter_parts v s r x.first x.count → y ≡ enter_record v s r
+    pub record_parts : (y : Seen) → list_record ≤ x.kind → y ≡ enter_parts v s r x.first x.count → y ≡ enter_record v s r
     unfolding enter_record
-    record_parts y d h e = rw (enter_record, met_fit d fit, holds_parts h) (rw read at e)
+    record_parts y h e = rw (enter_record, is, holds_parts h) (rw read at e)
 
 -- ---- loops: what is left from here, as long as nothing broke, is the whole
 module _ (v : List ℕ) (s : Seen) (r j n k : ℕ) where

@@ -1,12 +1,11 @@
 -- The text of a record, by its kind: one law for each way out of a function.
 -- Rests on the tables of kinds, and on what is known of an open panel.
-use Rattle.std.specs.Prelude.{◌≡◌, Bool, false, List, leb, length}
+use Rattle.std.specs.Prelude.{◌≡◌, List, leb, length}
 use Rattle.std.proofs.Math.Path.{refl, sym}
-use Rattle.std.proofs.Common.{ap, ◌∙◌, ⊎_elim}
+use Rattle.std.proofs.Common.{ap, ◌∙◌}
 use Rattle.std.proofs.Math.Bool.{true}
 use Prim.Native.Nat.{ℕ, ◌+◌, ◌≤◌, ◌<◌}
 use native.Mathlib.Omega.{arith}
-use borrow.Author.Tests.{le-leb, lt-leb}
 use Rattle.base_words.specs.Words.{both, text_at}
 use Rattle.spec_rules.specs.Limits.{panel_trailer, text_most}
 use Rattle.spec_rules.specs.Kinds.{integer_record, bytes_record}
@@ -17,7 +16,6 @@ use Rattle.spec_accepted.specs.PanelFacts.{PanelShaped, panel_text_inside}
 use Rattle.format_panel.specs.declared.PanelMap.{PanelMap}
 use Rattle.format_panel.specs.declared.records.Record.{Record}
 use Rattle.format_panel.specs.Opened.{Opened, record_of}
-use Rattle.format_panel.specs.CountingLaws.{same_or_not}
 
 -- x is record r as it was read
 module _ (v : List ℕ) (r : ℕ) (x : Record) (read : x ≡ record_of v r) where
@@ -27,41 +25,27 @@ module _ (v : List ℕ) (r : ℕ) (x : Record) (read : x ≡ record_of v r) wher
   count_read : x.count ≡ record_count v r
   count_read = ap (λ (y : Record). y.count) read
 
-  pub no_text : bytes_record < x.kind → true ≡ record_text_fits v r
-  unfolding record_text_fits record_text_of_kind
-  no_text h = go (record_kind_of (record_kind v r)) refl
+  pub other_kind : (x.kind ≡ integer_record → ⊥) → (x.kind ≡ bytes_record → ⊥) → true ≡ record_text_fits v r
+  unfolding record_text_fits record_text_of_kind record_kind_of
+  other_kind zero one = go (record_kind_of (record_kind v r)) refl
     where
       go : (kind : RecordKind) → record_kind_of (record_kind v r) ≡ kind → true ≡ record_text_of_kind v r kind
-      go Integer_record e = absurd (omega (arith, kind_read, record_byte (record_kind v r) Integer_record e (omega arith)))
-      go Bytes_record e = absurd (omega (arith, kind_read, record_byte (record_kind v r) Bytes_record e (omega arith)))
+      go Integer_record e = absurd (zero (kind_read ∙ record_byte (record_kind v r) Integer_record e (omega arith)))
+      go Bytes_record e = absurd (one (kind_read ∙ record_byte (record_kind v r) Bytes_record e (omega arith)))
       go List_record e = refl
       go Pair_record e = refl
       go Tuple_record e = refl
       go Constructor_record e = refl
       go Unknown_record e = refl
 
-  bytes_text : x.kind ≡ bytes_record → record_text_fits v r ≡ leb x.count text_most
+  pub bytes_text : x.kind ≡ bytes_record → record_text_fits v r ≡ leb x.count text_most
   unfolding record_text_fits record_text_of_kind record_kind_of short_text
   bytes_text h = let e : record_kind v r ≡ bytes_record = sym kind_read ∙ h in rw (record_text_fits, e, count_read)
 
-  integer_text : x.kind ≡ integer_record → record_text_fits v r ≡ both (leb x.count text_most) (canonical (record_text v r))
-  unfolding record_text_fits record_text_of_kind record_kind_of short_text
-  integer_text h = let e : record_kind v r ≡ integer_record = sym kind_read ∙ h in rw (record_text_fits, e, count_read)
-
-  pub long_text : x.kind ≤ bytes_record → text_most < x.count → false ≡ record_text_fits v r
-  long_text h long =
-      ⊎_elim (λ e. rw (bytes_text e, lt-leb _ _ long)) (λ d. let e : x.kind ≡ integer_record = omega arith in rw (integer_text e, lt-leb _ _ long))
-      (same_or_not x.kind 1)
-
-  pub short_bytes : x.kind ≡ bytes_record → x.count ≤ text_most → true ≡ record_text_fits v r
-  short_bytes h short = rw (bytes_text h, le-leb _ _ short)
-
   module _ (m : PanelMap) (o : Opened v m) where
-    pub short_integer : (b : Bool) → x.kind ≤ bytes_record → (x.kind ≡ bytes_record → ⊥) → x.count ≤ text_most → b ≡ canonical (text_at v (m.pool.start + x.first) x.count) → b ≡ record_text_fits v r
-    unfolding record_text
-    short_integer b h d short e =
-        let zero : x.kind ≡ integer_record = omega arith in
-        rw (integer_text zero, le-leb _ _ short) (rw (o.pool_at, read) at e)
+    pub integer_text : x.kind ≡ integer_record → record_text_fits v r ≡ both (leb x.count text_most) (canonical (text_at v (m.pool.start + x.first) x.count))
+    unfolding record_text_fits record_text_of_kind record_kind_of short_text record_text
+    integer_text h = let e : record_kind v r ≡ integer_record = sym kind_read ∙ h in rw (record_text_fits, e, o.pool_at, read)
 
     pub text_inside : PanelShaped v → r < records v → x.kind ≤ bytes_record → m.pool.start + x.first + x.count + panel_trailer ≤ length v
     text_inside sh l h =

@@ -15,17 +15,12 @@ use base_words::word_at;
 use format_parts::sections::{section_of, whole_records};
 
 // 21: from 8 to 16,384 bytes, and the trailer's length is the panel's.
+#[tactic(auto, unfolding(spec_rules::specs::PanelFile::panel_length_fits, spec_rules::specs::PanelFile::panel_length))]
 pub(crate) fn length_fits(panel: &[u8]) -> bool
     ensures { result ≡ panel_length_fits panel.now }
 {
-    if panel.len() < PANEL_TRAILER {
-        return false;
-    }
-    if PANEL_MOST < panel.len() {
-        return false;
-    }
-    let told = word_at(panel, panel.len() - PANEL_LENGTH_BACK) as usize;
-    told == panel.len()
+    let n = panel.len();
+    PANEL_TRAILER <= n && n <= PANEL_MOST && word_at(panel, n - PANEL_LENGTH_BACK) as usize == n
 }
 
 // Start k of the trailer.
@@ -37,6 +32,7 @@ fn start(panel: &[u8], k: usize) -> usize
 }
 
 // 22: the starts rise from 0, pass not the trailer and cut no record; there are 1 to 512 records.
+#[tactic(auto, using(crate::specs::LayoutLaws::layout_read))]
 pub(crate) fn layout_fits(panel: &[u8]) -> bool
     requires { panel_trailer ≤ length panel.now }
     ensures { result ≡ panel_layout_fits panel.now }
@@ -44,23 +40,12 @@ pub(crate) fn layout_fits(panel: &[u8]) -> bool
     let records_at = start(panel, panel_starts::RECORDS);
     let parts_at = start(panel, panel_starts::PARTS);
     let pool_at = start(panel, panel_starts::POOL);
-    if records_at != 0 {
-        return false;
-    }
-    if !whole_records(RECORD_SIZE, records_at, parts_at) {
-        return false;
-    }
-    if !whole_records(PART_SIZE, parts_at, pool_at) {
-        return false;
-    }
-    if !whole_records(BYTE_SIZE, pool_at, panel.len() - PANEL_TRAILER) {
-        return false;
-    }
-    let records = parts_at / RECORD_SIZE;
-    if records < 1 {
-        return false;
-    }
-    records <= RECORDS_MOST
+    records_at == 0
+        && whole_records(RECORD_SIZE, records_at, parts_at)
+        && whole_records(PART_SIZE, parts_at, pool_at)
+        && whole_records(BYTE_SIZE, pool_at, panel.len() - PANEL_TRAILER)
+        && 1 <= parts_at / RECORD_SIZE
+        && parts_at / RECORD_SIZE <= RECORDS_MOST
 }
 
 // The sections of a panel whose layout fits.

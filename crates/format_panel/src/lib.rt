@@ -7,17 +7,20 @@
 // nothing is copied for a record or a part. The text call adds one record to the check.
 #![tactic(auto)]
 
-ghost use Rattle.std.specs.Prelude.{◌≡◌};
-ghost use Rattle.spec_rules.specs.RefusalNumbers.{no_text_refusal};
-ghost use Rattle.spec_rules.specs.Calls.{text_part};
-ghost use Rattle.format_panel.specs.Answers.{checked, located, Accepts};
+ghost use Rattle.std.specs.Prelude.{◌≡◌, IfOk};
+ghost use Rattle.spec_rules.specs.PanelFile.{panel_verdict};
+ghost use Rattle.spec_rules.specs.Calls.{has_text, text_call, text_part};
+ghost use Rattle.format_parts.specs.Refusals.{verdict_of};
+ghost use Rattle.format_panel.specs.Opened.{map_of, Opened};
+ghost use Rattle.format_panel.specs.Answers.{span_of};
 
 mod layout;
 pub mod records;
 mod shape;
 mod texts;
 
-use base_numbers::{record_kinds, refusals};
+use base_numbers::record_kinds;
+use format_parts::refusals::{Reason, Refusal, require};
 use format_parts::sections::Section;
 use layout::{layout_fits, length_fits, map_of};
 use records::record_at;
@@ -32,100 +35,48 @@ pub struct PanelMap {
     pub pool: Section,
 }
 
-#[derive(Drop)]
-pub enum CheckedPanel {
-    Accepted(PanelMap),
-    Refused { number: u16, place: u16 },
-}
-
-// Where the text of a position stands in the panel.
-#[derive(Drop)]
-pub enum Located {
-    At { start: usize, count: usize },
-    Refused { number: u16, place: u16 },
-}
-
 // The check of a panel: 21 length, 22 layout and count of records, 23 shape, 24 text.
-pub fn check(panel: &[u8]) -> CheckedPanel
-    ensures { result ≡ checked panel.now }
+pub fn check(panel: &[u8]) -> Result<PanelMap, Refusal>
+    ensures verdict { verdict_of result ≡ panel_verdict panel.now }
+    ensures map { IfOk result (λ m. m ≡ map_of panel.now) }
 {
-    if !length_fits(panel) {
-        return CheckedPanel::Refused {
-            number: refusals::PANEL_LENGTH,
-            place: 0,
-        };
-    }
-    if !layout_fits(panel) {
-        return CheckedPanel::Refused {
-            number: refusals::PANEL_LAYOUT,
-            place: 0,
-        };
-    }
+    require(length_fits(panel), Reason::PanelLength)?;
+    require(layout_fits(panel), Reason::PanelLayout)?;
     let map = map_of(panel);
-    if !shape_fits(panel, map) {
-        return CheckedPanel::Refused {
-            number: refusals::PANEL_SHAPE,
-            place: 0,
-        };
-    }
-    if !texts_fit(panel, map) {
-        return CheckedPanel::Refused {
-            number: refusals::PANEL_TEXT,
-            place: 0,
-        };
-    }
-    CheckedPanel::Accepted(map)
+    require(shape_fits(panel, map), Reason::PanelShape)?;
+    require(texts_fit(panel, map), Reason::PanelText)?;
+    Ok(map)
 }
 
-// 33: the position is not an integer or byte string of the panel with 0 dropped.
-fn not_text() -> Located
-    ensures { result ≡ Located.Refused no_text_refusal 0 }
+// The position is an integer or a byte string of the panel, with 0 dropped.
+#[tactic(auto, unfolding(spec_rules::specs::Calls::has_text))]
+fn has_text(panel: &[u8], map: PanelMap, r: usize, dropped: u16) -> bool
+    requires { Opened panel.now map }
+    ensures { result ≡ has_text panel.now r dropped }
 {
-    Located::Refused {
-        number: refusals::NO_TEXT,
-        place: 0,
-    }
+    r < map.records.count && record_at(panel, r).kind <= record_kinds::BYTES && dropped == 0
 }
 
-// The text of record r with so many elements dropped, in an accepted panel.
-fn text_in(panel: &[u8], map: PanelMap, r: u16, dropped: u16) -> Located
-    requires { Accepts panel.now map }
-    ensures { result ≡ located panel.now r dropped }
+// The text call: where the bytes of an integer or a byte string stand in the panel, or 33.
+pub fn text(panel: &[u8], r: u16, dropped: u16) -> Result<Section, Refusal>
+    ensures { span_of result ≡ text_call panel.now r dropped }
 {
+    let map = check(panel)?;
     let at = r as usize;
-    if map.records.count <= at {
-        return not_text();
-    }
+    require(has_text(panel, map, at, dropped), Reason::NoText)?;
     let x = record_at(panel, at);
-    if record_kinds::BYTES < x.kind {
-        return not_text();
-    }
-    if dropped != 0 {
-        return not_text();
-    }
-    Located::At {
+    Ok(Section {
         start: map.pool.start + x.first,
         count: x.count,
-    }
-}
-
-// The text call: where the bytes of an integer or a byte string stand in the panel.
-pub fn text(panel: &[u8], r: u16, dropped: u16) -> Located
-    ensures { result ≡ located panel.now r dropped }
-{
-    match check(panel) {
-        CheckedPanel::Accepted(map) => text_in(panel, map, r, dropped),
-        CheckedPanel::Refused { number, place } => Located::Refused { number, place },
-    }
+    })
 }
 
 // The twin of the text call: that part of the caller's panel itself, empty if refused.
 pub fn text_part<'a>(v: &'a [u8], r: u16, dropped: u16) -> &'a [u8]
     ensures { result.now ≡ text_part v.now r dropped }
 {
-    let Located::At { start, count } = text(v, r, dropped) else {
+    let Ok(part) = text(v, r, dropped) else {
         return &v[..0];
     };
-    let end = start + count;
-    &v[start..end]
+    &v[part.start..part.start + part.count]
 }

@@ -17,38 +17,21 @@ use format_parts::sections::run_in;
 fn fields_fit(x: Record, held: usize, pool: usize) -> bool
     ensures { (v : List ℕ) (r : ℕ) → x ≡ record_of v r → held ≡ parts v → pool ≡ panel_pool_size v → result ≡ fields_fit v r }
 {
-    if x.zero != 0 {
-        return false;
-    }
-    let kind = x.kind;
-    let a = x.a;
-    let first = x.first;
-    let count = x.count;
-    match kind {
-        record_kinds::INTEGER | record_kinds::BYTES => {
-            if a != 0 {
-                return false;
-            }
-            run_in(first, count, pool)
+    let Record {
+        kind,
+        zero,
+        a,
+        first,
+        count,
+    } = x;
+    zero == 0
+        && match kind {
+            record_kinds::INTEGER | record_kinds::BYTES => a == 0 && run_in(first, count, pool),
+            record_kinds::LIST | record_kinds::TUPLE => a == 0 && run_in(first, count, held),
+            record_kinds::PAIR => a == 0 && count == PAIR_PARTS && run_in(first, count, held),
+            record_kinds::CONSTRUCTOR => run_in(first, count, held),
+            _ => false,
         }
-        record_kinds::LIST | record_kinds::TUPLE => {
-            if a != 0 {
-                return false;
-            }
-            run_in(first, count, held)
-        }
-        record_kinds::PAIR => {
-            if a != 0 {
-                return false;
-            }
-            if count != PAIR_PARTS {
-                return false;
-            }
-            run_in(first, count, held)
-        }
-        record_kinds::CONSTRUCTOR => run_in(first, count, held),
-        _ => false,
-    }
 }
 
 // Entry j, in the list of record r: its record is higher than r, met for the first time, and not too deep.
@@ -57,21 +40,11 @@ fn enter_part(panel: &[u8], map: PanelMap, depths: &mut [u8], r: usize, j: usize
     ensures { seen depths.new result ≡ enter_part panel.now (met depths.old) r j }
 {
     let p = part_at(panel, map, j);
-    if p <= r {
-        return false;
+    let enters = r < p && p < map.records.count && depths[p] == 0 && depths[r] < PANEL_DEPTH_MOST;
+    if enters {
+        depths[p] = depths[r] + 1;
     }
-    if map.records.count <= p {
-        return false;
-    }
-    if depths[p] != 0 {
-        return false;
-    }
-    let depth = depths[r];
-    if PANEL_DEPTH_MOST <= depth {
-        return false;
-    }
-    depths[p] = depth + 1;
-    true
+    enters
 }
 
 // The n entries from j on, in the list of record r.
@@ -79,12 +52,10 @@ fn enter_parts(panel: &[u8], map: PanelMap, depths: &mut [u8], r: usize, j: usiz
     requires { Opened panel.now map × (length depths.old ≡ records_most) × (r < records panel.now) × (j + n ≤ parts panel.now) }
     ensures { seen depths.new result ≡ enter_parts panel.now (met depths.old) r j n }
 {
-    let mut k: usize = 0;
-    while k < n {
+    for k in 0..n {
         if !enter_part(panel, map, depths, r, j + k) {
             return false;
         }
-        k += 1;
     }
     true
 }
@@ -94,29 +65,21 @@ fn enter_record(panel: &[u8], map: PanelMap, depths: &mut [u8], r: usize) -> boo
     requires { Opened panel.now map × (length depths.old ≡ records_most) × (r < records panel.now) }
     ensures { seen depths.new result ≡ enter_record panel.now (met depths.old) r }
 {
-    if depths[r] == 0 {
-        return false;
-    }
     let x = record_at(panel, r);
-    if !fields_fit(x, map.parts.count, map.pool.count) {
-        return false;
-    }
-    if x.kind < record_kinds::LIST {
-        return true;
-    }
-    enter_parts(panel, map, depths, r, x.first, x.count)
+    0 < depths[r]
+        && fields_fit(x, map.parts.count, map.pool.count)
+        && (x.kind < record_kinds::LIST || enter_parts(panel, map, depths, r, x.first, x.count))
 }
 
+// The records in order, as long as none breaks a rule.
 fn enter_records(panel: &[u8], map: PanelMap, depths: &mut [u8]) -> bool
     requires { Opened panel.now map × (length depths.old ≡ records_most) }
     ensures { seen depths.new result ≡ enter_records panel.now (met depths.old) 0 (records panel.now) }
 {
-    let mut r: usize = 0;
-    while r < map.records.count {
+    for r in 0..map.records.count {
         if !enter_record(panel, map, depths, r) {
             return false;
         }
-        r += 1;
     }
     true
 }
@@ -126,10 +89,7 @@ pub(crate) fn shape_fits(panel: &[u8], map: PanelMap) -> bool
     requires { Opened panel.now map }
     ensures { result ≡ panel_shape_fits panel.now }
 {
-    if map.parts.count + 1 != map.records.count {
-        return false;
-    }
     let mut depths = [0u8; RECORDS_MOST];
     depths[0] = 1;
-    enter_records(panel, map, &mut depths)
+    map.parts.count + 1 == map.records.count && enter_records(panel, map, &mut depths)
 }

@@ -16,17 +16,13 @@ fn text_fits(panel: &[u8], map: PanelMap, r: usize) -> bool
     ensures { result ≡ record_text_fits panel.now r }
 {
     let x = record_at(panel, r);
-    let kind = x.kind;
-    if record_kinds::BYTES < kind {
-        return true;
+    match x.kind {
+        record_kinds::INTEGER => {
+            x.count <= TEXT_MOST && canonical(panel, map.pool.start + x.first, x.count)
+        }
+        record_kinds::BYTES => x.count <= TEXT_MOST,
+        _ => true,
     }
-    if TEXT_MOST < x.count {
-        return false;
-    }
-    if kind == record_kinds::BYTES {
-        return true;
-    }
-    canonical(panel, map.pool.start + x.first, x.count)
 }
 
 // 24, of every record.
@@ -34,12 +30,5 @@ pub(crate) fn texts_fit(panel: &[u8], map: PanelMap) -> bool
     requires { Opened panel.now map × PanelShaped panel.now }
     ensures { result ≡ panel_texts_fit panel.now }
 {
-    let mut r: usize = 0;
-    while r < map.records.count {
-        if !text_fits(panel, map, r) {
-            return false;
-        }
-        r += 1;
-    }
-    true
+    (0..map.records.count).all(|r| text_fits(panel, map, r))
 }

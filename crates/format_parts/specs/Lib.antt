@@ -4,3 +4,4 @@ pub mod SectionsLaws
 pub mod TextsLaws
 pub mod Sums
 pub mod Refusals
+pub mod RefusalsLaws

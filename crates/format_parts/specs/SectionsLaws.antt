@@ -10,3 +10,5 @@ pub first_some : (count first : ℕ) → (count ≡ 0 → ⊥) → first ≡ fir
 unfolding first_of
 first_some zero first h = absurd (h refl)
 first_some (suc count) first h = refl
+
+pub ruleset first_laws = (first_none, first_some)

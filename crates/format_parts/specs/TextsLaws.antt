@@ -1,98 +1,103 @@
--- Texts read byte by byte: digits, a natural number, canonical decimal, each by the byte that decides it.
-use Rattle.std.specs.Prelude.{◌≡◌, Bool, leb, length, get_or, take, drop}
-use Rattle.std.proofs.Math.Path.{refl, sym}
-use Rattle.std.proofs.Common.{ap, ◌∙◌, add-one, drop-cons}
-use Rattle.std.proofs.Math.Bool.{true, false}
-use mathlib.Core.List.{List, [], ◌∷◌}
-use Prim.Native.Nat.{ℕ, zero, suc, ◌+◌, ◌-◌, ◌≤◌, ◌<◌}
-use native.Mathlib.Omega.{arith}
-use borrow.Author.Tests.{eq-eqb, ne_eqb, le-leb, lt-leb}
-use Rattle.std.proofs.Math.Dec.{eqb}
-use Rattle.base_words.specs.Words.{both, either, text_at, same_text}
+-- Texts as the code reads them: digits one by one, a natural number by its first byte, canonical decimal by its sign.
+use Rattle.std.specs.Prelude.{◌≡◌, refl, Bool, true, false, ◌&&◌, List, [], ◌∷◌, ℕ, zero, suc, ◌+◌, ◌-◌, ◌≤◌, ◌<◌, leb, eqb, length, get_or, take, drop, Option, Some, None}
+use Rattle.std.proofs.Common.{Bor, sym, ap, ◌∙◌, arith, take_all, add-one, drop-cons, le-leb, ⊎_elim}
+use Rattle.std.proofs.lemmas.Bool.{lt-leb}
+use Rattle.std.specs.Bool.{MatchBool}
+use Rattle.std.specs.Option.{MatchOption, unwrap_or}
+use Rattle.std.specs.List.{AllWithin, HoldsAt}
+use Rattle.std.specs.Char.{IsAsciiDigit, IsNotAsciiDigit}
+use lib.Pointwise.{pointwise}
+use Rattle.base_words.specs.Words.{both, text_at, same_text}
+use Rattle.base_words.specs.WordsLaws.{both_second_false}
 use Rattle.spec_rules.specs.Texts.{digits, natural, after_sign, canonical}
 
--- ---- texts
-module _ (s : List ℕ) where
-  -- a text of some bytes is its first byte and the rest
-  pub text_cons : (i n : ℕ) → i < length s → (n ≡ 0 → ⊥) → text_at s i n ≡ get_or s i 0 ∷ text_at s (i + 1) (n - 1)
-  text_cons i n h some =
-      let e : n ≡ suc (n - 1) = omega arith in
-      ap (λ (k : ℕ). take k (drop i s)) e ∙ rw (drop-cons s i 0 h, add-one i)
+-- a text of some bytes is its first byte and the rest
+pub text_cons : (s : List ℕ) (i n : ℕ) → i < length s → (n ≡ 0 → ⊥) → text_at s i n ≡ get_or s i 0 ∷ text_at s (i + 1) (n - 1)
+text_cons s i n h some =
+    let e : n ≡ suc (n - 1) = omega arith in
+    ap (λ (k : ℕ). take k (drop i s)) e ∙ rw (drop-cons s i 0 h, add-one i)
 
-  -- ---- digits: what is left from byte k on is the whole
-  abbrev pub DigitsLeft : ℕ → ℕ → ℕ → Type 0
-  DigitsLeft i n k = digits (text_at s (i + k) (n - k)) ≡ digits (text_at s i n)
+-- ---- digits
+all_digits : (w : List ℕ) → ((k : ℕ) → k < length w → IsAsciiDigit (get_or w k 0)) → true ≡ digits w
+unfolding digits
+all_digits [] h = refl
+all_digits (d ∷ ds) h =
+    let here = h 0 (omega arith) in
+    rw (le-leb 48 d here.0, le-leb d 57 here.1) (all_digits ds (λ k low. h (suc k) (omega arith)))
 
-  pub digits_begin : (i n : ℕ) → DigitsLeft i n 0
-  digits_begin i n = let e : i + 0 ≡ i = omega arith in let f : n - 0 ≡ n = omega arith in rw (e, f)
+other_byte : (w : List ℕ) (k : ℕ) → k < length w → IsNotAsciiDigit (get_or w k 0) → false ≡ digits w
+unfolding digits
+other_byte [] k low h = absurd (omega arith)
+other_byte (d ∷ ds) zero low h =
+    ⊎_elim (λ less. rw (lt-leb 48 d less)) (λ more. rw (le-leb 48 d (omega arith), lt-leb d 57 more)) h
+other_byte (d ∷ ds) (suc k) low h = sym (both_second_false (both (leb 48 d) (leb d 57)) (digits ds) (sym (other_byte ds k (omega arith) h)))
 
-  module _ (i n k : ℕ) (room : i + n ≤ length s) (h : k < n) (left : DigitsLeft i n k) where
-    digits_next : digits (text_at s (i + k) (n - k)) ≡ both (both (leb 48 (get_or s (i + k) 0)) (leb (get_or s (i + k) 0) 57)) (digits (text_at s (i + (k + 1)) (n - (k + 1))))
-    unfolding digits
-    digits_next =
-        let e : i + k + 1 ≡ i + (k + 1) = omega arith in
-        let f : n - k - 1 ≡ n - (k + 1) = omega arith in
-        rw (text_cons (i + k) (n - k) (omega arith) (λ z. omega arith), e, f)
+-- what `all` answers over the bytes
+pub digits_is : (r : Bool) (w : List ℕ) → MatchBool r (AllWithin IsAsciiDigit w 0 (length w)) ((k : ℕ) × (k < length w) × HoldsAt IsNotAsciiDigit w k) → r ≡ digits w
+digits_is true w h = all_digits w (λ k low. h k 0 (omega arith) low)
+digits_is false w (k, low, h) = other_byte w k low (h 0)
 
-    pub digits_low : get_or s (i + k) 0 < 48 → false ≡ digits (text_at s i n)
-    digits_low l = sym (sym left ∙ digits_next ∙ rw (lt-leb 48 (get_or s (i + k) 0) l))
+-- ---- a natural number
+pub natural_none : (w : List ℕ) → length w < 1 → false ≡ natural w
+unfolding natural
+natural_none [] h = refl
+natural_none (d ∷ ds) h = absurd (omega arith)
 
-    pub digits_high : 48 ≤ get_or s (i + k) 0 → 57 < get_or s (i + k) 0 → false ≡ digits (text_at s i n)
-    digits_high l g = sym (sym left ∙ digits_next ∙ rw (le-leb 48 (get_or s (i + k) 0) l, lt-leb (get_or s (i + k) 0) 57 g))
+pub natural_low : (w : List ℕ) → 1 ≤ length w → get_or w 0 0 < 49 → false ≡ natural w
+unfolding natural
+natural_low [] h l = refl
+natural_low (d ∷ ds) h l = rw (lt-leb 49 d l)
 
-    pub digits_go_on : 48 ≤ get_or s (i + k) 0 → get_or s (i + k) 0 ≤ 57 → DigitsLeft i n (k + 1)
-    digits_go_on l g = sym (digits_next ∙ rw (le-leb 48 (get_or s (i + k) 0) l, le-leb (get_or s (i + k) 0) 57 g)) ∙ left
+pub natural_high : (w : List ℕ) → 1 ≤ length w → 58 ≤ get_or w 0 0 → false ≡ natural w
+unfolding natural
+natural_high [] h l = refl
+natural_high (d ∷ ds) h l = rw (le-leb 49 d (omega arith), lt-leb d 57 (omega arith))
 
-  pub digits_end : (i n k : ℕ) → n ≤ k → DigitsLeft i n k → true ≡ digits (text_at s i n)
-  unfolding digits
-  digits_end i n k h left = let e : n - k ≡ 0 = omega arith in sym (ap (λ (x : ℕ). digits (text_at s (i + k) x)) e) ∙ left
+pub natural_rest : (w : List ℕ) {r : Bool} → 1 ≤ length w → 49 ≤ get_or w 0 0 → get_or w 0 0 < 58 → r ≡ digits (take (length w - 1) (drop 1 w)) → r ≡ natural w
+unfolding natural
+natural_rest [] h low high e = absurd (omega arith)
+natural_rest (d ∷ ds) h low high e =
+    let whole : take (length (d ∷ ds) - 1) ds ≡ ds = take_all _ ds (omega arith) in
+    rw (le-leb 49 d low, le-leb d 57 (omega arith)) (e ∙ ap digits whole)
 
-  -- ---- a natural number
-  pub natural_none : (i n : ℕ) → n ≡ 0 → false ≡ natural (text_at s i n)
-  unfolding natural
-  natural_none i n e = rw e
+-- each way out of a function that tells by the first byte
+pub ruleset natural_laws = (natural_none, natural_low, natural_high, natural_rest)
 
-  module _ (i n : ℕ) (room : i + n ≤ length s) (some : n ≡ 0 → ⊥) where
-    natural_some : natural (text_at s i n) ≡ both (both (leb 49 (get_or s i 0)) (leb (get_or s i 0) 57)) (digits (text_at s (i + 1) (n - 1)))
-    unfolding natural
-    natural_some = rw (text_cons i n (omega arith) some)
+-- ---- canonical decimal
+both_and : (a b : Bool) → (a && b) ≡ both a b
+both_and true b = refl
+both_and false b = refl
 
-    pub natural_low : get_or s i 0 < 49 → false ≡ natural (text_at s i n)
-    natural_low l = sym (natural_some ∙ rw (lt-leb 49 (get_or s i 0) l))
+and_true : (a : Bool) → (a && true) ≡ a
+and_true true = refl
+and_true false = refl
 
-    pub natural_high : 49 ≤ get_or s i 0 → 57 < get_or s i 0 → false ≡ natural (text_at s i n)
-    natural_high l g = sym (natural_some ∙ rw (le-leb 49 (get_or s i 0) l, lt-leb (get_or s i 0) 57 g))
+-- `==` of slices
+same_is : (a b : List ℕ) → pointwise eqb a b ≡ same_text a b
+unfolding same_text
+same_is [] [] = refl
+same_is [] (b ∷ ys) = refl
+same_is (a ∷ xs) [] = refl
+same_is (a ∷ xs) (b ∷ ys) = rw (both_and (eqb a b) (pointwise eqb xs ys), same_is xs ys)
 
-    pub natural_rest : {r : Bool} → 49 ≤ get_or s i 0 → get_or s i 0 ≤ 57 → r ≡ digits (text_at s (i + 1) (n - 1)) → r ≡ natural (text_at s i n)
-    natural_rest l g e = e ∙ sym (natural_some ∙ rw (le-leb 49 (get_or s i 0) l, le-leb (get_or s i 0) 57 g))
+-- the text without its `-`, or the whole
+after_prefix : (w : List ℕ) (whole : Bor (List ℕ)) (rest : Option (Bor (List ℕ))) → whole.now ≡ w
+    → MatchOption rest (pointwise eqb (take 1 w) (45 ∷ []) ≡ false) (λ x. (pointwise eqb (take 1 w) (45 ∷ []) ≡ true) × (x.now ≡ drop 1 w) × (length x.now + 1 ≡ length w))
+    → (unwrap_or rest whole).now ≡ after_sign w
+unfolding after_sign
+after_prefix [] whole None is h = is
+after_prefix [] whole (Some x) is h = cc
+after_prefix (d ∷ ds) whole None is h = rw (sym (and_true (eqb d 45)) ∙ h) is
+after_prefix (d ∷ ds) whole (Some x) is h = rw (sym (and_true (eqb d 45)) ∙ h.0) h.1
 
-  -- ---- canonical
-  pub canonical_none : (i n : ℕ) → n ≡ 0 → false ≡ canonical (text_at s i n)
-  unfolding canonical
-  canonical_none i n e = rw e
+pub canonical_zero : (w : List ℕ) → true ≡ pointwise eqb w (48 ∷ []) → true ≡ canonical w
+unfolding canonical
+canonical_zero w e = let h : same_text w (48 ∷ []) ≡ true = sym (e ∙ same_is w (48 ∷ [])) in rw h
 
-  module _ (i n : ℕ) (room : i + n ≤ length s) (some : n ≡ 0 → ⊥) where
-    -- one byte is the whole text
-    alone : same_text (text_at s (i + 1) (n - 1)) [] ≡ eqb n 1
-    unfolding same_text
-    alone = go (n - 1) refl
-      where
-        go : (k : ℕ) → n - 1 ≡ k → same_text (text_at s (i + 1) (n - 1)) [] ≡ eqb n 1
-        go zero e = rw (e, eq-eqb n 1 (omega arith))
-        go (suc k) e = rw (text_cons (i + 1) (n - 1) (omega arith) (λ z. omega arith), ne_eqb n 1 (λ z. omega arith))
-
-    pub canonical_zero : get_or s i 0 ≡ 48 → eqb n 1 ≡ canonical (text_at s i n)
-    unfolding canonical natural after_sign same_text
-    canonical_zero e = sym (rw (text_cons i n (omega arith) some, e, alone) (either_false (eqb n 1)))
-      where
-        either_false : (b : Bool) → either b false ≡ b
-        either_false true = refl
-        either_false false = refl
-
-    pub canonical_negative : {r : Bool} → get_or s i 0 ≡ 45 → r ≡ natural (text_at s (i + 1) (n - 1)) → r ≡ canonical (text_at s i n)
-    unfolding canonical after_sign same_text
-    canonical_negative e f = f ∙ sym (rw (text_cons i n (omega arith) some, e))
-
-    pub canonical_plain : {r : Bool} → (get_or s i 0 ≡ 48 → ⊥) → (get_or s i 0 ≡ 45 → ⊥) → r ≡ natural (text_at s i n) → r ≡ canonical (text_at s i n)
-    unfolding canonical after_sign same_text
-    canonical_plain a b f = f ∙ sym (rw (text_cons i n (omega arith) some, ne_eqb (get_or s i 0) 48 a, ne_eqb (get_or s i 0) 45 b))
+pub canonical_else : (w : List ℕ) (whole : Bor (List ℕ)) (rest : Option (Bor (List ℕ))) {r : Bool} → false ≡ pointwise eqb w (48 ∷ []) → whole.now ≡ w
+    → MatchOption rest (pointwise eqb (take 1 w) (45 ∷ []) ≡ false) (λ x. (pointwise eqb (take 1 w) (45 ∷ []) ≡ true) × (x.now ≡ drop 1 w) × (length x.now + 1 ≡ length w))
+    → r ≡ natural (unwrap_or rest whole).now → r ≡ canonical w
+unfolding canonical
+canonical_else w whole rest e is h n =
+    let other : same_text w (48 ∷ []) ≡ false = sym (e ∙ same_is w (48 ∷ [])) in
+    rw (other, ← after_prefix w whole rest is h) n

@@ -14,14 +14,12 @@ pub struct Section {
 }
 
 // From `from` to `to` there are whole records of `size` bytes.
+#[tactic(auto, unfolding(spec_rules::specs::SheetRefusals::whole_records))]
 pub fn whole_records(size: usize, from: usize, to: usize) -> bool
     requires { 0 < size }
     ensures { result ≡ whole_records size from to }
 {
-    if to < from {
-        return false;
-    }
-    (to - from) % size == 0
+    from <= to && (to - from) % size == 0
 }
 
 pub fn section_of(start: usize, end: usize, size: usize) -> Section
@@ -35,27 +33,17 @@ pub fn section_of(start: usize, end: usize, size: usize) -> Section
 }
 
 // `count` records from `first` on lie in a section of n, and where count is 0, first is.
+#[tactic(auto, unfolding(spec_rules::specs::SheetFile::run_in))]
 pub fn run_in(first: usize, count: usize, n: usize) -> bool
     ensures { result ≡ run_in first count n }
 {
-    if n < count {
-        return false;
-    }
-    if n - count < first {
-        return false;
-    }
-    if 0 < count {
-        return true;
-    }
-    first == 0
+    count <= n && first <= n - count && (0 < count || first == 0)
 }
 
 // Where a run of so many records begins: an empty one at 0.
+#[tactic(auto, using(crate::specs::SectionsLaws::first_laws))]
 pub fn first_of(count: u16, first: u16) -> u16
     ensures { result ≡ first_of count first }
 {
-    if count == 0 {
-        return 0;
-    }
-    first
+    if count == 0 { 0 } else { first }
 }

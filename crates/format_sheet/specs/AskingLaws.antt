@@ -1,14 +1,14 @@
 -- A pattern held against its type (refusal 10), from the records that the code reads.
 use Rattle.std.specs.Prelude.{◌≡◌, true, false, List, ℕ, ◌+◌, ◌-◌, ◌≤◌, ◌<◌, eqb}
-use Rattle.std.proofs.Math.Path.{refl, ap, ap₂, sym}
+use Rattle.std.proofs.Math.Path.{ap, ap₂, sym}
 use Rattle.std.proofs.Common.{◌∙◌, arith}
 use borrow.Author.Tests.{ne_eqb, le-leb, lt-leb}
 use Rattle.base_words.specs.Words.{both}
 use Rattle.spec_rules.specs.Kinds.{int_type, bytes_type, list_type, pair_type, tuple_type, data_type, discard_pattern, variable_pattern, assign_pattern, integer_pattern, byte_string_pattern, list_pattern, list_with_tail_pattern, constructor_pattern, pair_pattern, tuple_pattern}
-use Rattle.spec_rules.specs.SheetFile.{types, constructors, patterns, children, type_kind, type_first, type_count, pattern_kind, pattern_first, pattern_count, child}
+use Rattle.spec_rules.specs.SheetFile.{patterns, children, pattern_kind, pattern_first, pattern_count, child}
 use Rattle.spec_rules.specs.Patterns.{pattern_kind_of, takes_arguments}
 use Rattle.spec_rules.specs.SheetRefusals.{has_children}
-use Rattle.spec_accepted.specs.SheetFacts.{Typed, Shaped}
+use Rattle.spec_accepted.specs.SheetFacts.{Shaped}
 use Rattle.format_sheet.specs.declared.records.PatternRecord.{PatternRecord}
 use Rattle.format_sheet.specs.declared.records.TypeRecord.{TypeRecord}
 use Rattle.format_sheet.specs.declared.records.Run.{Run}
@@ -88,13 +88,6 @@ module _ (s : List ℕ) (p t : ℕ) (r : PatternRecord) (f : r ≡ pattern_of s 
   unfolding asked pattern_kind_of
   tuple_asks e x = x ∙ ap₂ (λ (a : PatternRecord) (b : TypeRecord). asks_for (both (eqb b.kind tuple_type) (eqb b.count a.count)) a.first a.count b.first 1) f g ∙ sym (by_byte tuple_pattern e)
 
-  pub unknown_asks : (r.kind ≡ discard_pattern → ⊥) → (r.kind ≡ variable_pattern → ⊥) → (r.kind ≡ assign_pattern → ⊥) → (r.kind ≡ integer_pattern → ⊥) → (r.kind ≡ byte_string_pattern → ⊥) → (r.kind ≡ list_pattern → ⊥) → (r.kind ≡ list_with_tail_pattern → ⊥) → (r.kind ≡ constructor_pattern → ⊥) → (r.kind ≡ pair_pattern → ⊥) → (r.kind ≡ tuple_pattern → ⊥)
-      → ◌≡◌ {A = Question} (Settled true) (asked s p t (pattern_kind_of (pattern_kind s p)))
-  unfolding asked pattern_kind_of
-  unknown_asks n0 n1 n2 n3 n4 n5 n6 n7 n8 n9 =
-      sym (by_byte r.kind refl
-      ∙ rw (ne_eqb r.kind discard_pattern n0, ne_eqb r.kind variable_pattern n1, ne_eqb r.kind assign_pattern n2, ne_eqb r.kind integer_pattern n3, ne_eqb r.kind byte_string_pattern n4, ne_eqb r.kind list_pattern n5, ne_eqb r.kind list_with_tail_pattern n6, ne_eqb r.kind constructor_pattern n7, ne_eqb r.kind pair_pattern n8, ne_eqb r.kind tuple_pattern n9))
-
   -- ---- what is read is there
   pub assign_child : Shaped s → p < patterns s → r.kind ≡ assign_pattern → r.first < children s
   unfolding has_children pattern_kind_of
@@ -102,13 +95,3 @@ module _ (s : List ℕ) (p t : ℕ) (r : PatternRecord) (f : r ≡ pattern_of s 
       let k : pattern_kind s p ≡ assign_pattern = sym kind_is ∙ e in
       let one = sh.assign_one p h k in
       omega (arith, first_is, (sh.children_run p h (rw k)).inside)
-
-  pub rest_some : Shaped s → p < patterns s → r.kind ≡ list_with_tail_pattern → 1 ≤ r.count
-  rest_some sh h e = omega (arith, count_is, sh.tail_after_some p h (sym kind_is ∙ e))
-
-  pub constructors_there : Typed s → t < types s → ty.kind ≡ data_type → ty.first + ty.count ≤ constructors s
-  constructors_there ok h e =
-      let k : ty.kind ≡ type_kind s t = ap (λ (x : TypeRecord). x.kind) g in
-      let first : ty.first ≡ type_first s t = ap (λ (x : TypeRecord). x.first) g in
-      let count : ty.count ≡ type_count s t = ap (λ (x : TypeRecord). x.count) g in
-      omega (arith, first, count, ok.type_constructors t h (sym k ∙ e))

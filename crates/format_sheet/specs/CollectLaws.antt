@@ -12,7 +12,7 @@ use Rattle.format_sheet.specs.declared.records.Run.{Run}
 use Rattle.format_sheet.specs.Shape.{children_first, children_count, children_of}
 use Rattle.format_sheet.specs.Fitting.{ReadySheet}
 use Rattle.format_sheet.specs.Names.{own_name, joined, names_in, Names, in_buffer, held, Adds, Lacks}
-use Rattle.format_sheet.specs.NamesLaws.{names_open, clause_names, joined_next, joined_end, joined_begin, lacks_all, lacks_less, lacks_nothing}
+use Rattle.format_sheet.specs.NamesLaws.{names_open, clause_names, joined_next, joined_end, lacks_less, lacks_nothing}
 use Rattle.format_sheet.specs.ForestLaws.{names_few}
 
 -- an entry of the run of children is owned
@@ -54,9 +54,6 @@ module _ (s : List ℕ) (m : SheetMap) (ready : ReadySheet s m) (p : ℕ) (h : p
 
     names_are : names_in s p ≡ own_name s p ++ inside
     names_are = names_open s ready.is_shaped ready.is_counted p h ∙ ap (λ (x : Run). own_name s p ++ joined (λ j. names_in s (child s j)) x.first x.count) (sym e)
-
-    pub collect_begins : (start : Names) → Lacks start inside start (inside_from 0)
-    collect_begins start = rw (joined_begin (λ j. names_in s (child s j)) r.first r.count) (lacks_all start inside)
 
     module _ (names start next : Names) (k q : ℕ) (l : k < r.count) (f : q ≡ child s (r.first + k)) (lacks : Lacks start inside next (inside_from k)) where
       rest_is : inside_from k ≡ names_in s q ++ inside_from (k + 1)

@@ -1,19 +1,15 @@
 -- The definitions that the contracts of this crate cite, and their laws.
-pub mod Found
 pub mod Sections
 pub mod SectionsLaws
 pub mod Records
-pub mod RecordsLaws
 pub mod TestsLaws
 pub mod LoopsLaws
 pub mod Types
-pub mod TypesLaws
 pub mod Meeting
 pub mod MeetingLaws
 pub mod Shape
 pub mod ShapeLaws
 pub mod TallyLaws
-pub mod TextsLaws
 pub mod Fitting
 pub mod FittingLaws
 pub mod AskingLaws

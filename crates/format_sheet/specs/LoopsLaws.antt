@@ -1,42 +1,20 @@
--- The laws of a loop over the numbers below n: what is left from i on is the whole, as long as each number passed.
--- Rests on the laws of `every` and `lowest` in spec_rules.
+-- The laws of the loops that call what a closure could not: what is left is the whole, as long as each number passed.
+-- Rests on the laws of `lowest` in spec_rules.
 use Rattle.std.specs.Prelude.{◌≡◌, Bool, true, false}
 use Rattle.std.proofs.Math.Path.{ap, sym}
 use Rattle.std.proofs.Common.{◌∙◌}
 use Prim.Native.Nat.{ℕ, suc, ◌+◌, ◌-◌, ◌≤◌, ◌<◌}
 use native.Mathlib.Omega.{arith}
-use Rattle.std.proofs.Math.Nat.{sub-zero}
 use Rattle.base_words.specs.Words.{both}
 use Rattle.spec_rules.specs.Searching.{every, lowest}
-use Rattle.spec_rules.specs.SearchingLaws.{every_on, every_stop, every_end, lowest_found, lowest_on, lowest_end}
-use Rattle.format_sheet.specs.declared.Found.{Found}
-use Rattle.format_sheet.specs.declared.Found.TheVariants.{At, Nothing}
-use Rattle.format_sheet.specs.Found.{found_of}
+use Rattle.spec_rules.specs.SearchingLaws.{lowest_found, lowest_on, lowest_end}
+use Rattle.std.specs.Prelude.{Option, Some, None}
+use Rattle.spec_rules.specs.Found.{found}
 
 module _ (f : ℕ → Bool) (n : ℕ) where
-  -- ---- a loop that asks every number
-  abbrev pub EveryLeft : ℕ → Type 0
-  EveryLeft i = every f i (n - i) ≡ every f 0 n
-
-  pub every_begins : EveryLeft 0
-  every_begins = ap (every f 0) (sub-zero n)
-
-  module _ (i : ℕ) (h : i < n) (left : EveryLeft i) where
-    pub every_goes_on : f i ≡ true → EveryLeft (i + 1)
-    every_goes_on e = every_on f i n h e ∙ left
-
-    pub every_stops : f i ≡ false → false ≡ every f 0 n
-    every_stops e = sym (every_stop f i n h e) ∙ left
-
-  pub every_ends : (i : ℕ) → n ≤ i → EveryLeft i → true ≡ every f 0 n
-  every_ends i h left = sym (every_end f i n h) ∙ left
-
   -- ---- a loop that asks n numbers from `first` on, and counts k from 0
   abbrev pub EveryFrom : ℕ → ℕ → Type 0
   EveryFrom first k = every f (first + k) (n - k) ≡ every f first n
-
-  pub from_begins : (first : ℕ) → EveryFrom first 0
-  from_begins first = let e : first + 0 ≡ first = omega arith in rw (e, sub-zero n)
 
   module _ (first k : ℕ) (h : k < n) (left : EveryFrom first k) where
     from_next : every f (first + k) (n - k) ≡ both (f (first + k)) (every f (first + (k + 1)) (n - (k + 1)))
@@ -60,15 +38,12 @@ module _ (f : ℕ → Bool) (n : ℕ) where
   abbrev pub LowestLeft : ℕ → Type 0
   LowestLeft i = lowest f i (n - i) ≡ lowest f 0 n
 
-  pub lowest_begins : LowestLeft 0
-  lowest_begins = ap (lowest f 0) (sub-zero n)
-
   module _ (i : ℕ) (h : i < n) (left : LowestLeft i) where
     pub lowest_goes_on : f i ≡ false → LowestLeft (i + 1)
     lowest_goes_on e = lowest_on f i n h e ∙ left
 
-    pub lowest_stops : f i ≡ true → ◌≡◌ {A = Found} (At i) (found_of (lowest f 0 n))
-    lowest_stops e = ap found_of (sym (lowest_found f i n h e) ∙ left)
+    pub lowest_stops : f i ≡ true → ◌≡◌ {A = Option ℕ} (Some i) (found (lowest f 0 n))
+    lowest_stops e = ap found (sym (lowest_found f i n h e) ∙ left)
 
-  pub lowest_ends : (i : ℕ) → n ≤ i → LowestLeft i → ◌≡◌ {A = Found} Nothing (found_of (lowest f 0 n))
-  lowest_ends i h left = ap found_of (sym (lowest_end f i n h) ∙ left)
+  pub lowest_ends : (i : ℕ) → n ≤ i → LowestLeft i → ◌≡◌ {A = Option ℕ} None (found (lowest f 0 n))
+  lowest_ends i h left = ap found (sym (lowest_end f i n h) ∙ left)

@@ -124,6 +124,3 @@ module _ (meets : ℕ → ℕ → Bool) (base : ℕ → ℕ) (n : ℕ) where
 
   pub tally_most : (c k : ℕ) {l : List ℕ} → Tally meets base n c l → get_or l k 0 ≤ base k + n
   tally_most c k t = omega (arith, t.tally k, times_most (meets k) 0 n)
-
-pub meets_all : (i n k : ℕ) {a b : List ℕ} → k ≤ n → n ≤ k → Meets i k a b → Meets i n a b
-meets_all i n k h g f = let e : n ≡ k = omega arith in rw e f

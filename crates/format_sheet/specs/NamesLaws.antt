@@ -1,8 +1,8 @@
 -- The names by number are the names of the pattern, and how a buffer of names grows.
 -- Rests on the law by which a pattern opens one level.
-use Rattle.std.specs.Prelude.{◌≡◌, Bool, true, false, eqb, length, get_or, set}
+use Rattle.std.specs.Prelude.{◌≡◌, Bool, true, false, eqb, length, get_or}
 use Rattle.std.proofs.Math.Path.{refl, ap, sym}
-use Rattle.std.proofs.Common.{ap₂, ◌∙◌, add-one, eq-eqb, ne_eqb, length-set, length-append, take-suc-set}
+use Rattle.std.proofs.Common.{ap₂, ◌∙◌, eq-eqb, ne_eqb, length-append}
 use mathlib.Core.List.{List, [], ◌∷◌, ◌++◌, append-nil, append_assoc}
 use Prim.Native.Nat.{ℕ, zero, suc, ◌+◌, ◌-◌, ◌≤◌, ◌<◌}
 use native.Mathlib.Omega.{arith}
@@ -20,7 +20,7 @@ use Rattle.format_sheet.specs.declared.records.PatternRecord.{PatternRecord}
 use Rattle.format_sheet.specs.Records.{pattern_of}
 use Rattle.format_sheet.specs.Shape.{children_first, children_count}
 use Rattle.format_parts.specs.TextsLaws.{text_cons}
-use Rattle.format_sheet.specs.Names.{name_of_kind, own_name, joined, names_to, names_in, Names, in_buffer, held, Adds, Lacks}
+use Rattle.format_sheet.specs.Names.{name_of_kind, own_name, joined, names_to, names_in, Names, held, Adds, Lacks}
 
 -- ---- lists joined
 -- the last apart
@@ -100,19 +100,8 @@ module _ (s : List ℕ) (sh : Shaped s) where
   clause_names c h = names_in_lem (root s c) _ (sh.root_pattern c h)
 
 -- ---- a buffer of names that grows
-pub adds_one : (h : Names) (x : ℕ) → length h.found ≡ patterns_most → h.count < patterns_most
-    → Adds h (x ∷ []) (in_buffer (set h.found h.count x) (h.count + 1))
-adds_one h x long few = record {
-  kept = length-set h.found h.count x;
-  counted = refl;
-  holds = rw (add-one h.count) (take-suc-set h.found h.count x (omega arith));
-}
-
 pub adds_none : (h : Names) → Adds h [] h
 adds_none h = record { kept = refl; counted = omega arith; holds = sym (append-nil (held h)) }
-
-pub lacks_all : (h : Names) (all : List ℕ) → Lacks h all h all
-lacks_all h all = record { kept = refl; counted = refl; holds = refl }
 
 pub lacks_less : (h r r' : Names) (all xs rest rest' : List ℕ) → Lacks h all r rest → rest ≡ xs ++ rest' → Adds r xs r' → Lacks h all r' rest'
 lacks_less h r r' all xs rest rest' l e a = record {
@@ -178,9 +167,6 @@ module _ (s : List ℕ) (g : ℕ → List ℕ) (first n k : ℕ) where
   unfolding joined
   joined_end h = let e : n - k ≡ 0 = omega arith in ap (joined g (first + k)) e
 
-pub joined_begin : (g : ℕ → List ℕ) (first n : ℕ) → joined g (first + 0) (n - 0) ≡ joined g first n
-joined_begin g first n = let e : first + 0 ≡ first = omega arith in let d : n - 0 ≡ n = omega arith in rw (e, d)
-
 -- ---- a name among those after it
 module _ (l : List ℕ) (x first n : ℕ) where
   abbrev pub AmongLeft : ℕ → Type 0
@@ -205,9 +191,6 @@ module _ (l : List ℕ) (x first n : ℕ) where
 module _ (l : List ℕ) (n : ℕ) where
   abbrev pub RepeatsLeft : ℕ → Type 0
   RepeatsLeft i = repeats (text_at l i (n - i)) ≡ repeats (text_at l 0 n)
-
-  pub repeats_begin : RepeatsLeft 0
-  repeats_begin = let e : n - 0 ≡ n = omega arith in rw e
 
   module _ (i : ℕ) (room : n ≤ length l) (h : i < n) (left : RepeatsLeft i) {r : Bool} (x : r ≡ is_in (get_or l i 0) (text_at l (i + 1) (n - (i + 1)))) where
     repeats_next : repeats (text_at l i (n - i)) ≡ either r (repeats (text_at l (i + 1) (n - (i + 1))))

@@ -14,13 +14,13 @@ use Rattle.format_sheet.specs.Sections.{map_of, few_enough}
 abbrev pub starts_fit : ℕ → ℕ → ℕ → ℕ → ℕ → ℕ → ℕ → ℕ → Bool
 starts_fit a b c d e f g end = both (eqb a 0) (whole_between sheet_sizes (a ∷ b ∷ c ∷ d ∷ e ∷ f ∷ g ∷ end ∷ []))
 
+pub layout_read : (s : List ℕ) → layout_fits s ≡ starts_fit (sheet_start s 0) (sheet_start s 1) (sheet_start s 2) (sheet_start s 3) (sheet_start s 4) (sheet_start s 5) (sheet_start s 6) (length s - sheet_trailer)
+unfolding layout_fits types_at constructors_at entries_at patterns_at children_at clauses_at pool_at pool_end
+layout_read s = refl
+
 module _ (s : List ℕ) (a b c d e f g : ℕ)
     (ea : a ≡ sheet_start s 0) (eb : b ≡ sheet_start s 1) (ec : c ≡ sheet_start s 2) (ed : d ≡ sheet_start s 3)
     (ee : e ≡ sheet_start s 4) (ef : f ≡ sheet_start s 5) (eg : g ≡ sheet_start s 6) where
-  pub layout_read : layout_fits s ≡ starts_fit a b c d e f g (length s - sheet_trailer)
-  unfolding layout_fits types_at constructors_at entries_at patterns_at children_at clauses_at pool_at pool_end
-  layout_read = rw (ea, eb, ec, ed, ee, ef, eg)
-
   -- the map, made of sections from one start to the next
   pub map_read : (ty co en pa ch cl po : Section) (n : ℕ)
       → ty ≡ section_of a b type_size → co ≡ section_of b c constructor_size → en ≡ section_of c d entry_size

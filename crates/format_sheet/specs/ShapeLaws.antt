@@ -1,9 +1,9 @@
 -- Refusal 8 from what the code reads and asks: the parts of Shape are refusal 8, and each part that holds makes the next ones safe.
 use Rattle.std.specs.Prelude.{◌≡◌, Bool, false, not, List, ℕ, zero, suc, ◌+◌, ◌-◌, ◌≤◌, ◌<◌, eqb, leb, ltb}
 use Rattle.std.proofs.Math.Path.{refl, ap, sym}
-use Rattle.std.proofs.Common.{ap₂, ◌∙◌, arith, leb-true, leb-false, ltb-true, eq-eqb, ne_eqb, le-leb, lt-ltb}
+use Rattle.std.proofs.Common.{ap₂, ◌∙◌, arith, leb-true, leb-false, ltb-true, eqb-true, ne_eqb, le-leb, lt-ltb}
 use Rattle.std.proofs.Math.Bool.{true}
-use Rattle.std.proofs.lemmas.Bool.{lt-leb}
+use Rattle.std.proofs.lemmas.Bool.{lt-leb, eqb-false}
 use Rattle.base_words.specs.Words.{both, either, pick}
 use Rattle.base_words.specs.WordsLaws.{both_true, both_assoc}
 use Rattle.spec_rules.specs.Kinds.{variable_pattern, assign_pattern, list_pattern, list_with_tail_pattern, tuple_pattern}
@@ -21,7 +21,6 @@ use Rattle.format_sheet.specs.declared.records.Run.{Run}
 use Rattle.format_sheet.specs.Sections.{map_of}
 use Rattle.format_sheet.specs.SectionsLaws.{mapped}
 use Rattle.format_sheet.specs.Records.{pattern_of}
-use Rattle.format_sheet.specs.TestsLaws.{passed, stopped}
 use Rattle.format_sheet.specs.Shape.{children_first, children_count, children_of, plain_run, own_fields, record_fits, child_known, ChildrenKnown, RootsKnown, RunsInside, listed_once, all_above}
 
 -- ---- Bools
@@ -78,22 +77,6 @@ module _ (k : ℕ) where
           let e : pattern_number (pattern_kind_of k) ≡ suc tuple_pattern = pattern_number_lem k ∙ omega arith in
           x ∙ sym (children_by_number (pattern_kind_of k) ∙ rw e)
 
--- ---- the children of a pattern
-module _ (s : List ℕ) (p : ℕ) (r : PatternRecord) (f : r ≡ pattern_of s p) (b : Bool) (q : b ≡ has_children (pattern_kind_of r.kind)) where
-  has_is : b ≡ has_children (pattern_kind_of (pattern_kind s p))
-  has_is = q ∙ ap (λ (x : PatternRecord). has_children (pattern_kind_of x.kind)) f
-
-  pub children_there : b ≡ true → ◌≡◌ {A = Run} (record { first = r.first; count = r.count }) (children_of s p)
-  unfolding children_first children_count
-  children_there y =
-      let first : r.first ≡ pattern_first s p = ap (λ (x : PatternRecord). x.first) f in
-      let count : r.count ≡ pattern_count s p = ap (λ (x : PatternRecord). x.count) f in
-      rw (sym has_is ∙ y, first, count)
-
-  pub children_absent : b ≡ false → ◌≡◌ {A = Run} (record { first = 0; count = 0 }) (children_of s p)
-  unfolding children_first children_count
-  children_absent n = rw (sym has_is ∙ n)
-
 -- ---- the fields of a pattern
 tail_rule : List ℕ → ℕ → PatternKind → Bool
 tail_rule s p Discard = true
@@ -148,37 +131,27 @@ module _ (s : List ℕ) (m : SheetMap) (e : m ≡ map_of s) (p : ℕ) (r : Patte
   own_is : own_fields r m.children.count m.pool.count (pattern_kind_of r.kind) ≡ own_fields (pattern_of s p) (children s) (pool_size s) (pattern_kind_of (pattern_kind s p))
   own_is = rw (e, f)
 
-  pub zero_stops : (r.zero ≡ 0 → ⊥) → false ≡ record_fits s p
+  tail_is : (b : Bool) → eqb r.kind list_with_tail_pattern ≡ b
+      → tail_rule s p (pattern_kind_of (pattern_kind s p)) ≡ either (not b) (leb (pattern_kind s (child s (r.first + (r.count - 1)))) variable_pattern)
+  unfolding tail_rule tail_fits pattern_kind_of
+  tail_is true x = rw (sym kind_is ∙ eqb-true r.kind list_with_tail_pattern x, f)
+  tail_is false x =
+      no_tail s p (pattern_kind_of (pattern_kind s p)) (λ k. eqb-false r.kind list_with_tail_pattern x (kind_is ∙ pattern_byte (pattern_kind s p) ListWithRest k (omega arith)))
+
+  pub record_read : record_fits s p
+      ≡ both (eqb r.zero 0)
+      (both (own_fields r m.children.count m.pool.count (pattern_kind_of r.kind))
+      (either (not (eqb r.kind list_with_tail_pattern)) (leb (pattern_kind s (child s (r.first + (r.count - 1)))) variable_pattern)))
   unfolding record_fits
-  zero_stops h = rw (ne_eqb (pattern_zero s p) 0 (λ z. h (zero_is ∙ z)))
+  record_read = ap₂ both (ap (λ x. eqb x 0) (sym zero_is)) (fields_are s p (pattern_kind_of (pattern_kind s p)) ∙ ap₂ both (sym own_is) (tail_is (eqb r.kind list_with_tail_pattern) refl))
 
-  module _ (z : r.zero ≡ 0) {own : Bool} (q : own ≡ own_fields r m.children.count m.pool.count (pattern_kind_of r.kind)) where
-    record_is : {b : Bool} → own ≡ b → record_fits s p ≡ both b (tail_rule s p (pattern_kind_of (pattern_kind s p)))
-    unfolding record_fits
-    record_is x =
-        rw (eq-eqb (pattern_zero s p) 0 (sym zero_is ∙ z))
-        (fields_are s p (pattern_kind_of (pattern_kind s p))
-        ∙ ap (λ (y : Bool). both y (tail_rule s p (pattern_kind_of (pattern_kind s p)))) (sym own_is ∙ sym q ∙ x))
-
-    pub own_stops : not own ≡ true → false ≡ record_fits s p
-    own_stops n = sym (record_is (stopped refl n))
-
-    pub without_tail : not own ≡ false → (r.kind ≡ list_with_tail_pattern → ⊥) → true ≡ record_fits s p
-    without_tail y h =
-        sym (record_is (passed refl y)
-        ∙ no_tail s p (pattern_kind_of (pattern_kind s p)) (λ k. h (kind_is ∙ pattern_byte (pattern_kind s p) ListWithRest k (omega arith))))
-
-    pub tail_room : not own ≡ false → r.kind ≡ list_with_tail_pattern → (2 ≤ r.count) × (r.first + r.count ≤ children s)
-    unfolding own_fields pattern_kind_of
-    tail_room y k =
-        let own_yes : both (leb 2 r.count) (plain_run r.a r.first r.count m.children.count) ≡ true = rw k at (sym q ∙ passed refl y) in
-        let a = both_true (leb 2 r.count) _ own_yes in
-        let b = both_true (eqb r.a 0) (run_in r.first r.count m.children.count) a.1 in
-        (leb-true _ _ a.0, omega (arith, (mapped s m e).of_children, (run_in_lem _ _ _ b.1).inside))
-
-    pub with_tail : {tail : Bool} → not own ≡ false → r.kind ≡ list_with_tail_pattern → tail ≡ leb (pattern_kind s (child s (r.first + (r.count - 1)))) variable_pattern → tail ≡ record_fits s p
-    unfolding tail_rule tail_fits pattern_kind_of
-    with_tail y k g = sym (record_is (passed refl y) ∙ rw (sym kind_is ∙ k) (sym (g ∙ rw f)))
+  pub tail_room : own_fields r m.children.count m.pool.count (pattern_kind_of r.kind) ≡ true → r.kind ≡ list_with_tail_pattern → (2 ≤ r.count) × (r.first + r.count ≤ children s)
+  unfolding own_fields pattern_kind_of
+  tail_room y k =
+      let own_yes : both (leb 2 r.count) (plain_run r.a r.first r.count m.children.count) ≡ true = rw k at y in
+      let a = both_true (leb 2 r.count) _ own_yes in
+      let b = both_true (eqb r.a 0) (run_in r.first r.count m.children.count) a.1 in
+      (leb-true _ _ a.0, omega (arith, (mapped s m e).of_children, (run_in_lem _ _ _ b.1).inside))
 
 -- ---- each part makes the next ones safe
 pub children_known : (s : List ℕ) → every (child_known s) 0 (children s) ≡ true → ChildrenKnown s
@@ -290,26 +263,12 @@ within_more deep s p = go (has_children (pattern_kind_of (pattern_kind s p)))
     go false = refl
 
 -- ---- a tail
-pub tail_known : (s : List ℕ) → ChildrenKnown s → (first count : ℕ) {last : ℕ} → 2 ≤ count → first + count ≤ children s
-    → last ≡ child s (first + (count - 1)) → last < patterns s
-tail_known s known first count h inside e = omega (arith, e, known.child_known_holds (first + (count - 1)) (omega arith))
-
-pub tail_kind : (s : List ℕ) (j last : ℕ) (tail : PatternRecord) → last ≡ child s j → tail ≡ pattern_of s last
-    → leb tail.kind 1 ≡ leb (pattern_kind s (child s j)) variable_pattern
-tail_kind s j last tail e f = rw (f, e)
-
 pub above_known : (s : List ℕ) → ChildrenKnown s → (p j : ℕ) {q : ℕ} → j < children s → q ≡ child s j → ltb p q ≡ is_above s p j
 unfolding is_above
 above_known s known p j h e = rw (e, lt-ltb (child s j) (patterns s) (known.child_known_holds j h)) (sym (both_end _))
 
 -- ---- going over the children of a pattern
 module _ (s : List ℕ) where
-  pub run_entry : RunsInside s → (p : ℕ) → p < patterns s → (r : Run) → r ≡ children_of s p → (k : ℕ) → k < r.count → r.first + k < children s
-  run_entry inside p h r e k l =
-      let first : r.first ≡ children_first s p = ap (λ (x : Run). x.first) e in
-      let count : r.count ≡ children_count s p = ap (λ (x : Run). x.count) e in
-      omega (arith, inside.run_inside p h)
-
   pub every_of_children : (p : ℕ) (r : Run) → r ≡ children_of s p → (f : ℕ → Bool) → every f r.first r.count ≡ every f (children_first s p) (children_count s p)
   every_of_children p r e f = ap (λ (x : Run). every f x.first x.count) e
 

@@ -7,7 +7,6 @@ use borrow.Author.Tests.{eqb-false, ne_eqb}
 use Rattle.std.proofs.Math.Dec.{eqb}
 use Rattle.std.proofs.Math.ListN.{get_or}
 use Rattle.base_words.specs.Words.{both, pick}
-use Rattle.spec_rules.specs.Limits.{patterns_most}
 use Rattle.spec_rules.specs.Searching.{every, times}
 use Rattle.spec_rules.specs.SearchingLaws.{every_false, times_some, times_most}
 use Rattle.spec_rules.specs.SheetFile.{patterns, children, clauses, pattern_kind, pattern_first, pattern_count, child, root}
@@ -28,9 +27,6 @@ abbrev pub RootTally : List ℕ → ℕ → List ℕ → Type 0
 RootTally s c l = Tally (is_root s) (λ p. 0) (clauses s) c l
 
 module _ (s : List ℕ) where
-  pub roots_begin : {l : List ℕ} → NoneMet l → RootTally s 0 l
-  roots_begin none = tally_begins (is_root s) (λ p. 0) (clauses s) none.long none.none_met_holds
-
   module _ (c r : ℕ) {l : List ℕ} (h : c < clauses s) (e : r ≡ root s c) (t : RootTally s c l) where
     pub root_room_to_meet : Counted s → RootsKnown s → (r < length l) × (get_or l r 0 < 255)
     root_room_to_meet few known =
@@ -48,9 +44,6 @@ abbrev pub EntryTally : List ℕ → ℕ → List ℕ → Type 0
 EntryTally s j l = Tally (is_entry s) (λ p. times (is_root s p) 0 (clauses s)) (children s) j l
 
 module _ (s : List ℕ) where
-  pub entries_begin : {l : List ℕ} → RootsMet s l → EntryTally s 0 l
-  entries_begin met = tally_begins (is_entry s) (λ p. times (is_root s p) 0 (clauses s)) (children s) met.long met.roots_met
-
   module _ (j q : ℕ) {l : List ℕ} (h : j < children s) (e : q ≡ child s j) (t : EntryTally s j l) where
     pub entry_room_to_meet : Counted s → ChildrenKnown s → (q < length l) × (get_or l q 0 < 255)
     entry_room_to_meet few known =
@@ -102,9 +95,6 @@ module _ (s : List ℕ) where
 
     count_is : r.count ≡ children_count s p
     count_is = ap (λ (x : Run). x.count) e
-
-    pub list_room : Counted s → RunsInside s → r.first + r.count ≤ patterns_most
-    list_room few inside = omega (arith, first_is, count_is, inside.run_inside p h, few.children_most_holds)
 
     pub lists_go_on : {l l' : List ℕ} → ListTally s p l → Meets r.first r.count l l' → ListTally s (p + 1) l'
     lists_go_on t f =

@@ -8,13 +8,13 @@ ghost use Rattle.spec_rules.specs.Patterns.{pattern_kind_of, pattern, along, fit
 ghost use Rattle.spec_rules.specs.SheetRefusals.{misfit, lowest_misfit};
 ghost use Rattle.spec_accepted.specs.SheetFacts.{Laid};
 ghost use Rattle.format_sheet.specs.Sections.{map_of};
-ghost use Rattle.format_sheet.specs.Found.{found_of};
+ghost use Rattle.spec_rules.specs.Found.{found};
 ghost use Rattle.format_sheet.specs.Fitting.{ReadySheet, Room, asks_for, arguments_fit, asked};
 
+use crate::SheetMap;
 use crate::records::{
     PatternRecord, TypeRecord, child_at, constructor_at, entry_at, pattern_at, root_at, type_at,
 };
-use crate::{Found, SheetMap};
 use base_numbers::{pattern_kinds, type_kinds};
 
 // What is left to ask of a pattern whose own kind and count were held against its type: nothing, it fits or does not; that the
@@ -158,16 +158,11 @@ fn misfits(sheet: &[u8], map: SheetMap, c: usize) -> bool
 }
 
 // 10.
-pub(crate) fn lowest_misfit(sheet: &[u8], map: SheetMap) -> Found
+pub(crate) fn lowest_misfit(sheet: &[u8], map: SheetMap) -> Option<u16>
     requires { ReadySheet sheet.now map }
-    ensures { result ≡ found_of (lowest_misfit sheet.now) }
+    ensures { result ≡ found (lowest_misfit sheet.now) }
 {
-    let mut c: usize = 0;
-    while c < map.clauses.count {
-        if misfits(sheet, map, c) {
-            return Found::At(c as u16);
-        }
-        c += 1;
-    }
-    Found::Nothing
+    (0..map.clauses.count)
+        .find(|&c| misfits(sheet, map, c))
+        .map(|c| c as u16)
 }

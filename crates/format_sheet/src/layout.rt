@@ -18,21 +18,16 @@ use base_words::word_at;
 use format_parts::sections::{section_of, whole_records};
 
 // 2: from 18 to 8,192 bytes, and the trailer's length is the sheet's.
+#[tactic(auto, unfolding(spec_rules::specs::SheetRefusals::length_fits, spec_rules::specs::SheetFile::sheet_length))]
 pub(crate) fn length_fits(sheet: &[u8]) -> bool
     ensures { result ≡ length_fits sheet.now }
 {
     let n = sheet.len();
-    if n < SHEET_TRAILER {
-        return false;
-    }
-    if SHEET_MOST < n {
-        return false;
-    }
-    let told = word_at(sheet, n - LENGTH_BACK) as usize;
-    told == n
+    SHEET_TRAILER <= n && n <= SHEET_MOST && word_at(sheet, n - LENGTH_BACK) as usize == n
 }
 
 // Start k of the trailer.
+#[tactic(auto, unfolding(spec_rules::specs::SheetFile::sheet_start))]
 fn start(sheet: &[u8], k: usize) -> usize
     requires { (sheet_trailer ≤ length sheet.now) × (k < sheet_starts) }
     ensures { result ≡ sheet_start sheet.now k }
@@ -41,6 +36,7 @@ fn start(sheet: &[u8], k: usize) -> usize
 }
 
 // 3: the starts rise from 0, pass not the trailer, and cut no record.
+#[tactic(auto, using(crate::specs::SectionsLaws::layout_read))]
 pub(crate) fn layout_fits(sheet: &[u8]) -> bool
     requires { sheet_trailer ≤ length sheet.now }
     ensures { result ≡ layout_fits sheet.now }
@@ -52,31 +48,18 @@ pub(crate) fn layout_fits(sheet: &[u8]) -> bool
     let children_at = start(sheet, sheet_starts::CHILDREN);
     let clauses_at = start(sheet, sheet_starts::CLAUSES);
     let pool_at = start(sheet, sheet_starts::POOL);
-    if types_at != 0 {
-        return false;
-    }
-    if !whole_records(TYPE_SIZE, types_at, constructors_at) {
-        return false;
-    }
-    if !whole_records(CONSTRUCTOR_SIZE, constructors_at, entries_at) {
-        return false;
-    }
-    if !whole_records(ENTRY_SIZE, entries_at, patterns_at) {
-        return false;
-    }
-    if !whole_records(PATTERN_SIZE, patterns_at, children_at) {
-        return false;
-    }
-    if !whole_records(CHILD_SIZE, children_at, clauses_at) {
-        return false;
-    }
-    if !whole_records(CLAUSE_SIZE, clauses_at, pool_at) {
-        return false;
-    }
-    whole_records(BYTE_SIZE, pool_at, sheet.len() - SHEET_TRAILER)
+    types_at == 0
+        && whole_records(TYPE_SIZE, types_at, constructors_at)
+        && whole_records(CONSTRUCTOR_SIZE, constructors_at, entries_at)
+        && whole_records(ENTRY_SIZE, entries_at, patterns_at)
+        && whole_records(PATTERN_SIZE, patterns_at, children_at)
+        && whole_records(CHILD_SIZE, children_at, clauses_at)
+        && whole_records(CLAUSE_SIZE, clauses_at, pool_at)
+        && whole_records(BYTE_SIZE, pool_at, sheet.len() - SHEET_TRAILER)
 }
 
 // The subject's type number.
+#[tactic(auto, unfolding(spec_rules::specs::SheetFile::subject))]
 fn subject_of(sheet: &[u8]) -> usize
     requires { sheet_trailer ≤ length sheet.now }
     ensures { result ≡ subject sheet.now }
@@ -117,23 +100,14 @@ pub(crate) fn map_of(sheet: &[u8]) -> SheetMap
 }
 
 // 5: no section has more records than it may.
+#[tactic(auto, unfolding(crate::specs::Sections::few_enough))]
 pub(crate) fn counts_fit(map: SheetMap) -> bool
     ensures { result ≡ few_enough map }
 {
-    if TYPES_MOST < map.types.count {
-        return false;
-    }
-    if CONSTRUCTORS_MOST < map.constructors.count {
-        return false;
-    }
-    if ENTRIES_MOST < map.entries.count {
-        return false;
-    }
-    if PATTERNS_MOST < map.patterns.count {
-        return false;
-    }
-    if CHILDREN_MOST < map.children.count {
-        return false;
-    }
-    map.clauses.count <= CLAUSES_MOST
+    map.types.count <= TYPES_MOST
+        && map.constructors.count <= CONSTRUCTORS_MOST
+        && map.entries.count <= ENTRIES_MOST
+        && map.patterns.count <= PATTERNS_MOST
+        && map.children.count <= CHILDREN_MOST
+        && map.clauses.count <= CLAUSES_MOST
 }

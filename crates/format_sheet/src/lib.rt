@@ -18,14 +18,13 @@ mod standing;
 mod texts;
 mod types;
 
-ghost use Rattle.std.specs.Prelude.{◌≡◌};
-ghost use Rattle.spec_accepted.specs.SheetFacts.{Laid, Counted, Typed};
+ghost use Rattle.std.specs.Prelude.{◌≡◌, IfOk};
+ghost use Rattle.spec_rules.specs.SheetRefusals.{verdict};
+ghost use Rattle.format_parts.specs.Refusals.{verdict_of};
 ghost use Rattle.format_sheet.specs.Sections.{map_of};
-ghost use Rattle.format_sheet.specs.Fitting.{ReadySheet};
-ghost use Rattle.format_sheet.specs.Check.{answer, checked, from_types, from_patterns, from_clauses};
 
-use base_numbers::refusals;
 use fitting::lowest_misfit;
+use format_parts::refusals::{Reason, Refusal, require, require_none};
 use format_parts::sections::Section;
 use layout::{counts_fit, layout_fits, length_fits, map_of};
 use names::lowest_name_twice;
@@ -46,107 +45,21 @@ pub struct SheetMap {
     pub subject: usize,
 }
 
-#[derive(Drop)]
-pub enum CheckedSheet {
-    Accepted(SheetMap),
-    Refused { number: u16, place: u16 },
-}
-
-// The lowest number of which a refusal holds, if there is one.
-#[derive(Drop)]
-pub enum Found {
-    At(u16),
-    Nothing,
-}
-
-// 10 and 11.
-fn check_clauses(sheet: &[u8], map: SheetMap) -> CheckedSheet
-    requires { ReadySheet sheet.now map }
-    ensures { result ≡ answer sheet.now (from_clauses sheet.now) }
-{
-    if let Found::At(c) = lowest_misfit(sheet, map) {
-        return CheckedSheet::Refused {
-            number: refusals::MISFIT,
-            place: c,
-        };
-    }
-    if let Found::At(c) = lowest_name_twice(sheet, map) {
-        return CheckedSheet::Refused {
-            number: refusals::NAME_TWICE,
-            place: c,
-        };
-    }
-    CheckedSheet::Accepted(map)
-}
-
-// 8 to 11.
-fn check_patterns(sheet: &[u8], map: SheetMap) -> CheckedSheet
-    requires { Laid sheet.now × (map ≡ map_of sheet.now) × Counted sheet.now × Typed sheet.now }
-    ensures { result ≡ answer sheet.now (from_patterns sheet.now) }
-{
-    if !shape_fits(sheet, map) {
-        return CheckedSheet::Refused {
-            number: refusals::SHAPE,
-            place: 0,
-        };
-    }
-    if let Found::At(p) = lowest_bad_text(sheet, map) {
-        return CheckedSheet::Refused {
-            number: refusals::TEXT,
-            place: p,
-        };
-    }
-    check_clauses(sheet, map)
-}
-
-// 6 to 11.
-fn check_types(sheet: &[u8], map: SheetMap) -> CheckedSheet
-    requires { Laid sheet.now × (map ≡ map_of sheet.now) × Counted sheet.now }
-    ensures { result ≡ answer sheet.now (from_types sheet.now) }
-{
-    if !types_fit(sheet, map) {
-        return CheckedSheet::Refused {
-            number: refusals::TYPES,
-            place: 0,
-        };
-    }
-    if let Found::At(t) = lowest_transparent(sheet, map) {
-        return CheckedSheet::Refused {
-            number: refusals::TRANSPARENT,
-            place: t,
-        };
-    }
-    check_patterns(sheet, map)
-}
-
 // 01's refusals 2 to 11, in their order. It asks nothing of its caller.
-pub fn check(sheet: &[u8]) -> CheckedSheet
-    ensures { result ≡ checked sheet.now }
+pub fn check(sheet: &[u8]) -> Result<SheetMap, Refusal>
+    ensures verdict { verdict_of result ≡ verdict sheet.now }
+    ensures map { IfOk result (λ m. m ≡ map_of sheet.now) }
 {
-    if !length_fits(sheet) {
-        return CheckedSheet::Refused {
-            number: refusals::LENGTH,
-            place: 0,
-        };
-    }
-    if !layout_fits(sheet) {
-        return CheckedSheet::Refused {
-            number: refusals::LAYOUT,
-            place: 0,
-        };
-    }
-    let m = map_of(sheet);
-    if m.clauses.count == 0 {
-        return CheckedSheet::Refused {
-            number: refusals::NO_CLAUSE,
-            place: 0,
-        };
-    }
-    if !counts_fit(m) {
-        return CheckedSheet::Refused {
-            number: refusals::COUNT,
-            place: 0,
-        };
-    }
-    check_types(sheet, m)
+    require(length_fits(sheet), Reason::Length)?;
+    require(layout_fits(sheet), Reason::Layout)?;
+    let map = map_of(sheet);
+    require(0 < map.clauses.count, Reason::NoClause)?;
+    require(counts_fit(map), Reason::Count)?;
+    require(types_fit(sheet, map), Reason::Types)?;
+    require_none(lowest_transparent(sheet, map), Reason::Transparent)?;
+    require(shape_fits(sheet, map), Reason::Shape)?;
+    require_none(lowest_bad_text(sheet, map), Reason::Text)?;
+    require_none(lowest_misfit(sheet, map), Reason::Misfit)?;
+    require_none(lowest_name_twice(sheet, map), Reason::NameTwice)?;
+    Ok(map)
 }

@@ -7,12 +7,12 @@ ghost use Rattle.spec_rules.specs.SheetFile.{patterns, clauses, patterns_at, chi
 ghost use Rattle.spec_rules.specs.SheetRefusals.{is_in, repeats as Repeats, name_twice, lowest_name_twice};
 ghost use Rattle.spec_accepted.specs.SheetFacts.{Laid};
 ghost use Rattle.format_sheet.specs.Sections.{map_of};
-ghost use Rattle.format_sheet.specs.Found.{found_of};
+ghost use Rattle.spec_rules.specs.Found.{found};
 ghost use Rattle.format_sheet.specs.Fitting.{ReadySheet};
 ghost use Rattle.format_sheet.specs.Names.{own_name, names_in, in_buffer, held, Adds};
 
+use crate::SheetMap;
 use crate::records::{child_in, children_in, pattern_in, root_at};
-use crate::{Found, SheetMap};
 use base_numbers::pattern_kinds;
 use base_numbers::sheet::PATTERNS_MOST;
 
@@ -55,8 +55,7 @@ fn collect(
 {
     let mut next = add_own(sheet, records, p, found, count);
     let run = children_in(sheet, records, p);
-    let mut k: usize = 0;
-    while k < run.count {
+    for k in 0..run.count {
         next = collect(
             sheet,
             records,
@@ -65,7 +64,6 @@ fn collect(
             found,
             next,
         );
-        k += 1;
     }
     next
 }
@@ -75,12 +73,10 @@ fn again(found: &[u16], count: usize, i: usize) -> bool
     requires { (length found.now ≡ patterns_most) × (count ≤ patterns_most) × (i < count) }
     ensures { result ≡ is_in (get_or found.now i 0) (text_at found.now (i + 1) (count - (i + 1))) }
 {
-    let mut k = i + 1;
-    while k < count {
+    for k in i + 1..count {
         if found[i] == found[k] {
             return true;
         }
-        k += 1;
     }
     false
 }
@@ -89,12 +85,10 @@ fn repeats(found: &[u16], count: usize) -> bool
     requires { (length found.now ≡ patterns_most) × (count ≤ patterns_most) }
     ensures { result ≡ Repeats (held (in_buffer found.now count)) }
 {
-    let mut i: usize = 0;
-    while i < count {
+    for i in 0..count {
         if again(found, count, i) {
             return true;
         }
-        i += 1;
     }
     false
 }
@@ -116,17 +110,16 @@ fn name_twice(sheet: &[u8], map: SheetMap, c: usize, found: &mut [u16]) -> bool
 }
 
 // 11.
-pub(crate) fn lowest_name_twice(sheet: &[u8], map: SheetMap) -> Found
+pub(crate) fn lowest_name_twice(sheet: &[u8], map: SheetMap) -> Option<u16>
     requires { ReadySheet sheet.now map }
-    ensures { result ≡ found_of (lowest_name_twice sheet.now) }
+    ensures { result ≡ found (lowest_name_twice sheet.now) }
 {
     let mut found = [0u16; PATTERNS_MOST];
-    let mut c: usize = 0;
-    while c < map.clauses.count {
+    // A loop: the laws of `find` are for a closure that stays as it was, and this one would write the buffer.
+    for c in 0..map.clauses.count {
         if name_twice(sheet, map, c, &mut found) {
-            return Found::At(c as u16);
+            return Some(c as u16);
         }
-        c += 1;
     }
-    Found::Nothing
+    None
 }

@@ -84,6 +84,7 @@ pub fn pattern_from(sheet: &[u8], at: usize) -> PatternRecord
     }
 }
 
+#[tactic(auto, unfolding(spec_rules::specs::SheetFile::type_kind, spec_rules::specs::SheetFile::type_flag, spec_rules::specs::SheetFile::type_first, spec_rules::specs::SheetFile::type_count))]
 pub fn type_at(sheet: &[u8], map: SheetMap, t: usize) -> TypeRecord
     requires { Laid sheet.now × (map ≡ map_of sheet.now) × (t < types sheet.now) }
     ensures { result ≡ type_of sheet.now t }
@@ -91,6 +92,7 @@ pub fn type_at(sheet: &[u8], map: SheetMap, t: usize) -> TypeRecord
     type_from(sheet, map.types.start + TYPE_SIZE * t)
 }
 
+#[tactic(auto, unfolding(spec_rules::specs::SheetFile::constructor_first, spec_rules::specs::SheetFile::constructor_count))]
 pub fn constructor_at(sheet: &[u8], map: SheetMap, c: usize) -> Run
     requires { Laid sheet.now × (map ≡ map_of sheet.now) × (c < constructors sheet.now) }
     ensures { result ≡ constructor_of sheet.now c }
@@ -98,6 +100,7 @@ pub fn constructor_at(sheet: &[u8], map: SheetMap, c: usize) -> Run
     run_from(sheet, map.constructors.start + CONSTRUCTOR_SIZE * c)
 }
 
+#[tactic(auto, unfolding(spec_rules::specs::SheetFile::entry))]
 pub fn entry_at(sheet: &[u8], map: SheetMap, e: usize) -> usize
     requires { Laid sheet.now × (map ≡ map_of sheet.now) × (e < entries sheet.now) }
     ensures { result ≡ entry sheet.now e }
@@ -106,6 +109,7 @@ pub fn entry_at(sheet: &[u8], map: SheetMap, e: usize) -> usize
 }
 
 // Pattern p, by the start of the patterns alone: a recursion that hands on no more of the map stores no more of it at each call.
+#[tactic(auto, unfolding(spec_rules::specs::SheetFile::pattern_kind, spec_rules::specs::SheetFile::pattern_zero, spec_rules::specs::SheetFile::pattern_a, spec_rules::specs::SheetFile::pattern_first, spec_rules::specs::SheetFile::pattern_count))]
 pub fn pattern_in(sheet: &[u8], start: usize, p: usize) -> PatternRecord
     requires { Laid sheet.now × (start ≡ patterns_at sheet.now) × (p < patterns sheet.now) }
     ensures { result ≡ pattern_of sheet.now p }
@@ -121,6 +125,7 @@ pub fn pattern_at(sheet: &[u8], map: SheetMap, p: usize) -> PatternRecord
 }
 
 // Entry j of the child list, by its start alone.
+#[tactic(auto, unfolding(spec_rules::specs::SheetFile::child))]
 pub fn child_in(sheet: &[u8], start: usize, j: usize) -> usize
     requires { Laid sheet.now × (start ≡ children_at sheet.now) × (j < children sheet.now) }
     ensures { result ≡ child sheet.now j }
@@ -135,6 +140,7 @@ pub fn child_at(sheet: &[u8], map: SheetMap, j: usize) -> usize
     child_in(sheet, map.children.start, j)
 }
 
+#[tactic(auto, unfolding(spec_rules::specs::SheetFile::root))]
 pub fn root_at(sheet: &[u8], map: SheetMap, c: usize) -> usize
     requires { Laid sheet.now × (map ≡ map_of sheet.now) × (c < clauses sheet.now) }
     ensures { result ≡ root sheet.now c }
@@ -146,25 +152,17 @@ pub fn root_at(sheet: &[u8], map: SheetMap, c: usize) -> usize
 pub fn no_run(first: usize, count: usize) -> bool
     ensures { result ≡ no_run first count }
 {
-    if first != 0 {
-        return false;
-    }
-    count == 0
+    first == 0 && count == 0
 }
 
 fn has_children(kind: u8) -> bool
     ensures { result ≡ has_children (pattern_kind_of kind) }
 {
-    if kind == pattern_kinds::ASSIGN {
-        return true;
-    }
-    if kind < pattern_kinds::LIST {
-        return false;
-    }
-    kind <= pattern_kinds::TUPLE
+    kind == pattern_kinds::ASSIGN || (pattern_kinds::LIST <= kind && kind <= pattern_kinds::TUPLE)
 }
 
 // The children of pattern p, by the start of the patterns alone: none where its kind has none.
+#[tactic(auto, unfolding(crate::specs::Shape::children_first, crate::specs::Shape::children_count))]
 pub fn children_in(sheet: &[u8], start: usize, p: usize) -> Run
     requires { Laid sheet.now × (start ≡ patterns_at sheet.now) × (p < patterns sheet.now) }
     ensures { result ≡ children_of sheet.now p }

@@ -23,48 +23,30 @@ use format_parts::sections::run_in;
 fn plain_run(a: usize, first: usize, count: usize, n: usize) -> bool
     ensures { result ≡ plain_run a first count n }
 {
-    if a != 0 {
-        return false;
-    }
-    run_in(first, count, n)
+    a == 0 && run_in(first, count, n)
 }
 
 // a, first and count of a pattern, by its kind.
+#[tactic(auto, unfolding(crate::specs::Shape::own_fields, spec_rules::specs::Patterns::pattern_kind_of))]
 fn fields_fit(r: PatternRecord, children: usize, pool: usize) -> bool
     ensures { result ≡ own_fields r children pool (pattern_kind_of r.kind) }
 {
     let kind = r.kind;
     match kind {
-        pattern_kinds::DISCARD => {
-            if r.a != 0 {
-                return false;
-            }
-            no_run(r.first, r.count)
-        }
+        pattern_kinds::DISCARD => r.a == 0 && no_run(r.first, r.count),
         pattern_kinds::VARIABLE => no_run(r.first, r.count),
-        pattern_kinds::ASSIGN => {
-            if r.count != ASSIGN_CHILDREN {
-                return false;
-            }
-            run_in(r.first, r.count, children)
+        pattern_kinds::ASSIGN => r.count == ASSIGN_CHILDREN && run_in(r.first, r.count, children),
+        pattern_kinds::INTEGER | pattern_kinds::BYTE_STRING => {
+            plain_run(r.a, r.first, r.count, pool)
         }
-        pattern_kinds::INTEGER => plain_run(r.a, r.first, r.count, pool),
-        pattern_kinds::BYTE_STRING => plain_run(r.a, r.first, r.count, pool),
-        pattern_kinds::LIST => plain_run(r.a, r.first, r.count, children),
+        pattern_kinds::LIST | pattern_kinds::TUPLE => { plain_run(r.a, r.first, r.count, children) }
         pattern_kinds::LIST_WITH_TAIL => {
-            if r.count < TAILED_CHILDREN_LEAST {
-                return false;
-            }
-            plain_run(r.a, r.first, r.count, children)
+            TAILED_CHILDREN_LEAST <= r.count && plain_run(r.a, r.first, r.count, children)
         }
         pattern_kinds::CONSTRUCTOR => run_in(r.first, r.count, children),
         pattern_kinds::PAIR => {
-            if r.count != PAIR_CHILDREN {
-                return false;
-            }
-            plain_run(r.a, r.first, r.count, children)
+            r.count == PAIR_CHILDREN && plain_run(r.a, r.first, r.count, children)
         }
-        pattern_kinds::TUPLE => plain_run(r.a, r.first, r.count, children),
         _ => false,
     }
 }
@@ -86,32 +68,19 @@ fn record_fits(sheet: &[u8], map: SheetMap, p: usize) -> bool
     ensures { result ≡ record_fits sheet.now p }
 {
     let r = pattern_at(sheet, map, p);
-    if r.zero != 0 {
-        return false;
-    }
-    if !fields_fit(r, map.children.count, map.pool.count) {
-        return false;
-    }
-    if r.kind != pattern_kinds::LIST_WITH_TAIL {
-        return true;
-    }
-    tail_fits(sheet, map, r.first, r.count)
+    r.zero == 0
+        && fields_fit(r, map.children.count, map.pool.count)
+        && (r.kind != pattern_kinds::LIST_WITH_TAIL || tail_fits(sheet, map, r.first, r.count))
 }
 
 fn records_fit(sheet: &[u8], map: SheetMap) -> bool
     requires { Laid sheet.now × (map ≡ map_of sheet.now) × ChildrenKnown sheet.now }
     ensures { result ≡ every (record_fits sheet.now) 0 (patterns sheet.now) }
 {
-    let mut p: usize = 0;
-    while p < map.patterns.count {
-        if !record_fits(sheet, map, p) {
-            return false;
-        }
-        p += 1;
-    }
-    true
+    (0..map.patterns.count).all(|p| record_fits(sheet, map, p))
 }
 
+#[tactic(auto, unfolding(spec_rules::specs::SheetRefusals::root_keeps_rules))]
 fn root_known(sheet: &[u8], map: SheetMap, c: usize) -> bool
     requires { Laid sheet.now × (map ≡ map_of sheet.now) × (c < clauses sheet.now) }
     ensures { result ≡ root_keeps_rules sheet.now c }
@@ -124,16 +93,10 @@ fn roots_known(sheet: &[u8], map: SheetMap) -> bool
     requires { Laid sheet.now × (map ≡ map_of sheet.now) }
     ensures { result ≡ every (root_keeps_rules sheet.now) 0 (clauses sheet.now) }
 {
-    let mut c: usize = 0;
-    while c < map.clauses.count {
-        if !root_known(sheet, map, c) {
-            return false;
-        }
-        c += 1;
-    }
-    true
+    (0..map.clauses.count).all(|c| root_known(sheet, map, c))
 }
 
+#[tactic(auto, unfolding(crate::specs::Shape::child_known))]
 fn child_known(sheet: &[u8], map: SheetMap, j: usize) -> bool
     requires { Laid sheet.now × (map ≡ map_of sheet.now) × (j < children sheet.now) }
     ensures { result ≡ child_known sheet.now j }
@@ -146,14 +109,7 @@ fn children_known(sheet: &[u8], map: SheetMap) -> bool
     requires { Laid sheet.now × (map ≡ map_of sheet.now) }
     ensures { result ≡ every (child_known sheet.now) 0 (children sheet.now) }
 {
-    let mut j: usize = 0;
-    while j < map.children.count {
-        if !child_known(sheet, map, j) {
-            return false;
-        }
-        j += 1;
-    }
-    true
+    (0..map.children.count).all(|j| child_known(sheet, map, j))
 }
 
 fn is_above(sheet: &[u8], map: SheetMap, p: usize, j: usize) -> bool
@@ -169,28 +125,14 @@ fn children_above(sheet: &[u8], map: SheetMap, p: usize) -> bool
     ensures { result ≡ all_above sheet.now p }
 {
     let run = children_of(sheet, map, p);
-    let mut k: usize = 0;
-    while k < run.count {
-        if !is_above(sheet, map, p, run.first + k) {
-            return false;
-        }
-        k += 1;
-    }
-    true
+    (run.first..run.first + run.count).all(|j| is_above(sheet, map, p, j))
 }
 
 fn all_children_above(sheet: &[u8], map: SheetMap) -> bool
     requires { Laid sheet.now × (map ≡ map_of sheet.now) × ChildrenKnown sheet.now × RunsInside sheet.now }
     ensures { result ≡ every (all_above sheet.now) 0 (patterns sheet.now) }
 {
-    let mut p: usize = 0;
-    while p < map.patterns.count {
-        if !children_above(sheet, map, p) {
-            return false;
-        }
-        p += 1;
-    }
-    true
+    (0..map.patterns.count).all(|p| children_above(sheet, map, p))
 }
 
 // Pattern p and what is inside it reach no further than `deep` levels. Of the map it takes the starts of the patterns and of the child list.
@@ -202,22 +144,17 @@ fn within(sheet: &[u8], records: usize, list: usize, p: usize, deep: usize) -> b
         return false;
     }
     let run = children_in(sheet, records, p);
-    let mut k: usize = 0;
-    while k < run.count {
-        if !within(
-            sheet,
-            records,
-            list,
-            child_in(sheet, list, run.first + k),
-            deep - 1,
-        ) {
+    // A loop: of a closure that calls this function itself the check infers nothing.
+    for k in 0..run.count {
+        let child = child_in(sheet, list, run.first + k);
+        if !within(sheet, records, list, child, deep - 1) {
             return false;
         }
-        k += 1;
     }
     true
 }
 
+#[tactic(auto, unfolding(spec_rules::specs::SheetRefusals::depth_fits))]
 fn depth_fits(sheet: &[u8], map: SheetMap, c: usize) -> bool
     requires laid { Laid sheet.now × (map ≡ map_of sheet.now) × ChildrenKnown sheet.now × RunsInside sheet.now }
     requires roots_known { RootsKnown sheet.now × (c < clauses sheet.now) }
@@ -237,38 +174,20 @@ fn depths_fit(sheet: &[u8], map: SheetMap) -> bool
     requires roots_known { RootsKnown sheet.now }
     ensures { result ≡ every (depth_fits sheet.now) 0 (clauses sheet.now) }
 {
-    let mut c: usize = 0;
-    while c < map.clauses.count {
-        if !depth_fits(sheet, map, c) {
-            return false;
-        }
-        c += 1;
-    }
-    true
+    (0..map.clauses.count).all(|c| depth_fits(sheet, map, c))
 }
 
 // 8.
+#[tactic(auto, using(crate::specs::ShapeLaws::shape_in_order, crate::specs::ShapeLaws::roots_known, crate::specs::ShapeLaws::children_known, crate::specs::ShapeLaws::runs_inside))]
 pub(crate) fn shape_fits(sheet: &[u8], map: SheetMap) -> bool
     requires { Laid sheet.now × (map ≡ map_of sheet.now) × Counted sheet.now }
     ensures { result ≡ shape_fits sheet.now }
 {
-    if !roots_known(sheet, map) {
-        return false;
-    }
-    if !children_known(sheet, map) {
-        return false;
-    }
-    if !records_fit(sheet, map) {
-        return false;
-    }
-    if !entries_listed_once(sheet, map) {
-        return false;
-    }
-    if !all_children_above(sheet, map) {
-        return false;
-    }
-    if !patterns_stand_once(sheet, map) {
-        return false;
-    }
-    depths_fit(sheet, map)
+    roots_known(sheet, map)
+        && children_known(sheet, map)
+        && records_fit(sheet, map)
+        && entries_listed_once(sheet, map)
+        && all_children_above(sheet, map)
+        && patterns_stand_once(sheet, map)
+        && depths_fit(sheet, map)
 }

@@ -19,14 +19,7 @@ fn none_met(times: &[u8], first: usize, count: usize) -> bool
     requires { first + count ≤ length times.now }
     ensures { result ≡ none_met times.now first count }
 {
-    let mut k: usize = 0;
-    while k < count {
-        if times[first + k] != 0 {
-            return false;
-        }
-        k += 1;
-    }
-    true
+    (first..first + count).all(|i| times[i] == 0)
 }
 
 // One thing met once more.
@@ -34,7 +27,7 @@ fn meet(times: &mut [u8], i: usize)
     requires { (i < length times.old) × (get_or times.old i 0 < 255) }
     ensures { Meets i 1 times.old times.new }
 {
-    times[i] = times[i] + 1;
+    times[i] += 1;
 }
 
 // `count` things from `first` on, none met before, met once.
@@ -42,10 +35,8 @@ fn meet_all(times: &mut [u8], first: usize, count: usize)
     requires { (first + count ≤ length times.old) × (none_met times.old first count ≡ true) }
     ensures { Meets first count times.old times.new }
 {
-    let mut k: usize = 0;
-    while k < count {
+    for k in 0..count {
         meet(times, first + k);
-        k += 1;
     }
 }
 
@@ -54,14 +45,7 @@ fn all_met_once(times: &[u8], n: usize) -> bool
     requires { n ≤ length times.now }
     ensures { result ≡ met_once times.now n }
 {
-    let mut i: usize = 0;
-    while i < n {
-        if times[i] != 1 {
-            return false;
-        }
-        i += 1;
-    }
-    true
+    (0..n).all(|i| times[i] == 1)
 }
 
 // Each entry is in one pattern's list. A list that meets an entry again ends the search, so that no entry is met a third time.
@@ -70,14 +54,12 @@ pub(crate) fn entries_listed_once(sheet: &[u8], map: SheetMap) -> bool
     ensures { result ≡ every (listed_once sheet.now) 0 (children sheet.now) }
 {
     let mut times = [0u8; CHILDREN_MOST];
-    let mut p: usize = 0;
-    while p < map.patterns.count {
+    for p in 0..map.patterns.count {
         let run = children_of(sheet, map, p);
         if !none_met(&times, run.first, run.count) {
             return false;
         }
         meet_all(&mut times, run.first, run.count);
-        p += 1;
     }
     all_met_once(&times, map.children.count)
 }
@@ -87,10 +69,8 @@ fn meet_roots(sheet: &[u8], map: SheetMap, times: &mut [u8])
     requires { Laid sheet.now × (map ≡ map_of sheet.now) × Counted sheet.now × RootsKnown sheet.now × NoneMet times.old }
     ensures { RootsMet sheet.now times.new }
 {
-    let mut c: usize = 0;
-    while c < map.clauses.count {
+    for c in 0..map.clauses.count {
         meet(times, root_at(sheet, map, c));
-        c += 1;
     }
 }
 
@@ -99,10 +79,8 @@ fn meet_children(sheet: &[u8], map: SheetMap, times: &mut [u8])
     requires { Laid sheet.now × (map ≡ map_of sheet.now) × Counted sheet.now × ChildrenKnown sheet.now × RootsMet sheet.now times.old }
     ensures { AllMet sheet.now times.new }
 {
-    let mut j: usize = 0;
-    while j < map.children.count {
+    for j in 0..map.children.count {
         meet(times, child_at(sheet, map, j));
-        j += 1;
     }
 }
 

@@ -4,14 +4,15 @@ ghost use Rattle.spec_rules.specs.SheetFile.{patterns};
 ghost use Rattle.spec_rules.specs.SheetRefusals.{bad_text, lowest_bad_text};
 ghost use Rattle.spec_accepted.specs.SheetFacts.{Laid, Counted, Shaped};
 ghost use Rattle.format_sheet.specs.Sections.{map_of};
-ghost use Rattle.format_sheet.specs.Found.{found_of};
+ghost use Rattle.spec_rules.specs.Found.{found};
 
+use crate::SheetMap;
 use crate::records::pattern_at;
-use crate::{Found, SheetMap};
 use base_numbers::pattern_kinds;
 use base_numbers::sheet::TEXT_MOST;
 use format_parts::texts::canonical;
 
+#[tactic(auto, unfolding(spec_rules::specs::SheetRefusals::bad_text, spec_rules::specs::SheetRefusals::text_of_kind, spec_rules::specs::Patterns::pattern_kind_of))]
 fn bad_text(sheet: &[u8], map: SheetMap, p: usize) -> bool
     requires { Laid sheet.now × (map ≡ map_of sheet.now) × Shaped sheet.now × (p < patterns sheet.now) }
     ensures { result ≡ bad_text sheet.now p }
@@ -20,10 +21,7 @@ fn bad_text(sheet: &[u8], map: SheetMap, p: usize) -> bool
     let kind = r.kind;
     match kind {
         pattern_kinds::INTEGER => {
-            if TEXT_MOST < r.count {
-                return true;
-            }
-            !canonical(sheet, map.pool.start + r.first, r.count)
+            TEXT_MOST < r.count || !canonical(sheet, map.pool.start + r.first, r.count)
         }
         pattern_kinds::BYTE_STRING => TEXT_MOST < r.count,
         _ => false,
@@ -31,16 +29,11 @@ fn bad_text(sheet: &[u8], map: SheetMap, p: usize) -> bool
 }
 
 // 9.
-pub(crate) fn lowest_bad_text(sheet: &[u8], map: SheetMap) -> Found
+pub(crate) fn lowest_bad_text(sheet: &[u8], map: SheetMap) -> Option<u16>
     requires { Laid sheet.now × (map ≡ map_of sheet.now) × Counted sheet.now × Shaped sheet.now }
-    ensures { result ≡ found_of (lowest_bad_text sheet.now) }
+    ensures { result ≡ found (lowest_bad_text sheet.now) }
 {
-    let mut p: usize = 0;
-    while p < map.patterns.count {
-        if bad_text(sheet, map, p) {
-            return Found::At(p as u16);
-        }
-        p += 1;
-    }
-    Found::Nothing
+    (0..map.patterns.count)
+        .find(|&p| bad_text(sheet, map, p))
+        .map(|p| p as u16)
 }

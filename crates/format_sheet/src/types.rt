@@ -6,10 +6,10 @@ ghost use Rattle.spec_rules.specs.SheetRefusals.{type_keeps_rules, constructor_k
 ghost use Rattle.spec_accepted.specs.SheetFacts.{Laid, Counted, Typed};
 ghost use Rattle.format_sheet.specs.Sections.{map_of};
 ghost use Rattle.format_sheet.specs.Types.{parts_fit, flags_fit};
-ghost use Rattle.format_sheet.specs.Found.{found_of};
+ghost use Rattle.spec_rules.specs.Found.{found};
 
+use crate::SheetMap;
 use crate::records::{TypeRecord, constructor_at, entry_at, no_run, type_at};
-use crate::{Found, SheetMap};
 use base_numbers::sheet::{
     DATA_CONSTRUCTORS_LEAST, LIST_ENTRIES, PAIR_ENTRIES, TUPLE_ENTRIES_LEAST,
 };
@@ -17,64 +17,41 @@ use base_numbers::{type_flags, type_kinds};
 use format_parts::sections::run_in;
 
 // First and count of a type, by its kind.
+#[tactic(auto, unfolding(crate::specs::Types::parts_fit))]
 fn parts_fit(r: TypeRecord, entries: usize, constructors: usize) -> bool
     ensures { result ≡ parts_fit r entries constructors }
 {
     let kind = r.kind;
     match kind {
         type_kinds::INT | type_kinds::BYTES => no_run(r.first, r.count),
-        type_kinds::LIST => {
-            if r.count != LIST_ENTRIES {
-                return false;
-            }
-            run_in(r.first, r.count, entries)
-        }
-        type_kinds::PAIR => {
-            if r.count != PAIR_ENTRIES {
-                return false;
-            }
-            run_in(r.first, r.count, entries)
-        }
-        type_kinds::TUPLE => {
-            if r.count < TUPLE_ENTRIES_LEAST {
-                return false;
-            }
-            run_in(r.first, r.count, entries)
-        }
+        type_kinds::LIST => r.count == LIST_ENTRIES && run_in(r.first, r.count, entries),
+        type_kinds::PAIR => r.count == PAIR_ENTRIES && run_in(r.first, r.count, entries),
+        type_kinds::TUPLE => TUPLE_ENTRIES_LEAST <= r.count && run_in(r.first, r.count, entries),
         type_kinds::DATA => {
-            if r.count < DATA_CONSTRUCTORS_LEAST {
-                return false;
-            }
-            run_in(r.first, r.count, constructors)
+            DATA_CONSTRUCTORS_LEAST <= r.count && run_in(r.first, r.count, constructors)
         }
         _ => false,
     }
 }
 
 // Flags stand on Data alone.
+#[tactic(auto, unfolding(crate::specs::Types::flags_fit))]
 fn flags_fit(kind: u8, flag: u8) -> bool
     ensures { result ≡ flags_fit kind flag }
 {
-    if flag == type_flags::NONE {
-        return true;
-    }
-    if kind != type_kinds::DATA {
-        return false;
-    }
-    flag <= type_flags::OPAQUE_DECORATED
+    flag == type_flags::NONE || (kind == type_kinds::DATA && flag <= type_flags::OPAQUE_DECORATED)
 }
 
+#[tactic(auto, unfolding(spec_rules::specs::SheetRefusals::type_keeps_rules, spec_rules::specs::SheetRefusals::type_parts, spec_rules::specs::SheetRefusals::type_flags, crate::specs::Types::parts_fit, crate::specs::Types::flags_fit))]
 fn type_keeps_rules(sheet: &[u8], map: SheetMap, t: usize) -> bool
     requires { Laid sheet.now × (map ≡ map_of sheet.now) × (t < types sheet.now) }
     ensures { result ≡ type_keeps_rules sheet.now t }
 {
     let r = type_at(sheet, map, t);
-    if !parts_fit(r, map.entries.count, map.constructors.count) {
-        return false;
-    }
-    flags_fit(r.kind, r.flag)
+    parts_fit(r, map.entries.count, map.constructors.count) && flags_fit(r.kind, r.flag)
 }
 
+#[tactic(auto, unfolding(spec_rules::specs::SheetRefusals::constructor_keeps_rules))]
 fn constructor_keeps_rules(sheet: &[u8], map: SheetMap, c: usize) -> bool
     requires { Laid sheet.now × (map ≡ map_of sheet.now) × (c < constructors sheet.now) }
     ensures { result ≡ constructor_keeps_rules sheet.now c }
@@ -83,6 +60,7 @@ fn constructor_keeps_rules(sheet: &[u8], map: SheetMap, c: usize) -> bool
     run_in(r.first, r.count, map.entries.count)
 }
 
+#[tactic(auto, unfolding(spec_rules::specs::SheetRefusals::entry_keeps_rules))]
 fn entry_keeps_rules(sheet: &[u8], map: SheetMap, e: usize) -> bool
     requires { Laid sheet.now × (map ≡ map_of sheet.now) × (e < entries sheet.now) }
     ensures { result ≡ entry_keeps_rules sheet.now e }
@@ -94,91 +72,54 @@ fn types_keep_rules(sheet: &[u8], map: SheetMap) -> bool
     requires { Laid sheet.now × (map ≡ map_of sheet.now) }
     ensures { result ≡ every (type_keeps_rules sheet.now) 0 (types sheet.now) }
 {
-    let mut t: usize = 0;
-    while t < map.types.count {
-        if !type_keeps_rules(sheet, map, t) {
-            return false;
-        }
-        t += 1;
-    }
-    true
+    (0..map.types.count).all(|t| type_keeps_rules(sheet, map, t))
 }
 
 fn constructors_keep_rules(sheet: &[u8], map: SheetMap) -> bool
     requires { Laid sheet.now × (map ≡ map_of sheet.now) }
     ensures { result ≡ every (constructor_keeps_rules sheet.now) 0 (constructors sheet.now) }
 {
-    let mut c: usize = 0;
-    while c < map.constructors.count {
-        if !constructor_keeps_rules(sheet, map, c) {
-            return false;
-        }
-        c += 1;
-    }
-    true
+    (0..map.constructors.count).all(|c| constructor_keeps_rules(sheet, map, c))
 }
 
 fn entries_keep_rules(sheet: &[u8], map: SheetMap) -> bool
     requires { Laid sheet.now × (map ≡ map_of sheet.now) }
     ensures { result ≡ every (entry_keeps_rules sheet.now) 0 (entries sheet.now) }
 {
-    let mut e: usize = 0;
-    while e < map.entries.count {
-        if !entry_keeps_rules(sheet, map, e) {
-            return false;
-        }
-        e += 1;
-    }
-    true
+    (0..map.entries.count).all(|e| entry_keeps_rules(sheet, map, e))
 }
 
 // 6.
+#[tactic(auto, unfolding(spec_rules::specs::SheetRefusals::types_fit))]
 pub(crate) fn types_fit(sheet: &[u8], map: SheetMap) -> bool
     requires { Laid sheet.now × (map ≡ map_of sheet.now) }
     ensures { result ≡ types_fit sheet.now }
 {
-    if !types_keep_rules(sheet, map) {
-        return false;
-    }
-    if !constructors_keep_rules(sheet, map) {
-        return false;
-    }
-    if !entries_keep_rules(sheet, map) {
-        return false;
-    }
-    map.subject < map.types.count
+    types_keep_rules(sheet, map)
+        && constructors_keep_rules(sheet, map)
+        && entries_keep_rules(sheet, map)
+        && map.subject < map.types.count
 }
 
 // Data, opaque flag 1 only, one constructor with one field.
+#[tactic(auto, unfolding(spec_rules::specs::SheetRefusals::transparent))]
 fn transparent(sheet: &[u8], map: SheetMap, t: usize) -> bool
     requires { Laid sheet.now × Typed sheet.now × (map ≡ map_of sheet.now) × (t < types sheet.now) }
     ensures { result ≡ Transparent sheet.now t }
 {
     let r = type_at(sheet, map, t);
-    if r.kind != type_kinds::DATA {
-        return false;
-    }
-    if r.flag != type_flags::OPAQUE {
-        return false;
-    }
-    if r.count != 1 {
-        return false;
-    }
-    let only = constructor_at(sheet, map, r.first);
-    only.count == 1
+    r.kind == type_kinds::DATA
+        && r.flag == type_flags::OPAQUE
+        && r.count == 1
+        && constructor_at(sheet, map, r.first).count == 1
 }
 
 // 7.
-pub(crate) fn lowest_transparent(sheet: &[u8], map: SheetMap) -> Found
+pub(crate) fn lowest_transparent(sheet: &[u8], map: SheetMap) -> Option<u16>
     requires { Laid sheet.now × Counted sheet.now × Typed sheet.now × (map ≡ map_of sheet.now) }
-    ensures { result ≡ found_of (lowest_transparent sheet.now) }
+    ensures { result ≡ found (lowest_transparent sheet.now) }
 {
-    let mut t: usize = 0;
-    while t < map.types.count {
-        if transparent(sheet, map, t) {
-            return Found::At(t as u16);
-        }
-        t += 1;
-    }
-    Found::Nothing
+    (0..map.types.count)
+        .find(|&t| transparent(sheet, map, t))
+        .map(|t| t as u16)
 }

@@ -1,19 +1,22 @@
 // The thin reader that holds the file: a struct with the sheet's slice and its seven starts, and the few functions over it.
-// No function over a struct that holds a reference is covered, so each only takes the reader apart and calls a covered function
-// on plain parameters; `clause_pattern`, above them, has plain parameters and asks nothing of its caller.
+// Each takes the reader apart and calls a function on plain parameters; `clause_pattern`, above them, has plain parameters and
+// asks nothing of its caller.
 #![tactic(auto)]
 
 mod places;
 
-ghost use Rattle.std.specs.Prelude.{◌≡◌, ◌<◌};
+ghost use Rattle.std.specs.Prelude.{◌≡◌, ◌<◌, IfOk};
 ghost use Rattle.spec_rules.specs.SheetFile.{patterns, clauses, root};
+ghost use Rattle.spec_rules.specs.SheetRefusals.{verdict};
 ghost use Rattle.spec_accepted.specs.SheetFacts.{Accepted};
+ghost use Rattle.format_parts.specs.Refusals.{verdict_of};
 ghost use Rattle.format_sheet.specs.Sections.{map_of};
 ghost use Rattle.format_sheet.specs.Records.{pattern_of};
 ghost use Rattle.format_sheet_reader.specs.Reading.{opened, Opened, clause_pattern_of};
 
+use format_parts::refusals::Refusal;
 use format_sheet::records::{PatternRecord, pattern_in};
-use format_sheet::{CheckedSheet, SheetMap, check};
+use format_sheet::{SheetMap, check};
 use places::root_in;
 
 #[derive(Clone, Copy)]
@@ -26,14 +29,6 @@ pub struct Reader<'a> {
     pub children: usize,
     pub clauses: usize,
     pub pool: usize,
-}
-
-// What is known of a clause of any byte string: its root pattern's record, that it has no such clause, or 01's refusal.
-#[derive(Drop)]
-pub enum Clause {
-    At(PatternRecord),
-    NoClause,
-    Refused { number: u16, place: u16 },
 }
 
 pub fn open<'a>(sheet: &'a [u8], map: SheetMap) -> Reader<'a>
@@ -75,18 +70,16 @@ fn root_pattern(sheet: &[u8], map: SheetMap, c: usize) -> PatternRecord
     pattern(r, p)
 }
 
-// The root pattern's record of clause c of any byte string. It asks nothing of its caller.
-pub fn clause_pattern(sheet: &[u8], c: u16) -> Clause
-    ensures { result ≡ clause_pattern_of sheet.now c }
+// The root pattern's record of clause c of any byte string, if it has such a clause. It asks nothing of its caller.
+pub fn clause_pattern(sheet: &[u8], c: u16) -> Result<Option<PatternRecord>, Refusal>
+    ensures verdict { verdict_of result ≡ verdict sheet.now }
+    ensures clause { IfOk result (λ x. x ≡ clause_pattern_of sheet.now c) }
 {
-    match check(sheet) {
-        CheckedSheet::Refused { number, place } => Clause::Refused { number, place },
-        CheckedSheet::Accepted(map) => {
-            let n = c as usize;
-            if n >= map.clauses.count {
-                return Clause::NoClause;
-            }
-            Clause::At(root_pattern(sheet, map, n))
-        }
+    let map = check(sheet)?;
+    let n = usize::from(c);
+    if n < map.clauses.count {
+        Ok(Some(root_pattern(sheet, map, n)))
+    } else {
+        Ok(None)
     }
 }

@@ -1,5 +1,5 @@
 // The root of a clause of a laid-out sheet by the start of the clauses: the slice, the start and the number are plain parameters, so
-// that the function is covered and no reader is needed to call it.
+// that no reader is needed to call it.
 ghost use Rattle.std.specs.Prelude.{◌≡◌, ◌<◌};
 ghost use Rattle.spec_rules.specs.SheetFile.{clauses_at, clauses, root};
 ghost use Rattle.spec_accepted.specs.SheetFacts.{Laid};
@@ -7,6 +7,7 @@ ghost use Rattle.spec_accepted.specs.SheetFacts.{Laid};
 use base_numbers::sheet::CLAUSE_SIZE;
 use base_words::word_at;
 
+#[tactic(auto, unfolding(spec_rules::specs::SheetFile::root))]
 pub fn root_in(sheet: &[u8], start: usize, c: usize) -> usize
     requires { Laid sheet.now × (start ≡ clauses_at sheet.now) × (c < clauses sheet.now) }
     ensures { result ≡ root sheet.now c }

@@ -1,12 +1,12 @@
 -- What the functions of the order use: the last child, the end of a subtree and the chain of children, as loops have them.
 -- Rests on PreOrder and its law, and on the facts of a file whose records keep the rules.
-use Rattle.std.specs.Prelude.{◌≡◌, Bool, true, false, eqb}
+use Rattle.std.specs.Prelude.{◌≡◌, Bool, true, false, eqb, ltb}
 use Rattle.std.proofs.Math.Path.{refl, sym, ap}
-use Rattle.std.proofs.Common.{◌∙◌, ⊎_elim, add-zero, eq-or-lt_of_le, eq-eqb, ne_eqb, lt-ltb, le-ltb}
+use Rattle.std.proofs.Common.{◌∙◌, ⊎_elim, add-zero, eq-or-lt_of_le, ne_eqb}
 use mathlib.Core.List.{List, [], ◌∷◌, ◌++◌, append-nil}
 use Prim.Native.Nat.{ℕ, zero, suc, ◌+◌, ◌-◌, ◌≤◌, ◌<◌}
 use native.Mathlib.Omega.{arith}
-use Rattle.base_words.specs.Words.{both}
+use Rattle.base_words.specs.Words.{both, either}
 use Rattle.spec_rules.specs.Kinds.{list_switch_node, leaf_node, hoist_node, first_case_word, cases_word, tail_cases_word, default_word, child_word}
 use Rattle.spec_rules.specs.Searching.{every}
 use Rattle.spec_rules.specs.SplittingLaws.{both_end}
@@ -16,7 +16,7 @@ use Rattle.format_tree.specs.declared.layout.TreeMap.{TreeMap}
 use Rattle.format_tree.specs.declared.order.Children.{Children}
 use Rattle.format_tree.specs.Reading.{Ruled}
 use Rattle.format_tree.specs.ReadingLaws.{nodes_count, cases_count}
-use Rattle.format_tree.specs.PreOrder.{last_from, last_child, end_of, chained, children_follow, all_follow, ChildrenAre}
+use Rattle.format_tree.specs.PreOrder.{last_from, last_child, end_of, case_follows, chained, children_follow, all_follow, ChildrenAre}
 use Rattle.format_tree.specs.PreOrderLaws.{last_in, end_of_last, end_at_leaf, pre_order_is}
 use Rattle.format_tree.specs.NodesLaws.{leaf_children, children_in}
 
@@ -69,35 +69,18 @@ pub children_follow_hoist : (t : List ℕ) (k c : ℕ) → node_children t k ≡
 unfolding chained
 children_follow_hoist t k c e = sym (both_end (eqb c (k + 1))) ∙ children_follow_is t k (c ∷ []) e
 
-module _ (t : List ℕ) (e i : ℕ) where
-  chain_cons : (n : ℕ) → chained t e (case_children t i (suc n)) ≡ both (eqb (case_child t i) e) (chained t (end_of t (case_child t i)) (case_children t (i + 1) n))
-  unfolding chained case_children
-  chain_cons n = refl
+-- the cases after case i
+chain_rest : (t : List ℕ) (i n : ℕ) → chained t (end_of t (case_child t i)) (case_children t (i + 1) n) ≡ every (case_follows t) (i + 1) n
+unfolding chained case_children every case_follows
+chain_rest t i zero = refl
+chain_rest t i (suc n) =
+    let e : i + 1 - 1 ≡ i = omega arith in
+    rw e (ap (both (eqb (case_child t (i + 1)) (end_of t (case_child t i)))) (chain_rest t (i + 1) n))
 
-  -- the first case
-  pub chain_first : (n : ℕ) → 1 ≤ n → case_child t i ≡ e → chained t (end_of t (case_child t i)) (case_children t (i + 1) (n - 1)) ≡ chained t e (case_children t i n)
-  chain_first zero h x = absurd (omega arith)
-  chain_first (suc n) h x = let d : suc n - 1 ≡ n = omega arith in sym (chain_cons n ∙ rw (eq-eqb (case_child t i) e x, d))
-
-  pub chain_not_first : (n : ℕ) → 1 ≤ n → (case_child t i ≡ e → ⊥) → false ≡ chained t e (case_children t i n)
-  chain_not_first zero h x = absurd (omega arith)
-  chain_not_first (suc n) h x = sym (chain_cons n ∙ rw (ne_eqb (case_child t i) e x))
-
--- after j cases, of n
-module _ (t : List ℕ) (e i j n : ℕ) where
-  pub chain_next : j < n → case_child t (i + j) ≡ e
-      → chained t (end_of t (case_child t (i + j))) (case_children t (i + (j + 1)) (n - (j + 1))) ≡ chained t e (case_children t (i + j) (n - j))
-  chain_next h x =
-      let d : n - (j + 1) ≡ n - j - 1 = omega arith in
-      let f : i + (j + 1) ≡ i + j + 1 = omega arith in
-      rw (d, f) (chain_first t e (i + j) (n - j) (omega arith) x)
-
-  pub chain_breaks : j < n → (case_child t (i + j) ≡ e → ⊥) → false ≡ chained t e (case_children t (i + j) (n - j))
-  chain_breaks h x = chain_not_first t e (i + j) (n - j) (omega arith) x
-
-  pub chain_end : n ≤ j → true ≡ chained t e (case_children t (i + j) (n - j))
-  unfolding chained case_children
-  chain_end h = let d : n - j ≡ 0 = omega arith in rw d
+pub chain_is : (t : List ℕ) (e i n : ℕ) → 1 ≤ n → chained t e (case_children t i n) ≡ both (eqb (case_child t i) e) (every (case_follows t) (i + 1) (n - 1))
+unfolding chained case_children
+chain_is t e i zero h = absurd (omega arith)
+chain_is t e i (suc n) h = let d : suc n - 1 ≡ n = omega arith in rw d (ap (both (eqb (case_child t i) e)) (chain_rest t i n))
 
 -- more children after the cases
 chain_append : (t : List ℕ) (n e i : ℕ) (ds : List ℕ)
@@ -123,21 +106,14 @@ chain_then : (t : List ℕ) (e i n : ℕ) → 1 ≤ n → (ds : List ℕ)
 chain_then t e i zero h ds = absurd (omega arith)
 chain_then t e i (suc n) h ds = let f : i + suc n - 1 ≡ i + n = omega arith in rw f (chain_append t n e i ds)
 
-module _ (t : List ℕ) (e i n : ℕ) (some : 1 ≤ n) where
-  pub chain_before_broken : (d : ℕ) → chained t e (case_children t i n) ≡ false → false ≡ chained t e (case_children t i n ++ default_child d)
-  chain_before_broken d x = sym (chain_then t e i n some (default_child d) ∙ rw x)
-
-  pub chain_no_default : (d : ℕ) → d ≡ 0 → chained t e (case_children t i n) ≡ chained t e (case_children t i n ++ default_child d)
-  unfolding default_child
-  chain_no_default d z = rw (z, append-nil (case_children t i n))
-
-  pub chain_default : (d : ℕ) → (d ≡ 0 → ⊥) → chained t e (case_children t i n) ≡ true
-      → eqb (d - 1) (end_of t (case_child t (i + n - 1))) ≡ chained t e (case_children t i n ++ default_child d)
-  unfolding default_child chained
-  chain_default zero h x = absurd (h refl)
-  chain_default (suc d) h x =
-      let p : suc d - 1 ≡ d = omega arith in
-      sym (chain_then t e i n some (d ∷ []) ∙ rw (x, p) (both_end (eqb d (end_of t (case_child t (i + n - 1))))))
+-- the default after the cases
+pub chain_default : (t : List ℕ) (e i n d : ℕ) → 1 ≤ n
+    → chained t e (case_children t i n ++ default_child d) ≡ both (chained t e (case_children t i n)) (either (eqb d 0) (eqb (d - 1) (end_of t (case_child t (i + n - 1)))))
+unfolding default_child chained
+chain_default t e i n zero h = rw (append-nil (case_children t i n)) (sym (both_end (chained t e (case_children t i n))))
+chain_default t e i n (suc d) h =
+    let p : suc d - 1 ≡ d = omega arith in
+    chain_then t e i n h (d ∷ []) ∙ rw (p, ne_eqb (suc d) 0 (λ z. omega arith), both_end (eqb d (end_of t (case_child t (i + n - 1)))))
 
 -- ---- last children and ends, as the map counts nodes
 module _ {t : List ℕ} {m : TreeMap} (w : Ruled t m) where
@@ -161,22 +137,10 @@ module _ {t : List ℕ} {m : TreeMap} (w : Ruled t m) where
   pub end_reached : (k last e : ℕ) → last ≡ last_child t k → last ≤ k → end_of t k ≡ e → k + 1 ≡ e
   end_reached k last e x l q = sym (end_at_leaf t k (omega arith)) ∙ q
 
-  -- the rules' condition, of a file that has a node
-  pub no_node : m.nodes.count ≡ 0 → false ≡ nodes_in_pre_order t
+  -- the rules' condition, as the map counts nodes
+  pub in_order_is : nodes_in_pre_order t ≡ both (ltb 0 m.nodes.count) (both (every (children_follow t) 0 m.nodes.count) (eqb (end_of t 0) m.nodes.count))
   unfolding all_follow
-  no_node z = sym (pre_order_is t (children_in w.rules) ∙ rw (le-ltb 0 (nodes t) (omega (arith, nodes_count w.mapped))))
-
-  pub some_breaks : (m.nodes.count ≡ 0 → ⊥) → every (children_follow t) 0 m.nodes.count ≡ false → false ≡ nodes_in_pre_order t
-  unfolding all_follow
-  some_breaks z x =
-      let c = nodes_count w.mapped in
-      sym (pre_order_is t (children_in w.rules) ∙ rw (lt-ltb 0 (nodes t) (omega arith), c, x))
-
-  pub ends_decide : (m.nodes.count ≡ 0 → ⊥) → every (children_follow t) 0 m.nodes.count ≡ true → eqb (end_of t 0) m.nodes.count ≡ nodes_in_pre_order t
-  unfolding all_follow
-  ends_decide z x =
-      let c = nodes_count w.mapped in
-      sym (pre_order_is t (children_in w.rules) ∙ rw (lt-ltb 0 (nodes t) (omega arith), c, x))
+  in_order_is = rw (pre_order_is t (children_in w.rules), nodes_count w.mapped)
 
 -- ---- where the children of a node stand
 module _ {t : List ℕ} {m : TreeMap} (w : Ruled t m) (k : ℕ) (h : k < m.nodes.count) where

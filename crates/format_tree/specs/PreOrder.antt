@@ -1,9 +1,9 @@
 -- Pre-order, said of each node alone: its first child is the next node, each later child is where the subtree of the child before it
 -- ends, and the subtree of node 0 ends where the nodes do. PreOrderLaws proves that this is the rules' condition.
-use Rattle.std.specs.Prelude.{ℕ, zero, suc, ◌+◌, ◌<◌, ◌≤◌, ◌≡◌, Bool, true, false, List, [], ◌∷◌, ◌++◌, eqb, ltb}
+use Rattle.std.specs.Prelude.{ℕ, zero, suc, ◌+◌, ◌-◌, ◌<◌, ◌≤◌, ◌≡◌, Bool, true, false, List, [], ◌∷◌, ◌++◌, eqb, ltb}
 use Rattle.base_words.specs.Words.{both}
 use Rattle.spec_rules.specs.Searching.{every}
-use Rattle.spec_rules.specs.TreeReader.{nodes, node_children, case_children, default_child}
+use Rattle.spec_rules.specs.TreeReader.{nodes, node_children, case_child, case_children, default_child}
 use Rattle.format_tree.specs.declared.layout.TreeMap.{TreeMap}
 use Rattle.format_tree.specs.declared.order.Children.{Children}
 
@@ -32,6 +32,11 @@ unfoldable pub chained : List ℕ → ℕ → List ℕ → Bool
 unfolding end_of
 chained t e [] = true
 chained t e (c ∷ cs) = both (eqb c e) (chained t (end_of t c) cs)
+
+-- the child of case j is where the child of the case before it ends
+unfoldable pub case_follows : List ℕ → ℕ → Bool
+unfolding case_child end_of
+case_follows t j = eqb (case_child t j) (end_of t (case_child t (j - 1)))
 
 unfoldable pub children_follow : List ℕ → ℕ → Bool
 unfolding chained

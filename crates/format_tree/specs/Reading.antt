@@ -1,10 +1,10 @@
 -- What the reader answers: the map of a file's sections, and its records as the code has them.
 -- Each is the field of the same name in the rules' definitions of the tree file.
-use Rattle.std.specs.Prelude.{ℕ, ◌+◌, ◌*◌, ◌≤◌, ◌≡◌, Bool, true, false, List, length}
+use Rattle.std.specs.Prelude.{ℕ, ◌+◌, ◌*◌, ◌≤◌, ◌≡◌, Bool, List, length}
 use Rattle.base_words.specs.Words.{both}
 use Rattle.spec_rules.specs.Limits.{node_size, case_size, binding_size, path_size, step_size, tree_trailer}
 use Rattle.spec_rules.specs.Searching.{every}
-use Rattle.spec_rules.specs.TreeReader.{tree_nodes_at, tree_cases_at, tree_bindings_at, tree_paths_at, tree_steps_at, tree_pool_at, nodes, cases, bindings, paths, steps, tree_pool_size, node_kind, node_path, node_first_case, node_cases, node_tail_cases, node_default, node_clause, node_first_binding, node_bindings, node_child, NodeKind, Switch, List_switch, Leaf, Hoist_node, Unknown_node, node_kind_of, case_kind, case_number, case_length, case_child, case_kind_of, binding_name, binding_path, path_first, path_count, step_kind, step_flag, step_index_at, step_type, node_keeps_rules, case_keeps_rules, binding_keeps_rules, path_keeps_rules, step_keeps_rules, tree_fits}
+use Rattle.spec_rules.specs.TreeReader.{tree_nodes_at, tree_cases_at, tree_bindings_at, tree_paths_at, tree_steps_at, tree_pool_at, nodes, cases, bindings, paths, steps, tree_pool_size, node_kind, node_path, node_first_case, node_cases, node_tail_cases, node_default, node_clause, node_first_binding, node_bindings, node_child, NodeKind, Switch, List_switch, Leaf, Hoist_node, Unknown_node, node_kind_of, case_kind, case_number, case_length, case_child, case_kind_of, binding_name, binding_path, path_first, path_count, step_kind, step_flag, step_index_at, step_type, node_keeps_rules, case_keeps_rules, binding_keeps_rules, path_keeps_rules, step_keeps_rules}
 use Rattle.spec_accepted.specs.TreeFacts.{TreeRuled}
 use Rattle.format_records.specs.declared.reading.Test.{Test}
 use Rattle.format_records.specs.declared.reading.Case.{Case}
@@ -13,8 +13,6 @@ use Rattle.format_records.specs.declared.reading.Path.{Path}
 use Rattle.format_records.specs.declared.reading.Step.{Step}
 use Rattle.format_records.specs.Records.{test_from}
 use Rattle.format_tree.specs.declared.layout.TreeMap.{TreeMap}
-use Rattle.format_tree.specs.declared.CheckedTree.{CheckedTree}
-use Rattle.format_tree.specs.declared.CheckedTree.TheVariants.{Accepted, Refused}
 use Rattle.format_tree.specs.declared.reading.Node.{Node}
 
 abbrev pub map_of : List ℕ → TreeMap
@@ -82,14 +80,6 @@ path_of t p = record { first = path_first t p; count = path_count t p }
 
 abbrev pub step_of : List ℕ → ℕ → Step
 step_of t i = record { kind = step_kind t i; flag = step_flag t i; index = step_index_at t i; of = step_type t i }
-
--- 31 unless the file keeps every rule
-abbrev pub checked_by : Bool → List ℕ → CheckedTree
-checked_by true t = Accepted (map_of t)
-checked_by false t = Refused
-
-unfoldable pub checked : List ℕ → CheckedTree
-checked t = checked_by (tree_fits t) t
 
 -- the rules of records, all of them
 unfoldable pub records_keep_rules : List ℕ → Bool

@@ -34,10 +34,7 @@ pub fn length_true(tree: &[u8]) -> bool
     ensures { result ≡ length_true tree.now }
 {
     let n = tree.len();
-    if n < TREE_TRAILER {
-        return false;
-    }
-    word_at(tree, n - WORD_SIZE) as usize == n
+    TREE_TRAILER <= n && word_at(tree, n - WORD_SIZE) as usize == n
 }
 
 // "starts rising from 0, whole records"
@@ -51,25 +48,13 @@ pub fn starts_rise(tree: &[u8]) -> bool
     let paths = start(tree, tree_starts::PATHS);
     let steps = start(tree, tree_starts::STEPS);
     let pool = start(tree, tree_starts::POOL);
-    if nodes != 0 {
-        return false;
-    }
-    if !whole_records(NODE_SIZE, nodes, cases) {
-        return false;
-    }
-    if !whole_records(CASE_SIZE, cases, bindings) {
-        return false;
-    }
-    if !whole_records(BINDING_SIZE, bindings, paths) {
-        return false;
-    }
-    if !whole_records(PATH_SIZE, paths, steps) {
-        return false;
-    }
-    if !whole_records(STEP_SIZE, steps, pool) {
-        return false;
-    }
-    whole_records(BYTE_SIZE, pool, tree.len() - TREE_TRAILER)
+    nodes == 0
+        && whole_records(NODE_SIZE, nodes, cases)
+        && whole_records(CASE_SIZE, cases, bindings)
+        && whole_records(BINDING_SIZE, bindings, paths)
+        && whole_records(PATH_SIZE, paths, steps)
+        && whole_records(STEP_SIZE, steps, pool)
+        && whole_records(BYTE_SIZE, pool, tree.len() - TREE_TRAILER)
 }
 
 // The sections of a file whose starts rise.

@@ -3,9 +3,12 @@
 // is the rules' definition of its name; what is read of an accepted file rests on the facts of the crate spec_accepted.
 #![tactic(auto)]
 
-ghost use Rattle.std.specs.Prelude.{◌≡◌};
-ghost use Rattle.format_tree.specs.Reading.{Mapped, records_keep_rules, checked};
+ghost use Rattle.std.specs.Prelude.{◌≡◌, IfOk};
+ghost use Rattle.spec_rules.specs.Calls.{tree_file_verdict};
+ghost use Rattle.format_parts.specs.Refusals.{verdict_of};
+ghost use Rattle.format_tree.specs.Reading.{map_of, Mapped, records_keep_rules};
 
+use format_parts::refusals::{Reason, Refusal, require};
 use layout::{TreeMap, length_true, sections, starts_rise};
 use order::nodes_in_pre_order;
 use records::{
@@ -17,47 +20,27 @@ mod order;
 pub mod reading;
 mod records;
 
-#[derive(Drop)]
-pub enum CheckedTree {
-    Accepted(TreeMap),
-    Refused,
-}
-
+// The records of each section keep their rules.
 fn records_keep_rules(tree: &[u8], map: TreeMap) -> bool
     requires { Mapped tree.now map }
     ensures { result ≡ records_keep_rules tree.now }
 {
-    if !nodes_keep_rules(tree, map) {
-        return false;
-    }
-    if !cases_keep_rules(tree, map) {
-        return false;
-    }
-    if !bindings_keep_rules(tree, map) {
-        return false;
-    }
-    if !paths_keep_rules(tree, map) {
-        return false;
-    }
-    steps_keep_rules(tree, map)
+    nodes_keep_rules(tree, map)
+        && cases_keep_rules(tree, map)
+        && bindings_keep_rules(tree, map)
+        && paths_keep_rules(tree, map)
+        && steps_keep_rules(tree, map)
 }
 
-// The map of a file that keeps every rule.
-pub fn check(tree: &[u8]) -> CheckedTree
-    ensures { result ≡ checked tree.now }
+// The map of a file that keeps every rule, else 31.
+pub fn check(tree: &[u8]) -> Result<TreeMap, Refusal>
+    ensures verdict { verdict_of result ≡ tree_file_verdict tree.now }
+    ensures map { IfOk result (λ m. m ≡ map_of tree.now) }
 {
-    if !length_true(tree) {
-        return CheckedTree::Refused;
-    }
-    if !starts_rise(tree) {
-        return CheckedTree::Refused;
-    }
+    require(length_true(tree), Reason::Tree)?;
+    require(starts_rise(tree), Reason::Tree)?;
     let map = sections(tree);
-    if !records_keep_rules(tree, map) {
-        return CheckedTree::Refused;
-    }
-    if !nodes_in_pre_order(tree, map) {
-        return CheckedTree::Refused;
-    }
-    CheckedTree::Accepted(map)
+    require(records_keep_rules(tree, map), Reason::Tree)?;
+    require(nodes_in_pre_order(tree, map), Reason::Tree)?;
+    Ok(map)
 }

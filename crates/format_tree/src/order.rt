@@ -6,7 +6,7 @@ ghost use Rattle.std.specs.Prelude.{◌≡◌, ◌++◌, ℕ, ◌+◌, ◌<◌, 
 ghost use Rattle.spec_rules.specs.Searching.{every};
 ghost use Rattle.spec_rules.specs.TreeReader.{case_children, default_child, nodes_in_pre_order};
 ghost use Rattle.format_tree.specs.Reading.{Mapped, Ruled};
-ghost use Rattle.format_tree.specs.PreOrder.{last_from, last_child, end_of, chained, children_follow, ChildrenAre};
+ghost use Rattle.format_tree.specs.PreOrder.{last_from, last_child, end_of, case_follows, chained, children_follow, ChildrenAre};
 
 use crate::layout::TreeMap;
 use crate::reading::{case_child, node_kind, node_word};
@@ -24,6 +24,7 @@ enum Children {
     Nothing,
 }
 
+// Where they stand, by the node's kind.
 fn children_of(tree: &[u8], map: TreeMap, k: usize) -> Children
     requires { Ruled tree.now map × (k < map.nodes.count) }
     ensures { ChildrenAre tree.now map k result }
@@ -52,9 +53,10 @@ fn last_of_switch(tree: &[u8], map: TreeMap, i: usize, n: usize, default: usize)
     ensures { (k : ℕ) → result ≡ last_from k (case_children tree.now i n ++ default_child default) }
 {
     if 0 < default {
-        return default - 1;
+        default - 1
+    } else {
+        case_child(tree, map, i + n - 1) as usize
     }
-    case_child(tree, map, i + n - 1) as usize
 }
 
 // The last child of node k; k itself where it has none.
@@ -88,25 +90,21 @@ fn end_of(tree: &[u8], map: TreeMap, k: usize) -> usize
     at + 1
 }
 
+// The child of case j is where the subtree of the child before it ends.
+fn case_follows(tree: &[u8], map: TreeMap, j: usize) -> bool
+    requires { Ruled tree.now map × (1 ≤ j) × (j < map.cases.count) }
+    ensures { result ≡ case_follows tree.now j }
+{
+    let before = case_child(tree, map, j - 1) as usize;
+    case_child(tree, map, j) as usize == end_of(tree, map, before)
+}
+
 // The children of the n cases from i on: the first is node k + 1, each later one is where the one before it ends.
 fn cases_follow(tree: &[u8], map: TreeMap, k: usize, i: usize, n: usize) -> bool
     requires { Ruled tree.now map × (k < map.nodes.count) × (1 ≤ n) × (i + n ≤ map.cases.count) }
     ensures { result ≡ chained tree.now (k + 1) (case_children tree.now i n) }
 {
-    let mut before = case_child(tree, map, i) as usize;
-    if before != k + 1 {
-        return false;
-    }
-    let mut j = 1;
-    while j < n {
-        let child = case_child(tree, map, i + j) as usize;
-        if child != end_of(tree, map, before) {
-            return false;
-        }
-        before = child;
-        j += 1;
-    }
-    true
+    case_child(tree, map, i) as usize == k + 1 && (i + 1..i + n).all(|j| case_follows(tree, map, j))
 }
 
 // The same with the default after the cases.
@@ -114,16 +112,12 @@ fn switch_follows(tree: &[u8], map: TreeMap, k: usize, i: usize, n: usize, defau
     requires { Ruled tree.now map × (k < map.nodes.count) × (1 ≤ n) × (i + n ≤ map.cases.count) }
     ensures { result ≡ chained tree.now (k + 1) (case_children tree.now i n ++ default_child default) }
 {
-    if !cases_follow(tree, map, k, i, n) {
-        return false;
-    }
-    if default == 0 {
-        return true;
-    }
-    let before = case_child(tree, map, i + n - 1) as usize;
-    default - 1 == end_of(tree, map, before)
+    cases_follow(tree, map, k, i, n)
+        && (default == 0
+            || default - 1 == end_of(tree, map, case_child(tree, map, i + n - 1) as usize))
 }
 
+// The children of node k stand in this order.
 fn children_follow(tree: &[u8], map: TreeMap, k: usize) -> bool
     requires { Ruled tree.now map × (k < map.nodes.count) }
     ensures { result ≡ children_follow tree.now k }
@@ -140,30 +134,19 @@ fn children_follow(tree: &[u8], map: TreeMap, k: usize) -> bool
     }
 }
 
+// The same of every node.
 fn all_follow(tree: &[u8], map: TreeMap) -> bool
     requires { Ruled tree.now map }
     ensures { result ≡ every (children_follow tree.now) 0 map.nodes.count }
 {
-    let mut k = 0;
-    while k < map.nodes.count {
-        if !children_follow(tree, map, k) {
-            return false;
-        }
-        k += 1;
-    }
-    true
+    (0..map.nodes.count).all(|k| children_follow(tree, map, k))
 }
 
+// "node 0 there, each other node a child exactly once, in pre-order"
 pub fn nodes_in_pre_order(tree: &[u8], map: TreeMap) -> bool
     requires { Ruled tree.now map }
     ensures { result ≡ nodes_in_pre_order tree.now }
 {
     let count = map.nodes.count;
-    if count == 0 {
-        return false;
-    }
-    if !all_follow(tree, map) {
-        return false;
-    }
-    end_of(tree, map, 0) == count
+    0 < count && all_follow(tree, map) && end_of(tree, map, 0) == count
 }

@@ -25,13 +25,9 @@ fn switch_parts(tree: &[u8], map: TreeMap, k: usize) -> bool
     let cases = node_word(tree, map, k, node_words::CASES) as usize;
     let tails = node_word(tree, map, k, node_words::TAIL_CASES) as usize;
     let default = node_word(tree, map, k, node_words::DEFAULT) as usize;
-    if map.paths.count <= path {
-        return false;
-    }
-    if !run_in(first, cases + tails, map.cases.count) {
-        return false;
-    }
-    default <= map.nodes.count
+    path < map.paths.count
+        && run_in(first, cases + tails, map.cases.count)
+        && default <= map.nodes.count
 }
 
 // Each of the n cases from i on is of this kind.
@@ -39,14 +35,7 @@ fn cases_of_kind(tree: &[u8], map: TreeMap, kind: u8, i: usize, n: usize) -> boo
     requires { Mapped tree.now map × (i + n ≤ map.cases.count) }
     ensures { result ≡ every (is_kind tree.now kind) i n }
 {
-    let mut j = 0;
-    while j < n {
-        if case_kind(tree, map, i + j) != kind {
-            return false;
-        }
-        j += 1;
-    }
-    true
+    (i..i + n).all(|j| case_kind(tree, map, j) == kind)
 }
 
 fn switch_cases(tree: &[u8], map: TreeMap, k: usize) -> bool
@@ -56,17 +45,11 @@ fn switch_cases(tree: &[u8], map: TreeMap, k: usize) -> bool
     let first = node_word(tree, map, k, node_words::FIRST_CASE) as usize;
     let cases = node_word(tree, map, k, node_words::CASES) as usize;
     let tails = node_word(tree, map, k, node_words::TAIL_CASES) as usize;
-    if cases < 1 {
-        return false;
-    }
-    if tails != 0 {
+    if cases < 1 || tails != 0 {
         return false;
     }
     let kind = case_kind(tree, map, first);
-    if case_kinds::BYTES < kind {
-        return false;
-    }
-    cases_of_kind(tree, map, kind, first, cases)
+    kind <= case_kinds::BYTES && cases_of_kind(tree, map, kind, first, cases)
 }
 
 fn list_switch_cases(tree: &[u8], map: TreeMap, k: usize) -> bool
@@ -76,13 +59,9 @@ fn list_switch_cases(tree: &[u8], map: TreeMap, k: usize) -> bool
     let first = node_word(tree, map, k, node_words::FIRST_CASE) as usize;
     let cases = node_word(tree, map, k, node_words::CASES) as usize;
     let tails = node_word(tree, map, k, node_words::TAIL_CASES) as usize;
-    if cases + tails < 1 {
-        return false;
-    }
-    if !cases_of_kind(tree, map, case_kinds::LIST, first, cases) {
-        return false;
-    }
-    cases_of_kind(tree, map, case_kinds::LIST_WITH_TAIL, first + cases, tails)
+    1 <= cases + tails
+        && cases_of_kind(tree, map, case_kinds::LIST, first, cases)
+        && cases_of_kind(tree, map, case_kinds::LIST_WITH_TAIL, first + cases, tails)
 }
 
 fn binding_parts(tree: &[u8], map: TreeMap, k: usize) -> bool
@@ -91,87 +70,60 @@ fn binding_parts(tree: &[u8], map: TreeMap, k: usize) -> bool
 {
     let first = node_word(tree, map, k, node_words::FIRST_BINDING) as usize;
     let count = node_word(tree, map, k, node_words::BINDINGS) as usize;
-    if NODE_BINDINGS_MOST < count {
-        return false;
-    }
-    run_in(first, count, map.bindings.count)
+    count <= NODE_BINDINGS_MOST && run_in(first, count, map.bindings.count)
 }
 
 fn switch_keeps_rules(tree: &[u8], map: TreeMap, k: usize) -> bool
     requires { Mapped tree.now map × (k < map.nodes.count) }
     ensures { result ≡ node_of_kind tree.now k Switch }
 {
-    if !switch_parts(tree, map, k) {
-        return false;
-    }
-    switch_cases(tree, map, k)
+    switch_parts(tree, map, k) && switch_cases(tree, map, k)
 }
 
 fn list_switch_keeps_rules(tree: &[u8], map: TreeMap, k: usize) -> bool
     requires { Mapped tree.now map × (k < map.nodes.count) }
     ensures { result ≡ node_of_kind tree.now k List_switch }
 {
-    if !switch_parts(tree, map, k) {
-        return false;
-    }
-    list_switch_cases(tree, map, k)
+    switch_parts(tree, map, k) && list_switch_cases(tree, map, k)
 }
 
 fn leaf_keeps_rules(tree: &[u8], map: TreeMap, k: usize) -> bool
     requires { Mapped tree.now map × (k < map.nodes.count) }
     ensures { result ≡ node_of_kind tree.now k Leaf }
 {
-    if !binding_parts(tree, map, k) {
-        return false;
-    }
-    if node_word(tree, map, k, node_words::CHILD) != 0 {
-        return false;
-    }
-    node_word(tree, map, k, node_words::UNUSED) == 0
+    binding_parts(tree, map, k)
+        && node_word(tree, map, k, node_words::CHILD) == 0
+        && node_word(tree, map, k, node_words::UNUSED) == 0
 }
 
 fn hoist_keeps_rules(tree: &[u8], map: TreeMap, k: usize) -> bool
     requires { Mapped tree.now map × (k < map.nodes.count) }
     ensures { result ≡ node_of_kind tree.now k Hoist_node }
 {
-    if !binding_parts(tree, map, k) {
-        return false;
-    }
-    let child = node_word(tree, map, k, node_words::CHILD) as usize;
-    if map.nodes.count <= child {
-        return false;
-    }
-    node_word(tree, map, k, node_words::UNUSED) == 0
+    binding_parts(tree, map, k)
+        && (node_word(tree, map, k, node_words::CHILD) as usize) < map.nodes.count
+        && node_word(tree, map, k, node_words::UNUSED) == 0
 }
 
 fn node_keeps_rules(tree: &[u8], map: TreeMap, k: usize) -> bool
     requires { Mapped tree.now map × (k < map.nodes.count) }
     ensures { result ≡ node_keeps_rules tree.now k }
 {
-    if node_zero(tree, map, k) != 0 {
-        return false;
-    }
-    match node_kind(tree, map, k) {
-        node_kinds::SWITCH => switch_keeps_rules(tree, map, k),
-        node_kinds::LIST_SWITCH => list_switch_keeps_rules(tree, map, k),
-        node_kinds::LEAF => leaf_keeps_rules(tree, map, k),
-        node_kinds::HOIST => hoist_keeps_rules(tree, map, k),
-        _ => false,
-    }
+    node_zero(tree, map, k) == 0
+        && match node_kind(tree, map, k) {
+            node_kinds::SWITCH => switch_keeps_rules(tree, map, k),
+            node_kinds::LIST_SWITCH => list_switch_keeps_rules(tree, map, k),
+            node_kinds::LEAF => leaf_keeps_rules(tree, map, k),
+            node_kinds::HOIST => hoist_keeps_rules(tree, map, k),
+            _ => false,
+        }
 }
 
 pub fn nodes_keep_rules(tree: &[u8], map: TreeMap) -> bool
     requires { Mapped tree.now map }
     ensures { result ≡ every (node_keeps_rules tree.now) 0 map.nodes.count }
 {
-    let mut k = 0;
-    while k < map.nodes.count {
-        if !node_keeps_rules(tree, map, k) {
-            return false;
-        }
-        k += 1;
-    }
-    true
+    (0..map.nodes.count).all(|k| node_keeps_rules(tree, map, k))
 }
 
 // ---- cases
@@ -183,11 +135,8 @@ fn case_of_kind(tree: &[u8], map: TreeMap, i: usize) -> bool
     let number = case_number(tree, map, i) as usize;
     let length = case_length(tree, map, i) as usize;
     match case_kind(tree, map, i) {
-        case_kinds::CONSTR => length == 0,
-        case_kinds::INT => run_in(number, length, map.pool.count),
-        case_kinds::BYTES => run_in(number, length, map.pool.count),
-        case_kinds::LIST => length == 0,
-        case_kinds::LIST_WITH_TAIL => length == 0,
+        case_kinds::INT | case_kinds::BYTES => run_in(number, length, map.pool.count),
+        case_kinds::CONSTR | case_kinds::LIST | case_kinds::LIST_WITH_TAIL => length == 0,
         _ => false,
     }
 }
@@ -196,28 +145,16 @@ fn case_keeps_rules(tree: &[u8], map: TreeMap, i: usize) -> bool
     requires { Mapped tree.now map × (i < map.cases.count) }
     ensures { result ≡ case_keeps_rules tree.now i }
 {
-    if case_zero(tree, map, i) != 0 {
-        return false;
-    }
-    if !case_of_kind(tree, map, i) {
-        return false;
-    }
-    let child = case_child(tree, map, i) as usize;
-    child < map.nodes.count
+    case_zero(tree, map, i) == 0
+        && case_of_kind(tree, map, i)
+        && (case_child(tree, map, i) as usize) < map.nodes.count
 }
 
 pub fn cases_keep_rules(tree: &[u8], map: TreeMap) -> bool
     requires { Mapped tree.now map }
     ensures { result ≡ every (case_keeps_rules tree.now) 0 map.cases.count }
 {
-    let mut i = 0;
-    while i < map.cases.count {
-        if !case_keeps_rules(tree, map, i) {
-            return false;
-        }
-        i += 1;
-    }
-    true
+    (0..map.cases.count).all(|i| case_keeps_rules(tree, map, i))
 }
 
 // ---- bindings, paths and steps
@@ -226,23 +163,14 @@ fn binding_keeps_rules(tree: &[u8], map: TreeMap, b: usize) -> bool
     requires { Mapped tree.now map × (b < map.bindings.count) }
     ensures { result ≡ binding_keeps_rules tree.now b }
 {
-    let binding = binding_at(tree, map, b);
-    let path = binding.path as usize;
-    path < map.paths.count
+    (binding_at(tree, map, b).path as usize) < map.paths.count
 }
 
 pub fn bindings_keep_rules(tree: &[u8], map: TreeMap) -> bool
     requires { Mapped tree.now map }
     ensures { result ≡ every (binding_keeps_rules tree.now) 0 map.bindings.count }
 {
-    let mut b = 0;
-    while b < map.bindings.count {
-        if !binding_keeps_rules(tree, map, b) {
-            return false;
-        }
-        b += 1;
-    }
-    true
+    (0..map.bindings.count).all(|b| binding_keeps_rules(tree, map, b))
 }
 
 fn path_keeps_rules(tree: &[u8], map: TreeMap, p: usize) -> bool
@@ -250,23 +178,14 @@ fn path_keeps_rules(tree: &[u8], map: TreeMap, p: usize) -> bool
     ensures { result ≡ path_keeps_rules tree.now p }
 {
     let path = path_at(tree, map, p);
-    let first = path.first as usize;
-    let count = path.count as usize;
-    run_in(first, count, map.steps.count)
+    run_in(path.first as usize, path.count as usize, map.steps.count)
 }
 
 pub fn paths_keep_rules(tree: &[u8], map: TreeMap) -> bool
     requires { Mapped tree.now map }
     ensures { result ≡ every (path_keeps_rules tree.now) 0 map.paths.count }
 {
-    let mut p = 0;
-    while p < map.paths.count {
-        if !path_keeps_rules(tree, map, p) {
-            return false;
-        }
-        p += 1;
-    }
-    true
+    (0..map.paths.count).all(|p| path_keeps_rules(tree, map, p))
 }
 
 fn step_keeps_rules(tree: &[u8], map: TreeMap, i: usize) -> bool
@@ -274,30 +193,13 @@ fn step_keeps_rules(tree: &[u8], map: TreeMap, i: usize) -> bool
     ensures { result ≡ step_keeps_rules tree.now i }
 {
     let step = step_at(tree, map, i);
-    let kind = step.kind;
-    let flag = step.flag;
-    if step_kinds::LISTTAIL < kind {
-        return false;
-    }
-    if flag == 0 {
-        return true;
-    }
-    if flag != 1 {
-        return false;
-    }
-    kind == step_kinds::CONSTR
+    step.kind <= step_kinds::LISTTAIL
+        && (step.flag == 0 || step.flag == 1 && step.kind == step_kinds::CONSTR)
 }
 
 pub fn steps_keep_rules(tree: &[u8], map: TreeMap) -> bool
     requires { Mapped tree.now map }
     ensures { result ≡ every (step_keeps_rules tree.now) 0 map.steps.count }
 {
-    let mut i = 0;
-    while i < map.steps.count {
-        if !step_keeps_rules(tree, map, i) {
-            return false;
-        }
-        i += 1;
-    }
-    true
+    (0..map.steps.count).all(|i| step_keeps_rules(tree, map, i))
 }

@@ -1,7 +1,7 @@
 -- Laws of a leaf's bindings after some of them are written.
 -- Rests on Bindings and the laws of stores.
 use Rattle.std.proofs.Math.Path.{◌≡◌, sym, ap}
-use Rattle.std.specs.Prelude.{refl, List, [], ◌∷◌, set}
+use Rattle.std.specs.Prelude.{refl, Ok, Err, List, [], ◌∷◌, set}
 use Rattle.std.proofs.Common.{◌∙◌}
 use Rattle.std.proofs.Math.Option.{Option, none, some}
 use Prim.Native.Nat.{ℕ, suc, ◌+◌, ◌-◌, ◌*◌, ◌≤◌, ◌<◌}
@@ -16,7 +16,7 @@ use Rattle.spec_rules.specs.Walking.{Position as Place, panel_root, follow, Boun
 use Rattle.spec_rules.specs.WalkPlaces.{steps_taken, first_stuck}
 use Rattle.spec_rules.specs.Calls.{bound_words}
 use Rattle.spec_accepted.specs.TreeFacts.{bindings_from_some}
-use Rattle.walk.specs.declared.bind.Given.{Given}
+use Rattle.walk.specs.Positions.{stuck_at}
 use Rattle.walk.specs.Bindings.{given_of, given_by, words_after}
 
 -- three stores next to each other
@@ -54,7 +54,7 @@ given_some v b bs x e =
     let later : first_stuck v (b ∷ bs) ≡ first_stuck v bs = unfold first_stuck in rw (e, first_stuck) in
     rw (bound_some v b bs x e, later) (given_cons (record { name = b.name; position = x }) (bound v bs) (first_stuck v bs))
 
-given_none : (v : List ℕ) (b : Binding) (bs : List Binding) → follow v b.path panel_root ≡ none → given_by v (b ∷ bs) ≡ Given.Stuck (steps_taken v b.path panel_root)
+given_none : (v : List ℕ) (b : Binding) (bs : List Binding) → follow v b.path panel_root ≡ none → given_by v (b ∷ bs) ≡ Err (stuck_at (steps_taken v b.path panel_root))
 given_none v b bs e =
     let here : first_stuck v (b ∷ bs) ≡ steps_taken v b.path panel_root = unfold first_stuck in rw (e, first_stuck) in
     rw (bound_none v b bs e, here)
@@ -109,7 +109,7 @@ module _ (t v : List ℕ) (first n : ℕ) where
   binding_on i x h e = ap (bound v) (bindings_next i h) ∙ bound_some v _ _ x e
 
   pub given_stuck : (i : ℕ) → i < n → follow v (path_at t (binding_path t (first + i))) panel_root ≡ none
-      → given_by v (remaining i) ≡ Given.Stuck (steps_taken v (path_at t (binding_path t (first + i))) panel_root)
+      → given_by v (remaining i) ≡ Err (stuck_at (steps_taken v (path_at t (binding_path t (first + i))) panel_root))
   given_stuck i h e = ap (given_by v) (bindings_next i h) ∙ given_none v _ _ e
 
   pub given_on : (i : ℕ) (x : Place) → i < n → follow v (path_at t (binding_path t (first + i))) panel_root ≡ some x → given_by v (remaining (i + 1)) ≡ given_by v (remaining i)
@@ -123,7 +123,7 @@ module _ (t v : List ℕ) (first n : ℕ) where
       ∙ words_cons l (3 * i) (3 * (i + 1)) (record { name = binding_name t (first + i); position = x }) (left (i + 1)) three
       ∙ ap (words_after l (3 * i)) (sym (binding_on i x h e))
 
-  pub given_end : (i : ℕ) → n ≤ i → Given.All ≡ given_by v (remaining i)
+  pub given_end : (i : ℕ) → n ≤ i → Ok tt ≡ given_by v (remaining i)
   unfolding bindings_from bound
   given_end i h = let a : n - i ≡ 0 = omega arith in rw a
 

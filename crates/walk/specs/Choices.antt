@@ -1,15 +1,13 @@
 -- What a switch asks for, as the code has it; runs of cases of one kind; and the case that is chosen of a run.
 -- Rests on the rules' tests.
 use Rattle.std.specs.Prelude.{◌≡◌, Bool, true, false, List, ℕ, suc, ◌+◌, ◌≤◌, ◌<◌, eqb}
-use Rattle.std.proofs.Math.Option.{Option, none, some}
+use Rattle.std.proofs.Math.Option.{Option}
 use Rattle.base_words.specs.Words.{pick, same_text}
 use Rattle.spec_rules.specs.Kinds.{integer_record, bytes_record, constructor_record, int_case, bytes_case}
 use Rattle.spec_rules.specs.Searching.{lowest}
 use Rattle.spec_rules.specs.Splitting.{Test, Int, Bytes, same_test}
 use Rattle.spec_rules.specs.TreeReader.{case_kind, case_number, case_text, case_test}
 use Rattle.format_records.specs.declared.reading.Test.{Test as TestRead}
-use Rattle.walk.specs.declared.choose.Chosen.{Chosen}
-use Rattle.walk.specs.declared.choose.Chosen.TheVariants.{At, Nothing}
 
 -- the kind of record that a switch asks for whose first case has this test
 abbrev pub asked_by : TestRead → ℕ
@@ -34,15 +32,6 @@ first_numbered t number i n = lowest (λ j. eqb number (case_number t j)) i n
 
 abbrev pub first_text : List ℕ → List ℕ → ℕ → ℕ → Option ℕ
 first_text t w i n = lowest (λ j. same_text w (case_text t j)) i n
-
-abbrev pub chosen_of : Option ℕ → Chosen
-chosen_of none = Nothing
-chosen_of (some j) = At j
-
--- the place that was chosen is one of so many
-abbrev pub ChosenIn : ℕ → Chosen → Type 0
-ChosenIn count (At j) = j < count
-ChosenIn count Nothing = Unit {0}
 
 -- an integer's text or a byte string's
 abbrev pub text_test : Bool → List ℕ → Test

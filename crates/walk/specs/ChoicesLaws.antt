@@ -1,8 +1,9 @@
 -- Laws of what a switch asks for and what a part shows, and of the search of a run of cases of one kind.
 -- Rests on Choices, and on the facts of an accepted tree and an accepted panel.
-use Rattle.std.specs.Prelude.{◌≡◌, Bool, List, ℕ, zero, suc, ◌+◌, ◌-◌, ◌≤◌, ◌<◌, max, eqb, leb, length}
+use Rattle.std.specs.Prelude.{◌≡◌, Bool, Option as Chosen, Some, List, ℕ, zero, suc, ◌+◌, ◌-◌, ◌≤◌, ◌<◌, max, eqb, leb, length}
+use Rattle.std.specs.Option.{ForSome}
 use Rattle.std.proofs.Math.Path.{refl, ap}
-use Rattle.std.proofs.Common.{sym, subst, ◌∙◌, ne_eqb, leb-true, leb-false}
+use Rattle.std.proofs.Common.{sym, ◌∙◌, ne_eqb, leb-true, leb-false}
 use Rattle.std.proofs.Math.Bool.{true, false}
 use Rattle.std.proofs.Math.Option.{Option, none, some}
 use native.Mathlib.Omega.{arith}
@@ -10,6 +11,7 @@ use Rattle.base_words.specs.Words.{text_at, both, pick, same_text}
 use Rattle.base_words.specs.WordsLaws.{length_text_at, not_same_text}
 use Rattle.spec_rules.specs.Kinds.{integer_record, bytes_record, constructor_record, constr_case, int_case, bytes_case, list_case, list_with_tail_case}
 use Rattle.spec_rules.specs.Searching.{lowest}
+use Rattle.spec_rules.specs.Found.{found}
 use Rattle.spec_rules.specs.SearchingLaws.{lowest_some, lowest_agree}
 use Rattle.spec_rules.specs.Splitting.{Test, Constr, Int, Bytes, ListOf, ListWithTail, test_fields, same_test}
 use Rattle.spec_rules.specs.Building.{Tree, Cases, ccons}
@@ -24,8 +26,7 @@ use Rattle.format_panel.specs.declared.records.Record.{Record}
 use Rattle.format_panel.specs.Opened.{record_of, Opened}
 use Rattle.format_records.specs.Records.{test_from}
 use Rattle.format_tree.specs.Reading.{test_of}
-use Rattle.walk.specs.declared.choose.Chosen.{Chosen}
-use Rattle.walk.specs.Choices.{asked_by, AllKind, AllText, first_case, first_numbered, first_text, chosen_of, ChosenIn, text_test}
+use Rattle.walk.specs.Choices.{asked_by, AllKind, AllText, first_case, first_numbered, first_text, text_test}
 
 -- ---- the kind of record that a switch asks for, by the kind of its first case
 abbrev pub asked_for : ℕ → ℕ
@@ -164,17 +165,13 @@ module _ (t : List ℕ) (i n : ℕ) where
   text_first integer w k =
       lowest_agree (λ j. same_text w (case_text t j)) (λ j. same_test (text_test integer w) (case_test t j)) i n (λ j low high. text_same t j integer w (k j low high))
 
--- a loop over the run begins with all of it
-pub run_start : (f : ℕ → Bool) (i n : ℕ) → lowest f i (i + n - i) ≡ lowest f i n
-run_start f i n = let e : i + n - i ≡ n = omega arith in rw e
-
 -- the place that a search of a run answers is one of the run
-pub chosen_in : (f : ℕ → Bool) (i n count : ℕ) (chosen : Chosen) → i + n ≤ count → chosen ≡ chosen_of (lowest f i n) → ChosenIn count chosen
-chosen_in f i n count chosen inside e = go (lowest f i n) refl
+pub found_in : (f : ℕ → Bool) (i n count : ℕ) (chosen : Chosen ℕ) → i + n ≤ count → chosen ≡ found (lowest f i n) → ForSome chosen (λ j. j < count)
+found_in f i n count chosen inside e x q = go (lowest f i n) refl (sym e ∙ q)
   where
-    go : (o : Option ℕ) → lowest f i n ≡ o → ChosenIn count chosen
-    go none q = subst (ChosenIn count) (sym (e ∙ ap chosen_of q)) tt
-    go (some j) q = subst (ChosenIn count) (sym (e ∙ ap chosen_of q)) (omega (arith, inside, (lowest_some f i n j q).to))
+    go : (o : Option ℕ) → lowest f i n ≡ o → found o ≡ Some x → x < count
+    go none w r = let z : ◌≡◌ {A = ℕ} 0 1 = cc in absurd (omega arith)
+    go (some j) w r = let k : j ≡ x = cc in omega (arith, inside, (lowest_some f i n j w).to)
 
 -- texts of two lengths differ
 pub lengths_differ : (v t : List ℕ) (i n j m : ℕ) → i + n ≤ length v → j + m ≤ length t → (n ≡ m → ⊥) → false ≡ same_text (text_at v i n) (text_at t j m)
@@ -200,9 +197,9 @@ module _ (t : List ℕ) (n : ℕ) (f : ℕ → Tree) where
       let z : max 0 (largest_tail n (cases_for f t i m)) ≡ largest_tail n (cases_for f t i m) = omega arith in
       rw (a, b) z
 
-  pub largest_on : (i j m best number : ℕ) → j < m → number ≡ tail_number n (case_test t (i + j))
-      → max (max best number) (largest_tail n (cases_for f t (i + (j + 1)) (m - (j + 1)))) ≡ max best (largest_tail n (cases_for f t (i + j) (m - j)))
-  largest_on i j m best number h e =
+  pub largest_on : (i j m best number next : ℕ) → j < m → number ≡ tail_number n (case_test t (i + j)) → next ≡ max best number
+      → max next (largest_tail n (cases_for f t (i + (j + 1)) (m - (j + 1)))) ≡ max best (largest_tail n (cases_for f t (i + j) (m - j)))
+  largest_on i j m best number next h e larger =
       let a : i + (j + 1) ≡ i + j + 1 = omega arith in
       let b : m - (j + 1) ≡ m - j - 1 = omega arith in
       let c = cases_for_some f t (i + j) (m - j) (λ z. omega arith) in

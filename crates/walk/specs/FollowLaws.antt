@@ -2,7 +2,7 @@
 -- is one of the panel. Rests on Positions and the facts of an accepted panel.
 use Rattle.std.proofs.Math.Path.{◌≡◌, refl, sym}
 use Rattle.std.proofs.Common.{ap, ◌∙◌, inl, inr, ⊎_elim}
-use Rattle.std.specs.Prelude.{◌⊎◌, Bool, true, false, eqb, ltb, leb, length}
+use Rattle.std.specs.Prelude.{◌⊎◌, Some, None, Ok, Err, ok_or, Bool, true, false, eqb, ltb, leb, length}
 use mathlib.Core.List.{List, [], ◌∷◌}
 use Rattle.std.proofs.Math.Option.{Option, none, some}
 use Prim.Native.Nat.{ℕ, zero, suc, ◌+◌, ◌-◌, ◌≤◌, ◌<◌}
@@ -29,39 +29,32 @@ use Rattle.format_tree.specs.declared.layout.TreeMap.{TreeMap}
 use Rattle.format_tree.specs.Reading.{Ruled, step_of, path_of, binding_of}
 use Rattle.format_tree.specs.ReadingLaws.{bindings_lie, paths_lie, steps_lie, bindings_start, paths_start, steps_start, paths_count}
 use Rattle.walk.specs.declared.follow.Position.{Position}
-use Rattle.walk.specs.declared.follow.Taken.TheVariants.{To, Nowhere}
-use Rattle.walk.specs.declared.follow.Found.{Found}
-use Rattle.walk.specs.declared.follow.Found.TheVariants.{At, Stuck}
-use Rattle.walk.specs.Positions.{placed, taken_of, found_of, found_from, found_by, stuck_step_of, left_by, part_in, tail_in, Within, Followable, Bindable, ReadyToWalk}
+use Rattle.walk.specs.declared.follow.StuckAt.{StuckAt}
+use Rattle.walk.specs.Positions.{placed, position_of, taken_of, stuck_at, found_of, found_from, found_by, left_by, part_in, tail_in, Within, Followable, Bindable, ReadyToWalk}
 
--- ---- where a step led
-pub taken_some : (o : Option Place) (p : Position) → taken_of o ≡ To p → o ≡ some (placed p)
-taken_some none p e = let z : ◌≡◌ {A = ℕ} 0 1 = cc in absurd (omega arith)
-taken_some (some x) p e =
-    let a : record { «record» = x.place; dropped = x.dropped } ≡ p = cc in
-    ap (λ (q : Position). some (placed q)) a
+-- ---- where a step led, or at which it stuck
+pub taken_ok : (o : Option Place) (at : StuckAt) (p : Position) → Ok p ≡ ok_or (taken_of o) at → o ≡ some (placed p)
+taken_ok none at p e = let z : ◌≡◌ {A = ℕ} 0 1 = cc in absurd (omega arith)
+taken_ok (some x) at p e = let a : p ≡ position_of x = cc in ap (λ (q : Position). some (placed q)) (sym a)
 
-pub taken_none : (o : Option Place) → taken_of o ≡ Nowhere → o ≡ none
-taken_none none e = refl
-taken_none (some x) e = let z : ◌≡◌ {A = ℕ} 0 1 = cc in absurd (omega arith)
+pub taken_err : (o : Option Place) (at y : StuckAt) → Err y ≡ ok_or (taken_of o) at → (o ≡ none) × (y ≡ at)
+taken_err none at y e = (refl, cc)
+taken_err (some x) at y e = let z : ◌≡◌ {A = ℕ} 0 1 = cc in absurd (omega arith)
 
 -- ---- where a path led
-pub found_some : (v : List ℕ) (q : Path) (p : Position) → found_by v q ≡ At p → follow v q panel_root ≡ some (placed p)
+pub found_some : (v : List ℕ) (q : Path) (p : Position) → found_by v q ≡ Ok p → follow v q panel_root ≡ some (placed p)
 found_some v q p e = go (follow v q panel_root) e
   where
-    go : (o : Option Place) → found_of o (steps_taken v q panel_root) ≡ At p → o ≡ some (placed p)
+    go : (o : Option Place) → found_of o (steps_taken v q panel_root) ≡ Ok p → o ≡ some (placed p)
     go none f = let z : ◌≡◌ {A = ℕ} 0 1 = cc in absurd (omega arith)
-    go (some x) f =
-        let a : record { «record» = x.place; dropped = x.dropped } ≡ p = cc in
-        ap (λ (y : Position). some (placed y)) a
+    go (some x) f = let a : position_of x ≡ p = cc in ap (λ (y : Position). some (placed y)) a
 
--- stuck at step y, which the code asked for as `step`
-pub found_none : (v : List ℕ) (q : Path) (found : Found) (y step : ℕ) → found ≡ found_by v q → found ≡ Stuck y → step ≡ stuck_step_of found
-    → (follow v q panel_root ≡ none) × (step ≡ steps_taken v q panel_root)
-found_none v q found y step is told asked = go (follow v q panel_root) (sym is ∙ told)
+-- stuck there
+pub found_none : (v : List ℕ) (q : Path) (y : StuckAt) → found_by v q ≡ Err y → (follow v q panel_root ≡ none) × (y.0 ≡ steps_taken v q panel_root)
+found_none v q y e = go (follow v q panel_root) e
   where
-    go : (o : Option Place) → found_of o (steps_taken v q panel_root) ≡ Stuck y → (o ≡ none) × (step ≡ steps_taken v q panel_root)
-    go none f = let a : steps_taken v q panel_root ≡ y = cc in (refl, asked ∙ ap stuck_step_of told ∙ sym a)
+    go : (o : Option Place) → found_of o (steps_taken v q panel_root) ≡ Err y → (o ≡ none) × (y.0 ≡ steps_taken v q panel_root)
+    go none f = let a : stuck_at (steps_taken v q panel_root) ≡ y = cc in (refl, sym (ap (λ (s : StuckAt). s.0) a))
     go (some x) f = let z : ◌≡◌ {A = ℕ} 0 1 = cc in absurd (omega arith)
 
 -- ---- a record that was read as x
@@ -99,17 +92,17 @@ module _ (v : List ℕ) (r : ℕ) (x : Record) (is : x ≡ record_of v r) where
       let f = first_is in
       omega (arith, (shaped.parts_run r h (omega arith)).inside)
 
-pub part_missing : (v : List ℕ) (x : Record) (i : ℕ) → x.count ≤ i → Nowhere ≡ taken_of (part_in v x i)
+pub part_missing : (v : List ℕ) (x : Record) (i : ℕ) → x.count ≤ i → None ≡ taken_of (part_in v x i)
 part_missing v x i l = rw (le-ltb i x.count l)
 
 pub part_there : (v : List ℕ) (x : Record) (i p : ℕ) → i < x.count → p ≡ part v (x.first + i)
-    → To (record { «record» = p; dropped = 0 }) ≡ taken_of (part_in v x i)
+    → Some (record { «record» = p; dropped = 0 }) ≡ taken_of (part_in v x i)
 part_there v x i p l e = rw (lt-ltb i x.count l, e)
 
-pub tail_missing : (x : Record) (r i : ℕ) → x.count < i → Nowhere ≡ taken_of (tail_in x r i)
+pub tail_missing : (x : Record) (r i : ℕ) → x.count < i → None ≡ taken_of (tail_in x r i)
 tail_missing x r i l = rw (lt-leb i x.count l)
 
-pub tail_there : (x : Record) (r i : ℕ) → i ≤ x.count → To (record { «record» = r; dropped = i }) ≡ taken_of (tail_in x r i)
+pub tail_there : (x : Record) (r i : ℕ) → i ≤ x.count → Some (record { «record» = r; dropped = i }) ≡ taken_of (tail_in x r i)
 tail_there x r i l = rw (le-leb i x.count l)
 
 -- ---- positions stay within the panel
@@ -300,11 +293,11 @@ module _ (v t : List ℕ) (first count : ℕ) where
       let more : k + suc (steps_taken v q y) ≡ k + 1 + steps_taken v q y = omega arith in
       sym (path_next k x h ∙ rw (e, follow, steps_taken) (ap (found_of (follow v q y)) more))
 
-  pub path_stuck : (k : ℕ) (x : Place) → k < count → take_step v (step_at t (first + k)) x ≡ none → Stuck k ≡ found_from v (steps_from t (first + k) (count - k)) x k
+  pub path_stuck : (k : ℕ) (x : Place) → k < count → take_step v (step_at t (first + k)) x ≡ none → Err (stuck_at k) ≡ found_from v (steps_from t (first + k) (count - k)) x k
   unfolding follow steps_taken
-  path_stuck k x h e = let None_more : k + 0 ≡ k = omega arith in sym (path_next k x h ∙ rw (e, follow, steps_taken) (ap Stuck None_more))
+  path_stuck k x h e = let None_more : k + 0 ≡ k = omega arith in sym (path_next k x h ∙ rw (e, follow, steps_taken) (ap (λ (n : ℕ). Err (stuck_at n)) None_more))
 
-  pub path_end : (k : ℕ) (x : Position) → count ≤ k → At x ≡ found_from v (steps_from t (first + k) (count - k)) (placed x) k
+  pub path_end : (k : ℕ) (x : Position) → count ≤ k → Ok x ≡ found_from v (steps_from t (first + k) (count - k)) (placed x) k
   unfolding follow steps_from
   path_end k x h = let e : count - k ≡ 0 = omega arith in rw e
 

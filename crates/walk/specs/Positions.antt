@@ -1,6 +1,6 @@
 -- Positions as the code has them, beside the rules' own; and what the code asks of a tree and a panel that it walks on.
 -- Rests on the rules' walk, and on what the two checks give.
-use Rattle.std.specs.Prelude.{◌≡◌, List, ℕ, ◌+◌, ◌≤◌, ◌<◌, ltb, leb}
+use Rattle.std.specs.Prelude.{◌≡◌, Option as Taken, Some, None, Result, Ok, Err, List, ℕ, ◌+◌, ◌≤◌, ◌<◌, ltb, leb}
 use Rattle.std.proofs.Math.Option.{Option, none, some}
 use Rattle.base_words.specs.Words.{pick}
 use Rattle.spec_rules.specs.Kinds.{list_record, pair_record, list_step}
@@ -17,34 +17,33 @@ use Rattle.format_panel.specs.declared.records.Record.{Record}
 use Rattle.format_tree.specs.declared.layout.TreeMap.{TreeMap}
 use Rattle.format_tree.specs.Reading.{BindingsLie, PathsLie, StepsLie, Mapped}
 use Rattle.walk.specs.declared.follow.Position.{Position}
-use Rattle.walk.specs.declared.follow.Taken.{Taken}
-use Rattle.walk.specs.declared.follow.Taken.TheVariants.{To, Nowhere}
-use Rattle.walk.specs.declared.follow.Found.{Found}
-use Rattle.walk.specs.declared.follow.Found.TheVariants.{At, Stuck}
+use Rattle.walk.specs.declared.follow.StuckAt.{StuckAt}
 
 abbrev pub placed : Position → Place
 placed p = record { place = p.«record»; dropped = p.dropped }
 
+abbrev pub position_of : Place → Position
+position_of x = record { «record» = x.place; dropped = x.dropped }
+
 -- where one step leads
-abbrev pub taken_of : Option Place → Taken
-taken_of none = Nowhere
-taken_of (some x) = To (record { «record» = x.place; dropped = x.dropped })
+abbrev pub taken_of : Option Place → Taken Position
+taken_of none = None
+taken_of (some x) = Some (position_of x)
+
+abbrev pub stuck_at : ℕ → StuckAt
+stuck_at step = record { 0 = step }
 
 -- where a path leads, or the number of the step that could not be taken
-abbrev pub found_of : Option Place → ℕ → Found
-found_of none step = Stuck step
-found_of (some x) step = At (record { «record» = x.place; dropped = x.dropped })
+abbrev pub found_of : Option Place → ℕ → Result Position StuckAt
+found_of none step = Err (stuck_at step)
+found_of (some x) step = Ok (position_of x)
 
 -- where the path p leads from x after k steps
-abbrev pub found_from : List ℕ → Path → Place → ℕ → Found
+abbrev pub found_from : List ℕ → Path → Place → ℕ → Result Position StuckAt
 found_from v p x k = found_of (follow v p x) (k + steps_taken v p x)
 
-abbrev pub found_by : List ℕ → Path → Found
+abbrev pub found_by : List ℕ → Path → Result Position StuckAt
 found_by v p = found_of (follow v p panel_root) (steps_taken v p panel_root)
-
-abbrev pub stuck_step_of : Found → ℕ
-stuck_step_of (At p) = 0
-stuck_step_of (Stuck step) = step
 
 -- ---- one step: the kind of record that it is taken from, and the part or the tail of a record that was read
 abbrev pub left_by : ℕ → ℕ

@@ -1,18 +1,19 @@
 // The bindings of a leaf: each path is followed, and (name, record, dropped) is written, three words a binding.
 // Rests on following a path and on stores of words.
-ghost use Rattle.std.specs.Prelude.{◌≡◌, [], ◌∷◌, ◌+◌, ◌*◌, ◌<◌, ◌≤◌, length};
+ghost use Rattle.std.specs.Prelude.{[], ◌∷◌, ◌≡◌, ◌+◌, ◌*◌, ◌<◌, ◌≤◌, length};
 ghost use Rattle.base_words.specs.Stored.{stored};
 ghost use Rattle.spec_rules.specs.TreeReader.{bindings, bindings_from};
 ghost use Rattle.walk.specs.Positions.{Bindable};
 ghost use Rattle.walk.specs.Bindings.{Binds};
 
-use crate::follow::{Found, follow, stuck_step};
+use crate::follow::{StuckAt, follow};
 use base_numbers::tree::BOUND_WORDS;
 use base_words::zero_words;
 use format_panel::PanelMap;
 use format_tree::layout::TreeMap;
 use format_tree::reading::binding_from;
 
+#[tactic(auto, using(crate::specs::BindingsLaws::three_stores))]
 fn put_bound(bound: &mut [u16], at: usize, name: u16, record: u16, dropped: u16)
     requires { at + 2 < length bound.old }
     ensures { bound.new ≡ stored bound.old at (name ∷ «record» ∷ dropped ∷ []) }
@@ -22,14 +23,8 @@ fn put_bound(bound: &mut [u16], at: usize, name: u16, record: u16, dropped: u16)
     bound[at + 2] = dropped;
 }
 
-// Whether every binding's path leads somewhere; stuck, the step of the first one that does not.
-#[derive(Drop)]
-pub enum Given {
-    All,
-    Stuck(usize),
-}
-
-// The `count` bindings from `first` on, written to the front of the buffer; all zero where one is stuck.
+// The `count` bindings from `first` on, written to the front of the buffer. Where a binding's path is stuck, the buffer is all zero,
+// and the answer is the step at which the first such path is.
 pub fn bind(
     tree: &[u8],
     map: TreeMap,
@@ -38,12 +33,11 @@ pub fn bind(
     first: usize,
     count: usize,
     bound: &mut [u16],
-) -> Given
+) -> Result<(), StuckAt>
     requires { Bindable tree.now map panel.now places × (first + count ≤ bindings tree.now) × (3 * count ≤ length bound.old) }
     ensures { Binds panel.now (bindings_from tree.now first count) bound.old bound.new result }
 {
-    let mut i: usize = 0;
-    while i < count {
+    for i in 0..count {
         let b = binding_from(tree, map.bindings.start, first + i);
         let found = follow(
             tree,
@@ -53,9 +47,12 @@ pub fn bind(
             places,
             b.path as usize,
         );
-        let Found::At(p) = found else {
-            zero_words(bound);
-            return Given::Stuck(stuck_step(found));
+        let p = match found {
+            Ok(p) => p,
+            Err(stuck) => {
+                zero_words(bound);
+                return Err(stuck);
+            }
         };
         put_bound(
             bound,
@@ -64,7 +61,6 @@ pub fn bind(
             p.record as u16,
             p.dropped as u16,
         );
-        i += 1;
     }
-    Given::All
+    Ok(())
 }

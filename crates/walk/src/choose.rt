@@ -1,14 +1,15 @@
 // The case of a run that is chosen by what a part shows. The cases of a run are of one kind, so that a search reads no more of a
 // case than what it compares, and answers the case's place; its child is taken from there. Rests on the cases of a tree file.
-ghost use Rattle.std.specs.Prelude.{◌≡◌, ℕ, ◌+◌, ◌<◌, ◌≤◌, max, length};
+ghost use Rattle.std.specs.Prelude.{◌≡◌, ℕ, ◌+◌, ◌<◌, ◌≤◌, length};
 ghost use Rattle.base_words.specs.Words.{text_at, same_text};
 ghost use Rattle.spec_rules.specs.Kinds.{bytes_case, int_case, list_with_tail_case};
+ghost use Rattle.spec_rules.specs.Found.{found};
 ghost use Rattle.spec_rules.specs.Building.{Tree};
 ghost use Rattle.spec_rules.specs.Splitting.{ListWithTail};
 ghost use Rattle.spec_rules.specs.TreeReader.{case_kind, case_text, case_child, cases_for};
 ghost use Rattle.spec_rules.specs.Walking.{tail_number, largest_tail};
 ghost use Rattle.format_tree.specs.Reading.{Mapped, Ruled};
-ghost use Rattle.walk.specs.Choices.{asked_by, AllKind, AllText, first_numbered, first_text, chosen_of};
+ghost use Rattle.walk.specs.Choices.{asked_by, AllKind, AllText, first_numbered, first_text};
 
 use base_numbers::{case_kinds, record_kinds};
 use base_words::same_text;
@@ -18,13 +19,6 @@ use format_tree::reading::{case_child, case_length, case_number};
 
 // A switch asks no length: no record is of this kind.
 const NO_RECORD: u8 = record_kinds::CONSTRUCTOR + 1;
-
-// A place in the section of cases.
-#[derive(Drop)]
-pub enum Chosen {
-    At(usize),
-    Nothing,
-}
 
 // The child of the case at a place: the one step from a case to its child.
 pub fn child_of(tree: &[u8], map: TreeMap, place: usize) -> usize
@@ -55,19 +49,11 @@ pub fn asked_by(test: Test) -> u8
 }
 
 // The first of the n cases from i on that has this number.
-pub fn numbered_case(tree: &[u8], map: TreeMap, i: usize, n: usize, number: usize) -> Chosen
+pub fn numbered_case(tree: &[u8], map: TreeMap, i: usize, n: usize, number: usize) -> Option<usize>
     requires { Mapped tree.now map × (i + n ≤ map.cases.count) }
-    ensures { result ≡ chosen_of (first_numbered tree.now number i n) }
+    ensures { result ≡ found (first_numbered tree.now number i n) }
 {
-    let end = i + n;
-    let mut j = i;
-    while j < end {
-        if number == case_number(tree, map, j) as usize {
-            return Chosen::At(j);
-        }
-        j += 1;
-    }
-    Chosen::Nothing
+    (i..i + n).find(|&j| number == case_number(tree, map, j) as usize)
 }
 
 // The count bytes of v from i on are a text of the tree's pool, the j-th and following, len of them.
@@ -75,10 +61,7 @@ fn texts_same(tree: &[u8], panel: &[u8], i: usize, count: usize, j: usize, len: 
     requires { (i + count ≤ length panel.now) × (j + len ≤ length tree.now) }
     ensures { result ≡ same_text (text_at panel.now i count) (text_at tree.now j len) }
 {
-    if count != len {
-        return false;
-    }
-    same_text(panel, i, tree, j, count)
+    count == len && same_text(panel, i, tree, j, count)
 }
 
 // The count bytes of v from i on are the text of case j.
@@ -100,33 +83,20 @@ pub fn text_case(
     n: usize,
     start: usize,
     count: usize,
-) -> Chosen
+) -> Option<usize>
     requires { Ruled tree.now map × (i + n ≤ map.cases.count) × AllText tree.now i n × (start + count ≤ length panel.now) }
-    ensures { result ≡ chosen_of (first_text tree.now (text_at panel.now start count) i n) }
+    ensures { result ≡ found (first_text tree.now (text_at panel.now start count) i n) }
 {
-    let end = i + n;
-    let mut j = i;
-    while j < end {
-        if is_text(tree, map, panel, j, start, count) {
-            return Chosen::At(j);
-        }
-        j += 1;
-    }
-    Chosen::Nothing
+    (i..i + n).find(|&j| is_text(tree, map, panel, j, start, count))
 }
 
 // One more than a tail case's number k if that is not above n, else 0.
+#[tactic(auto, unfolding(spec_rules::specs::Walking::tail_number))]
 fn tail_number(k: usize, n: usize) -> usize
     requires { k ≤ 65535 }
     ensures { result ≡ tail_number n (ListWithTail k) }
 {
     if k <= n { k + 1 } else { 0 }
-}
-
-fn larger(a: usize, b: usize) -> usize
-    ensures { result ≡ max a b }
-{
-    if a < b { b } else { a }
 }
 
 // One more than the largest tail number not above n of the `tails` cases from i on; 0 where there is none.
@@ -135,11 +105,9 @@ pub fn largest_tail(tree: &[u8], map: TreeMap, i: usize, tails: usize, n: usize)
     ensures { (f : ℕ → Tree) → result ≡ largest_tail n (cases_for f tree.now i tails) }
 {
     let mut best: usize = 0;
-    let mut j: usize = 0;
-    while j < tails {
+    for j in 0..tails {
         let k = case_number(tree, map, i + j) as usize;
-        best = larger(best, tail_number(k, n));
-        j += 1;
+        best = best.max(tail_number(k, n));
     }
     best
 }

@@ -7,7 +7,7 @@ ghost use Rattle.spec_rules.specs.Walking.{take_step};
 ghost use Rattle.spec_accepted.specs.PanelFacts.{PanelShaped};
 ghost use Rattle.format_panel.specs.Opened.{Opened};
 ghost use Rattle.format_tree.specs.Reading.{Mapped};
-ghost use Rattle.walk.specs.Positions.{placed, taken_of, stuck_step_of, found_by, left_by, part_in, tail_in, Followable, Within};
+ghost use Rattle.walk.specs.Positions.{placed, taken_of, found_by, left_by, part_in, tail_in, Followable, Within};
 
 use base_numbers::{record_kinds, step_kinds};
 use format_panel::PanelMap;
@@ -22,28 +22,9 @@ pub struct Position {
     pub dropped: usize,
 }
 
-// Where one step leads.
-#[derive(Drop)]
-pub enum Taken {
-    To(Position),
-    Nowhere,
-}
-
-// Where a path leads; stuck, the number of the step that could not be taken, which is how many were taken before it.
-#[derive(Drop)]
-pub enum Found {
-    At(Position),
-    Stuck(usize),
-}
-
-pub fn stuck_step(found: Found) -> usize
-    ensures { result ≡ stuck_step_of found }
-{
-    match found {
-        Found::At(_) => 0,
-        Found::Stuck(step) => step,
-    }
-}
+// The number of the step that could not be taken, which is how many were taken before it; or the path's length, where a test is.
+#[derive(Clone, Copy)]
+pub struct StuckAt(pub u16);
 
 // The kind of record that a step of this kind is taken from.
 fn left_by(kind: u8) -> u8
@@ -57,32 +38,32 @@ fn left_by(kind: u8) -> u8
 }
 
 // Part i of a record.
-fn part_in(panel: &[u8], places: PanelMap, x: Record, i: usize) -> Taken
+fn part_in(panel: &[u8], places: PanelMap, x: Record, i: usize) -> Option<Position>
     requires { Opened panel.now places × (x.first + x.count ≤ parts panel.now) }
     ensures { result ≡ taken_of (part_in panel.now x i) }
 {
     if x.count <= i {
-        return Taken::Nowhere;
+        return None;
     }
     let record = part_at(panel, places, x.first + i);
-    Taken::To(Position { record, dropped: 0 })
+    Some(Position { record, dropped: 0 })
 }
 
 // What is left of the list r after its first i elements.
-fn tail_in(x: Record, r: usize, i: usize) -> Taken
+fn tail_in(x: Record, r: usize, i: usize) -> Option<Position>
     ensures { result ≡ taken_of (tail_in x r i) }
 {
     if x.count < i {
-        return Taken::Nowhere;
+        return None;
     }
-    Taken::To(Position {
+    Some(Position {
         record: r,
         dropped: i,
     })
 }
 
 // One step from a position. Its flag and type are not asked.
-fn take_step(panel: &[u8], places: PanelMap, s: Step, p: Position) -> Taken
+fn take_step(panel: &[u8], places: PanelMap, s: Step, p: Position) -> Option<Position>
     requires { Opened panel.now places × PanelShaped panel.now × Within panel.now (placed p) }
     ensures { result ≡ taken_of (take_step panel.now (step_of_fields s.kind s.flag s.index s.of) (placed p)) }
 {
@@ -92,7 +73,7 @@ fn take_step(panel: &[u8], places: PanelMap, s: Step, p: Position) -> Taken
     let dropped = p.dropped;
     let x = record_at(panel, r);
     if x.kind != left_by(kind) {
-        return Taken::Nowhere;
+        return None;
     }
     if kind < step_kinds::LIST {
         return part_in(panel, places, x, i);
@@ -112,34 +93,27 @@ pub fn follow(
     panel: &[u8],
     places: PanelMap,
     p: usize,
-) -> Found
+) -> Result<Position, StuckAt>
     requires { Followable tree.now panel.now places × (paths_at ≡ tree_paths_at tree.now) × (steps_at ≡ tree_steps_at tree.now) × (p < paths tree.now) }
     ensures { result ≡ found_by panel.now (path_at tree.now p) }
 {
     let path = path_from(tree, paths_at, p);
     let first = path.first as usize;
-    let count = path.count as usize;
     let mut at = Position {
         record: 0,
         dropped: 0,
     };
-    let mut k: usize = 0;
-    while k < count {
-        let step = step_from(tree, steps_at, first + k);
-        let Taken::To(next) = take_step(panel, places, step, at) else {
-            return Found::Stuck(k);
-        };
-        at = next;
-        k += 1;
+    for k in 0..path.count {
+        let step = step_from(tree, steps_at, first + k as usize);
+        at = take_step(panel, places, step, at).ok_or(StuckAt(k))?;
     }
-    Found::At(at)
+    Ok(at)
 }
 
 // How many steps path p has: "a test on a wrong kind of part counts as the path's length".
-pub fn path_length(tree: &[u8], map: TreeMap, p: usize) -> usize
+pub fn path_length(tree: &[u8], map: TreeMap, p: usize) -> u16
     requires { Mapped tree.now map × (p < map.paths.count) }
     ensures { result ≡ length (path_at tree.now p) }
 {
-    let read = path_at(tree, map, p);
-    read.count as usize
+    path_at(tree, map, p).count
 }

@@ -8,96 +8,77 @@ ghost use Rattle.std.specs.Prelude.{◌≡◌, ◌≤◌, length};
 ghost use Rattle.base_words.specs.Words.{zeros};
 ghost use Rattle.spec_rules.specs.Limits.{bound_room};
 ghost use Rattle.spec_rules.specs.Calls.{walk_call};
-ghost use Rattle.format_tree.specs.CheckLaws.{Accept};
+ghost use Rattle.walk.specs.declared.WalkError.TheVariants.{Refused};
 ghost use Rattle.walk.specs.Positions.{ReadyToWalk};
-ghost use Rattle.walk.specs.Answers.{call_of, Gives, panel_end, tree_end};
+ghost use Rattle.walk.specs.Answers.{call_of, Gives};
 
-use base_numbers::refusals;
 use base_numbers::tree::BOUND_ROOM;
 use base_words::zero_words;
-use bind::{Given, bind};
+use bind::bind;
+use follow::StuckAt;
 use format_panel::PanelMap;
+use format_parts::refusals::{Reason, Refusal, require};
 use format_tree::layout::TreeMap;
-use nodes::{Reached, reach};
+use nodes::{Ended, reach};
 
 mod bind;
 mod choose;
 mod follow;
 mod nodes;
 
-#[derive(Drop)]
-pub enum Walked {
-    Leaf { clause: u16, count: u16 },
-    NoLeaf,
-    Stuck { node: u16, step: u16 },
-    Refused { number: u16, place: u16 },
+// What a leaf tells: its clause, and how many bindings stand in the buffer.
+#[derive(Clone, Copy, PartialEq, Eq)]
+pub struct Leaf {
+    pub clause: u16,
+    pub count: u16,
 }
 
-// On a buffer that is all zero.
-fn walk_panel(
+// Why a walk tells nothing: a refusal, or 32, whose place is two numbers.
+#[derive(Clone, Copy, PartialEq, Eq)]
+pub enum WalkError {
+    Refused(Refusal),
+    Stuck { node: u16, step: u16 },
+}
+
+impl From<Refusal> for WalkError {
+    ghost from_gives = { λ r e. e ≡ Refused r };
+
+    fn from(refusal: Refusal) -> WalkError {
+        WalkError::Refused(refusal)
+    }
+}
+
+// On an accepted tree and an accepted panel, and a buffer that is all zero.
+fn walk_both(
     tree: &[u8],
     map: TreeMap,
     panel: &[u8],
     places: PanelMap,
     bound: &mut [u16],
-) -> Walked
+) -> Result<Option<Leaf>, WalkError>
     requires { ReadyToWalk tree.now map panel.now places × (bound_room ≤ length bound.old) × (bound.old ≡ zeros (length bound.old)) }
-    ensures { Gives tree.now panel.now (panel_end tree.now panel.now) bound.old bound.new result }
+    ensures { Gives tree.now panel.now bound.old bound.new result }
 {
-    let ended = reach(tree, map, panel, places);
-    let node = ended.node as u16;
-    let end = ended.end;
-    match end {
-        Reached::Leaf {
-            clause,
-            first,
-            count,
-        } => {
-            let Given::Stuck(step) = bind(tree, map, panel, places, first, count, bound) else {
-                return Walked::Leaf {
-                    clause: clause as u16,
-                    count: count as u16,
-                };
-            };
-            Walked::Stuck {
-                node,
-                step: step as u16,
-            }
-        }
-        Reached::NoLeaf => Walked::NoLeaf,
-        Reached::Stuck(step) => Walked::Stuck {
-            node,
-            step: step as u16,
-        },
-    }
+    let Ended { node, end } = reach(tree, map, panel, places);
+    let node = node as u16;
+    let stuck = |at: StuckAt| WalkError::Stuck { node, step: at.0 };
+    let Some(leaf) = end.map_err(stuck)? else {
+        return Ok(None);
+    };
+    bind(tree, map, panel, places, leaf.first, leaf.count, bound).map_err(stuck)?;
+    Ok(Some(Leaf {
+        clause: leaf.clause as u16,
+        count: leaf.count as u16,
+    }))
 }
 
-fn walk_tree(tree: &[u8], map: TreeMap, panel: &[u8], bound: &mut [u16]) -> Walked
-    requires { Accept tree.now map × (bound_room ≤ length bound.old) × (bound.old ≡ zeros (length bound.old)) }
-    ensures { Gives tree.now panel.now (tree_end tree.now panel.now) bound.old bound.new result }
-{
-    match format_panel::check(panel) {
-        format_panel::CheckedPanel::Accepted(places) => walk_panel(tree, map, panel, places, bound),
-        format_panel::CheckedPanel::Refused { number, place } => Walked::Refused { number, place },
-    }
-}
-
-// The walk call: its answer and every word of the buffer after it, for whatever tree, panel and buffer.
-pub fn walk(tree: &[u8], panel: &[u8], bound: &mut [u16]) -> Walked
+// The walk call: its answer and every word of the buffer after it, for whatever tree, panel and buffer. No leaf is `None`.
+pub fn walk(tree: &[u8], panel: &[u8], bound: &mut [u16]) -> Result<Option<Leaf>, WalkError>
     ensures { call_of result bound.new ≡ walk_call tree.now panel.now (length bound.old) }
 {
     zero_words(bound);
-    if bound.len() < BOUND_ROOM {
-        return Walked::Refused {
-            number: refusals::ROOM,
-            place: 0,
-        };
-    }
-    let format_tree::CheckedTree::Accepted(map) = format_tree::check(tree) else {
-        return Walked::Refused {
-            number: refusals::TREE,
-            place: 0,
-        };
-    };
-    walk_tree(tree, map, panel, bound)
+    require(bound.len() >= BOUND_ROOM, Reason::Room)?;
+    let map = format_tree::check(tree)?;
+    let places = format_panel::check(panel)?;
+    walk_both(tree, map, panel, places, bound)
 }

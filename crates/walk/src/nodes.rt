@@ -1,15 +1,16 @@
 // Where a node leads: "Switch: the first case that holds. List switch: the first of the exact length, else the first of the largest
 // tail number not above it. Else the default; with none, No leaf." A hoist is passed over; a wrong kind is stuck before any case.
+ghost use Rattle.std.specs.Option.{ForSome};
 ghost use Rattle.std.specs.Prelude.{◌≡◌, List, ◌++◌, ℕ, ◌+◌, ◌<◌, ◌≤◌};
 ghost use Rattle.spec_rules.specs.Kinds.{bytes_case, list_case, list_with_tail_case};
 ghost use Rattle.spec_rules.specs.TreeReader.{case_kind, case_children, default_child};
 ghost use Rattle.format_tree.specs.Reading.{Mapped, test_of};
 ghost use Rattle.walk.specs.Positions.{ReadyToWalk};
-ghost use Rattle.walk.specs.Choices.{AllKind, ChosenIn};
+ghost use Rattle.walk.specs.Choices.{AllKind};
 ghost use Rattle.walk.specs.Turns.{steps_on, Turns, TurnsBy, default_walk, switch_walk, list_walk, tails_walk, length_walk, Steps, Arrives};
 
-use crate::choose::{Chosen, asked_by, child_of, largest_tail, numbered_case, text_case};
-use crate::follow::{Found, follow, path_length, stuck_step};
+use crate::choose::{asked_by, child_of, largest_tail, numbered_case, text_case};
+use crate::follow::{StuckAt, follow, path_length};
 use base_numbers::record_kinds;
 use format_panel::PanelMap;
 use format_panel::records::record_at;
@@ -17,48 +18,46 @@ use format_records::reading::Test;
 use format_tree::layout::TreeMap;
 use format_tree::reading::{Node, node_at};
 
-// A leaf's three numbers are wider than they need be: as u16 they are stored one by one and read back as one word, which a processor waits for.
-#[derive(Drop)]
-pub enum Reached {
-    Leaf {
-        clause: usize,
-        first: usize,
-        count: usize,
-    },
-    NoLeaf,
-    Stuck(usize),
+// A leaf that is reached. Its numbers are wider than they need be: as u16 they are stored one by one and read back as one word, which a
+// processor waits for.
+#[derive(Clone, Copy)]
+pub struct ReachedLeaf {
+    pub clause: usize,
+    pub first: usize,
+    pub count: usize,
 }
 
-// Where the walk ends, and at which node.
+// Where the walk ends, at a leaf or without one or stuck, and at which node.
 #[derive(Drop)]
 pub struct Ended {
     pub node: usize,
-    pub end: Reached,
+    pub end: Result<Option<ReachedLeaf>, StuckAt>,
 }
 
+// Where a node leads that is not stuck: to another node, or to the walk's end.
 #[derive(Drop)]
 pub enum Next {
     Node(usize),
-    End(Reached),
+    End(Option<ReachedLeaf>),
 }
 
 fn default_of(default: u16) -> Next
-    ensures { (t v : List ℕ) (s : ℕ) → Turns t v s (default_child default) (default_walk v default) result }
+    ensures { (t v : List ℕ) (s : ℕ) → Turns t v s (default_child default) (default_walk v default) (Ok result) }
 {
     if default == 0 {
-        return Next::End(Reached::NoLeaf);
+        return Next::End(None);
     }
     Next::Node(default as usize - 1)
 }
 
 // The child of the case that was chosen, else the default.
-fn chosen_or(tree: &[u8], map: TreeMap, chosen: Chosen, default: u16) -> Next
-    requires { Mapped tree.now map × ChosenIn map.cases.count chosen }
-    ensures { TurnsBy tree.now chosen default result }
+fn chosen_or(tree: &[u8], map: TreeMap, chosen: Option<usize>, default: u16) -> Next
+    requires { Mapped tree.now map × ForSome chosen (λ j. j < map.cases.count) }
+    ensures { TurnsBy tree.now chosen default (Ok result) }
 {
     match chosen {
-        Chosen::At(place) => Next::Node(child_of(tree, map, place)),
-        Chosen::Nothing => default_of(default),
+        Some(place) => Next::Node(child_of(tree, map, place)),
+        None => default_of(default),
     }
 }
 
@@ -73,30 +72,26 @@ fn from_switch(
     cases: u16,
     default: u16,
     test: Test,
-) -> Next
+) -> Result<Next, StuckAt>
     requires { ReadyToWalk tree.now map panel.now places × (path < map.paths.count) × (1 ≤ cases) × (first + cases ≤ map.cases.count) × (case_kind tree.now first ≤ bytes_case) × AllKind tree.now (case_kind tree.now first) first cases × (test ≡ test_of tree.now first) }
     ensures { Turns tree.now panel.now (steps_on tree.now panel.now path) (case_children tree.now first cases ++ default_child default) (switch_walk tree.now panel.now path first cases default) result }
 {
     let asked = asked_by(test);
-    let found = follow(
+    let p = follow(
         tree,
         map.paths.start,
         map.steps.start,
         panel,
         places,
         path as usize,
-    );
-    let Found::At(p) = found else {
-        return Next::End(Reached::Stuck(stuck_step(found)));
-    };
-    let r = p.record;
-    let x = record_at(panel, r);
+    )?;
+    let x = record_at(panel, p.record);
     if x.kind != asked {
-        return Next::End(Reached::Stuck(path_length(tree, map, path as usize)));
+        return Err(StuckAt(path_length(tree, map, path as usize)));
     }
     if asked == record_kinds::CONSTRUCTOR {
         let chosen = numbered_case(tree, map, first as usize, cases as usize, x.a);
-        return chosen_or(tree, map, chosen, default);
+        return Ok(chosen_or(tree, map, chosen, default));
     }
     let start = places.pool.start + x.first;
     let chosen = text_case(
@@ -108,7 +103,7 @@ fn from_switch(
         start,
         x.count,
     );
-    chosen_or(tree, map, chosen, default)
+    Ok(chosen_or(tree, map, chosen, default))
 }
 
 // Past the cases of the exact length.
@@ -121,7 +116,7 @@ fn from_tails(
     default: u16,
 ) -> Next
     requires { Mapped tree.now map × (first + tails ≤ map.cases.count) × AllKind tree.now list_with_tail_case first tails }
-    ensures { (v : List ℕ) (s : ℕ) → Turns tree.now v s (case_children tree.now first tails ++ default_child default) (tails_walk tree.now v length first tails default) result }
+    ensures { (v : List ℕ) (s : ℕ) → Turns tree.now v s (case_children tree.now first tails ++ default_child default) (tails_walk tree.now v length first tails default) (Ok result) }
 {
     let k = largest_tail(tree, map, first, tails, length);
     if k == 0 {
@@ -141,12 +136,12 @@ fn from_length(
     default: u16,
 ) -> Next
     requires { Mapped tree.now map × (first + (cases + tails) ≤ map.cases.count) × AllKind tree.now list_case first cases × AllKind tree.now list_with_tail_case (first + cases) tails }
-    ensures { (v : List ℕ) (s : ℕ) → Turns tree.now v s (case_children tree.now first (cases + tails) ++ default_child default) (length_walk tree.now v length first cases tails default) result }
+    ensures { (v : List ℕ) (s : ℕ) → Turns tree.now v s (case_children tree.now first (cases + tails) ++ default_child default) (length_walk tree.now v length first cases tails default) (Ok result) }
 {
-    let Chosen::At(place) = numbered_case(tree, map, first, cases, length) else {
-        return from_tails(tree, map, length, first + cases, tails, default);
-    };
-    Next::Node(child_of(tree, map, place))
+    match numbered_case(tree, map, first, cases, length) {
+        Some(exact) => Next::Node(child_of(tree, map, exact)),
+        None => from_tails(tree, map, length, first + cases, tails, default),
+    }
 }
 
 fn from_list_switch(
@@ -159,27 +154,23 @@ fn from_list_switch(
     cases: u16,
     tails: u16,
     default: u16,
-) -> Next
+) -> Result<Next, StuckAt>
     requires { ReadyToWalk tree.now map panel.now places × (path < map.paths.count) × (first + (cases + tails) ≤ map.cases.count) × AllKind tree.now list_case first cases × AllKind tree.now list_with_tail_case (first + cases) tails }
     ensures { Turns tree.now panel.now (steps_on tree.now panel.now path) (case_children tree.now first (cases + tails) ++ default_child default) (list_walk tree.now panel.now path first cases tails default) result }
 {
-    let found = follow(
+    let p = follow(
         tree,
         map.paths.start,
         map.steps.start,
         panel,
         places,
         path as usize,
-    );
-    let Found::At(p) = found else {
-        return Next::End(Reached::Stuck(stuck_step(found)));
-    };
-    let r = p.record;
-    let x = record_at(panel, r);
+    )?;
+    let x = record_at(panel, p.record);
     if x.kind != record_kinds::LIST {
-        return Next::End(Reached::Stuck(path_length(tree, map, path as usize)));
+        return Err(StuckAt(path_length(tree, map, path as usize)));
     }
-    from_length(
+    Ok(from_length(
         tree,
         map,
         x.count - p.dropped,
@@ -187,15 +178,20 @@ fn from_list_switch(
         cases as usize,
         tails as usize,
         default,
-    )
+    ))
 }
 
-fn from_node(tree: &[u8], map: TreeMap, panel: &[u8], places: PanelMap, k: usize) -> Next
+fn from_node(
+    tree: &[u8],
+    map: TreeMap,
+    panel: &[u8],
+    places: PanelMap,
+    k: usize,
+) -> Result<Next, StuckAt>
     requires { ReadyToWalk tree.now map panel.now places × (k < map.nodes.count) }
     ensures { Steps tree.now panel.now k result }
 {
-    let node = node_at(tree, map, k);
-    match node {
+    match node_at(tree, map, k) {
         Node::Switch {
             path,
             first,
@@ -214,17 +210,17 @@ fn from_node(tree: &[u8], map: TreeMap, panel: &[u8], places: PanelMap, k: usize
             clause,
             first,
             count,
-        } => Next::End(Reached::Leaf {
+        } => Ok(Next::End(Some(ReachedLeaf {
             clause: clause as usize,
             first: first as usize,
             count: count as usize,
-        }),
+        }))),
         Node::Hoist {
             clause: _,
             first: _,
             count: _,
             child,
-        } => Next::Node(child as usize),
+        } => Ok(Next::Node(child as usize)),
     }
 }
 
@@ -233,12 +229,13 @@ pub fn reach(tree: &[u8], map: TreeMap, panel: &[u8], places: PanelMap) -> Ended
     requires { ReadyToWalk tree.now map panel.now places }
     ensures { Arrives tree.now panel.now result.node result.end }
 {
-    let mut k: usize = 0;
-    loop {
-        let next = from_node(tree, map, panel, places, k);
-        match next {
-            Next::Node(c) => k = c,
-            Next::End(end) => return Ended { node: k, end },
+    let mut node: usize = 0;
+    let end = loop {
+        match from_node(tree, map, panel, places, node) {
+            Ok(Next::Node(child)) => node = child,
+            Ok(Next::End(leaf)) => break Ok(leaf),
+            Err(stuck) => break Err(stuck),
         }
-    }
+    };
+    Ended { node, end }
 }

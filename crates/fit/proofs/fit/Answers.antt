@@ -1,18 +1,19 @@
--- `fit::fit` meets its contract: on an accepted sheet by its panel, else by the refusal of the sheet's check.
-use mathlib.Core.Path.{◌≡◌, sym, ◌∙◌}
-use borrow.Author.Rules.{rules}
-use Rattle.format_sheet.specs.declared.CheckedSheet.TheVariants.{Accepted, Refused}
-use Rattle.format_sheet.specs.CheckLaws.{sheet_accepts, sheet_refuses}
-use Rattle.fit.specs.AnswersLaws.{fit_sheet_refused}
+-- `fit::fit` meets its contract: the refusal of the sheet's check, or of the panel's, or 25.
+use Rattle.std.proofs.Common.{rules}
+use Rattle.fit.specs.AnswersLaws.{fit_sheet_refused, fit_panel_refused, fit_last, fit_ready}
 use Rattle.fit.proofs.fit.Goals as goal
 
-pub fit_panel-requires : goal.fit_panel-requires
-fit_panel-requires c =
-    let e : c.check.result ≡ Accepted c.in-Accepted.map = search rules in
-    sheet_accepts c.args.sheet.now c.in-Accepted.map (sym c.check.ensures ∙ e)
+pub returns-in_err-map : goal.returns-in_err-map
+returns-in_err-map c = search (rules, fit_sheet_refused)
 
-pub returns-in-Refused : goal.returns-in-Refused
-returns-in-Refused c =
-    let a = c.args in
-    let e : c.check.result ≡ Refused c.in-Refused.number c.in-Refused.place = search rules in
-    fit_sheet_refused a.sheet.now a.panel.now c.in-Refused.number c.in-Refused.place (sheet_refuses a.sheet.now c.in-Refused.number c.in-Refused.place (sym c.check.ensures ∙ e))
+pub returns-in_err-places : goal.returns-in_err-places
+returns-in_err-places c = search (rules, fit_panel_refused)
+
+pub fits-requires : goal.fits-requires
+fits-requires c =
+    let sheet = c.in_ok-map in
+    let panel = c.in_ok-places in
+    fit_ready c.args.sheet.now c.args.panel.now sheet.ensures.verdict panel.ensures.verdict sheet.map panel.places sheet.ensures.map panel.ensures.map
+
+pub returns : goal.returns
+returns c = search (rules, fit_last)

@@ -1,33 +1,21 @@
 -- `dewmycel::face::dewmycel_text` meets its contract: each way out is packed, and a word holds where a text stands.
-use borrow.Author.Rules.{rules}
-use mathlib.Core.Path.{◌≡◌}
-use native.Mathlib.Omega.{arith}
-use Rattle.format_panel.specs.declared.Located.TheVariants.{At, Refused}
-use Rattle.dewmycel.specs.AnswersLaws.{text_at, text_packed, no_text_packed}
+use Rattle.std.proofs.Common.{sym, arith}
+use Rattle.spec_rules.specs.Calls.{Span}
+use Rattle.dewmycel.specs.AnswersLaws.{text_within, text_packed, no_text_packed}
 use Rattle.dewmycel.proofs.face.dewmycel_text.Goals as goal
 
-pub overflow_cast-start : goal.overflow_cast-start
-overflow_cast-start c =
-    let r = c.text in
-    let e : r.result ≡ At c.in-At.start c.in-At.count = search rules in
-    let w = text_at r.result _ _ _ r.ensures c.in-At.start c.in-At.count e in
-    omega (arith, w.start_word)
+pub overflow_cast-part : goal.overflow_cast-part
+overflow_cast-part c =
+    let x : Span = record { start = c.in-Ok.part.start; count = c.in-Ok.part.count } in
+    omega (arith, text_within c.args.panel.now c.args.record c.args.dropped x (sym c.in-Ok.ensures))
 
-pub overflow_cast-count : goal.overflow_cast-count
-overflow_cast-count c =
-    let r = c.text in
-    let e : r.result ≡ At c.in-At.start c.in-At.count = search rules in
-    let w = text_at r.result _ _ _ r.ensures c.in-At.start c.in-At.count e in
-    omega (arith, w.count_word)
+pub overflow_cast-part-in-Ok : goal.overflow_cast-part-in-Ok
+overflow_cast-part-in-Ok c =
+    let x : Span = record { start = c.in-Ok.part.start; count = c.in-Ok.part.count } in
+    omega (arith, text_within c.args.panel.now c.args.record c.args.dropped x (sym c.in-Ok.ensures))
 
-pub returns-in-At : goal.returns-in-At
-returns-in-At c =
-    let r = c.text in
-    let e : r.result ≡ At c.in-At.start c.in-At.count = search rules in
-    text_packed r.result _ r.ensures c.in-At.start c.in-At.count c.pack.result e c.pack.ensures
+pub returns-in-Ok : goal.returns-in-Ok
+returns-in-Ok c = text_packed (record { start = c.in-Ok.part.start; count = c.in-Ok.part.count }) c.pack.result c.in-Ok.ensures c.pack.ensures
 
-pub returns-in-Refused : goal.returns-in-Refused
-returns-in-Refused c =
-    let r = c.text in
-    let e : r.result ≡ Refused c.in-Refused.number c.in-Refused.place = search rules in
-    no_text_packed r.result _ r.ensures c.in-Refused.number c.in-Refused.place c.pack-in-Refused.result e c.pack-in-Refused.ensures
+pub returns-in-Err : goal.returns-in-Err
+returns-in-Err c = no_text_packed c.in-Err.refusal c.pack_refusal.result c.in-Err.ensures c.pack_refusal.ensures

@@ -1,30 +1,19 @@
 -- `dewmycel::face::dewmycel_walk` meets its contract: each way out is packed, and the buffer is what the walk leaves.
-use borrow.Author.Rules.{rules}
-use mathlib.Core.Path.{◌≡◌}
-use Rattle.walk.specs.declared.Walked.TheVariants.{Leaf, NoLeaf, Stuck, Refused}
 use Rattle.dewmycel.specs.AnswersLaws.{leaf_packed, no_leaf_packed, stuck_packed, unwalked_packed}
 use Rattle.dewmycel.proofs.face.dewmycel_walk.Goals as goal
 
-pub returns-in-Leaf : goal.returns-in-Leaf
-returns-in-Leaf c =
-    let r = c.walk in
-    let e : r.result ≡ Leaf c.in-Leaf.clause c.in-Leaf.count = search rules in
-    leaf_packed r.result _ _ r.ensures c.in-Leaf.clause c.in-Leaf.count c.pack.result e c.pack.ensures
+pub returns-in-Ok-Some : goal.returns-in-Ok-Some
+returns-in-Ok-Some c =
+    leaf_packed c.in-Ok-Some.leaf c.pack.result (rw c.in-Ok-Some.field-0-is at c.in-Ok-Some.ensures) c.pack.ensures
 
-pub returns-in-NoLeaf : goal.returns-in-NoLeaf
-returns-in-NoLeaf c =
-    let r = c.walk in
-    let e : r.result ≡ NoLeaf = search rules in
-    no_leaf_packed r.result _ _ r.ensures e
+pub returns-in-Ok-None : goal.returns-in-Ok-None
+returns-in-Ok-None c = no_leaf_packed (rw c.in-Ok-None.field-0-is at c.in-Ok-None.ensures)
 
-pub returns-in-Stuck : goal.returns-in-Stuck
-returns-in-Stuck c =
-    let r = c.walk in
-    let e : r.result ≡ Stuck c.in-Stuck.node c.in-Stuck.step = search rules in
-    stuck_packed r.result _ _ r.ensures c.in-Stuck.node c.in-Stuck.step c.pack-in-Stuck.result e c.pack-in-Stuck.ensures
+pub returns-in-Err-Stuck : goal.returns-in-Err-Stuck
+returns-in-Err-Stuck c =
+    let number = c.number.ensures in
+    stuck_packed c.in-Err-Stuck.node c.in-Err-Stuck.step c.pack-in-Err-Stuck.result (rw c.in-Err-Stuck.field-0-is at c.in-Err-Stuck.ensures) (rw number at c.pack-in-Err-Stuck.ensures)
 
-pub returns-in-Refused : goal.returns-in-Refused
-returns-in-Refused c =
-    let r = c.walk in
-    let e : r.result ≡ Refused c.in-Refused.number c.in-Refused.place = search rules in
-    unwalked_packed r.result _ _ r.ensures c.in-Refused.number c.in-Refused.place c.pack-in-Refused.result e c.pack-in-Refused.ensures
+pub returns-in-Err-Refused : goal.returns-in-Err-Refused
+returns-in-Err-Refused c =
+    unwalked_packed c.in-Err-Refused.refusal c.pack_refusal.result (rw c.in-Err-Refused.field-0-is at c.in-Err-Refused.ensures) c.pack_refusal.ensures

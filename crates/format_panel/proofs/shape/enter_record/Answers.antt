@@ -1,38 +1,51 @@
 -- `format_panel::shape::enter_record` meets its contract: each return is one case of the step.
-use mathlib.Core.Path.{◌≡◌, sym, ◌∙◌}
-use Rattle.format_panel.specs.Shape.{seen, met, fields_fit}
-use Rattle.format_panel.specs.ShapeSteps.{record_unmet, record_unfit, record_text, parts_inside, record_parts}
+use Rattle.std.proofs.Common.{◌≡◌, ◌∙◌, sym, ap}
+use borrow.Author.Tests.{lt-ltb}
+use Rattle.format_panel.specs.Shape.{seen, met, record_met}
+use Rattle.format_panel.specs.ShapeSteps.{met_fit, met_not, record_broke, record_text, parts_inside, record_parts}
+use Rattle.format_panel.proofs.shape.enter_record.Goals.{then-depths-r-gt0, else-depths-r-gt0}
 use Rattle.format_panel.proofs.shape.enter_record.Goals as goal
-
-pub returns-then-depths-r-eq0 : goal.returns-then-depths-r-eq0
-returns-then-depths-r-eq0 c = let a = c.args in record_unmet a.panel.now (met a.depths.now) a.r c.if-depths-r-eq0.true
-
-pub returns-then-not-fields_fit : goal.returns-then-not-fields_fit
-returns-then-not-fields_fit c =
-    let fit : c.fields_fit.result ≡ fields_fit c.args.panel.now c.args.r =
-    c.fields_fit.ensures c.args.panel.now c.args.r c.record_at-x.ensures c.requires.0.parts_are c.requires.0.pool_size in
-    let a = c.args in record_unfit a.panel.now (met a.depths.now) a.r (sym (fit) ∙ c.if-not-fields_fit.true)
-
-pub returns-then-x-lt-LIST : goal.returns-then-x-lt-LIST
-returns-then-x-lt-LIST c =
-    let fit : c.fields_fit.result ≡ fields_fit c.args.panel.now c.args.r =
-    c.fields_fit.ensures c.args.panel.now c.args.r c.record_at-x.ensures c.requires.0.parts_are c.requires.0.pool_size in
-    let a = c.args in
-    let x = c.record_at-x in
-    record_text a.panel.now (met a.depths.now) a.r x.result x.ensures (sym (fit) ∙ c.if-not-fields_fit.false) c.if-depths-r-eq0.false c.if-x-lt-LIST.true
 
 pub enter_parts-requires : goal.enter_parts-requires
 enter_parts-requires c =
-    let fit : c.fields_fit.result ≡ fields_fit c.args.panel.now c.args.r =
-    c.fields_fit.ensures c.args.panel.now c.args.r c.record_at-x.ensures c.requires.0.parts_are c.requires.0.pool_size in
+    let v = c.args.panel.now in
+    let s = met c.args.depths.now in
     let x = c.record_at-x in
-    (c.requires.0, c.requires.1, c.requires.2, parts_inside c.args.panel.now (met c.args.depths.now) c.args.r x.result x.ensures (sym (fit) ∙ c.if-not-fields_fit.false) c.if-x-lt-LIST.false)
+    let is : c.if-depths-r-gt0.value ≡ record_met v s.depths c.args.r = elim c.if-depths-r-gt0.branch [
+      | then-depths-r-gt0 w ↦ w.value-is ∙ met_fit v s c.args.r w.if-depths-r-gt0.true (w.fields_fit.ensures v c.args.r x.ensures c.requires.0.parts_are c.requires.0.pool_size)
+      | else-depths-r-gt0 w ↦ w.value-is ∙ met_not v s c.args.r w.if-depths-r-gt0.false
+    ] in
+    (c.requires.0, c.requires.1, c.requires.2, parts_inside v s c.args.r x.result x.ensures (sym is ∙ c.if-fields_fit.true) c.if-x-lt-LIST.false)
 
-pub returns : goal.returns
-returns c =
-    let fit : c.fields_fit.result ≡ fields_fit c.args.panel.now c.args.r =
-    c.fields_fit.ensures c.args.panel.now c.args.r c.record_at-x.ensures c.requires.0.parts_are c.requires.0.pool_size in
-    let a = c.args in
+pub returns-then-x-lt-LIST : goal.returns-then-x-lt-LIST
+returns-then-x-lt-LIST c =
+    let v = c.args.panel.now in
+    let s = met c.args.depths.now in
     let x = c.record_at-x in
-    let parts = c.enter_parts in
-    record_parts a.panel.now (met a.depths.now) a.r x.result x.ensures (sym (fit) ∙ c.if-not-fields_fit.false) (seen parts.new.depths parts.result) c.if-depths-r-eq0.false c.if-x-lt-LIST.false parts.ensures
+    let is : c.if-depths-r-gt0.value ≡ record_met v s.depths c.args.r = elim c.if-depths-r-gt0.branch [
+      | then-depths-r-gt0 w ↦ w.value-is ∙ met_fit v s c.args.r w.if-depths-r-gt0.true (w.fields_fit.ensures v c.args.r x.ensures c.requires.0.parts_are c.requires.0.pool_size)
+      | else-depths-r-gt0 w ↦ w.value-is ∙ met_not v s c.args.r w.if-depths-r-gt0.false
+    ] in
+    ap (seen c.args.depths.now) (lt-ltb _ _ c.if-x-lt-LIST.true) ∙ record_text v s c.args.r x.result x.ensures (sym is ∙ c.if-fields_fit.true) c.if-x-lt-LIST.true
+
+pub returns-else-x-lt-LIST : goal.returns-else-x-lt-LIST
+returns-else-x-lt-LIST c =
+    let v = c.args.panel.now in
+    let s = met c.args.depths.now in
+    let x = c.record_at-x in
+    let is : c.if-depths-r-gt0.value ≡ record_met v s.depths c.args.r = elim c.if-depths-r-gt0.branch [
+      | then-depths-r-gt0 w ↦ w.value-is ∙ met_fit v s c.args.r w.if-depths-r-gt0.true (w.fields_fit.ensures v c.args.r x.ensures c.requires.0.parts_are c.requires.0.pool_size)
+      | else-depths-r-gt0 w ↦ w.value-is ∙ met_not v s c.args.r w.if-depths-r-gt0.false
+    ] in
+    record_parts v s c.args.r x.result x.ensures (sym is ∙ c.if-fields_fit.true) _ c.if-x-lt-LIST.false c.enter_parts.ensures
+
+pub returns-else-fields_fit : goal.returns-else-fields_fit
+returns-else-fields_fit c =
+    let v = c.args.panel.now in
+    let s = met c.args.depths.now in
+    let x = c.record_at-x in
+    let is : c.if-depths-r-gt0.value ≡ record_met v s.depths c.args.r = elim c.if-depths-r-gt0.branch [
+      | then-depths-r-gt0 w ↦ w.value-is ∙ met_fit v s c.args.r w.if-depths-r-gt0.true (w.fields_fit.ensures v c.args.r x.ensures c.requires.0.parts_are c.requires.0.pool_size)
+      | else-depths-r-gt0 w ↦ w.value-is ∙ met_not v s c.args.r w.if-depths-r-gt0.false
+    ] in
+    ap (seen c.args.depths.now) c.if-fields_fit.false ∙ record_broke v s c.args.r (sym is ∙ c.if-fields_fit.false)

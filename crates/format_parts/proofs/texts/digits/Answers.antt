@@ -1,18 +1,11 @@
-use native.Mathlib.Omega.{arith}
-use Rattle.format_parts.specs.TextsLaws.{digits_begin, digits_low, digits_high, digits_go_on, digits_end}
+-- `format_parts::texts::digits` meets its contract: what `all` answers over the bytes.
+use Rattle.std.proofs.Common.{rules}
+use Rattle.std.specs.Char.{IsAsciiDigit, IsNotAsciiDigit}
+use Rattle.std.proofs.lemmas.Iterator.{YieldsList-from_slice, cases_from_all}
+use Rattle.format_parts.specs.TextsLaws.{digits_is}
 use Rattle.format_parts.proofs.texts.digits.Goals as goal
 
-pub loop-k-init : goal.loop-k-init
-loop-k-init c = (omega arith, digits_begin c.args.s.now c.args.start c.args.len)
-
-pub returns-then-digit-lt48 : goal.returns-then-digit-lt48
-returns-then-digit-lt48 c = digits_low c.args.s.now c.args.start c.args.len c.loop-k.k c.requires c.loop-k-test.true c.loop-k.invariant.1 c.if-digit-lt48.true
-
-pub returns-then-digit-gt57 : goal.returns-then-digit-gt57
-returns-then-digit-gt57 c = digits_high c.args.s.now c.args.start c.args.len c.loop-k.k c.requires c.loop-k-test.true c.loop-k.invariant.1 c.if-digit-lt48.false c.if-digit-gt57.true
-
-pub loop-k-preserved : goal.loop-k-preserved
-loop-k-preserved c = (omega arith, digits_go_on c.args.s.now c.args.start c.args.len c.loop-k.k c.requires c.loop-k-test.true c.loop-k.invariant.1 c.if-digit-lt48.false c.if-digit-gt57.false)
-
 pub returns : goal.returns
-returns c = digits_end c.args.s.now c.args.start c.args.len c.loop-k.k c.loop-k-test.false c.loop-k.invariant.1
+returns c =
+    digits_is _ _
+    (cases_from_all _ _ _ IsAsciiDigit IsNotAsciiDigit c.all.ensures.ran (YieldsList-from_slice c.args.text.now cc) (λ x q k. search rules) (λ x q k. search rules))

@@ -1,12 +1,9 @@
 use borrow.Author.Rules.{rules}
 use native.Mathlib.Omega.{arith}
-use Rattle.format_sheet.specs.FittingLaws.{settled_is, inside_there, inside_is, each_room, each_is, room_few, here, all_none, all_stop, all_go_on}
+use Rattle.format_sheet.specs.FittingLaws.{settled_is, inside_there, inside_is, each_room, each_is, room_few, all_none, all_stop, all_go_on}
 use mathlib.Core.Bool.{not}
 use mathlib.Core.Path.{ap}
 use Rattle.format_sheet.proofs.fitting.+fits_fits_all.Goals as goal
-
-pub fits-asks-left-requires : goal.fits-asks-left-requires
-fits-asks-left-requires t c = (c.requires.0, c.requires.1, c.requires.2)
 
 pub fits-fits-requires : goal.fits-fits-requires
 fits-fits-requires t c =
@@ -31,33 +28,8 @@ fits-returns-in-Each t c = each_is c.args.sheet.now c.args.map c.requires.0 c.ar
 pub fits_all-returns-then-n-eq0 : goal.fits_all-returns-then-n-eq0
 fits_all-returns-then-n-eq0 t c = all_none c.args.sheet.now c.args.j c.args.n c.args.e c.args.step c.if-n-eq0.true
 
-pub fits_all-child_at-requires : goal.fits_all-child_at-requires
-fits_all-child_at-requires t c = (c.requires.0.is_laid, c.requires.0.is_map, (here c.args.sheet.now c.args.map c.requires.0 c.args.parent c.args.j c.args.n c.args.e c.args.step c.requires.1 c.if-n-eq0.false).entry_there)
-
-pub fits_all-entry_at-requires : goal.fits_all-entry_at-requires
-fits_all-entry_at-requires t c = (c.requires.0.is_laid, c.requires.0.is_map, (here c.args.sheet.now c.args.map c.requires.0 c.args.parent c.args.j c.args.n c.args.e c.args.step c.requires.1 c.if-n-eq0.false).type_there)
-
-pub fits_all-fits-requires : goal.fits_all-fits-requires
-fits_all-fits-requires t c =
-    let h = here c.args.sheet.now c.args.map c.requires.0 c.args.parent c.args.j c.args.n c.args.e c.args.step c.requires.1 c.if-n-eq0.false in
-    let x = c.child_at.ensures in
-    let y = c.entry_at.ensures in
-    (omega (arith, c.decreases, h, c.requires.0.is_counted.patterns_most_holds), (c.requires.0, omega (arith, h, x), omega (arith, h, y)))
-
 pub fits_all-returns-then-not-fits : goal.fits_all-returns-then-not-fits
 fits_all-returns-then-not-fits t c = all_stop c.args.sheet.now c.args.j c.args.n c.args.e c.args.step c.if-n-eq0.false c.child_at.result c.entry_at.result c.child_at.ensures c.entry_at.ensures c.fits.ensures (ap not c.if-not-fits.true)
-
-pub fits_all-overflow_add-j : goal.fits_all-overflow_add-j
-fits_all-overflow_add-j t c = let h = here c.args.sheet.now c.args.map c.requires.0 c.args.parent c.args.j c.args.n c.args.e c.args.step c.requires.1 c.if-n-eq0.false in omega (arith, h.few_children)
-
-pub fits_all-overflow_sub-n : goal.fits_all-overflow_sub-n
-fits_all-overflow_sub-n t c = omega (arith, c.if-n-eq0.false)
-
-pub fits_all-overflow_add-e : goal.fits_all-overflow_add-e
-fits_all-overflow_add-e t c = let h = here c.args.sheet.now c.args.map c.requires.0 c.args.parent c.args.j c.args.n c.args.e c.args.step c.requires.1 c.if-n-eq0.false in omega (arith, h.few_entries)
-
-pub fits_all-fits_all-requires : goal.fits_all-fits_all-requires
-fits_all-fits_all-requires t c = (omega (arith, c.decreases, c.if-n-eq0.false), (c.requires.0, (here c.args.sheet.now c.args.map c.requires.0 c.args.parent c.args.j c.args.n c.args.e c.args.step c.requires.1 c.if-n-eq0.false).next))
 
 pub fits_all-returns : goal.fits_all-returns
 fits_all-returns t c = all_go_on c.args.sheet.now c.args.j c.args.n c.args.e c.args.step c.if-n-eq0.false c.child_at.result c.entry_at.result c.child_at.ensures c.entry_at.ensures c.fits.ensures (ap not c.if-not-fits.false) c.fits_all.ensures

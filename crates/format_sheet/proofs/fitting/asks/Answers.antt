@@ -1,21 +1,8 @@
-use native.Mathlib.Omega.{arith}
-use Rattle.format_sheet.specs.AskingLaws.{discard_asks, variable_asks, assign_asks, integer_asks, bytes_asks, list_asks, rest_asks, constructor_asks, pair_asks, tuple_asks, unknown_asks, assign_child, rest_some, constructors_there}
+use Rattle.format_sheet.specs.AskingLaws.{discard_asks, variable_asks, assign_asks, integer_asks, bytes_asks, list_asks, rest_asks, constructor_asks, pair_asks, tuple_asks, assign_child}
 use Rattle.format_sheet.proofs.fitting.asks.Goals as goal
-
-pub pattern_at-r-requires : goal.pattern_at-r-requires
-pattern_at-r-requires c = (c.requires.0.is_laid, c.requires.0.is_map, c.requires.1)
-
-pub type_at-ty-requires : goal.type_at-ty-requires
-type_at-ty-requires c = (c.requires.0.is_laid, c.requires.0.is_map, c.requires.2)
 
 pub child_at-requires : goal.child_at-requires
 child_at-requires c = (c.requires.0.is_laid, c.requires.0.is_map, assign_child c.args.sheet.now c.args.p c.args.t c.pattern_at-r.result c.pattern_at-r.ensures c.type_at-ty.result c.type_at-ty.ensures c.requires.0.is_shaped c.requires.1 c.in-2.is)
-
-pub overflow_sub-r : goal.overflow_sub-r
-overflow_sub-r c = omega (arith, rest_some c.args.sheet.now c.args.p c.args.t c.pattern_at-r.result c.pattern_at-r.ensures c.type_at-ty.result c.type_at-ty.ensures c.requires.0.is_shaped c.requires.1 c.in-6.is)
-
-pub asks_fields-requires : goal.asks_fields-requires
-asks_fields-requires c = (c.requires.0.is_laid, c.requires.0.is_map, constructors_there c.args.sheet.now c.args.p c.args.t c.pattern_at-r.result c.pattern_at-r.ensures c.type_at-ty.result c.type_at-ty.ensures c.requires.0.is_typed c.requires.2)
 
 pub returns-in-0 : goal.returns-in-0
 returns-in-0 c = discard_asks c.args.sheet.now c.args.p c.args.t c.pattern_at-r.result c.pattern_at-r.ensures c.type_at-ty.result c.type_at-ty.ensures c.in-0.is
@@ -46,6 +33,3 @@ returns-in-8 c = pair_asks c.args.sheet.now c.args.p c.args.t c.pattern_at-r.res
 
 pub returns-in-9 : goal.returns-in-9
 returns-in-9 c = tuple_asks c.args.sheet.now c.args.p c.args.t c.pattern_at-r.result c.pattern_at-r.ensures c.type_at-ty.result c.type_at-ty.ensures c.in-9.is c.asks_parts-in-9.ensures
-
-pub returns-in_default : goal.returns-in_default
-returns-in_default c = unknown_asks c.args.sheet.now c.args.p c.args.t c.pattern_at-r.result c.pattern_at-r.ensures c.type_at-ty.result c.type_at-ty.ensures c.in_default.in_default-own.rest.0.0.0.0.0.0.0.0.0.1 c.in_default.in_default-own.rest.0.0.0.0.0.0.0.0.1 c.in_default.in_default-own.rest.0.0.0.0.0.0.0.1 c.in_default.in_default-own.rest.0.0.0.0.0.0.1 c.in_default.in_default-own.rest.0.0.0.0.0.1 c.in_default.in_default-own.rest.0.0.0.0.1 c.in_default.in_default-own.rest.0.0.0.1 c.in_default.in_default-own.rest.0.0.1 c.in_default.in_default-own.rest.0.1 c.in_default.in_default-own.rest.1

@@ -5,27 +5,6 @@ use Rattle.spec_rules.specs.SheetFile.{types_at, constructors_at, entries_at, pa
 use Rattle.format_sheet.specs.SectionsLaws.{map_read}
 use Rattle.format_sheet.proofs.layout.map_of.Goals as goal
 
-pub start-types_at-requires : goal.start-types_at-requires
-start-types_at-requires c = (c.requires.length_least, omega arith)
-
-pub start-constructors_at-requires : goal.start-constructors_at-requires
-start-constructors_at-requires c = (c.requires.length_least, omega arith)
-
-pub start-entries_at-requires : goal.start-entries_at-requires
-start-entries_at-requires c = (c.requires.length_least, omega arith)
-
-pub start-patterns_at-requires : goal.start-patterns_at-requires
-start-patterns_at-requires c = (c.requires.length_least, omega arith)
-
-pub start-children_at-requires : goal.start-children_at-requires
-start-children_at-requires c = (c.requires.length_least, omega arith)
-
-pub start-clauses_at-requires : goal.start-clauses_at-requires
-start-clauses_at-requires c = (c.requires.length_least, omega arith)
-
-pub start-pool_at-requires : goal.start-pool_at-requires
-start-pool_at-requires c = (c.requires.length_least, omega arith)
-
 pub section_of-types-requires : goal.section_of-types-requires
 unfolding types_at constructors_at
 section_of-types-requires c = (omega (arith, c.requires.types_end), omega arith)
@@ -50,15 +29,9 @@ pub section_of-clauses-requires : goal.section_of-clauses-requires
 unfolding clauses_at pool_at
 section_of-clauses-requires c = (omega (arith, c.requires.clauses_end), omega arith)
 
-pub overflow_sub-sheet : goal.overflow_sub-sheet
-overflow_sub-sheet c = omega (arith, c.requires.length_least)
-
 pub section_of-pool-requires : goal.section_of-pool-requires
 unfolding pool_at pool_end
 section_of-pool-requires c = (omega (arith, c.requires.pool_end_holds), omega arith)
-
-pub subject_of-subject-requires : goal.subject_of-subject-requires
-subject_of-subject-requires c = c.requires.length_least
 
 pub returns : goal.returns
 returns c =

@@ -8,9 +8,6 @@ use Rattle.format_sheet.specs.Names.{in_buffer, Adds}
 use Rattle.format_sheet.specs.NamesLaws.{name_small, variable_name, assign_name, no_name, adds_none}
 use Rattle.format_sheet.proofs.names.add_own.Goals as goal
 
-pub pattern_in-r-requires : goal.pattern_in-r-requires
-pattern_in-r-requires c = (c.requires.laid.0, c.requires.laid.1, c.requires.laid.2)
-
 pub overflow_cast-r : goal.overflow_cast-r
 overflow_cast-r c = omega (arith, name_small c.args.sheet.now c.args.p c.pattern_in-r.result c.pattern_in-r.ensures (bytes_of_fits c.args.sheet.now c.shared_slice_known-1.given))
 

@@ -1,5 +1,4 @@
 use mathlib.Core.Path.{◌≡◌}
-use Prim.Native.Nat.{◌-◌, ◌≤◌}
 use lib.ListN.{length}
 use Rattle.spec_rules.specs.SheetRefusals.{name_twice}
 use Rattle.spec_rules.specs.SheetFile.{clauses}
@@ -7,7 +6,4 @@ use Rattle.format_sheet.specs.LoopsLaws.{LowestLeft}
 use Rattle.format_sheet.proofs.names.lowest_name_twice.Given as goal
 
 abbrev pub invariant-loop-c : goal.invariant-loop-c
-invariant-loop-c l = (l.c ≤ clauses l.sheet) × (length l.found ≡ 192) × LowestLeft (name_twice l.sheet) (clauses l.sheet) l.c
-
-abbrev pub decreases-loop-c : goal.decreases-loop-c
-decreases-loop-c l = clauses l.sheet - l.c
+invariant-loop-c l = (length l.found ≡ 192) × LowestLeft (name_twice l.sheet) (clauses l.sheet) l.c

@@ -1,23 +1,14 @@
 use native.Mathlib.Omega.{arith}
-use Rattle.format_sheet.specs.NamesLaws.{repeats_begin, repeats_found, repeats_go_on, repeats_end}
+use Rattle.format_sheet.specs.NamesLaws.{repeats_found, repeats_go_on, repeats_end}
 use Rattle.format_sheet.proofs.names.repeats.Goals as goal
-
-pub loop-i-init : goal.loop-i-init
-loop-i-init c = (omega arith, repeats_begin c.args.found.now c.args.count)
-
-pub again-requires : goal.again-requires
-again-requires c = (c.requires.0, c.requires.1, c.loop-i-test.true)
 
 pub returns-then-again : goal.returns-then-again
 returns-then-again c =
-    repeats_found c.args.found.now c.args.count c.loop-i.i (omega (arith, c.requires)) c.loop-i-test.true c.loop-i.invariant.1 c.again.ensures c.if-again.true
-
-pub loop-i-smaller : goal.loop-i-smaller
-loop-i-smaller c = omega (arith, c.loop-i-test.true)
+    repeats_found c.args.found.now c.args.count c.loop-i.i (omega (arith, c.requires)) c.loop-i-test.true c.loop-i.invariant c.again.ensures c.if-again.true
 
 pub loop-i-preserved : goal.loop-i-preserved
 loop-i-preserved c =
-    (omega (arith, c.loop-i-test.true), repeats_go_on c.args.found.now c.args.count c.loop-i.i (omega (arith, c.requires)) c.loop-i-test.true c.loop-i.invariant.1 c.again.ensures c.if-again.false)
+    repeats_go_on c.args.found.now c.args.count c.loop-i.i (omega (arith, c.requires)) c.loop-i-test.true c.loop-i.invariant c.again.ensures c.if-again.false
 
 pub returns : goal.returns
-returns c = repeats_end c.args.found.now c.args.count c.loop-i.i c.loop-i-test.false c.loop-i.invariant.1
+returns c = repeats_end c.args.found.now c.args.count c.loop-i.i c.loop-i-test.false c.loop-i.invariant

@@ -1,9 +1,5 @@
-use Prim.Native.Nat.{◌-◌, ◌≤◌}
 use Rattle.format_sheet.specs.NamesLaws.{RepeatsLeft}
 use Rattle.format_sheet.proofs.names.repeats.Given as goal
 
 abbrev pub invariant-loop-i : goal.invariant-loop-i
-invariant-loop-i l = (l.i ≤ l.count) × RepeatsLeft l.found l.count l.i
-
-abbrev pub decreases-loop-i : goal.decreases-loop-i
-decreases-loop-i l = l.count - l.i
+invariant-loop-i l = RepeatsLeft l.found l.count l.i

@@ -1,4 +1,4 @@
-use Prim.Native.Nat.{◌-◌, ◌≤◌}
+use Prim.Native.Nat.{◌-◌}
 use Rattle.spec_rules.specs.SheetFile.{child}
 use Rattle.spec_rules.specs.SheetRefusals.{within as Within}
 use Rattle.format_sheet.specs.LoopsLaws.{EveryFrom}
@@ -8,7 +8,4 @@ abbrev pub decreases-within : goal.decreases-within
 decreases-within l = l.deep
 
 abbrev pub invariant-loop-k : goal.invariant-loop-k
-invariant-loop-k l = (l.k ≤ l.run.count) × EveryFrom (λ j. Within (l.deep - 1) l.sheet (child l.sheet j)) l.run.count l.run.first l.k
-
-abbrev pub decreases-loop-k : goal.decreases-loop-k
-decreases-loop-k l = l.run.count - l.k
+invariant-loop-k l = EveryFrom (λ j. Within (l.deep - 1) l.sheet (child l.sheet j)) l.run.count l.run.first l.k

@@ -1,10 +1,5 @@
-use Prim.Native.Nat.{◌-◌, ◌≤◌}
-use Rattle.spec_rules.specs.SheetFile.{patterns}
 use Rattle.format_sheet.specs.TallyLaws.{ListTally}
 use Rattle.format_sheet.proofs.standing.entries_listed_once.Given as goal
 
 abbrev pub invariant-loop-p : goal.invariant-loop-p
-invariant-loop-p l = (l.p ≤ patterns l.sheet) × ListTally l.sheet l.p l.times
-
-abbrev pub decreases-loop-p : goal.decreases-loop-p
-decreases-loop-p l = patterns l.sheet - l.p
+invariant-loop-p l = ListTally l.sheet l.p l.times

@@ -1,9 +1,5 @@
-use Prim.Native.Nat.{◌-◌, ◌≤◌}
 use Rattle.format_sheet.specs.Meeting.{Meets}
 use Rattle.format_sheet.proofs.standing.meet_all.Given as goal
 
 abbrev pub invariant-loop-k : goal.invariant-loop-k
-invariant-loop-k l = (l.k ≤ l.count) × Meets l.first l.k l.initial.times l.times
-
-abbrev pub decreases-loop-k : goal.decreases-loop-k
-decreases-loop-k l = l.count - l.k
+invariant-loop-k l = Meets l.first l.k l.initial.times l.times

@@ -1,10 +1,5 @@
-use Prim.Native.Nat.{◌-◌, ◌≤◌}
-use Rattle.spec_rules.specs.SheetFile.{clauses}
 use Rattle.format_sheet.specs.TallyLaws.{RootTally}
 use Rattle.format_sheet.proofs.standing.meet_roots.Given as goal
 
 abbrev pub invariant-loop-c : goal.invariant-loop-c
-invariant-loop-c l = (l.c ≤ clauses l.sheet) × RootTally l.sheet l.c l.times
-
-abbrev pub decreases-loop-c : goal.decreases-loop-c
-decreases-loop-c l = clauses l.sheet - l.c
+invariant-loop-c l = RootTally l.sheet l.c l.times

@@ -1,12 +1,13 @@
--- `format_tree::layout::length_true` meets its contract: its two tests are those of the definition, in order.
-use borrow.Author.Tests.{le-leb, lt-leb}
+-- `format_tree::layout::length_true` meets its contract: the definition's tests.
+use Rattle.std.proofs.Common.{arith}
+use Rattle.std.proofs.lemmas.Grind.{common_steps}
 use Rattle.spec_rules.specs.TreeReader.{length_true, tree_length}
 use Rattle.format_tree.proofs.layout.length_true.Goals as goal
 
-pub returns-then-n-lt-TREE_TRAILER : goal.returns-then-n-lt-TREE_TRAILER
-unfolding length_true
-returns-then-n-lt-TREE_TRAILER c = simp (lt-leb _ _ c.if-n-lt-TREE_TRAILER.true)
-
-pub returns : goal.returns
+pub returns-then-n-ge-TREE_TRAILER : goal.returns-then-n-ge-TREE_TRAILER
 unfolding length_true tree_length
-returns c = simp (le-leb _ _ c.if-n-lt-TREE_TRAILER.false, ← c.word_at.ensures)
+returns-then-n-ge-TREE_TRAILER c = grind (arith, common_steps)
+
+pub returns-else-n-ge-TREE_TRAILER : goal.returns-else-n-ge-TREE_TRAILER
+unfolding length_true tree_length
+returns-else-n-ge-TREE_TRAILER c = grind (arith, common_steps)

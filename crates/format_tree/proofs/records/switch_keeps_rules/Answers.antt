@@ -1,16 +1,13 @@
--- `format_tree::records::switch_keeps_rules` meets its contract: its tests are those of the definition, in order.
+-- `format_tree::records::switch_keeps_rules` meets its contract: its tests are those of the definition.
+use Rattle.std.proofs.Common.{arith}
+use Rattle.std.proofs.lemmas.Grind.{common_steps}
 use Rattle.spec_rules.specs.TreeReader.{node_of_kind}
-use mathlib.Core.Path.{sym, ◌∙◌}
 use Rattle.format_tree.proofs.records.switch_keeps_rules.Goals as goal
 
-pub returns-then-not-switch_parts : goal.returns-then-not-switch_parts
+pub returns-then-switch_parts : goal.returns-then-switch_parts
 unfolding node_of_kind
-returns-then-not-switch_parts c = simp (sym c.switch_parts.ensures ∙ c.if-not-switch_parts.true)
+returns-then-switch_parts c = grind (arith, common_steps)
 
-pub switch_cases-requires : goal.switch_cases-requires
-switch_cases-requires c =
-    (c.requires.0, c.requires.1, sym c.switch_parts.ensures ∙ c.if-not-switch_parts.false)
-
-pub returns : goal.returns
+pub returns-else-switch_parts : goal.returns-else-switch_parts
 unfolding node_of_kind
-returns c = simp (sym c.switch_parts.ensures ∙ c.if-not-switch_parts.false, ← c.switch_cases.ensures)
+returns-else-switch_parts c = grind (arith, common_steps)

@@ -2,12 +2,9 @@
 use Rattle.spec_rules.specs.Walking.{largest_tail}
 use Rattle.spec_rules.specs.TreeReader.{cases_for}
 use Rattle.spec_rules.specs.Building.{Tree}
-use Prim.Native.Nat.{ℕ, ◌+◌, ◌-◌, ◌≤◌, max}
+use Prim.Native.Nat.{ℕ, ◌+◌, ◌-◌, max}
 use mathlib.Core.Path.{◌≡◌}
 use Rattle.walk.proofs.choose.largest_tail.Given as goal
 
 abbrev pub invariant-loop-j : goal.invariant-loop-j
-invariant-loop-j l = (l.j ≤ l.tails) × ((f : ℕ → Tree) → max l.best (largest_tail l.n (cases_for f l.tree (l.i + l.j) (l.tails - l.j))) ≡ largest_tail l.n (cases_for f l.tree l.i l.tails))
-
-abbrev pub decreases-loop-j : goal.decreases-loop-j
-decreases-loop-j l = l.tails - l.j
+invariant-loop-j l = (f : ℕ → Tree) → max l.best (largest_tail l.n (cases_for f l.tree (l.i + l.j) (l.tails - l.j))) ≡ largest_tail l.n (cases_for f l.tree l.i l.tails)

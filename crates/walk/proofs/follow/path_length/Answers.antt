@@ -3,6 +3,4 @@ use Rattle.walk.specs.FollowLaws.{path_long}
 use Rattle.walk.proofs.follow.path_length.Goals as goal
 
 pub returns : goal.returns
-returns c =
-    let a = c.args in
-    path_long a.tree.now a.p c.path_at-read.result c.path_at-read.ensures
+returns c = path_long c.args.tree.now c.args.p c.path_at.result c.path_at.ensures

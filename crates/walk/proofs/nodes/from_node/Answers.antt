@@ -10,8 +10,8 @@ use native.Mathlib.Omega.{arith}
 use mathlib.Core.Path.{◌≡◌, sym, ◌∙◌}
 use Rattle.walk.proofs.nodes.from_node.Goals as goal
 
-pub node_at-node-requires : goal.node_at-node-requires
-node_at-node-requires c = (ready_ruled c.requires.0, c.requires.1)
+pub node_at-requires : goal.node_at-requires
+node_at-requires c = (ready_ruled c.requires.0, c.requires.1)
 
 pub from_switch-requires : goal.from_switch-requires
 from_switch-requires c =
@@ -19,8 +19,8 @@ from_switch-requires c =
     let ready = c.requires.0 in
     let ruled = ready_ruled ready in
     let h = in_nodes ruled a.k c.requires.1 in
-    let e : c.node_at-node.result ≡ Node.Switch c.in-Switch.path c.in-Switch.first c.in-Switch.cases c.in-Switch.default c.in-Switch.test = c.in-Switch.is in
-    let w = switch_node_lem a.tree.now a.k c.in-Switch.path c.in-Switch.first c.in-Switch.cases c.in-Switch.default c.in-Switch.test (sym c.node_at-node.ensures ∙ e) in
+    let e : c.node_at.result ≡ Node.Switch c.in-Switch.path c.in-Switch.first c.in-Switch.cases c.in-Switch.default c.in-Switch.test = c.in-Switch.is in
+    let w = switch_node_lem a.tree.now a.k c.in-Switch.path c.in-Switch.first c.in-Switch.cases c.in-Switch.default c.in-Switch.test (sym c.node_at.ensures ∙ e) in
     let run = switch_node_run ruled.rules a.k h c.in-Switch.path c.in-Switch.first c.in-Switch.cases c.in-Switch.default c.in-Switch.test w in
     let path = switch_node_path ruled.rules a.k h c.in-Switch.path c.in-Switch.first c.in-Switch.cases c.in-Switch.default c.in-Switch.test w in
     let kind = switch_node_kind ruled.rules a.k h c.in-Switch.path c.in-Switch.first c.in-Switch.cases c.in-Switch.default c.in-Switch.test w in
@@ -33,10 +33,10 @@ from_list_switch-requires c =
     let ready = c.requires.0 in
     let ruled = ready_ruled ready in
     let h = in_nodes ruled a.k c.requires.1 in
-    let e : c.node_at-node.result ≡ Node.ListSwitch c.in-ListSwitch.path c.in-ListSwitch.first c.in-ListSwitch.cases c.in-ListSwitch.tails c.in-ListSwitch.default = c.in-ListSwitch.is in
+    let e : c.node_at.result ≡ Node.ListSwitch c.in-ListSwitch.path c.in-ListSwitch.first c.in-ListSwitch.cases c.in-ListSwitch.tails c.in-ListSwitch.default = c.in-ListSwitch.is in
     let w =
     list_switch_node_lem a.tree.now a.k c.in-ListSwitch.path c.in-ListSwitch.first c.in-ListSwitch.cases c.in-ListSwitch.tails c.in-ListSwitch.default
-    (sym c.node_at-node.ensures ∙ e) in
+    (sym c.node_at.ensures ∙ e) in
     let run = list_switch_node_run ruled.rules a.k h c.in-ListSwitch.path c.in-ListSwitch.first c.in-ListSwitch.cases c.in-ListSwitch.tails c.in-ListSwitch.default w in
     let path = list_switch_node_path ruled.rules a.k h c.in-ListSwitch.path c.in-ListSwitch.first c.in-ListSwitch.cases c.in-ListSwitch.tails c.in-ListSwitch.default w in
     let lists = list_switch_node_cases ruled.rules a.k h c.in-ListSwitch.path c.in-ListSwitch.first c.in-ListSwitch.cases c.in-ListSwitch.tails c.in-ListSwitch.default w in
@@ -49,8 +49,8 @@ returns-in-Switch c =
     let ready = c.requires.0 in
     let ruled = ready_ruled ready in
     let h = in_nodes ruled a.k c.requires.1 in
-    let e : c.node_at-node.result ≡ Node.Switch c.in-Switch.path c.in-Switch.first c.in-Switch.cases c.in-Switch.default c.in-Switch.test = c.in-Switch.is in
-    let w = switch_node_lem a.tree.now a.k c.in-Switch.path c.in-Switch.first c.in-Switch.cases c.in-Switch.default c.in-Switch.test (sym c.node_at-node.ensures ∙ e) in
+    let e : c.node_at.result ≡ Node.Switch c.in-Switch.path c.in-Switch.first c.in-Switch.cases c.in-Switch.default c.in-Switch.test = c.in-Switch.is in
+    let w = switch_node_lem a.tree.now a.k c.in-Switch.path c.in-Switch.first c.in-Switch.cases c.in-Switch.default c.in-Switch.test (sym c.node_at.ensures ∙ e) in
     steps_switch a.tree.now a.panel.now ready.sound a.k h c.in-Switch.path c.in-Switch.first c.in-Switch.cases c.in-Switch.default c.in-Switch.test c.from_switch.result w
     c.from_switch.ensures
 
@@ -60,10 +60,10 @@ returns-in-ListSwitch c =
     let ready = c.requires.0 in
     let ruled = ready_ruled ready in
     let h = in_nodes ruled a.k c.requires.1 in
-    let e : c.node_at-node.result ≡ Node.ListSwitch c.in-ListSwitch.path c.in-ListSwitch.first c.in-ListSwitch.cases c.in-ListSwitch.tails c.in-ListSwitch.default = c.in-ListSwitch.is in
+    let e : c.node_at.result ≡ Node.ListSwitch c.in-ListSwitch.path c.in-ListSwitch.first c.in-ListSwitch.cases c.in-ListSwitch.tails c.in-ListSwitch.default = c.in-ListSwitch.is in
     let w =
     list_switch_node_lem a.tree.now a.k c.in-ListSwitch.path c.in-ListSwitch.first c.in-ListSwitch.cases c.in-ListSwitch.tails c.in-ListSwitch.default
-    (sym c.node_at-node.ensures ∙ e) in
+    (sym c.node_at.ensures ∙ e) in
     steps_list_switch a.tree.now a.panel.now ready.sound a.k h c.in-ListSwitch.path c.in-ListSwitch.first c.in-ListSwitch.cases c.in-ListSwitch.tails c.in-ListSwitch.default
     c.from_list_switch.result w c.from_list_switch.ensures
 
@@ -73,8 +73,8 @@ returns-in-Leaf c =
     let ready = c.requires.0 in
     let ruled = ready_ruled ready in
     let h = in_nodes ruled a.k c.requires.1 in
-    let e : c.node_at-node.result ≡ Node.Leaf c.in-Leaf.clause c.in-Leaf.first c.in-Leaf.count = c.in-Leaf.is in
-    let w = leaf_node_lem a.tree.now a.k c.in-Leaf.clause c.in-Leaf.first c.in-Leaf.count (sym c.node_at-node.ensures ∙ e) in
+    let e : c.node_at.result ≡ Node.Leaf c.in-Leaf.clause c.in-Leaf.first c.in-Leaf.count = c.in-Leaf.is in
+    let w = leaf_node_lem a.tree.now a.k c.in-Leaf.clause c.in-Leaf.first c.in-Leaf.count (sym c.node_at.ensures ∙ e) in
     steps_leaf a.tree.now a.panel.now ready.sound a.k h c.in-Leaf.clause c.in-Leaf.first c.in-Leaf.count w (omega arith)
 
 pub returns-in-Hoist : goal.returns-in-Hoist
@@ -83,8 +83,8 @@ returns-in-Hoist c =
     let ready = c.requires.0 in
     let ruled = ready_ruled ready in
     let h = in_nodes ruled a.k c.requires.1 in
-    let e : c.node_at-node.result ≡ Node.Hoist c.in-Hoist.clause c.in-Hoist.first c.in-Hoist.count c.in-Hoist.child = c.in-Hoist.is in
+    let e : c.node_at.result ≡ Node.Hoist c.in-Hoist.clause c.in-Hoist.first c.in-Hoist.count c.in-Hoist.child = c.in-Hoist.is in
     let w =
     hoist_node_lem a.tree.now a.k c.in-Hoist.clause c.in-Hoist.first c.in-Hoist.count c.in-Hoist.child (node_kind_known ruled a.k c.requires.1)
-    (sym c.node_at-node.ensures ∙ e) in
+    (sym c.node_at.ensures ∙ e) in
     steps_hoist a.tree.now a.panel.now ready.sound a.k h c.in-Hoist.child w

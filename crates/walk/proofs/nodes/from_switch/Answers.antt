@@ -1,50 +1,50 @@
 -- `walk::nodes::from_switch` meets its contract: one law of the walk at a switch for each way out.
 use Rattle.walk.specs.TurnsLaws.{switch_no_part, switch_wrong_kind, switch_constr, switch_text}
-use Rattle.walk.specs.ChoicesLaws.{texts_asked, text_inside, chosen_in}
+use Rattle.walk.specs.ChoicesLaws.{texts_asked, text_inside, found_in}
 use Rattle.walk.specs.Choices.{asked_by, AllText}
 use Rattle.walk.specs.FollowLaws.{found_some, found_none, found_within, followable, ready_path, ready_ruled}
 use Rattle.walk.specs.Positions.{placed}
 use Rattle.walk.specs.declared.follow.Position.{Position}
 use Rattle.format_tree.specs.Reading.{test_of}
 use Rattle.spec_rules.specs.TreeReader.{path_at}
-use Rattle.spec_rules.specs.Walking.{panel_root, follow}
 use Rattle.spec_rules.specs.Kinds.{bytes_record}
 use Prim.Native.Nat.{◌+◌, ◌≤◌}
 use lib.ListN.{length}
-use mathlib.Core.Option.{some}
+use Rattle.std.proofs.Common.{rules}
+use Rattle.std.specs.Prelude.{Ok, Err}
 use native.Mathlib.Omega.{arith}
 use mathlib.Core.Path.{◌≡◌, sym, ap, ◌∙◌}
 use Rattle.walk.proofs.nodes.from_switch.Goals as goal
 
-pub follow-found-requires : goal.follow-found-requires
-follow-found-requires c = ready_path c.requires.0 _ c.requires.1
+pub follow-requires : goal.follow-requires
+follow-requires c = ready_path c.requires.0 _ c.requires.1
 
-pub returns-in_default : goal.returns-in_default
-returns-in_default c =
+pub returns-in_err-p : goal.returns-in_err-p
+returns-in_err-p c =
     let a = c.args in
-    let lost = found_none a.panel.now (path_at a.tree.now a.path) c.follow-found.result c.in_default.field-0 c.stuck_step.result c.follow-found.ensures c.in_default.is c.stuck_step.ensures in
-    switch_no_part a.tree.now a.panel.now a.path a.first a.cases a.default c.stuck_step.result lost.1 lost.0
+    let stuck = c.in_err-p.field-0.0 in
+    let lost = found_none a.panel.now (path_at a.tree.now a.path) stuck (sym c.follow.ensures ∙ c.in_err-p.was) in
+    let told : Err stuck ≡ c.from_residual.result = search rules in
+    rw told at (switch_no_part a.tree.now a.panel.now a.path a.first a.cases a.default stuck.0 lost.1 lost.0)
 
 pub record_at-x-requires : goal.record_at-x-requires
 record_at-x-requires c =
-    let place : Position = c.in-At.p in
-    let found : follow c.args.panel.now (path_at c.args.tree.now c.args.path) panel_root ≡ some (placed (place)) = let a = c.args in
-    found_some a.panel.now (path_at a.tree.now a.path) (place) (sym c.follow-found.ensures ∙ c.in-At.is) in
+    let place : Position = c.in_ok-p.p in
+    let found = found_some c.args.panel.now (path_at c.args.tree.now c.args.path) place (sym c.follow.ensures ∙ c.in_ok-p.was) in
     let ready = c.requires.0 in
-    (ready.opened.laid, (found_within (followable ready) c.args.path (place) (found)).place_in)
+    (ready.opened.laid, (found_within (followable ready) c.args.path place found).place_in)
 
 pub path_length-requires : goal.path_length-requires
 path_length-requires c = (c.requires.0.mapped, c.requires.1)
 
 pub returns-then-x-asked : goal.returns-then-x-asked
 returns-then-x-asked c =
-    let place : Position = c.in-At.p in
-    let found : follow c.args.panel.now (path_at c.args.tree.now c.args.path) panel_root ≡ some (placed (place)) = let a = c.args in
-    found_some a.panel.now (path_at a.tree.now a.path) (place) (sym c.follow-found.ensures ∙ c.in-At.is) in
+    let place : Position = c.in_ok-p.p in
+    let found = found_some c.args.panel.now (path_at c.args.tree.now c.args.path) place (sym c.follow.ensures ∙ c.in_ok-p.was) in
     let asked : c.asked_by-asked.result ≡ asked_by (test_of c.args.tree.now c.args.first) = c.asked_by-asked.ensures ∙ ap asked_by c.requires.6 in
     let a = c.args in
-    switch_wrong_kind a.tree.now a.panel.now a.path a.first a.cases a.default c.requires.2 c.requires.4 (placed (place)) (found)
-    c.record_at-x.result c.record_at-x.ensures c.path_length.result c.path_length.ensures (λ e. c.if-x-asked.true (e ∙ sym (asked)))
+    switch_wrong_kind a.tree.now a.panel.now a.path a.first a.cases a.default c.requires.2 c.requires.4 (placed place) found
+    c.record_at-x.result c.record_at-x.ensures c.path_length.result c.path_length.ensures (λ e. c.if-x-asked.true (e ∙ sym asked))
 
 pub numbered_case-chosen-requires : goal.numbered_case-chosen-requires
 numbered_case-chosen-requires c = (c.requires.0.mapped, c.requires.3)
@@ -52,24 +52,22 @@ numbered_case-chosen-requires c = (c.requires.0.mapped, c.requires.3)
 pub chosen_or-requires : goal.chosen_or-requires
 chosen_or-requires c =
     let a = c.args in
-    (c.requires.0.mapped, chosen_in _ a.first a.cases _ c.numbered_case-chosen.result c.requires.3 c.numbered_case-chosen.ensures)
+    (c.requires.0.mapped, found_in _ a.first a.cases _ c.numbered_case-chosen.result c.requires.3 c.numbered_case-chosen.ensures)
 
 pub returns-then-asked-eq-CONSTRUCTOR : goal.returns-then-asked-eq-CONSTRUCTOR
 returns-then-asked-eq-CONSTRUCTOR c =
-    let place : Position = c.in-At.p in
-    let found : follow c.args.panel.now (path_at c.args.tree.now c.args.path) panel_root ≡ some (placed (place)) = let a = c.args in
-    found_some a.panel.now (path_at a.tree.now a.path) (place) (sym c.follow-found.ensures ∙ c.in-At.is) in
+    let place : Position = c.in_ok-p.p in
+    let found = found_some c.args.panel.now (path_at c.args.tree.now c.args.path) place (sym c.follow.ensures ∙ c.in_ok-p.was) in
     let asked : c.asked_by-asked.result ≡ asked_by (test_of c.args.tree.now c.args.first) = c.asked_by-asked.ensures ∙ ap asked_by c.requires.6 in
     let a = c.args in
-    switch_constr a.tree.now a.panel.now a.path a.first a.cases a.default c.requires.2 c.requires.4 (placed (place)) (found)
+    switch_constr a.tree.now a.panel.now a.path a.first a.cases a.default c.requires.2 c.requires.4 (placed place) found
     c.record_at-x.result c.record_at-x.ensures (c.if-x-asked.false ∙ asked) c.requires.5 c.numbered_case-chosen.result
-    c.chosen_or.result c.chosen_or.ensures (sym (asked) ∙ c.if-asked-eq-CONSTRUCTOR.true) c.numbered_case-chosen.ensures
+    (Ok c.chosen_or.result) c.chosen_or.ensures (sym asked ∙ c.if-asked-eq-CONSTRUCTOR.true) c.numbered_case-chosen.ensures
 
 pub overflow_add-start : goal.overflow_add-start
 overflow_add-start c =
-    let place : Position = c.in-At.p in
-    let found : follow c.args.panel.now (path_at c.args.tree.now c.args.path) panel_root ≡ some (placed (place)) = let a = c.args in
-    found_some a.panel.now (path_at a.tree.now a.path) (place) (sym c.follow-found.ensures ∙ c.in-At.is) in
+    let place : Position = c.in_ok-p.p in
+    let found = found_some c.args.panel.now (path_at c.args.tree.now c.args.path) place (sym c.follow.ensures ∙ c.in_ok-p.was) in
     let asked : c.asked_by-asked.result ≡ asked_by (test_of c.args.tree.now c.args.first) = c.asked_by-asked.ensures ∙ ap asked_by c.requires.6 in
     let texts : (asked_by (test_of c.args.tree.now c.args.first) ≤ bytes_record) × AllText c.args.tree.now c.args.first c.args.cases =
     let a = c.args in
@@ -78,8 +76,8 @@ overflow_add-start c =
     let a = c.args in
     let ready = c.requires.0 in
     let read = c.record_at-x in
-    text_inside a.panel.now (placed (place)) read.result read.ensures a.places ready.opened ready.panel.is_shaped
-    (found_within (followable ready) a.path (place) (found)).place_in (omega (arith, c.if-x-asked.false, asked, (texts).0)) in
+    text_inside a.panel.now (placed place) read.result read.ensures a.places ready.opened ready.panel.is_shaped
+    (found_within (followable ready) a.path place found).place_in (omega (arith, c.if-x-asked.false, asked, texts.0)) in
     omega (arith, text_in, c.requires.0.opened.laid.length_most)
 
 pub text_case-chosen-requires : goal.text_case-chosen-requires
@@ -88,30 +86,28 @@ text_case-chosen-requires c =
     let texts : (asked_by (test_of c.args.tree.now c.args.first) ≤ bytes_record) × AllText c.args.tree.now c.args.first c.args.cases =
     let a = c.args in
     texts_asked a.tree.now a.first c.requires.4 (λ e. c.if-asked-eq-CONSTRUCTOR.false (asked ∙ e)) a.cases c.requires.5 in
-    let place : Position = c.in-At.p in
-    let found : follow c.args.panel.now (path_at c.args.tree.now c.args.path) panel_root ≡ some (placed (place)) = let a = c.args in
-    found_some a.panel.now (path_at a.tree.now a.path) (place) (sym c.follow-found.ensures ∙ c.in-At.is) in
+    let place : Position = c.in_ok-p.p in
+    let found = found_some c.args.panel.now (path_at c.args.tree.now c.args.path) place (sym c.follow.ensures ∙ c.in_ok-p.was) in
     let text_in : c.args.places.pool.start + c.record_at-x.result.first + c.record_at-x.result.count ≤ length c.args.panel.now =
     let a = c.args in
     let ready = c.requires.0 in
     let read = c.record_at-x in
-    text_inside a.panel.now (placed (place)) read.result read.ensures a.places ready.opened ready.panel.is_shaped
-    (found_within (followable ready) a.path (place) (found)).place_in (omega (arith, c.if-x-asked.false, asked, (texts).0)) in
-    (ready_ruled c.requires.0, c.requires.3, (texts).1, text_in)
+    text_inside a.panel.now (placed place) read.result read.ensures a.places ready.opened ready.panel.is_shaped
+    (found_within (followable ready) a.path place found).place_in (omega (arith, c.if-x-asked.false, asked, texts.0)) in
+    (ready_ruled c.requires.0, c.requires.3, texts.1, text_in)
 
 pub chosen_or-requires-2 : goal.chosen_or-requires-2
 chosen_or-requires-2 c =
     let a = c.args in
-    (c.requires.0.mapped, chosen_in _ a.first a.cases _ c.text_case-chosen.result c.requires.3 c.text_case-chosen.ensures)
+    (c.requires.0.mapped, found_in _ a.first a.cases _ c.text_case-chosen.result c.requires.3 c.text_case-chosen.ensures)
 
 pub returns : goal.returns
 returns c =
-    let place : Position = c.in-At.p in
-    let found : follow c.args.panel.now (path_at c.args.tree.now c.args.path) panel_root ≡ some (placed (place)) = let a = c.args in
-    found_some a.panel.now (path_at a.tree.now a.path) (place) (sym c.follow-found.ensures ∙ c.in-At.is) in
+    let place : Position = c.in_ok-p.p in
+    let found = found_some c.args.panel.now (path_at c.args.tree.now c.args.path) place (sym c.follow.ensures ∙ c.in_ok-p.was) in
     let asked : c.asked_by-asked.result ≡ asked_by (test_of c.args.tree.now c.args.first) = c.asked_by-asked.ensures ∙ ap asked_by c.requires.6 in
     let a = c.args in
     let read = c.record_at-x in
-    switch_text a.tree.now a.panel.now a.path a.first a.cases a.default c.requires.2 c.requires.4 (placed (place)) (found)
+    switch_text a.tree.now a.panel.now a.path a.first a.cases a.default c.requires.2 c.requires.4 (placed place) found
     read.result read.ensures (c.if-x-asked.false ∙ asked) c.requires.5 c.text_case-chosen.result
-    c.chosen_or-2.result c.chosen_or-2.ensures a.places c.requires.0.opened (λ e. c.if-asked-eq-CONSTRUCTOR.false (asked ∙ e)) c.text_case-chosen.ensures
+    (Ok c.chosen_or-2.result) c.chosen_or-2.ensures a.places c.requires.0.opened (λ e. c.if-asked-eq-CONSTRUCTOR.false (asked ∙ e)) c.text_case-chosen.ensures

@@ -8,8 +8,8 @@ use Prim.Native.Nat.{◌-◌, ◌<◌}
 use mathlib.Core.Path.{◌≡◌}
 use Rattle.walk.proofs.nodes.reach.Given as goal
 
-abbrev pub invariant-loop-c : goal.invariant-loop-c
-invariant-loop-c l = (l.k < l.map.nodes.count) × (walk (tree_below (nodes l.tree) l.tree l.k) l.panel ≡ walk (tree_of l.tree) l.panel) × OnTheWay l.tree l.panel l.k
+abbrev pub invariant-loop-child : goal.invariant-loop-child
+invariant-loop-child l = (l.node < l.map.nodes.count) × (walk (tree_below (nodes l.tree) l.tree l.node) l.panel ≡ walk (tree_of l.tree) l.panel) × OnTheWay l.tree l.panel l.node
 
-abbrev pub decreases-loop-c : goal.decreases-loop-c
-decreases-loop-c l = l.map.nodes.count - l.k
+abbrev pub decreases-loop-child : goal.decreases-loop-child
+decreases-loop-child l = l.map.nodes.count - l.node

@@ -1,4 +1,0 @@
-use Rattle.format_sheet.proofs.records.run_from.Goals as goal
-
-pub returns : goal.returns
-returns c = rw (← c.word_at-first.ensures, ← c.word_at-count.ensures)
