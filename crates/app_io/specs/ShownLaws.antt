@@ -1,6 +1,7 @@
 -- The programs' answers from those of the crates app_listing and build_call: a tree file that a sheet's build wrote is listed as the rules list the
 -- sheet, and so is a refusal.
-use Rattle.std.specs.Prelude.{◌≡◌, Bool, List, ◌++◌, ℕ, ◌-◌, ◌≤◌, leb, length}
+use Rattle.std.specs.Prelude.{◌≡◌, Bool, List, ◌++◌, ℕ, ◌-◌, ◌≤◌, leb, length, Option, Some, None, IfSome, Result, Ok, Err}
+use Rattle.std.specs.Result.{result_unwrap_or}
 use Rattle.std.proofs.Math.Path.{refl, sym, ap}
 use Rattle.std.proofs.Common.{ap₂, ◌∙◌, arith, leb-true, length-take, length-append}
 use Rattle.std.proofs.Math.Bool.{true, false}
@@ -16,13 +17,13 @@ use Rattle.spec_rules.specs.Listing.{listing, refused_line, printed, sheet_listi
 use Rattle.spec_theorems.specs.CallsLaws.{build_answers_only}
 use Rattle.spec_theorems.specs.Theorems.{the_buffer_has_the_file}
 use Rattle.spec_theorems.proofs.Theorems.{the_file_fits}
-use Rattle.app_listing.specs.declared.Listed.{Listed}
-use Rattle.app_listing.specs.Answers.{End, written, full, answer_of, text_in, end_in, ListingCall, call_of, listing_call, LineCall, line_of, refused_line_call}
+use Rattle.format_parts.specs.declared.refusals.Refusal.{Refusal}
+use Rattle.app_listing.specs.Answers.{text_in, end_in, ListingCall, call_of, listing_call, LineCall, line_of, shown}
 use Rattle.build_call.specs.declared.Built.{Built}
 use Rattle.build_call.specs.declared.Built.TheVariants.{Tree, Refused}
 use Rattle.build_call.specs.Answers.{answer_of as build_answer_of}
 use Rattle.dewmycel.specs.Promises.{BuildFits}
-use Rattle.app_io.specs.Shown.{shown, tree_shown, Shows}
+use Rattle.app_io.specs.Shown.{tree_shown, Shows}
 
 -- ---- how many bytes there are
 text_in_long : (text : List ℕ) (room : ℕ) → length (text_in text room) ≡ room
@@ -33,72 +34,59 @@ text_in_long text room = go (leb (length text) room) refl
     go true e = length-append text (zeros (room - length text)) ∙ omega (arith, leb-true (length text) room e, length-replicate {A = ℕ} (room - length text) 0)
     go false e = length-replicate {A = ℕ} room 0
 
-count_most : (text : List ℕ) (room : ℕ) → pick (leb (length text) room) (length text) 0 ≤ room
-count_most text room = go (leb (length text) room) refl
+end_inside : (text : List ℕ) (room : ℕ) (r : Option ℕ) (out : List ℕ) → r ≡ end_in text room → length out ≡ room → IfSome r (λ n. IsPrefixLen n out)
+unfolding end_in
+end_inside text room None out e long = tt
+end_inside text room (Some n) out e long = go (leb (length text) room) refl
   where
-    go : (b : Bool) → leb (length text) room ≡ b → pick b (length text) 0 ≤ room
-    go true e = leb-true (length text) room e
-    go false e = omega arith
+    go : (b : Bool) → leb (length text) room ≡ b → IsPrefixLen n out
+    go true f =
+        let is : Some n ≡ Some (length text) = rw f at e in
+        let same : n ≡ length text = cc in
+        let h : n ≤ length out = omega (arith, leb-true (length text) room f) in
+        (h, sym (length-take n out ∙ omega arith))
+    go false f =
+        let is : Some n ≡ None = rw f at e in
+        cc
 
-counted : (r : ℕ) (out : List ℕ) → r ≤ length out → IsPrefixLen r out
-counted r out h = (h, sym (length-take r out ∙ omega arith))
-
-pub shows : (text : List ℕ) (room r : ℕ) (out : List ℕ) → line_of r out ≡ shown text room → Shows (shown text room) r out
-shows text room r out e =
-    let a = ap (λ (x : LineCall). x.answer) e in
-    let o = ap (λ (x : LineCall). length x.out) e in
-    record { count = counted r out (omega (arith, a, o, text_in_long text room, count_most text room)); is = e }
+pub shows : (text : List ℕ) (room : ℕ) (r : Option ℕ) (out : List ℕ) → line_of r out ≡ shown text room → Shows (shown text room) r out
+shows text room r out e = record {
+  count = end_inside text room r out (ap (λ (x : LineCall). x.answer) e) (ap (λ (x : LineCall). length x.out) e ∙ text_in_long text room);
+  is = e;
+}
 
 -- ---- the listing of a tree file
-abbrev count_of : Answer End → ℕ
-count_of (answers (written n)) = n
-count_of (answers full) = 0
-count_of (refuses number place) = 0
-
-abbrev counting : ListingCall → LineCall
-counting x = record { answer = count_of x.answer; out = x.out }
+abbrev count_of : Answer (Option ℕ) → Option ℕ
+count_of (answers end) = end
+count_of (refuses number place) = None
 
 module _ (t : List ℕ) (room : ℕ) where
-  listed : counting (listing_call t room) ≡ tree_shown t room
-  unfolding listing_call end_in
-  listed = fits (tree_fits t)
+  told : (r : Result (Option ℕ) Refusal) (out : List ℕ) → call_of r out ≡ listing_call t room → line_of (result_unwrap_or r None) out ≡ tree_shown t room
+  unfolding listing_call
+  told r out e = unwrapped r ∙ ap counting e ∙ listed (tree_fits t)
     where
-      ends : (b : Bool) → count_of (answers (pick b (written (length (listing t))) full)) ≡ pick b (length (listing t)) 0
-      ends true = refl
-      ends false = refl
+      counting : ListingCall → LineCall
+      counting x = line_of (count_of x.answer) x.out
 
-      fits : (b : Bool)
+      unwrapped : (r : Result (Option ℕ) Refusal) → line_of (result_unwrap_or r None) out ≡ counting (call_of r out)
+      unwrapped (Ok end) = refl
+      unwrapped (Err r) = refl
+
+      listed : (b : Bool)
           → counting (pick b (record { answer = answers (end_in (listing t) room); out = text_in (listing t) room }) (record { answer = refuses tree_refusal 0; out = zeros room }))
-          ≡ pick b (shown (listing t) room) (record { answer = 0; out = zeros room })
-      fits true = ap (λ (n : ℕ). line_of n (text_in (listing t) room)) (ends (leb (length (listing t)) room))
-      fits false = refl
+          ≡ pick b (shown (listing t) room) (record { answer = None; out = zeros room })
+      listed true = refl
+      listed false = refl
 
-  tree_shows : (call : LineCall) (r : ℕ) (out : List ℕ) → call ≡ tree_shown t room → line_of r out ≡ call → Shows (tree_shown t room) r out
-  tree_shows call r out c e = go (tree_fits t) (e ∙ c)
+  pub tree_shows : (r : Result (Option ℕ) Refusal) (out : List ℕ) → call_of r out ≡ listing_call t room → Shows (tree_shown t room) (result_unwrap_or r None) out
+  tree_shows r out e = go (tree_fits t) (told r out e)
     where
-      go : (b : Bool) → line_of r out ≡ pick b (shown (listing t) room) (record { answer = 0; out = zeros room })
-          → Shows (pick b (shown (listing t) room) (record { answer = 0; out = zeros room })) r out
-      go true d = shows (listing t) room r out d
+      go : (b : Bool) → line_of (result_unwrap_or r None) out ≡ pick b (shown (listing t) room) (record { answer = None; out = zeros room })
+          → Shows (pick b (shown (listing t) room) (record { answer = None; out = zeros room })) (result_unwrap_or r None) out
+      go true d = shows (listing t) room (result_unwrap_or r None) out d
       go false d =
-          let a = ap (λ (x : LineCall). x.answer) d in
-          record { count = counted r out (omega (arith, a)); is = d }
-
-  module _ (l : Listed) (out : List ℕ) (e : call_of l out ≡ listing_call t room) where
-    as_counted : line_of (count_of (answer_of l)) out ≡ tree_shown t room
-    as_counted = ap counting e ∙ listed
-
-    pub tree_written : (n : ℕ) → l ≡ Listed.Written n → Shows (tree_shown t room) n out
-    tree_written n w = tree_shows (tree_shown t room) n out refl (sym (ap (λ x. line_of (count_of (answer_of x)) out) w) ∙ as_counted)
-
-    pub tree_full : l ≡ Listed.Full → Shows (tree_shown t room) 0 out
-    tree_full w = tree_shows (tree_shown t room) 0 out refl (sym (ap (λ x. line_of (count_of (answer_of x)) out) w) ∙ as_counted)
-
-    pub tree_refused : l ≡ Listed.Refused → Shows (tree_shown t room) 0 out
-    tree_refused w = tree_shows (tree_shown t room) 0 out refl (sym (ap (λ x. line_of (count_of (answer_of x)) out) w) ∙ as_counted)
-
-pub refusal_shows : (number place room r : ℕ) (out : List ℕ) → line_of r out ≡ refused_line_call number place room → Shows (shown (refused_line number place) room) r out
-unfolding refused_line_call
-refusal_shows number place room r out e = shows (refused_line number place) room r out e
+          let none : result_unwrap_or r None ≡ None = ap (λ (x : LineCall). x.answer) d in
+          record { count = rw none tt; is = d }
 
 -- ---- the listing of a sheet
 -- built in buffers of n and m bytes, which are the least that a build takes
@@ -110,7 +98,7 @@ module _ (s : List ℕ) (n m : ℕ) (b : Built) (tree work : List ℕ) (is_built
   unfolding build_call
   the_answer = ap (λ (x : BuildCall). x.answer) fits
 
-  module _ (room r : ℕ) (out : List ℕ) where
+  module _ (room : ℕ) (r : Option ℕ) (out : List ℕ) where
     pub sheet_refused : (number place : ℕ) → b ≡ Refused number place → Shows (shown (refused_line number place) room) r out → Shows (shown (sheet_listing s) room) r out
     unfolding sheet_listing printed
     sheet_refused number place e h =

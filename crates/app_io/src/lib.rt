@@ -2,11 +2,10 @@
 // No function asks anything of its caller, and what each counts are bytes of the buffer that it was lent.
 #![tactic(auto)]
 
-ghost use Rattle.std.specs.Prelude.{◌≡◌, length};
+ghost use Rattle.std.specs.Prelude.{◌≡◌, length, IfOk, IfSome};
 ghost use Rattle.io.specs.Counts.{IsPrefixLen};
 ghost use Rattle.app_io.specs.Shown.{ShowsTree, ShowsRefusal, ShowsSheet};
 
-use app_listing::Listed;
 use base_numbers::panel::PANEL_MOST;
 use base_numbers::sheet::SHEET_MOST;
 use build_call::Built;
@@ -24,26 +23,7 @@ pub const PANEL_ROOM: usize = PANEL_MOST + 1;
 // More than any listing takes: 1,024 lines, 1,023 tests of at most 64 bytes, and at most 5,120 paths of at most 11 steps.
 pub const HUGE_ROOM: usize = 2097152;
 
-// How many bytes were read, and whether they could be.
-#[derive(Clone, Copy)]
-pub struct Input {
-    pub count: usize,
-    pub good: bool,
-}
-
-// Zeros. The contracts of these three give only the length, which lending the array as a slice needs.
-pub fn sheet_buffer() -> [u8; SHEET_ROOM]
-    ensures { 8193 ≡ length result }
-{
-    [0; SHEET_ROOM]
-}
-
-pub fn panel_buffer() -> [u8; PANEL_ROOM]
-    ensures { 16385 ≡ length result }
-{
-    [0; PANEL_ROOM]
-}
-
+// Zeros. The contract gives only the length, which lending the array as a slice needs: so many are not counted out where it is lent.
 pub fn huge_buffer() -> [u8; HUGE_ROOM]
     ensures { 2097152 ≡ length result }
 {
@@ -60,43 +40,51 @@ fn say_why(rt: &impl Eprint, name: &str, why: impl Display + Drop) {
     let _ = eprintln!(rt; "{what}: {why}");
 }
 
-// Reads until the buffer is full or the input ends. Where a read fails, one line on standard error tells the input's name and why.
-pub fn read_input(rt: &impl Eprint, name: &str, reader: &mut impl Read, buf: &mut [u8]) -> Input
-    ensures { IsPrefixLen result.count buf.new }
+// Reads until the buffer is full or the input ends, and answers how many bytes that are.
+pub fn fill(reader: &mut impl Read, buf: &mut [u8]) -> std::io::Result<usize>
+    ensures { IfOk result (λ n. IsPrefixLen n buf.new) }
 {
     let mut count = 0;
     while count < buf.len() {
-        match reader.read(&mut buf[count..]) {
-            Ok(0) => break,
-            Ok(n) => count += n,
-            Err(error) => {
-                say_why(rt, name, error);
-                return Input { count, good: false };
-            }
+        match reader.read(&mut buf[count..])? {
+            0 => break,
+            n => count += n,
         }
     }
-    Input { count, good: true }
+    Ok(count)
+}
+
+// How many bytes were read. Where a read fails, one line on standard error tells the input's name and why.
+pub fn read_input(
+    rt: &impl Eprint,
+    name: &str,
+    reader: &mut impl Read,
+    buf: &mut [u8],
+) -> Option<usize>
+    ensures { IfSome result (λ n. IsPrefixLen n buf.new) }
+{
+    match fill(reader, buf) {
+        Ok(count) => Some(count),
+        Err(error) => {
+            say_why(rt, name, error);
+            None
+        }
+    }
 }
 
 // Reads a file; where it cannot be read, one line on standard error says why. A name that is not UTF-8 names no file here.
-pub fn read_file<R: Files + Eprint>(rt: &R, path: &[u8], buf: &mut [u8]) -> Input
-    ensures { IsPrefixLen result.count buf.new }
+pub fn read_file<R: Files + Eprint>(rt: &R, path: &[u8], buf: &mut [u8]) -> Option<usize>
+    ensures { IfSome result (λ n. IsPrefixLen n buf.new) }
 {
     let Ok(name) = str::from_utf8(path) else {
         say_why(rt, "the name of a file", "it is not UTF-8");
-        return Input {
-            count: 0,
-            good: false,
-        };
+        return None;
     };
     match fs::open(rt, name) {
         Ok(mut file) => read_input(rt, name, &mut file, buf),
         Err(error) => {
             say_why(rt, name, error);
-            Input {
-                count: 0,
-                good: false,
-            }
+            None
         }
     }
 }
@@ -110,18 +98,15 @@ fn no_name(error: FillError) -> &'static str {
 }
 
 // Reads the file that argument i names.
-pub fn read_argument<R: Env + Files + Eprint>(rt: &R, i: usize, buf: &mut [u8]) -> Input
-    ensures { IsPrefixLen result.count buf.new }
+pub fn read_argument<R: Env + Files + Eprint>(rt: &R, i: usize, buf: &mut [u8]) -> Option<usize>
+    ensures { IfSome result (λ n. IsPrefixLen n buf.new) }
 {
     let mut path = io::buffer();
     match rt.arg(i, &mut path) {
         Ok(n) => read_file(rt, &path[..n], buf),
         Err(error) => {
             say_why(rt, "the name of a file", no_name(error));
-            Input {
-                count: 0,
-                good: false,
-            }
+            None
         }
     }
 }
@@ -129,34 +114,27 @@ pub fn read_argument<R: Env + Files + Eprint>(rt: &R, i: usize, buf: &mut [u8]) 
 // How many arguments there are; the first is the program's own name.
 pub fn argument_count(rt: &impl Env) -> usize {
     let mut name = [0u8; 1];
-    for i in 0..usize::MAX {
-        if let Err(FillError::NotPresent) = rt.arg(i, &mut name) {
-            return i;
-        }
-    }
-    usize::MAX
+    (0..usize::MAX)
+        .find(|&i| matches!(rt.arg(i, &mut name), Err(FillError::NotPresent)))
+        .unwrap_or(usize::MAX)
 }
 
-// The listing of a tree file; 0 bytes where it has no room or is no tree.
-fn list_tree(tree: &[u8], out: &mut [u8]) -> usize
+// The listing of a tree file; none where it has no room or is no tree.
+fn list_tree(tree: &[u8], out: &mut [u8]) -> Option<usize>
     ensures { ShowsTree tree.now out.old result out.new }
 {
-    match app_listing::listing(tree, out) {
-        Listed::Written(n) => n,
-        Listed::Full => 0,
-        Listed::Refused => 0,
-    }
+    app_listing::listing(tree, out).unwrap_or(None)
 }
 
-// `refused NUMBER PLACE`; 0 bytes where it has no room.
-fn refuse(number: u16, place: u16, out: &mut [u8]) -> usize
+// `refused NUMBER PLACE`; none where it has no room.
+fn refuse(number: u16, place: u16, out: &mut [u8]) -> Option<usize>
     ensures { ShowsRefusal number place out.old result out.new }
 {
     app_listing::refused_line(number, place, out)
 }
 
-// The listing of a sheet's tree, or the line of its refusal; 0 bytes where it has no room.
-pub fn list(sheet: &[u8], out: &mut [u8]) -> usize
+// The listing of a sheet's tree, or the line of its refusal: how many bytes it has, and none where it has no room.
+pub fn list(sheet: &[u8], out: &mut [u8]) -> Option<usize>
     ensures { ShowsSheet sheet.now out.old result out.new }
 {
     let mut tree = io::large_buffer();

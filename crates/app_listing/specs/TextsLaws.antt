@@ -1,8 +1,8 @@
 -- The texts of numbers and bytes, opened as the code writes them: a decimal digit behind the others, a byte in hex before the others.
 -- Rests on the rules' definitions of a listing.
-use Rattle.std.specs.Prelude.{◌≡◌, List, [], ◌∷◌, ◌++◌, ℕ, zero, suc, ◌+◌, ◌*◌, ◌/◌, ◌%◌, ◌≤◌, ◌<◌, ltb, length, get_or, drop}
-use Rattle.std.proofs.Common.{sym, ap, ◌∙◌, arith, add-one, lt-ltb, le-ltb, drop-cons}
-use Rattle.std.proofs.Math.Seq.{drop-nil}
+use Rattle.std.specs.Prelude.{◌≡◌, List, [], ◌∷◌, ◌++◌, ℕ, suc, ◌+◌, ◌*◌, ◌/◌, ◌%◌, ◌≤◌, ◌<◌, ltb, length, get_or, drop}
+use Rattle.std.proofs.Common.{sym, ap, ◌∙◌, arith, lt-ltb, le-ltb}
+use Rattle.std.proofs.lemmas.List.{drop_more, drop_all}
 use Rattle.base_words.specs.Words.{pick}
 use Rattle.spec_rules.specs.Listing.{decimal_to, decimal, hex_digit, hex}
 
@@ -33,23 +33,15 @@ decimal_digits n d low high e =
     opened : decimal_to 5 n ≡ decimal_to 4 (n / 10) ++ (48 + n % 10) ∷ []
     opened = rw (decimal_to, le-ltb n 10 low)
 
--- ---- bytes of a text, from one on
-pub bytes_none : (l : List ℕ) (i : ℕ) → length l ≤ i → drop i l ≡ []
-bytes_none [] i h = drop-nil i
-bytes_none (x ∷ l) zero h = absurd (omega arith)
-bytes_none (x ∷ l) (suc i) h = bytes_none l i (omega arith)
-
-pub bytes_next : (l : List ℕ) (i : ℕ) → i < length l → drop i l ≡ (get_or l i 0 ∷ []) ++ drop (i + 1) l
-bytes_next l i h = drop-cons l i 0 h ∙ rw add-one
-
+-- ---- bytes of a text in hex, from one on
 pub hex_byte : (b high low : ℕ) → high ≡ hex_digit (b / 16) → low ≡ hex_digit (b % 16) → high ∷ low ∷ [] ≡ hex (b ∷ [])
 unfolding hex
 hex_byte b high low e f = rw (e, f)
 
 pub hex_next : (l : List ℕ) (i : ℕ) → i < length l → hex (drop i l) ≡ hex (get_or l i 0 ∷ []) ++ hex (drop (i + 1) l)
 unfolding hex
-hex_next l i h = ap hex (bytes_next l i h)
+hex_next l i h = ap hex (drop_more l i 0 h)
 
 pub hex_none : (l : List ℕ) (i : ℕ) → length l ≤ i → hex (drop i l) ≡ []
 unfolding hex
-hex_none l i h = ap hex (bytes_none l i h)
+hex_none l i h = ap hex (drop_all i l h)

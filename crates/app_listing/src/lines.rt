@@ -123,13 +123,11 @@ fn put_lines(out: &mut [u8], at: usize, tree: &[u8], map: TreeMap) -> usize
     ensures { Writes out.old out.new at result (node_lines tree.now 0 map.nodes.count) }
 {
     let mut end = at;
-    let mut k = 0;
-    while k < map.nodes.count {
+    for k in 0..map.nodes.count {
         end = put_line(out, end, tree, map, k);
         if out.len() < end {
             return end;
         }
-        k += 1;
     }
     end
 }

@@ -46,11 +46,9 @@ fn put_more_steps(out: &mut [u8], at: usize, tree: &[u8], map: TreeMap, i: usize
     ensures { Writes out.old out.new at result (more_steps (steps_from tree.now i n)) }
 {
     let mut end = at;
-    let mut j = 0;
-    while j < n {
+    for j in 0..n {
         let dot = put(out, end, b'.');
         end = put_step(out, dot, tree, map, i + j);
-        j += 1;
     }
     end
 }
@@ -125,10 +123,8 @@ pub fn put_cases(out: &mut [u8], at: usize, tree: &[u8], map: TreeMap, i: usize,
     ensures { Writes out.old out.new at result (cases_text tree.now i n) }
 {
     let mut end = at;
-    let mut j = 0;
-    while j < n {
+    for j in 0..n {
         end = put_case(out, end, tree, map, i + j);
-        j += 1;
     }
     end
 }
@@ -167,10 +163,8 @@ pub fn put_bindings(
     ensures { Writes out.old out.new at result (bindings_text tree.now b n) }
 {
     let mut end = at;
-    let mut j = 0;
-    while j < n {
+    for j in 0..n {
         end = put_binding(out, end, tree, map, b + j);
-        j += 1;
     }
     end
 }

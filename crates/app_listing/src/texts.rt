@@ -18,10 +18,8 @@ pub fn put_text(out: &mut [u8], at: usize, text: &[u8]) -> usize
     ensures { Writes out.old out.new at result text.now }
 {
     let mut end = at;
-    let mut i = 0;
-    while i < text.len() {
-        end = put(out, end, text[i]);
-        i += 1;
+    for &b in text {
+        end = put(out, end, b);
     }
     end
 }
@@ -73,10 +71,8 @@ pub fn put_hex(out: &mut [u8], at: usize, text: &[u8]) -> usize
     ensures { Writes out.old out.new at result (hex text.now) }
 {
     let mut end = at;
-    let mut i = 0;
-    while i < text.len() {
-        end = put_hex_byte(out, end, text[i]);
-        i += 1;
+    for &b in text {
+        end = put_hex_byte(out, end, b);
     }
     end
 }

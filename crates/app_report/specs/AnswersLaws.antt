@@ -1,4 +1,4 @@
--- The text from the answers of the calls: of the walk, of the build, of the fit check; and what `tell` leaves in its buffer.
+-- The text from the answers of the calls: of the walk, of the build, of the fit check.
 -- Rests on what the walk of a sheet's tree file is on a panel that fits the sheet.
 use Rattle.std.proofs.Math.Path.{◌≡◌, sym, ap}
 use Rattle.std.proofs.Common.{ap₂, ◌∙◌, arith}
@@ -24,9 +24,6 @@ use Rattle.build_call.specs.declared.Built.{Built}
 use Rattle.build_call.specs.Answers.{answer_of as build_answer_of}
 use Rattle.dewmycel.specs.Promises.{BuildFits, FitFits, WalkFits}
 use Rattle.dewmycel.specs.Answers.{verdict_of}
-use Rattle.app_listing.specs.Answers.{text_in, line_of}
-use Rattle.app_io.specs.Shown.{shown, Shows}
-use Rattle.app_io.specs.ShownLaws.{shows}
 use Rattle.app_report.specs.Telling.{no_leaf_line, leaf_line, stuck_line, walked_text, built_text, telling}
 use Rattle.app_report.specs.Lines.{word_lines}
 use Rattle.app_report.specs.LinesLaws.{lines_bound}
@@ -151,8 +148,3 @@ module _ (s v : List ℕ) (f : Fitted) (is : FitFits s v f) where
   pub told_refused : (number place : ℕ) → f ≡ Fitted.Refused number place → refused_line number place ≡ telling s v
   unfolding telling
   told_refused number place e = rw (sym is ∙ ap verdict_of e)
-
--- ---- the buffer
-pub tells : (text : List ℕ) (room r : ℕ) (out : List ℕ) → r ≡ pick (leb (length text) room) (length text) 0 → out ≡ text_in text room
-    → Shows (shown text room) r out
-tells text room r out a e = shows text room r out (ap₂ line_of a e)

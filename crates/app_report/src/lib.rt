@@ -15,6 +15,7 @@ ghost use Rattle.app_report.specs.Answers.{Tells};
 
 use app_listing::lines::put_refused;
 use app_listing::texts::put_text;
+use app_listing::written;
 use base_numbers::tree::BOUND_ROOM;
 use base_words::zero_all;
 use build_call::Built;
@@ -68,15 +69,11 @@ fn put_telling(out: &mut [u8], sheet: &[u8], panel: &[u8]) -> usize
     }
 }
 
-// Answers how many bytes were written: none where the text has no room.
-pub fn tell(sheet: &[u8], panel: &[u8], out: &mut [u8]) -> usize
+// How many bytes were written: none where the text has no room.
+pub fn tell(sheet: &[u8], panel: &[u8], out: &mut [u8]) -> Option<usize>
     ensures { Tells sheet.now panel.now out.old result out.new }
 {
     zero_all(out);
     let end = put_telling(out, sheet, panel);
-    if out.len() < end {
-        zero_all(out);
-        return 0;
-    }
-    end
+    written(out, end)
 }

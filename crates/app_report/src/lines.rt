@@ -26,11 +26,9 @@ fn put_bindings(out: &mut [u8], at: usize, panel: &[u8], bound: &[u16], n: usize
     ensures { Writes out.old out.new at result (word_lines panel.now bound.now 0 n) }
 {
     let mut end = at;
-    let mut k = 0;
-    while k < n {
+    for k in 0..n {
         let i = BOUND_WORDS * k;
         end = put_binding(out, end, panel, bound[i], bound[i + 1], bound[i + 2]);
-        k += 1;
     }
     end
 }

@@ -6,9 +6,9 @@
 // module itself, and each refusal from the reference of tools/beside, which was written from the document.
 #![tactic(auto)]
 
-ghost use Rattle.std.specs.Prelude.{◌<◌};
 ghost use Rattle.io.specs.Counts.{IsPrefixLen};
 
+use app_io::SHEET_ROOM;
 use std::env::Env;
 use std::rt::Files;
 
@@ -18,50 +18,22 @@ const SHOWN_MOST: usize = 20000;
 // Of Adler-32: the largest prime below 65,536.
 const PRIME: u32 = 65521;
 
-// The two sums of Adler-32: of the bytes, and of the first sum after each byte.
-#[derive(Drop)]
-struct Sums {
-    bytes: u32,
-    sums: u32,
-}
-
-fn wide(x: u8) -> u32
-    ensures { result < 256 }
-{
-    x as u32
-}
-
-fn add(s: Sums, x: u8) -> Sums
-    requires { (s.bytes < 65521) × (s.sums < 65521) }
-    ensures { (result.bytes < 65521) × (result.sums < 65521) }
-{
-    let bytes = (s.bytes + wide(x)) % PRIME;
-    let sums = (s.sums + bytes) % PRIME;
-    Sums { bytes, sums }
-}
-
+// Adler-32: the sum of the bytes, and above it the sum of what that was after each byte.
 fn checksum(text: &[u8]) -> u32 {
-    let mut s = Sums { bytes: 1, sums: 0 };
-    let mut i: usize = 0;
-    while i < text.len() {
-        s = add(s, text[i]);
-        i += 1;
+    let mut bytes = 1;
+    let mut sums = 0;
+    for &x in text {
+        bytes = (bytes + u32::from(x)) % PRIME;
+        sums = (sums + bytes) % PRIME;
     }
-    s.sums * 65536 + s.bytes
+    sums * 65536 + bytes
 }
 
 // How many bytes the first line has, without its end.
 fn first_line(text: &[u8]) -> usize
     ensures { IsPrefixLen result text.now }
 {
-    let mut i: usize = 0;
-    while i < text.len() {
-        if text[i] == b'\n' {
-            return i;
-        }
-        i += 1;
-    }
-    i
+    text.iter().position(|&c| c == b'\n').unwrap_or(text.len())
 }
 
 fn write_short(rt: &impl Print, text: &[u8]) -> std::io::Result<()> {
@@ -81,8 +53,10 @@ fn write(rt: &impl Print, text: &[u8]) -> std::io::Result<()> {
 
 fn list(rt: &impl Print, sheet: &[u8]) -> std::io::Result<()> {
     let mut out = app_io::huge_buffer();
-    let n = app_io::list(sheet, &mut out);
-    write(rt, &out[..n])
+    match app_io::list(sheet, &mut out) {
+        Some(n) => write(rt, &out[..n]),
+        None => Ok(()),
+    }
 }
 
 fn write_name(rt: &(impl Env + Print), i: usize) -> std::io::Result<()> {
@@ -94,21 +68,17 @@ fn write_name(rt: &(impl Env + Print), i: usize) -> std::io::Result<()> {
 }
 
 fn list_argument<R: Env + Files + Print + Eprint>(rt: &R, i: usize) -> std::io::Result<()> {
-    let mut sheet = app_io::sheet_buffer();
-    let input = app_io::read_argument(rt, i, &mut sheet);
-    if !input.good {
+    let mut sheet = [0u8; SHEET_ROOM];
+    let Some(n) = app_io::read_argument(rt, i, &mut sheet) else {
         return Ok(());
-    }
+    };
     write_name(rt, i)?;
-    let n = input.count;
     list(rt, &sheet[..n])
 }
 
 fn list_arguments<R: Env + Files + Print + Eprint>(rt: &R, count: usize) -> std::io::Result<()> {
-    let mut i: usize = 1;
-    while i < count {
+    for i in 1..count {
         list_argument(rt, i)?;
-        i += 1;
     }
     Ok(())
 }

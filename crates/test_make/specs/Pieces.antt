@@ -1,5 +1,5 @@
 -- Pieces of a file by their values: words, and the trailer of a sheet that has so many records. Rests on the format's sizes.
-use Rattle.std.specs.Prelude.{List, ◌++◌, ℕ, ◌+◌, ◌*◌, ◌%◌}
+use Rattle.std.specs.Prelude.{List, [], ◌∷◌, ◌++◌, ℕ, zero, suc, ◌+◌, ◌*◌, ◌%◌}
 use Rattle.base_words.specs.Words.{word_bytes}
 use Rattle.spec_rules.specs.Limits.{type_size, constructor_size, entry_size, pattern_size, child_size, clause_size, sheet_trailer}
 use Rattle.test_make.specs.declared.Sizes.{Sizes}
@@ -9,11 +9,14 @@ use Rattle.test_make.specs.declared.Sizes.{Sizes}
 abbrev pub low_word : ℕ → List ℕ
 low_word x = word_bytes (x % 65536)
 
-abbrev pub three_words : ℕ → ℕ → ℕ → List ℕ
-three_words x y z = low_word x ++ low_word y ++ low_word z
+abbrev pub words_of : List ℕ → List ℕ
+words_of [] = []
+words_of (x ∷ xs) = low_word x ++ words_of xs
 
-abbrev pub four_words : ℕ → ℕ → ℕ → ℕ → List ℕ
-four_words w x y z = low_word w ++ three_words x y z
+-- the words of n numbers from a on
+abbrev pub number_words : ℕ → ℕ → List ℕ
+number_words a zero = []
+number_words a (suc n) = low_word a ++ number_words (a + 1) n
 
 -- ---- a sheet: where its sections start, one behind the other
 abbrev pub constructors_from : Sizes → ℕ
@@ -43,6 +46,5 @@ sheet_size n = trailer_at n + sheet_trailer
 -- "where each section starts, the subject's type, the length"
 abbrev pub trailer_of : Sizes → ℕ → List ℕ
 trailer_of n subject =
-    four_words 0 (constructors_from n) (entries_from n) (patterns_from n)
-    ++ four_words (children_from n) (clauses_from n) (pool_from n) subject
-    ++ low_word (sheet_size n)
+    words_of
+    (0 ∷ constructors_from n ∷ entries_from n ∷ patterns_from n ∷ children_from n ∷ clauses_from n ∷ pool_from n ∷ subject ∷ sheet_size n ∷ [])

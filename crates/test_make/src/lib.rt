@@ -2,74 +2,62 @@
 // Each contract is one store at a place; a store past the end changes nothing, so none asks for room.
 #![tactic(auto)]
 
-ghost use Rattle.std.specs.Prelude.{◌≡◌, ◌-◌, min};
+ghost use Rattle.std.specs.Prelude.{◌≡◌, ◌-◌};
 ghost use Rattle.base_words.specs.Stored.{stored};
-ghost use Rattle.test_make.specs.Pieces.{low_word, three_words, four_words, trailer_at, trailer_of, sheet_size};
+ghost use Rattle.test_make.specs.Pieces.{low_word, words_of, number_words, trailer_at, trailer_of, sheet_size};
 
 use base_numbers::sheet::{
     CHILD_SIZE, CLAUSE_SIZE, CONSTRUCTOR_SIZE, ENTRY_SIZE, PATTERN_SIZE, SHEET_TRAILER, TYPE_SIZE,
 };
 
-// How many of n bytes from byte i on lie inside a buffer of this length.
-fn inside(length: usize, i: usize, n: usize) -> usize
-    ensures { result ≡ min n (length - i) }
-{
-    if length <= i {
-        return 0;
-    }
-    if length - i < n {
-        return length - i;
-    }
-    n
-}
-
 // The bytes of a text from byte i on.
 pub fn bytes(b: &mut [u8], i: usize, text: &[u8])
     ensures { b.new ≡ stored b.old i text.now }
 {
-    let n = inside(b.len(), i, text.len());
-    let mut k: usize = 0;
-    while k < n {
-        b[i + k] = text[k];
-        k += 1;
-    }
+    let from = i.min(b.len());
+    let n = text.len().min(b.len() - from);
+    b[from..from + n].copy_from_slice(&text[..n]);
 }
 
 // The word x at byte i; of a larger number its two low bytes.
 pub fn word(b: &mut [u8], i: usize, x: usize)
     ensures { b.new ≡ stored b.old i (low_word x) }
 {
-    let v = x % 65536;
-    let low = (v % 256) as u8;
-    let high = (v / 256) as u8;
-    bytes(b, i, &[low, high]);
+    let low = (x % 65536) as u16;
+    bytes(b, i, &low.to_le_bytes());
 }
 
-// Three words from byte i on: a type (its kind with its flag, first, count), or three type entries.
-pub fn three(b: &mut [u8], i: usize, x: usize, y: usize, z: usize)
-    ensures { b.new ≡ stored b.old i (three_words x y z) }
+// Words from byte i on: a type (its kind with its flag, first, count), a pattern or a record (its kind with the zero byte, a, first,
+// count), constructors, type entries, children or roots.
+pub fn words(b: &mut [u8], i: usize, xs: &[usize])
+    ensures { b.new ≡ stored b.old i (words_of xs.now) }
 {
-    if b.len() <= i {
-        return;
+    let mut at = i;
+    for &x in xs {
+        if b.len() <= at {
+            return;
+        }
+        word(b, at, x);
+        at += 2;
     }
-    word(b, i, x);
-    word(b, i + 2, y);
-    word(b, i + 4, z);
 }
 
-// Four words from byte i on: a pattern or a record (its kind with the zero byte, a, first, count), two constructors, or four children.
-pub fn four(b: &mut [u8], i: usize, w: usize, x: usize, y: usize, z: usize)
-    ensures { b.new ≡ stored b.old i (four_words w x y z) }
+// The numbers from `first` up to `end`, without it, as words from byte i on.
+pub fn numbers(b: &mut [u8], i: usize, first: usize, end: usize)
+    ensures { b.new ≡ stored b.old i (number_words first (end - first)) }
 {
-    if b.len() <= i {
-        return;
+    let mut at = i;
+    for x in first..end {
+        if b.len() <= at {
+            return;
+        }
+        word(b, at, x);
+        at += 2;
     }
-    word(b, i, w);
-    three(b, i + 2, x, y, z);
 }
 
 // How many records a sheet has; of the pool, how many bytes.
-#[derive(Drop)]
+#[derive(Clone, Copy, Default)]
 pub struct Sizes {
     pub types: u16,
     pub constructors: u16,
@@ -80,27 +68,16 @@ pub struct Sizes {
     pub pool: u16,
 }
 
-pub fn of(
-    types: u16,
-    constructors: u16,
-    entries: u16,
-    patterns: u16,
-    children: u16,
-    clauses: u16,
-    pool: u16,
-) -> Sizes
-    ensures { result ≡ record { types = types; constructors = constructors; entries = entries; patterns = patterns; children = children; clauses = clauses; pool = pool } }
-{
-    Sizes {
-        types,
-        constructors,
-        entries,
-        patterns,
-        children,
-        clauses,
-        pool,
-    }
-}
+// The least sheet: one type, one pattern, one clause.
+pub const ONE_CLAUSE: Sizes = Sizes {
+    types: 1,
+    constructors: 0,
+    entries: 0,
+    patterns: 1,
+    children: 0,
+    clauses: 1,
+    pool: 0,
+};
 
 // The trailer of a sheet of these sizes, and the length of the whole.
 pub fn end(b: &mut [u8], n: Sizes, subject: usize) -> usize
@@ -114,8 +91,20 @@ pub fn end(b: &mut [u8], n: Sizes, subject: usize) -> usize
     let pool = clauses + CLAUSE_SIZE * (n.clauses as usize);
     let at = pool + n.pool as usize;
     let length = at + SHEET_TRAILER;
-    four(b, at, 0, constructors, entries, patterns);
-    four(b, at + 8, children, clauses, pool, subject);
-    word(b, at + 16, length);
+    words(
+        b,
+        at,
+        &[
+            0,
+            constructors,
+            entries,
+            patterns,
+            children,
+            clauses,
+            pool,
+            subject,
+            length,
+        ],
+    );
     length
 }

@@ -2,53 +2,46 @@
 // The file stdout has the answers as 01 gives them, by hand.
 #![tactic(auto)]
 
+ghost use Rattle.std.specs.Prelude.{◌<◌, ◌≤◌, length};
+
 mod make;
 
 use fit::Fitted;
 use format_panel::{CheckedPanel, Located};
-use make::{chain, end, leaf, part, record, three, wide};
+use make::{chain, end, leaf, record, three, wide};
 use std::io;
-use test_make::four;
-
-fn say_refused(rt: &impl Print, number: u16, place: u16) -> io::Result<()> {
-    println!(rt; ": refused {number} {place}")
-}
-
-fn say_two(rt: &impl Print, words: &str, a: usize, b: usize) -> io::Result<()> {
-    print!(rt; "{words}{a} {b}")
-}
+use test_make::{ONE_CLAUSE, Sizes, words};
 
 // The check of a panel.
 fn check(rt: &impl Print, name: &str, panel: &[u8]) -> io::Result<()> {
-    print!(rt; "{name}")?;
     match format_panel::check(panel) {
         CheckedPanel::Accepted(map) => {
-            say_two(rt, ": accepted ", map.records.count, map.parts.count)?;
-            rt.write_all(b"\n")
+            println!(rt;
+                "{name}: accepted {} {}",
+                map.records.count, map.parts.count
+            )
         }
-        CheckedPanel::Refused { number, place } => say_refused(rt, number, place),
+        CheckedPanel::Refused { number, place } => println!(rt; "{name}: refused {number} {place}"),
     }
 }
 
 // The check of the first n bytes.
 fn check_first(rt: &impl Print, name: &str, b: &[u8], n: usize) -> io::Result<()> {
-    if n <= b.len() {
-        check(rt, name, &b[..n])?;
+    match b.get(..n) {
+        Some(panel) => check(rt, name, panel),
+        None => Ok(()),
     }
-    Ok(())
 }
 
 // The text call and its twin.
 fn text(rt: &impl Print, name: &str, panel: &[u8], r: u16, dropped: u16) -> io::Result<()> {
-    print!(rt; "{name}")?;
     match format_panel::text(panel, r, dropped) {
         Located::At { start, count } => {
-            say_two(rt, ": at ", start, count)?;
-            rt.write_all(b" `")?;
+            print!(rt; "{name}: at {start} {count} `")?;
             rt.write_all(format_panel::text_part(panel, r, dropped))?;
             rt.write_all(b"`\n")
         }
-        Located::Refused { number, place } => say_refused(rt, number, place),
+        Located::Refused { number, place } => println!(rt; "{name}: refused {number} {place}"),
     }
 }
 
@@ -60,49 +53,41 @@ fn text_first(
     r: u16,
     dropped: u16,
 ) -> io::Result<()> {
-    if n <= b.len() {
-        text(rt, name, &b[..n], r, dropped)?;
+    match b.get(..n) {
+        Some(panel) => text(rt, name, panel, r, dropped),
+        None => Ok(()),
     }
-    Ok(())
 }
 
 // The fit check.
 fn fit(rt: &impl Print, name: &str, sheet: &[u8], panel: &[u8]) -> io::Result<()> {
-    print!(rt; "{name}")?;
     match fit::fit(sheet, panel) {
-        Fitted::Fits => println!(rt; ": fits"),
-        Fitted::Refused { number, place } => say_refused(rt, number, place),
+        Fitted::Fits => println!(rt; "{name}: fits"),
+        Fitted::Refused { number, place } => println!(rt; "{name}: refused {number} {place}"),
     }
 }
 
 fn fit_first(rt: &impl Print, name: &str, sheet: &[u8], b: &[u8], n: usize) -> io::Result<()> {
-    if n <= b.len() {
-        fit(rt, name, sheet, &b[..n])?;
+    match b.get(..n) {
+        Some(panel) => fit(rt, name, sheet, panel),
+        None => Ok(()),
     }
-    Ok(())
 }
 
 // ---- 21 and 22
 // One empty byte string, with n bytes of text that nobody has.
 fn with_pool(rt: &impl Print, name: &str, pool: u16) -> io::Result<()> {
     let mut b = [0u8; 20000];
-    record(&mut b, 0, 1, 0, 0, 0);
+    record(&mut b, 0, [1, 0, 0, 0]);
     let n = end(&mut b, 1, 0, pool);
     check_first(rt, name, &b, n)
 }
 
 // The same with 8 bytes after the record, and these starts and length in the trailer.
-fn with_trailer(
-    rt: &impl Print,
-    name: &str,
-    records_at: usize,
-    parts_at: usize,
-    pool_at: usize,
-    length: usize,
-) -> io::Result<()> {
+fn with_trailer(rt: &impl Print, name: &str, trailer: [usize; 4]) -> io::Result<()> {
     let mut b = [0u8; 24];
-    record(&mut b, 0, 1, 0, 0, 0);
-    four(&mut b, 16, records_at, parts_at, pool_at, length);
+    record(&mut b, 0, [1, 0, 0, 0]);
+    words(&mut b, 16, &trailer);
     check(rt, name, &b)
 }
 
@@ -110,7 +95,7 @@ fn lengths(rt: &impl Print) -> io::Result<()> {
     let b = [0u8; 7];
     check(rt, "7 bytes", &b)?;
     let mut c = [0u8; 8];
-    four(&mut c, 0, 0, 0, 0, 8);
+    words(&mut c, 0, &[0, 0, 0, 8]);
     check(rt, "8 bytes, no record", &c)?;
     with_pool(rt, "1 record", 0)?;
     with_pool(rt, "16384 bytes", 16368)?;
@@ -118,25 +103,29 @@ fn lengths(rt: &impl Print) -> io::Result<()> {
 }
 
 fn layouts(rt: &impl Print) -> io::Result<()> {
-    with_trailer(rt, "a pool of 8 bytes", 0, 8, 8, 24)?;
-    with_trailer(rt, "a trailer that tells another length", 0, 8, 8, 25)?;
-    with_trailer(rt, "records that start at 8", 8, 16, 16, 24)?;
-    with_trailer(rt, "a record that is cut", 0, 12, 16, 24)
+    with_trailer(rt, "a pool of 8 bytes", [0, 8, 8, 24])?;
+    with_trailer(rt, "a trailer that tells another length", [0, 8, 8, 25])?;
+    with_trailer(rt, "records that start at 8", [8, 16, 16, 24])?;
+    with_trailer(rt, "a record that is cut", [0, 12, 16, 24])
 }
 
 fn more_layouts(rt: &impl Print) -> io::Result<()> {
-    with_trailer(rt, "a part that is cut", 0, 8, 11, 24)?;
-    with_trailer(rt, "a pool that starts before the parts", 0, 8, 0, 24)?;
-    with_trailer(rt, "a pool that starts past the trailer", 0, 8, 18, 24)
+    with_trailer(rt, "a part that is cut", [0, 8, 11, 24])?;
+    with_trailer(rt, "a pool that starts before the parts", [0, 8, 0, 24])?;
+    with_trailer(rt, "a pool that starts past the trailer", [0, 8, 18, 24])
 }
 
-fn with_records(rt: &impl Print, name: &str, n: u16) -> io::Result<()> {
+fn with_records(rt: &impl Print, name: &str, n: u16) -> io::Result<()>
+    requires { 0 < n }
+{
     let mut b = [0u8; 8192];
     let length = wide(&mut b, n);
     check_first(rt, name, &b, length)
 }
 
-fn with_depth(rt: &impl Print, name: &str, n: u16) -> io::Result<()> {
+fn with_depth(rt: &impl Print, name: &str, n: u16) -> io::Result<()>
+    requires { 0 < n }
+{
     let mut b = [0u8; 512];
     let length = chain(&mut b, n);
     check_first(rt, name, &b, length)
@@ -155,64 +144,54 @@ fn counts(rt: &impl Print) -> io::Result<()> {
 fn shape(
     rt: &impl Print,
     name: &str,
-    kind: u16,
-    a: u16,
-    first: u16,
-    count: u16,
-    list_first: u16,
-    list_count: u16,
-    part_0: u16,
-    part_1: u16,
+    root: [usize; 4],
+    list: [usize; 2],
+    parts: [usize; 2],
 ) -> io::Result<()> {
     let mut b = [0u8; 64];
-    record(&mut b, 0, kind, a, first, count);
-    record(&mut b, 1, 2, 0, list_first, list_count);
-    record(&mut b, 2, 1, 0, 0, 0);
-    part(&mut b, 3, 0, part_0);
-    part(&mut b, 3, 1, part_1);
+    let [first, count] = list;
+    record(&mut b, 0, root);
+    record(&mut b, 1, [2, 0, first, count]);
+    record(&mut b, 2, [1, 0, 0, 0]);
+    words(&mut b, 24, &parts);
     let n = end(&mut b, 3, 2, 0);
     check_first(rt, name, &b, n)
 }
 
 fn parts(rt: &impl Print) -> io::Result<()> {
-    shape(rt, "a pair", 3, 0, 0, 2, 0, 0, 1, 2)?;
-    shape(rt, "a list in a tuple", 4, 0, 0, 1, 1, 1, 1, 2)?;
+    shape(rt, "a pair", [3, 0, 0, 2], [0, 0], [1, 2])?;
+    shape(rt, "a list in a tuple", [4, 0, 0, 1], [1, 1], [1, 2])?;
     shape(
         rt,
         "a record that is two parts and one that is none",
-        3,
-        0,
-        0,
-        2,
-        0,
-        0,
-        1,
-        1,
+        [3, 0, 0, 2],
+        [0, 0],
+        [1, 1],
     )?;
-    shape(rt, "a part past the records", 3, 0, 0, 2, 0, 0, 1, 3)?;
-    shape(rt, "the root as a part", 3, 0, 0, 2, 0, 0, 1, 0)
+    shape(rt, "a part past the records", [3, 0, 0, 2], [0, 0], [1, 3])?;
+    shape(rt, "the root as a part", [3, 0, 0, 2], [0, 0], [1, 0])
 }
 
 fn lists(rt: &impl Print) -> io::Result<()> {
-    shape(rt, "a part in no list", 4, 0, 0, 1, 0, 0, 1, 2)?;
-    shape(rt, "a part in two lists", 4, 0, 0, 2, 1, 1, 1, 2)?;
-    shape(rt, "a record in its own list", 4, 0, 0, 1, 1, 1, 1, 1)?;
-    shape(rt, "a list past the parts", 2, 0, 1, 2, 0, 0, 1, 2)?;
-    shape(rt, "an empty list from 1", 3, 0, 0, 2, 1, 0, 1, 2)
+    shape(rt, "a part in no list", [4, 0, 0, 1], [0, 0], [1, 2])?;
+    shape(rt, "a part in two lists", [4, 0, 0, 2], [1, 1], [1, 2])?;
+    shape(rt, "a record in its own list", [4, 0, 0, 1], [1, 1], [1, 1])?;
+    shape(rt, "a list past the parts", [2, 0, 1, 2], [0, 0], [1, 2])?;
+    shape(rt, "an empty list from 1", [3, 0, 0, 2], [1, 0], [1, 2])
 }
 
 fn fields(rt: &impl Print) -> io::Result<()> {
-    shape(rt, "a pair of one", 3, 0, 0, 1, 1, 1, 1, 2)?;
-    shape(rt, "kind 6", 6, 0, 0, 2, 0, 0, 1, 2)?;
-    shape(rt, "a zero byte of 1", 259, 0, 0, 2, 0, 0, 1, 2)?;
-    shape(rt, "a list with a", 2, 1, 0, 2, 0, 0, 1, 2)?;
-    shape(rt, "constructor 1", 5, 1, 0, 2, 0, 0, 1, 2)
+    shape(rt, "a pair of one", [3, 0, 0, 1], [1, 1], [1, 2])?;
+    shape(rt, "kind 6", [6, 0, 0, 2], [0, 0], [1, 2])?;
+    shape(rt, "a zero byte of 1", [259, 0, 0, 2], [0, 0], [1, 2])?;
+    shape(rt, "a list with a", [2, 1, 0, 2], [0, 0], [1, 2])?;
+    shape(rt, "constructor 1", [5, 1, 0, 2], [0, 0], [1, 2])
 }
 
 // A root that has no part: kind, first and count.
-fn lone(rt: &impl Print, name: &str, kind: u16, first: u16, count: u16) -> io::Result<()> {
+fn lone(rt: &impl Print, name: &str, kind: usize, first: usize, count: usize) -> io::Result<()> {
     let mut b = [0u8; 24];
-    record(&mut b, 0, kind, 0, first, count);
+    record(&mut b, 0, [kind, 0, first, count]);
     let n = end(&mut b, 1, 0, 4);
     check_first(rt, name, &b, n)
 }
@@ -225,7 +204,9 @@ fn roots(rt: &impl Print) -> io::Result<()> {
 }
 
 // ---- 24
-fn integer(rt: &impl Print, name: &str, digits: &[u8]) -> io::Result<()> {
+fn integer(rt: &impl Print, name: &str, digits: &[u8]) -> io::Result<()>
+    requires { length digits.now ≤ 1000 }
+{
     let mut b = [0u8; 256];
     let n = leaf(&mut b, 0, digits);
     check_first(rt, name, &b, n)
@@ -234,7 +215,7 @@ fn integer(rt: &impl Print, name: &str, digits: &[u8]) -> io::Result<()> {
 // A byte string of n zero bytes.
 fn byte_string(rt: &impl Print, name: &str, n: u16) -> io::Result<()> {
     let mut b = [0u8; 256];
-    record(&mut b, 0, 1, 0, 0, n);
+    record(&mut b, 0, [1, 0, 0, usize::from(n)]);
     let length = end(&mut b, 1, 0, n);
     check_first(rt, name, &b, length)
 }
@@ -291,21 +272,33 @@ fn positions(rt: &impl Print) -> io::Result<()> {
 // One clause, a discard, on type 1. Types: 0 Int; 1 a tuple of types 0 and 2; 2 Data of two constructors, the first without a field,
 // the second with one of type 0.
 fn sheet(b: &mut [u8]) {
-    test_make::three(b, 6, 4, 0, 2);
-    test_make::three(b, 12, 5, 0, 2);
-    four(b, 18, 0, 0, 2, 1);
-    test_make::three(b, 26, 0, 2, 0);
-    test_make::end(b, test_make::of(3, 2, 3, 1, 0, 1, 0), 1);
+    words(b, 6, &[4, 0, 2]);
+    words(b, 12, &[5, 0, 2]);
+    words(b, 18, &[0, 0, 2, 1]);
+    words(b, 26, &[0, 2, 0]);
+    let sizes = Sizes {
+        types: 3,
+        constructors: 2,
+        entries: 3,
+        ..ONE_CLAUSE
+    };
+    test_make::end(b, sizes, 1);
 }
 
 // A root of the kind given, of the integer `7` and a constructor, whose one part is the `7` of the kind given.
-fn fitting(rt: &impl Print, name: &str, root: u16, number: u16, field: u16) -> io::Result<()> {
+fn fitting(
+    rt: &impl Print,
+    name: &str,
+    root: usize,
+    number: usize,
+    field: usize,
+) -> io::Result<()> {
     let mut b = [0u8; 64];
-    record(&mut b, 0, root, 0, 0, 2);
-    record(&mut b, 1, 0, 0, 0, 1);
-    record(&mut b, 2, 5, number, 2, 1);
-    record(&mut b, 3, field, 0, 0, 1);
-    four(&mut b, 32, 1, 2, 3, 55);
+    record(&mut b, 0, [root, 0, 0, 2]);
+    record(&mut b, 1, [0, 0, 0, 1]);
+    record(&mut b, 2, [5, number, 2, 1]);
+    record(&mut b, 3, [field, 0, 0, 1]);
+    words(&mut b, 32, &[1, 2, 3, 55]);
     let n = end(&mut b, 4, 3, 1);
     let mut s = [0u8; 60];
     sheet(&mut s);

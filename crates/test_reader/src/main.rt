@@ -3,22 +3,23 @@
 
 use format_sheet_reader::{Clause, clause_pattern};
 use std::io;
-use test_make::{end, four, of, word};
+use test_make::{ONE_CLAUSE, Sizes, end, word, words};
 
 // One type, Int, the subject's; pattern 0 is the variable of name 7, pattern 1 a discard; clause 0 has root 1, clause 1 has root 0.
 fn sheet(b: &mut [u8]) {
-    four(b, 6, 1, 7, 0, 0);
+    words(b, 6, &[1, 7, 0, 0]);
     word(b, 22, 1);
-    end(b, of(1, 0, 0, 2, 0, 2, 0), 0);
+    let sizes = Sizes {
+        patterns: 2,
+        clauses: 2,
+        ..ONE_CLAUSE
+    };
+    end(b, sizes, 0);
 }
 
 fn show(rt: &impl Print, name: &str, sheet: &[u8], c: u16) -> io::Result<()> {
     match clause_pattern(sheet, c) {
-        Clause::At(r) => {
-            let kind = r.kind;
-            let a = r.a;
-            println!(rt; "{name}: kind {kind} a {a}")
-        }
+        Clause::At(r) => println!(rt; "{name}: kind {} a {}", r.kind, r.a),
         Clause::NoClause => println!(rt; "{name}: no clause"),
         Clause::Refused { number, place } => println!(rt; "{name}: refused {number} {place}"),
     }

@@ -2,20 +2,23 @@
 // The file stdout has the answers as 01 gives them, by hand.
 #![tactic(auto)]
 
+ghost use Rattle.std.specs.Prelude.{◌<◌, length};
+
 mod make;
 
 use format_sheet::CheckedSheet;
 use make::{clauses, list_of, nested};
 use std::io;
-use test_make::{Sizes, bytes, end, four, of, three, word};
+use test_make::{ONE_CLAUSE, Sizes, bytes, end, word, words};
 
 // ---- a case
 fn check(rt: &impl Print, name: &str, sheet: &[u8]) -> io::Result<()> {
     match format_sheet::check(sheet) {
         CheckedSheet::Accepted(map) => {
-            let patterns = map.patterns.count;
-            let clauses = map.clauses.count;
-            println!(rt; "{name}: accepted {patterns} {clauses}")
+            println!(rt;
+                "{name}: accepted {} {}",
+                map.patterns.count, map.clauses.count
+            )
         }
         CheckedSheet::Refused { number, place } => println!(rt; "{name}: refused {number} {place}"),
     }
@@ -23,10 +26,10 @@ fn check(rt: &impl Print, name: &str, sheet: &[u8]) -> io::Result<()> {
 
 // The first n bytes.
 fn check_first(rt: &impl Print, name: &str, b: &[u8], n: usize) -> io::Result<()> {
-    if n <= b.len() {
-        check(rt, name, &b[..n])?;
+    match b.get(..n) {
+        Some(sheet) => check(rt, name, sheet),
+        None => Ok(()),
     }
-    Ok(())
 }
 
 // ---- 2 to 5: sheets of zeros, which are types Int, constructors of no field, type entries of type 0, discards, and roots 0
@@ -39,22 +42,80 @@ fn sized(rt: &impl Print, name: &str, n: Sizes) -> io::Result<()> {
 fn lengths(rt: &impl Print) -> io::Result<()> {
     let b = [0u8; 17];
     check(rt, "17 bytes", &b)?;
-    sized(rt, "18 bytes", of(0, 0, 0, 0, 0, 0, 0))?;
-    sized(rt, "one clause", of(1, 0, 0, 1, 0, 1, 0))?;
-    sized(rt, "8192 bytes", of(1, 0, 0, 1, 0, 1, 8158))?;
-    sized(rt, "8193 bytes", of(1, 0, 0, 1, 0, 1, 8159))
+    sized(rt, "18 bytes", Sizes::default())?;
+    sized(rt, "one clause", ONE_CLAUSE)?;
+    sized(
+        rt,
+        "8192 bytes",
+        Sizes {
+            pool: 8158,
+            ..ONE_CLAUSE
+        },
+    )?;
+    sized(
+        rt,
+        "8193 bytes",
+        Sizes {
+            pool: 8159,
+            ..ONE_CLAUSE
+        },
+    )
 }
 
 fn counts(rt: &impl Print) -> io::Result<()> {
-    sized(rt, "64 types", of(64, 0, 0, 1, 0, 1, 0))?;
-    sized(rt, "65 types", of(65, 0, 0, 1, 0, 1, 0))?;
-    sized(rt, "128 constructors", of(1, 128, 0, 1, 0, 1, 0))?;
-    sized(rt, "129 constructors", of(1, 129, 0, 1, 0, 1, 0))?;
-    sized(rt, "256 type entries", of(1, 0, 256, 1, 0, 1, 0))?;
-    sized(rt, "257 type entries", of(1, 0, 257, 1, 0, 1, 0))
+    sized(
+        rt,
+        "64 types",
+        Sizes {
+            types: 64,
+            ..ONE_CLAUSE
+        },
+    )?;
+    sized(
+        rt,
+        "65 types",
+        Sizes {
+            types: 65,
+            ..ONE_CLAUSE
+        },
+    )?;
+    sized(
+        rt,
+        "128 constructors",
+        Sizes {
+            constructors: 128,
+            ..ONE_CLAUSE
+        },
+    )?;
+    sized(
+        rt,
+        "129 constructors",
+        Sizes {
+            constructors: 129,
+            ..ONE_CLAUSE
+        },
+    )?;
+    sized(
+        rt,
+        "256 type entries",
+        Sizes {
+            entries: 256,
+            ..ONE_CLAUSE
+        },
+    )?;
+    sized(
+        rt,
+        "257 type entries",
+        Sizes {
+            entries: 257,
+            ..ONE_CLAUSE
+        },
+    )
 }
 
-fn listed(rt: &impl Print, name: &str, n: u16) -> io::Result<()> {
+fn listed(rt: &impl Print, name: &str, n: u16) -> io::Result<()>
+    requires { n < 65535 }
+{
     let mut b = [0u8; 9000];
     let length = list_of(&mut b, n);
     check_first(rt, name, &b, length)
@@ -69,8 +130,22 @@ fn with_clauses(rt: &impl Print, name: &str, n: u16) -> io::Result<()> {
 fn more_counts(rt: &impl Print) -> io::Result<()> {
     listed(rt, "192 patterns, 191 children", 191)?;
     listed(rt, "193 patterns, 192 children", 192)?;
-    sized(rt, "192 children, all pattern 0", of(1, 0, 0, 1, 192, 1, 0))?;
-    sized(rt, "193 children, all pattern 0", of(1, 0, 0, 1, 193, 1, 0))?;
+    sized(
+        rt,
+        "192 children, all pattern 0",
+        Sizes {
+            children: 192,
+            ..ONE_CLAUSE
+        },
+    )?;
+    sized(
+        rt,
+        "193 children, all pattern 0",
+        Sizes {
+            children: 193,
+            ..ONE_CLAUSE
+        },
+    )?;
     with_clauses(rt, "32 clauses", 32)?;
     with_clauses(rt, "33 clauses", 33)
 }
@@ -79,46 +154,46 @@ fn more_counts(rt: &impl Print) -> io::Result<()> {
 // Types: 0 Int, 1 Bytes, 2 List of 0, 3 Pair of 0 and 1, 4 Tuple of 2 and 5, 5 Data of constructor 0, of no field, and constructor
 // 1, with a field of type 3. The subject is 4.
 fn types(b: &mut [u8]) {
-    three(b, 6, 1, 0, 0);
-    three(b, 12, 2, 0, 1);
-    three(b, 18, 3, 1, 2);
-    three(b, 24, 4, 3, 2);
-    three(b, 30, 5, 0, 2);
+    words(b, 6, &[1, 0, 0]);
+    words(b, 12, &[2, 0, 1]);
+    words(b, 18, &[3, 1, 2]);
+    words(b, 24, &[4, 3, 2]);
+    words(b, 30, &[5, 0, 2]);
 }
 
 fn parts_of_types(b: &mut [u8]) {
-    four(b, 36, 0, 0, 5, 1);
-    three(b, 44, 0, 0, 1);
-    three(b, 50, 2, 5, 3);
+    words(b, 36, &[0, 0, 5, 1]);
+    words(b, 44, &[0, 0, 1]);
+    words(b, 50, &[2, 5, 3]);
 }
 
 // Clause 0: pattern 0, a tuple of 1 and 2; 1 a list with tail, of 3 and 4; 2 constructor 1 with 5; 3 the integer 1; 4 the variable
 // 7; 5 a pair of 6 and 7; 6 assigns 8 to the discard pattern 8; 7 the byte string ab.
 fn patterns_0_to_3(b: &mut [u8]) {
-    four(b, 56, 9, 0, 0, 2);
-    four(b, 64, 6, 0, 2, 2);
-    four(b, 72, 7, 1, 4, 1);
-    four(b, 80, 3, 0, 0, 1);
+    words(b, 56, &[9, 0, 0, 2]);
+    words(b, 64, &[6, 0, 2, 2]);
+    words(b, 72, &[7, 1, 4, 1]);
+    words(b, 80, &[3, 0, 0, 1]);
 }
 
 fn patterns_4_to_7(b: &mut [u8]) {
-    four(b, 88, 1, 7, 0, 0);
-    four(b, 96, 8, 0, 5, 2);
-    four(b, 104, 2, 8, 7, 1);
-    four(b, 112, 4, 0, 1, 2);
+    words(b, 88, &[1, 7, 0, 0]);
+    words(b, 96, &[8, 0, 5, 2]);
+    words(b, 104, &[2, 8, 7, 1]);
+    words(b, 112, &[4, 0, 1, 2]);
 }
 
 // Clause 1: pattern 9, a tuple of 10, the empty list, and 11, the variable 7. Clause 2: pattern 12, a discard.
 fn patterns_9_to_11(b: &mut [u8]) {
-    four(b, 128, 9, 0, 8, 2);
-    four(b, 136, 5, 0, 0, 0);
-    four(b, 144, 1, 7, 0, 0);
+    words(b, 128, &[9, 0, 8, 2]);
+    words(b, 136, &[5, 0, 0, 0]);
+    words(b, 144, &[1, 7, 0, 0]);
 }
 
 fn children_roots_and_pool(b: &mut [u8]) {
-    four(b, 160, 1, 2, 3, 4);
-    four(b, 168, 5, 6, 7, 8);
-    four(b, 176, 10, 11, 0, 9);
+    words(b, 160, &[1, 2, 3, 4]);
+    words(b, 168, &[5, 6, 7, 8]);
+    words(b, 176, &[10, 11, 0, 9]);
     word(b, 184, 12);
     bytes(b, 186, b"1ab");
 }
@@ -130,7 +205,19 @@ fn one_of_everything(b: &mut [u8]) -> usize {
     patterns_4_to_7(b);
     patterns_9_to_11(b);
     children_roots_and_pool(b);
-    end(b, of(6, 2, 6, 13, 10, 3, 3), 4)
+    end(
+        b,
+        Sizes {
+            types: 6,
+            constructors: 2,
+            entries: 6,
+            patterns: 13,
+            children: 10,
+            clauses: 3,
+            pool: 3,
+        },
+        4,
+    )
 }
 
 // The sheet with the word x at byte i.
@@ -227,22 +314,21 @@ fn children_and_roots(rt: &impl Print) -> io::Result<()> {
 }
 
 // One pattern of a kind, with n of three discards inside, of type Int: what keeps the shape does not fit.
-fn parent(rt: &impl Print, name: &str, kind: usize, n: u16) -> io::Result<()> {
+fn parent(rt: &impl Print, name: &str, kind: usize, n: u16) -> io::Result<()>
+    requires { n < 4 }
+{
     let mut b = [0u8; 256];
-    let count = n as usize;
-    four(&mut b, 6, kind, 0, 0, count);
-    three(&mut b, 14 + 8 * count, 1, 2, 3);
+    let count = usize::from(n);
+    words(&mut b, 6, &[kind, 0, 0, count]);
+    words(&mut b, 14 + 8 * count, &[1, 2, 3]);
     word(&mut b, 14 + 10 * count, 0);
-    let length = family(&mut b, n);
+    let sizes = Sizes {
+        patterns: n + 1,
+        children: n,
+        ..ONE_CLAUSE
+    };
+    let length = end(&mut b, sizes, 0);
     check_first(rt, name, &b, length)
-}
-
-fn family(b: &mut [u8], n: u16) -> usize {
-    if n < 4 {
-        end(b, of(1, 0, 0, n + 1, n, 1, 0), 0)
-    } else {
-        0
-    }
 }
 
 fn parents(rt: &impl Print) -> io::Result<()> {
@@ -260,14 +346,24 @@ fn parents(rt: &impl Print) -> io::Result<()> {
 // A child below its parent: pattern 1, a list of pattern 0.
 fn child_below(rt: &impl Print) -> io::Result<()> {
     let mut b = [0u8; 64];
-    four(&mut b, 14, 5, 0, 0, 1);
+    words(&mut b, 14, &[5, 0, 0, 1]);
     word(&mut b, 22, 0);
     word(&mut b, 24, 1);
-    let length = end(&mut b, of(1, 0, 0, 2, 1, 1, 0), 0);
+    let length = end(
+        &mut b,
+        Sizes {
+            patterns: 2,
+            children: 1,
+            ..ONE_CLAUSE
+        },
+        0,
+    );
     check_first(rt, "a child below its parent", &b, length)
 }
 
-fn with_depth(rt: &impl Print, name: &str, n: u16) -> io::Result<()> {
+fn with_depth(rt: &impl Print, name: &str, n: u16) -> io::Result<()>
+    requires { 0 < n }
+{
     let mut b = [0u8; 512];
     let length = nested(&mut b, n);
     check_first(rt, name, &b, length)
@@ -289,10 +385,19 @@ fn data(
     fields: usize,
 ) -> io::Result<()> {
     let mut b = [0u8; 128];
-    three(&mut b, 6, kind, 0, constructors);
-    three(&mut b, 12, kind, 0, constructors);
-    four(&mut b, 18, 0, fields, 0, fields);
-    let length = end(&mut b, of(3, 2, 2, 1, 0, 1, 0), 1);
+    words(&mut b, 6, &[kind, 0, constructors]);
+    words(&mut b, 12, &[kind, 0, constructors]);
+    words(&mut b, 18, &[0, fields, 0, fields]);
+    let length = end(
+        &mut b,
+        Sizes {
+            types: 3,
+            constructors: 2,
+            entries: 2,
+            ..ONE_CLAUSE
+        },
+        1,
+    );
     check_first(rt, name, &b, length)
 }
 
@@ -306,21 +411,20 @@ fn transparents(rt: &impl Print) -> io::Result<()> {
 
 // ---- 9
 // A pattern of kind 3 or 4 with this text, of type Int or Bytes: types 0 and 1.
-fn text(rt: &impl Print, name: &str, kind: usize, subject: usize, text: &[u8]) -> io::Result<()> {
+fn text(rt: &impl Print, name: &str, kind: usize, subject: usize, text: &[u8]) -> io::Result<()>
+    requires { length text.now < 100 }
+{
     let mut b = [0u8; 256];
-    three(&mut b, 6, 1, 0, 0);
-    four(&mut b, 12, kind, 0, 0, text.len());
+    words(&mut b, 6, &[1, 0, 0]);
+    words(&mut b, 12, &[kind, 0, 0, text.len()]);
     bytes(&mut b, 22, text);
-    let length = with_pool(&mut b, text.len(), subject);
+    let sizes = Sizes {
+        types: 2,
+        pool: text.len() as u16,
+        ..ONE_CLAUSE
+    };
+    let length = end(&mut b, sizes, subject);
     check_first(rt, name, &b, length)
-}
-
-fn with_pool(b: &mut [u8], pool: usize, subject: usize) -> usize {
-    if pool < 100 {
-        end(b, of(2, 0, 0, 1, 0, 1, pool as u16), subject)
-    } else {
-        0
-    }
 }
 
 fn integers(rt: &impl Print) -> io::Result<()> {

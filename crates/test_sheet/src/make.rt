@@ -1,48 +1,51 @@
 // Sheets made record by record, for the cases. Whatever would lie past the end of the buffer is left out.
-use test_make::{end, four, of, three, word};
+ghost use Rattle.std.specs.Prelude.{◌<◌};
+
+use test_make::{ONE_CLAUSE, Sizes, end, numbers, words};
 
 // A list of n discards, of type List of Int: pattern 0 with the patterns 1 to n.
-pub fn list_of(b: &mut [u8], n: u16) -> usize {
-    if 300 < n {
-        return 0;
-    }
-    three(b, 6, 2, 0, 1);
-    four(b, 14, 5, 0, 0, n as usize);
-    let mut j: u16 = 0;
-    while j < n {
-        word(b, (22 + 8 * n + 2 * j) as usize, (j + 1) as usize);
-        j += 1;
-    }
-    end(b, of(2, 0, 1, n + 1, n, 1, 0), 1)
+pub fn list_of(b: &mut [u8], n: u16) -> usize
+    requires { n < 65535 }
+{
+    let count = usize::from(n);
+    words(b, 6, &[2, 0, 1]);
+    words(b, 14, &[5, 0, 0, count]);
+    numbers(b, 22 + 8 * count, 1, count + 1);
+    let sizes = Sizes {
+        types: 2,
+        entries: 1,
+        patterns: n + 1,
+        children: n,
+        ..ONE_CLAUSE
+    };
+    end(b, sizes, 1)
 }
 
 // n clauses, each a discard of its own.
 pub fn clauses(b: &mut [u8], n: u16) -> usize {
-    if 300 < n {
-        return 0;
-    }
-    let mut c: u16 = 0;
-    while c < n {
-        word(b, (6 + 8 * n + 2 * c) as usize, c as usize);
-        c += 1;
-    }
-    end(b, of(1, 0, 0, n, 0, n, 0), 0)
+    let count = usize::from(n);
+    numbers(b, 6 + 8 * count, 0, count);
+    let sizes = Sizes {
+        patterns: n,
+        clauses: n,
+        ..ONE_CLAUSE
+    };
+    end(b, sizes, 0)
 }
 
 // n patterns, each but the last an assign of the next one.
-pub fn nested(b: &mut [u8], n: u16) -> usize {
-    if 20 < n {
-        return 0;
+pub fn nested(b: &mut [u8], n: u16) -> usize
+    requires { 0 < n }
+{
+    let count = usize::from(n);
+    for p in 0..count - 1 {
+        words(b, 6 + 8 * p, &[2, p, p, 1]);
     }
-    if n == 0 {
-        return 0;
-    }
-    let mut p: u16 = 0;
-    while p < n - 1 {
-        let q = p as usize;
-        four(b, 6 + 8 * q, 2, q, q, 1);
-        word(b, (6 + 8 * n + 2 * p) as usize, q + 1);
-        p += 1;
-    }
-    end(b, of(1, 0, 0, n, n - 1, 1, 0), 0)
+    numbers(b, 6 + 8 * count, 1, count);
+    let sizes = Sizes {
+        patterns: n,
+        children: n - 1,
+        ..ONE_CLAUSE
+    };
+    end(b, sizes, 0)
 }

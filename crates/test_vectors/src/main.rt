@@ -2,19 +2,18 @@
 // tree, and what the build and the listing give of each sheet has to be that to the letter. HOW.md says how the file was made.
 #![tactic(auto)]
 
-ghost use Rattle.std.specs.Prelude.{◌≡◌, ◌+◌, ◌≤◌, length};
+ghost use Rattle.std.specs.Prelude.{◌<◌, ◌≤◌, length, IfSome};
 
-use base_words::{same_text, word_at};
+use base_words::word_at;
 
 // The longest file that is replayed.
 const FILE_MOST: usize = 1048576;
 
-// Where a vector's sheet starts, where its listing does, and where it ends.
+// A sheet, and the listing of the Rust's tree.
 #[derive(Clone, Copy)]
-struct Vector {
-    start: usize,
-    split: usize,
-    end: usize,
+struct Vector<'a> {
+    sheet: &'a [u8],
+    listing: &'a [u8],
 }
 
 // How many vectors there were, how many of them differ, which differed first, counted from 1, and whether the file ends with the
@@ -23,76 +22,26 @@ struct Vector {
 struct Tally {
     vectors: usize,
     differ: usize,
-    first: usize,
+    first: Option<usize>,
     whole: bool,
 }
 
-fn none() -> Vector
-    ensures { (result.start ≤ result.split) × (result.split ≤ result.end) × (result.end ≤ 0) }
+// The first vector, and what stands behind it: the lengths of its sheet and of its listing, a word each, then these two. None where
+// the file ends or is cut.
+fn first_vector<'a>(all: &'a [u8]) -> Option<(Vector<'a>, &'a [u8])>
+    ensures { IfSome result (λ v. length v.1.now < length all.now) }
 {
-    Vector {
-        start: 0,
-        split: 0,
-        end: 0,
-    }
-}
-
-// The vector at `at`: the lengths of its sheet and of its listing, a word each, then these two. It ends at 0 where the file is cut.
-fn vector_at(all: &[u8], at: usize) -> Vector
-    ensures { (result.start ≤ result.split) × (result.split ≤ result.end) × (result.end ≤ length all.now) }
-{
-    if all.len() < 4 {
-        return none();
-    }
-    if all.len() - 4 < at {
-        return none();
-    }
-    let sheet = word_at(all, at) as usize;
-    let listing = word_at(all, at + 2) as usize;
-    if all.len() - 4 - at < sheet + listing {
-        return none();
-    }
-    Vector {
-        start: at + 4,
-        split: at + 4 + sheet,
-        end: at + 4 + sheet + listing,
-    }
+    let (lengths, rest) = all.split_at_checked(4)?;
+    let (sheet, rest) = rest.split_at_checked(usize::from(word_at(lengths, 0)))?;
+    let (listing, rest) = rest.split_at_checked(usize::from(word_at(lengths, 2)))?;
+    Some((Vector { sheet, listing }, rest))
 }
 
 // Whether the sheet's listing is the stored one.
-fn same(sheet: &[u8], stored: &[u8]) -> bool {
+fn same(vector: Vector) -> bool {
     let mut out = io::large_buffer();
-    let n = app_io::list(sheet, &mut out);
-    if n != stored.len() {
-        return false;
-    }
-    same_text(&out, 0, stored, 0, n)
-}
-
-fn same_at(all: &[u8], v: Vector) -> bool
-    requires { (v.start ≤ v.split) × (v.split ≤ v.end) × (v.end ≤ length all.now) }
-{
-    let start = v.start;
-    let split = v.split;
-    let end = v.end;
-    same(&all[start..split], &all[split..end])
-}
-
-// One vector more.
-fn tallied(t: Tally, is_same: bool) -> Tally
-    requires { (t.vectors ≤ 1048576) × (t.differ ≤ t.vectors) }
-    ensures { (result.vectors ≡ t.vectors + 1) × (result.differ ≤ result.vectors) }
-{
-    let mut next = t;
-    next.vectors = t.vectors + 1;
-    if is_same {
-        return next;
-    }
-    next.differ = t.differ + 1;
-    if t.differ == 0 {
-        next.first = t.vectors + 1;
-    }
-    next
+    let n = app_io::list(vector.sheet, &mut out).unwrap_or(0);
+    &out[..n] == vector.listing
 }
 
 fn replay(all: &[u8]) -> Tally
@@ -101,33 +50,27 @@ fn replay(all: &[u8]) -> Tally
     let mut t = Tally {
         vectors: 0,
         differ: 0,
-        first: 0,
+        first: None,
         whole: false,
     };
-    let mut at: usize = 0;
-    while at < all.len() {
-        let v = vector_at(all, at);
-        if v.end <= at {
-            return t;
+    let mut rest = all;
+    while let Some((vector, others)) = first_vector(rest) {
+        t.vectors += 1;
+        if !same(vector) {
+            t.differ += 1;
+            t.first = t.first.or(Some(t.vectors));
         }
-        t = tallied(t, same_at(all, v));
-        at = v.end;
+        rest = others;
     }
-    t.whole = true;
+    t.whole = rest.is_empty();
     t
-}
-
-fn say_number(rt: &impl Print, words: &str, n: usize) -> std::io::Result<()> {
-    print!(rt; "{words}{n}")
 }
 
 // One line.
 fn say(rt: &impl Print, t: Tally) -> std::io::Result<()> {
-    say_number(rt, "", t.vectors)?;
-    say_number(rt, " vectors, ", t.differ)?;
-    print!(rt; " differ")?;
-    if t.differ != 0 {
-        say_number(rt, ", the first is number ", t.first)?;
+    print!(rt; "{} vectors, {} differ", t.vectors, t.differ)?;
+    if let Some(first) = t.first {
+        print!(rt; ", the first is number {first}")?;
     }
     if !t.whole {
         print!(rt; ", and the file is cut")?;
@@ -147,10 +90,8 @@ fn main(rt: HostRuntime) -> std::io::Result<()> {
         return eprintln!(rt; "usage: vectors FILE");
     }
     let mut file = app_io::huge_buffer();
-    let input = app_io::read_argument(&rt, 1, &mut file);
-    if !input.good {
+    let Some(n) = app_io::read_argument(&rt, 1, &mut file) else {
         return Ok(());
-    }
-    let n = input.count;
+    };
     replay_file(&rt, &file[..n])
 }

@@ -6,11 +6,8 @@
 mod rows;
 mod say;
 
-ghost use Rattle.std.specs.Io.{ReadsAtMost};
-
-use rows::{copies, line_end, number, put_bytes};
+use rows::{copies, number, put_bytes};
 use say::walked;
-use std::io::Read;
 use test_make::bytes;
 
 // The bytes of a row stand behind its letter and its first number.
@@ -25,13 +22,10 @@ fn walk_row(
     tree: &[u8],
     panel: &[u8],
 ) -> std::io::Result<()> {
-    let mut fewer = [7u16; 575];
-    let mut least = [7u16; 576];
-    let mut more = [7u16; 577];
     match kind {
-        b'-' => walked(rt, line, tree, panel, &mut fewer),
-        b'+' => walked(rt, line, tree, panel, &mut more),
-        _ => walked(rt, line, tree, panel, &mut least),
+        b'-' => walked(rt, line, tree, panel, &mut [7; 575]),
+        b'+' => walked(rt, line, tree, panel, &mut [7; 577]),
+        _ => walked(rt, line, tree, panel, &mut [7; 576]),
     }
 }
 
@@ -43,22 +37,22 @@ fn do_row(
     tried: &mut [u8],
     panel: &mut [u8],
 ) -> std::io::Result<()> {
-    if line.len() < BYTES_AT {
+    let Some(text) = line.get(BYTES_AT..) else {
         return Ok(());
-    }
+    };
     let at = number(line, 1);
     let kind = line[0];
     match kind {
         b't' => {
-            put_bytes(line, BYTES_AT, tree, at);
-            put_bytes(line, BYTES_AT, tried, at);
+            put_bytes(text, tree, at);
+            put_bytes(text, tried, at);
         }
         b'*' => {
             copies(line, tree, at);
             bytes(tried, 0, tree);
         }
-        b'=' => put_bytes(line, BYTES_AT, tried, at),
-        b'p' => put_bytes(line, BYTES_AT, panel, at),
+        b'=' => put_bytes(text, tried, at),
+        b'p' => put_bytes(text, panel, at),
         b';' => {}
         _ => {
             walk_row(rt, kind, line, tried, panel)?;
@@ -75,33 +69,15 @@ fn do_rows(
     tried: &mut [u8],
     panel: &mut [u8],
 ) -> std::io::Result<()> {
-    let mut at: usize = 0;
-    while at < all.len() {
-        let end = line_end(all, at);
-        do_row(rt, &all[at..end], tree, tried, panel)?;
-        at = end + 1;
+    for line in all.split(|&c| c == b'\n') {
+        do_row(rt, line, tree, tried, panel)?;
     }
     Ok(())
 }
 
-// Reads until the buffer is full or the input ends.
-fn read_full(reader: &mut impl Read, buf: &mut [u8]) -> std::io::Result<usize>
-    ensures { ReadsAtMost result buf.new }
-{
-    let mut done = 0;
-    while done < buf.len() {
-        let n = reader.read(&mut buf[done..])?;
-        if n == 0 {
-            break;
-        }
-        done += n;
-    }
-    Ok(done)
-}
-
 fn main(rt: HostRuntime) -> std::io::Result<()> {
     let mut all = io::large_buffer();
-    let n = read_full(&mut rt.stdin(), &mut all)?;
+    let n = app_io::fill(&mut rt.stdin(), &mut all)?;
     let mut tree = io::large_buffer();
     let mut tried = io::large_buffer();
     let mut panel = io::large_buffer();

@@ -1,60 +1,34 @@
 // What the walk answers, written as a line. The buffer is filled beforehand; a word after the bindings that is not zero is said.
 use crate::rows::number;
 use base_numbers::refusals;
+use base_numbers::tree::BOUND_WORDS;
 use std::io;
 use walk::Walked;
 
-fn say_number(rt: &impl Print, x: u16) -> io::Result<()> {
-    print!(rt; "{x}")
-}
-
-// The numbers of a binding, from word k on.
-fn say_binding(rt: &impl Print, bound: &[u16], k: usize) -> io::Result<()> {
-    if bound.len() < 3 {
+fn say_binding(rt: &impl Print, binding: &[u16]) -> io::Result<()> {
+    let [name, record, dropped] = binding else {
         return Ok(());
-    }
-    if bound.len() - 3 < k {
-        return Ok(());
-    }
-    rt.write_all(b" (")?;
-    say_number(rt, bound[k])?;
-    rt.write_all(b", ")?;
-    say_number(rt, bound[k + 1])?;
-    rt.write_all(b", ")?;
-    say_number(rt, bound[k + 2])?;
-    rt.write_all(b")")
+    };
+    print!(rt; " ({name}, {record}, {dropped})")
 }
 
 // The first and the last of so many bindings, and those between where they are few.
-fn say_bindings(rt: &impl Print, bound: &[u16], count: u16) -> io::Result<()> {
-    let mut k: u16 = 0;
-    while k < count {
-        if k < 3 {
-            say_binding(rt, bound, 3 * k as usize)?;
-        }
-        k += 1;
+fn say_bindings(rt: &impl Print, bound: &[u16], count: usize) -> io::Result<()> {
+    for binding in bound.chunks_exact(BOUND_WORDS).take(count.min(3)) {
+        say_binding(rt, binding)?;
     }
     if 3 < count {
         rt.write_all(b" ..")?;
-        say_binding(rt, bound, 3 * (count - 1) as usize)?;
+        if let Some(last) = bound.chunks_exact(BOUND_WORDS).nth(count - 1) {
+            say_binding(rt, last)?;
+        }
     }
     Ok(())
 }
 
-// Whether every word from k on is zero.
-fn clear_from(bound: &[u16], from: usize) -> bool {
-    let mut k = from;
-    while k < bound.len() {
-        if bound[k] != 0 {
-            return false;
-        }
-        k += 1;
-    }
-    true
-}
-
+// Whether every word from `from` on is zero.
 fn say_rest(rt: &impl Print, bound: &[u16], from: usize) -> io::Result<()> {
-    if !clear_from(bound, from) {
+    if bound.iter().skip(from).any(|&word| word != 0) {
         rt.write_all(b", and a word that is not zero")?;
     }
     rt.write_all(b"\n")
@@ -64,32 +38,21 @@ fn say(rt: &impl Print, name: &[u8], answer: Walked, bound: &[u16]) -> io::Resul
     rt.write_all(name)?;
     match answer {
         Walked::Leaf { clause, count } => {
-            rt.write_all(b": leaf ")?;
-            say_number(rt, clause)?;
+            let count = usize::from(count);
+            print!(rt; ": leaf {clause}")?;
             say_bindings(rt, bound, count)?;
-            say_rest(rt, bound, 3 * count as usize)
+            say_rest(rt, bound, BOUND_WORDS * count)
         }
         Walked::NoLeaf => {
             rt.write_all(b": no leaf")?;
             say_rest(rt, bound, 0)
         }
         Walked::Stuck { node, step } => {
-            rt.write_all(b": refused ")?;
-            say_number(rt, refusals::STUCK)?;
-            rt.write_all(b" ")?;
-            say_number(rt, node)?;
-            rt.write_all(b" ")?;
-            say_number(rt, step)?;
+            print!(rt; ": refused {} {node} {step}", refusals::STUCK)?;
             say_rest(rt, bound, 0)
         }
-        Walked::Refused {
-            number: refusal,
-            place,
-        } => {
-            rt.write_all(b": refused ")?;
-            say_number(rt, refusal)?;
-            rt.write_all(b" ")?;
-            say_number(rt, place)?;
+        Walked::Refused { number, place } => {
+            print!(rt; ": refused {number} {place}")?;
             say_rest(rt, bound, 0)
         }
     }
@@ -105,17 +68,11 @@ pub fn walked(
     v: &[u8],
     bound: &mut [u16],
 ) -> io::Result<()> {
-    let tree = number(line, 1);
-    let panel = number(line, 6);
-    if t.len() < tree {
+    let tree = t.get(..number(line, 1));
+    let panel = v.get(..number(line, 6));
+    let (Some(tree), Some(panel), Some(name)) = (tree, panel, line.get(NAME_AT..)) else {
         return Ok(());
-    }
-    if v.len() < panel {
-        return Ok(());
-    }
-    if line.len() < NAME_AT {
-        return Ok(());
-    }
-    let answer = walk::walk(&t[..tree], &v[..panel], bound);
-    say(rt, &line[NAME_AT..], answer, bound)
+    };
+    let answer = walk::walk(tree, panel, bound);
+    say(rt, name, answer, bound)
 }

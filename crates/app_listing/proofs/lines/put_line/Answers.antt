@@ -2,9 +2,6 @@ use Rattle.app_listing.specs.WritingLaws.{writes_then, writes_as}
 use Rattle.app_listing.specs.RecordsLaws.{node_inside, node_line_lem}
 use Rattle.app_listing.proofs.lines.put_line.Goals as goal
 
-pub node_at-node-requires : goal.node_at-node-requires
-node_at-node-requires c = (c.requires.0, c.requires.1)
-
 pub put_node-end-requires : goal.put_node-end-requires
 put_node-end-requires c =
     (c.requires.0, node_inside c.requires.0 c.args.k c.requires.1 _ c.node_at-node.ensures)

@@ -2,9 +2,6 @@ use Rattle.app_listing.specs.WritingLaws.{writes_then, writes_as}
 use Rattle.app_listing.specs.RecordsLaws.{case_inside, case_line_lem}
 use Rattle.app_listing.proofs.parts.put_case.Goals as goal
 
-pub case_at-case-requires : goal.case_at-case-requires
-case_at-case-requires c = (c.requires.0.mapped, c.requires.1)
-
 pub put_test-end-requires : goal.put_test-end-requires
 put_test-end-requires c =
     (c.requires.0.mapped, case_inside c.requires.0 c.args.i c.requires.1 _ c.case_at-case.ensures)

@@ -1,24 +1,13 @@
-use native.Mathlib.Omega.{arith}
 use Rattle.app_listing.specs.WritingLaws.{begun, begun_more, begun_all}
 use Rattle.app_listing.specs.RecordsLaws.{run_start, cases_next, cases_none}
 use Rattle.spec_rules.specs.Listing.{cases_text}
-use borrow.Author.Rules.{rules}
 use Rattle.app_listing.proofs.parts.put_cases.Goals as goal
 
 pub loop-j-init : goal.loop-j-init
-loop-j-init c = (search rules, begun _ _ _ _ (run_start (cases_text _) _ _))
-
-pub overflow_add-i : goal.overflow_add-i
-overflow_add-i c = omega (arith, c.requires.0.mapped, c.requires.1)
-
-pub put_case-end-requires : goal.put_case-end-requires
-put_case-end-requires c = (c.requires.0, omega (arith, c.requires.1))
+loop-j-init c = begun _ _ _ _ (run_start (cases_text _) _ _)
 
 pub loop-j-preserved : goal.loop-j-preserved
-loop-j-preserved c = (search rules, begun_more c.loop-j.invariant.1 c.put_case-end.ensures _ (cases_next _ _ _ _ c.loop-j-test.true))
-
-pub shape_of-out : goal.shape_of-out
-shape_of-out c = c.loop-j.invariant.1.as_long
+loop-j-preserved c = begun_more c.loop-j.invariant c.put_case-end.ensures _ (cases_next _ _ _ _ c.loop-j-test.true)
 
 pub returns : goal.returns
-returns c = begun_all c.loop-j.invariant.1 (cases_none _ _ _ _ c.loop-j-test.false)
+returns c = begun_all c.loop-j.invariant (cases_none _ _ _ _ c.loop-j-test.false)

@@ -1,3 +1,4 @@
+use Rattle.std.proofs.Common.{rules}
 use Rattle.app_listing.specs.WritingLaws.{writes_as}
 use Rattle.app_listing.specs.RecordsLaws.{step_pair, step_tuple, step_constr, step_list, step_listtail}
 use Rattle.app_listing.proofs.parts.put_step.Goals as goal
@@ -20,4 +21,4 @@ returns-in-3 c = writes_as c.put_numbered-in-3.ensures
 
 pub returns-in_default : goal.returns-in_default
 returns-in_default c = writes_as c.put_numbered-in_default.ensures
-    (step_listtail _ _ _ c.step_at-step.ensures c.in_default.in_default-own.rest.0.0.0.1 c.in_default.in_default-own.rest.0.0.1 c.in_default.in_default-own.rest.0.1 c.in_default.in_default-own.rest.1)
+    (step_listtail _ _ _ c.step_at-step.ensures (search rules) (search rules) (search rules) (search rules))

@@ -1,11 +1,7 @@
-use Prim.Native.Nat.{◌≤◌, ◌-◌}
-use lib.ListN.{length, drop}
+use Rattle.std.specs.Prelude.{drop}
 use Rattle.spec_rules.specs.Listing.{hex}
 use Rattle.app_listing.specs.Writing.{Begun}
 use Rattle.app_listing.proofs.texts.put_hex.Given as goal
 
-abbrev pub invariant-loop-i : goal.invariant-loop-i
-invariant-loop-i l = (l.i ≤ length l.text) × Begun l.initial.out l.out l.at l.end (hex l.text) (hex (drop l.i l.text))
-
-abbrev pub decreases-loop-i : goal.decreases-loop-i
-decreases-loop-i l = length l.text - l.i
+abbrev pub invariant-loop-b : goal.invariant-loop-b
+invariant-loop-b l = Begun l.initial.out l.out l.at l.end (hex l.text) (hex (drop l.b-index l.text))

@@ -1,18 +1,13 @@
-use mathlib.Core.Path.{refl}
-use Rattle.app_listing.specs.TextsLaws.{bytes_none}
+use Rattle.std.specs.Prelude.{refl}
+use Rattle.std.proofs.lemmas.List.{drop_more, drop_all}
 use Rattle.app_listing.specs.WritingLaws.{begun, begun_more, begun_all}
-use Rattle.app_listing.specs.TextsLaws.{bytes_next}
-use borrow.Author.Rules.{rules}
 use Rattle.app_listing.proofs.texts.put_text.Goals as goal
 
-pub loop-i-init : goal.loop-i-init
-loop-i-init c = (search rules, begun _ _ _ _ refl)
+pub loop-b-init : goal.loop-b-init
+loop-b-init c = begun _ _ _ _ refl
 
-pub loop-i-preserved : goal.loop-i-preserved
-loop-i-preserved c = (search rules, begun_more c.loop-i.invariant.1 c.put-end.ensures _ (bytes_next _ _ c.loop-i-test.true))
-
-pub shape_of-out : goal.shape_of-out
-shape_of-out c = c.loop-i.invariant.1.as_long
+pub loop-b-preserved : goal.loop-b-preserved
+loop-b-preserved c = begun_more c.loop-b.invariant c.put-end.ensures _ (drop_more _ _ 0 c.loop-b-test.true)
 
 pub returns : goal.returns
-returns c = begun_all c.loop-i.invariant.1 (bytes_none _ _ c.loop-i-test.false)
+returns c = begun_all c.loop-b.invariant (drop_all _ _ c.loop-b-test.false)

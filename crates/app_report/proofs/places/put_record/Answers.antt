@@ -1,5 +1,5 @@
 -- `app_report::places::put_record` meets its contract: each arm is the text of its kind; a number of a record is a word.
-use native.Mathlib.Omega.{arith}
+use Rattle.std.proofs.Common.{rules, arith}
 use Rattle.base_words.specs.WordsLaws.{bytes_of_fits}
 use Rattle.app_listing.specs.WritingLaws.{writes_nothing, writes_as}
 use Rattle.app_report.specs.PlacesLaws.{int_is, bytes_is, list_is, pair_is, tuple_is, constr_is, unknown_is, count_small, a_small}
@@ -7,15 +7,15 @@ use Rattle.app_report.proofs.places.put_record.Goals as goal
 
 pub overflow_cast-x : goal.overflow_cast-x
 overflow_cast-x c =
-    omega (arith, count_small c.args.panel.now c.args.r c.args.dropped c.args.x c.requires (bytes_of_fits c.args.panel.now c.shared_slice_known-1.given))
+    omega (arith, count_small c.args.panel.now c.args.r c.args.dropped c.args.x c.requires (bytes_of_fits c.args.panel.now (search rules)))
 
 pub overflow_cast-x-in-4 : goal.overflow_cast-x-in-4
 overflow_cast-x-in-4 c =
-    omega (arith, count_small c.args.panel.now c.args.r c.args.dropped c.args.x c.requires (bytes_of_fits c.args.panel.now c.shared_slice_known-1.given))
+    omega (arith, count_small c.args.panel.now c.args.r c.args.dropped c.args.x c.requires (bytes_of_fits c.args.panel.now (search rules)))
 
 pub overflow_cast-x-in-5 : goal.overflow_cast-x-in-5
 overflow_cast-x-in-5 c =
-    omega (arith, a_small c.args.panel.now c.args.r c.args.dropped c.args.x c.requires (bytes_of_fits c.args.panel.now c.shared_slice_known-1.given))
+    omega (arith, a_small c.args.panel.now c.args.r c.args.dropped c.args.x c.requires (bytes_of_fits c.args.panel.now (search rules)))
 
 pub returns-in-0 : goal.returns-in-0
 returns-in-0 c =
@@ -45,4 +45,4 @@ pub returns-in_default : goal.returns-in_default
 returns-in_default c =
     writes_as (writes_nothing _ _)
     (unknown_is c.args.panel.now c.args.r c.args.dropped c.args.x c.requires
-    (omega (arith, c.in_default.in_default-own.rest.1, c.in_default.in_default-own.rest.0.1, c.in_default.in_default-own.rest.0.0.1, c.in_default.in_default-own.rest.0.0.0.1, c.in_default.in_default-own.rest.0.0.0.0.1, c.in_default.in_default-own.rest.0.0.0.0.0.1)))
+    (omega arith))

@@ -1,9 +1,0 @@
--- The buffer keeps its length, and what was read is a part of it; each turn leaves less to fill.
-use Rattle.std.proofs.Common.{length, ◌-◌, ◌≡◌, ◌≤◌}
-use Rattle.app_io.proofs.read_input.Given as goal
-
-abbrev pub invariant-loop-count : goal.invariant-loop-count
-invariant-loop-count g l = (length l.buf ≡ length l.initial.buf) × (l.count ≤ length l.buf)
-
-abbrev pub decreases-loop-count : goal.decreases-loop-count
-decreases-loop-count g l = length l.buf - l.count

@@ -1,9 +1,0 @@
--- The loop passes no more bytes than there are.
-use Rattle.std.proofs.Common.{length, ◌-◌, ◌≤◌}
-use Rattle.test_listings.proofs.first_line.Given as goal
-
-abbrev pub invariant-loop-i : goal.invariant-loop-i
-invariant-loop-i l = l.i ≤ length l.text
-
-abbrev pub decreases-loop-i : goal.decreases-loop-i
-decreases-loop-i l = length l.text - l.i
