@@ -1,16 +1,28 @@
 // Sections of whole records, and runs of records inside a section.
-// All on plain numbers: what a file says of its sections is read before.
-ghost use Rattle.std.specs.Prelude.{◌≡◌, ◌<◌, ◌≤◌};
+// On plain numbers, but for the starts, which a file's trailer has.
+ghost use Rattle.std.specs.Prelude.{◌≡◌, ◌+◌, ◌-◌, ◌*◌, ◌<◌, ◌≤◌, length};
+ghost use Rattle.base_words.specs.Words.{word_at};
 ghost use Rattle.spec_rules.specs.SheetFile.{run_in};
 ghost use Rattle.spec_rules.specs.SheetRefusals.{whole_records};
 ghost use Rattle.spec_rules.specs.TreeFile.{first_of};
 ghost use Rattle.format_parts.specs.Sections.{section_of};
+
+use base_numbers::WORD_SIZE;
+use base_words::word_at;
 
 // Where a section starts, and how many records it has; of a pool, how many bytes.
 #[derive(Clone, Copy)]
 pub struct Section {
     pub start: usize,
     pub count: usize,
+}
+
+// Start k of the trailer of so many bytes that a file ends with.
+pub fn start(file: &[u8], trailer: usize, k: usize) -> usize
+    requires { (trailer ≤ length file.now) × (2 * k + 2 ≤ trailer) }
+    ensures { result ≡ word_at file.now (length file.now - trailer + 2 * k) }
+{
+    word_at(file, file.len() - trailer + WORD_SIZE * k) as usize
 }
 
 // From `from` to `to` there are whole records of `size` bytes.

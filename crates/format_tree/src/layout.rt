@@ -1,15 +1,15 @@
 // Where the sections of a tree file start and how many records each has: "the length true, starts rising from 0, whole records".
 // Rests on the words of the trailer alone.
-ghost use Rattle.std.specs.Prelude.{◌≡◌, ◌<◌, ◌≤◌, length};
-ghost use Rattle.spec_rules.specs.Limits.{tree_trailer, tree_starts};
-ghost use Rattle.spec_rules.specs.TreeReader.{tree_start, length_true, starts_rise};
+ghost use Rattle.std.specs.Prelude.{◌≡◌, ◌≤◌, length};
+ghost use Rattle.spec_rules.specs.Limits.{tree_trailer};
+ghost use Rattle.spec_rules.specs.TreeReader.{length_true, starts_rise};
 ghost use Rattle.spec_accepted.specs.TreeFacts.{TreeLaid};
 ghost use Rattle.format_tree.specs.Reading.{map_of};
 
 use base_numbers::tree::{BINDING_SIZE, CASE_SIZE, NODE_SIZE, PATH_SIZE, STEP_SIZE, TREE_TRAILER};
 use base_numbers::{BYTE_SIZE, WORD_SIZE, tree_starts};
 use base_words::word_at;
-use format_parts::sections::{Section, section_of, whole_records};
+use format_parts::sections::{Section, section_of, start, whole_records};
 
 #[derive(Clone, Copy)]
 pub struct TreeMap {
@@ -19,14 +19,6 @@ pub struct TreeMap {
     pub paths: Section,
     pub steps: Section,
     pub pool: Section,
-}
-
-// Start k of the trailer.
-fn start(tree: &[u8], k: usize) -> usize
-    requires { (tree_trailer ≤ length tree.now) × (k < tree_starts) }
-    ensures { result ≡ tree_start tree.now k }
-{
-    word_at(tree, tree.len() - TREE_TRAILER + WORD_SIZE * k) as usize
 }
 
 // "the length true"
@@ -42,12 +34,12 @@ pub fn starts_rise(tree: &[u8]) -> bool
     requires { tree_trailer ≤ length tree.now }
     ensures { result ≡ starts_rise tree.now }
 {
-    let nodes = start(tree, tree_starts::NODES);
-    let cases = start(tree, tree_starts::CASES);
-    let bindings = start(tree, tree_starts::BINDINGS);
-    let paths = start(tree, tree_starts::PATHS);
-    let steps = start(tree, tree_starts::STEPS);
-    let pool = start(tree, tree_starts::POOL);
+    let nodes = start(tree, TREE_TRAILER, tree_starts::NODES);
+    let cases = start(tree, TREE_TRAILER, tree_starts::CASES);
+    let bindings = start(tree, TREE_TRAILER, tree_starts::BINDINGS);
+    let paths = start(tree, TREE_TRAILER, tree_starts::PATHS);
+    let steps = start(tree, TREE_TRAILER, tree_starts::STEPS);
+    let pool = start(tree, TREE_TRAILER, tree_starts::POOL);
     nodes == 0
         && whole_records(NODE_SIZE, nodes, cases)
         && whole_records(CASE_SIZE, cases, bindings)
@@ -62,12 +54,12 @@ pub fn sections(tree: &[u8]) -> TreeMap
     requires { TreeLaid tree.now }
     ensures { result ≡ map_of tree.now }
 {
-    let nodes_at = start(tree, tree_starts::NODES);
-    let cases_at = start(tree, tree_starts::CASES);
-    let bindings_at = start(tree, tree_starts::BINDINGS);
-    let paths_at = start(tree, tree_starts::PATHS);
-    let steps_at = start(tree, tree_starts::STEPS);
-    let pool_at = start(tree, tree_starts::POOL);
+    let nodes_at = start(tree, TREE_TRAILER, tree_starts::NODES);
+    let cases_at = start(tree, TREE_TRAILER, tree_starts::CASES);
+    let bindings_at = start(tree, TREE_TRAILER, tree_starts::BINDINGS);
+    let paths_at = start(tree, TREE_TRAILER, tree_starts::PATHS);
+    let steps_at = start(tree, TREE_TRAILER, tree_starts::STEPS);
+    let pool_at = start(tree, TREE_TRAILER, tree_starts::POOL);
     let nodes = section_of(nodes_at, cases_at, NODE_SIZE);
     let cases = section_of(cases_at, bindings_at, CASE_SIZE);
     let bindings = section_of(bindings_at, paths_at, BINDING_SIZE);

@@ -29,21 +29,20 @@ fn children_of(tree: &[u8], map: TreeMap, k: usize) -> Children
     requires { Ruled tree.now map × (k < map.nodes.count) }
     ensures { ChildrenAre tree.now map k result }
 {
-    let kind = node_kind(tree, map, k);
-    if kind == node_kinds::LEAF {
-        return Children::Nothing;
-    }
-    if kind == node_kinds::HOIST {
-        return Children::One(node_word(tree, map, k, node_words::CHILD) as usize);
-    }
-    let first = node_word(tree, map, k, node_words::FIRST_CASE) as usize;
-    let cases = node_word(tree, map, k, node_words::CASES) as usize;
-    let tails = node_word(tree, map, k, node_words::TAIL_CASES) as usize;
-    let default = node_word(tree, map, k, node_words::DEFAULT) as usize;
-    Children::Cases {
-        first,
-        count: cases + tails,
-        default,
+    match node_kind(tree, map, k) {
+        node_kinds::LEAF => Children::Nothing,
+        node_kinds::HOIST => Children::One(node_word(tree, map, k, node_words::CHILD) as usize),
+        _ => {
+            let first = node_word(tree, map, k, node_words::FIRST_CASE) as usize;
+            let cases = node_word(tree, map, k, node_words::CASES) as usize;
+            let tails = node_word(tree, map, k, node_words::TAIL_CASES) as usize;
+            let default = node_word(tree, map, k, node_words::DEFAULT) as usize;
+            Children::Cases {
+                first,
+                count: cases + tails,
+                default,
+            }
+        }
     }
 }
 

@@ -1,67 +1,42 @@
 -- `format_tree::layout::sections` meets its contract: each section reaches from its start to the next, and a file that is laid out has none that ends before it starts.
 -- Rests on the law that makes the map of such sections.
-use Rattle.spec_rules.specs.TreeReader.{tree_nodes_at, tree_cases_at, tree_bindings_at, tree_paths_at, tree_steps_at, tree_pool_at, tree_pool_end}
+use Rattle.spec_rules.specs.TreeReader.{tree_start, tree_nodes_at, tree_cases_at, tree_bindings_at, tree_paths_at, tree_steps_at, tree_pool_at, tree_pool_end}
 use Rattle.format_tree.specs.ReadingLaws.{map_is}
 use native.Mathlib.Omega.{arith}
 use Rattle.format_tree.proofs.layout.sections.Goals as goal
 
-pub start-nodes_at-requires : goal.start-nodes_at-requires
-start-nodes_at-requires c = (c.requires.length_least, omega arith)
-
-pub start-cases_at-requires : goal.start-cases_at-requires
-start-cases_at-requires c = (c.requires.length_least, omega arith)
-
-pub start-bindings_at-requires : goal.start-bindings_at-requires
-start-bindings_at-requires c =
-    (c.requires.length_least, omega arith)
-
-pub start-paths_at-requires : goal.start-paths_at-requires
-start-paths_at-requires c =
-    (c.requires.length_least, omega arith)
-
-pub start-steps_at-requires : goal.start-steps_at-requires
-start-steps_at-requires c =
-    (c.requires.length_least, omega arith)
-
-pub start-pool_at-requires : goal.start-pool_at-requires
-start-pool_at-requires c =
-    (c.requires.length_least, omega arith)
-
 pub section_of-nodes-requires : goal.section_of-nodes-requires
-unfolding tree_nodes_at tree_cases_at
+unfolding tree_start tree_nodes_at tree_cases_at
 section_of-nodes-requires c =
     (omega (arith, c.requires.nodes_end), omega arith)
 
 pub section_of-cases-requires : goal.section_of-cases-requires
-unfolding tree_cases_at tree_bindings_at
+unfolding tree_start tree_cases_at tree_bindings_at
 section_of-cases-requires c =
     (omega (arith, c.requires.cases_end), omega arith)
 
 pub section_of-bindings-requires : goal.section_of-bindings-requires
-unfolding tree_bindings_at tree_paths_at
+unfolding tree_start tree_bindings_at tree_paths_at
 section_of-bindings-requires c =
     (omega (arith, c.requires.bindings_end), omega arith)
 
 pub section_of-paths-requires : goal.section_of-paths-requires
-unfolding tree_paths_at tree_steps_at
+unfolding tree_start tree_paths_at tree_steps_at
 section_of-paths-requires c =
     (omega (arith, c.requires.paths_end), omega arith)
 
 pub section_of-steps-requires : goal.section_of-steps-requires
-unfolding tree_steps_at tree_pool_at
+unfolding tree_start tree_steps_at tree_pool_at
 section_of-steps-requires c =
     (omega (arith, c.requires.steps_end), omega arith)
 
-pub overflow_sub-tree : goal.overflow_sub-tree
-overflow_sub-tree c =
-    omega (arith, c.requires.length_least)
-
 pub section_of-pool-requires : goal.section_of-pool-requires
-unfolding tree_pool_at tree_pool_end
+unfolding tree_start tree_pool_at tree_pool_end
 section_of-pool-requires c =
     (omega (arith, c.requires.pool_end_holds), omega arith)
 
 pub returns : goal.returns
+unfolding tree_start
 returns c =
     map_is c.args.tree.now c.start-nodes_at.result c.start-cases_at.result c.start-bindings_at.result c.start-paths_at.result
     c.start-steps_at.result c.start-pool_at.result c.start-nodes_at.ensures c.start-cases_at.ensures c.start-bindings_at.ensures

@@ -9,6 +9,3 @@ binding_from-requires c =
     let w = c.requires.0 in
     let h = c.requires.1 in
     (bindings_lie w, sym (bindings_start w), omega (arith, h, bindings_count w))
-
-pub returns : goal.returns
-returns c = c.binding_from.ensures

@@ -9,6 +9,3 @@ path_from-requires c =
     let w = c.requires.0 in
     let h = c.requires.1 in
     (paths_lie w, sym (paths_start w), omega (arith, h, paths_count w))
-
-pub returns : goal.returns
-returns c = c.path_from.ensures

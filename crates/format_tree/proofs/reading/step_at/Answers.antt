@@ -9,6 +9,3 @@ step_from-requires c =
     let w = c.requires.0 in
     let h = c.requires.1 in
     (steps_lie w, sym (steps_start w), omega (arith, h, steps_count w))
-
-pub returns : goal.returns
-returns c = c.step_from.ensures

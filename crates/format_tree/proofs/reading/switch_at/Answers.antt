@@ -5,6 +5,7 @@ use Rattle.format_tree.specs.Reading.{node_of}
 use Rattle.format_tree.specs.ReadingLaws.{cases_count}
 use Rattle.format_tree.specs.NodesLaws.{switch_first_case}
 use Rattle.format_tree.specs.OrderLaws.{in_nodes}
+use Rattle.std.proofs.lemmas.Grind.{common_steps}
 use Rattle.format_tree.proofs.reading.switch_at.Goals as goal
 
 pub test_at-requires : goal.test_at-requires
@@ -16,12 +17,4 @@ test_at-requires c =
 
 pub returns : goal.returns
 unfolding node_of node_kind_of node_path node_first_case node_cases node_default
-returns c =
-    simp (
-      c.requires.2,
-      ← c.node_word-first.ensures,
-      ← c.node_word.ensures,
-      ← c.node_word-2.ensures,
-      ← c.node_word-3.ensures,
-      ← c.test_at.ensures,
-    )
+returns c = grind (arith, common_steps)
