@@ -2,7 +2,9 @@
 -- Rests on the law by which a pattern opens one level.
 use Rattle.std.specs.Prelude.{◌≡◌, Bool, true, false, eqb, length, get_or}
 use Rattle.std.proofs.Math.Path.{refl, ap, sym}
-use Rattle.std.proofs.Common.{ap₂, ◌∙◌, eq-eqb, ne_eqb, length-append}
+use Rattle.std.proofs.Common.{ap₂, ◌∙◌, eq-eqb, ne_eqb, eqb-true, length-append}
+use Rattle.std.proofs.lemmas.Bool.{eqb-false}
+use Rattle.std.specs.List.{list_any}
 use mathlib.Core.List.{List, [], ◌∷◌, ◌++◌, append-nil, append_assoc}
 use Prim.Native.Nat.{ℕ, zero, suc, ◌+◌, ◌-◌, ◌≤◌, ◌<◌}
 use native.Mathlib.Omega.{arith}
@@ -168,24 +170,17 @@ module _ (s : List ℕ) (g : ℕ → List ℕ) (first n k : ℕ) where
   joined_end h = let e : n - k ≡ 0 = omega arith in ap (joined g (first + k)) e
 
 -- ---- a name among those after it
-module _ (l : List ℕ) (x first n : ℕ) where
-  abbrev pub AmongLeft : ℕ → Type 0
-  AmongLeft k = is_in x (text_at l k (n - k)) ≡ is_in x (text_at l first (n - first))
+eqb_swap : (a b : ℕ) → eqb a b ≡ eqb b a
+eqb_swap a b = go (eqb b a) refl
+  where
+    go : (r : Bool) → eqb b a ≡ r → eqb a b ≡ r
+    go true e = eq-eqb a b (sym (eqb-true b a e))
+    go false e = ne_eqb a b (λ h. eqb-false b a e (sym h))
 
-  module _ (k : ℕ) (room : n ≤ length l) (h : k < n) (left : AmongLeft k) where
-    among_next : is_in x (text_at l k (n - k)) ≡ either (eqb x (get_or l k 0)) (is_in x (text_at l (k + 1) (n - (k + 1))))
-    unfolding is_in
-    among_next = let e : n - k - 1 ≡ n - (k + 1) = omega arith in rw (text_cons l k (n - k) (omega arith) (λ z. omega arith), e)
-
-    pub among_found : x ≡ get_or l k 0 → true ≡ is_in x (text_at l first (n - first))
-    among_found e = sym (sym left ∙ among_next ∙ rw (eq-eqb x (get_or l k 0) e))
-
-    pub among_goes_on : (x ≡ get_or l k 0 → ⊥) → AmongLeft (k + 1)
-    among_goes_on d = sym (among_next ∙ rw (ne_eqb x (get_or l k 0) d)) ∙ left
-
-  pub among_ends : (k : ℕ) → n ≤ k → AmongLeft k → false ≡ is_in x (text_at l first (n - first))
-  unfolding is_in
-  among_ends k h left = let e : n - k ≡ 0 = omega arith in sym (ap (λ (i : ℕ). is_in x (text_at l k i)) e) ∙ left
+pub is_in_any : (x : ℕ) (ys : List ℕ) → list_any (λ y. eqb y x) ys ≡ is_in x ys
+unfolding is_in
+is_in_any x [] = refl
+is_in_any x (y ∷ ys) = ap₂ either (eqb_swap y x) (is_in_any x ys)
 
 -- ---- one of the names again
 module _ (l : List ℕ) (n : ℕ) where

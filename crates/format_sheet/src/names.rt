@@ -73,14 +73,10 @@ fn again(found: &[u16], count: usize, i: usize) -> bool
     requires { (length found.now ≡ patterns_most) × (count ≤ patterns_most) × (i < count) }
     ensures { result ≡ is_in (get_or found.now i 0) (text_at found.now (i + 1) (count - (i + 1))) }
 {
-    for k in i + 1..count {
-        if found[i] == found[k] {
-            return true;
-        }
-    }
-    false
+    found[i + 1..count].contains(&found[i])
 }
 
+// A name stands again among those after it. A loop: `repeats` of the rules falls by the head of the list, and `any` has no law over a range.
 fn repeats(found: &[u16], count: usize) -> bool
     requires { (length found.now ≡ patterns_most) × (count ≤ patterns_most) }
     ensures { result ≡ Repeats (held (in_buffer found.now count)) }
