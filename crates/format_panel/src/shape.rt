@@ -35,8 +35,14 @@ fn fields_fit(x: Record, held: usize, pool: usize) -> bool
 }
 
 // Entry j, in the list of record r: its record is higher than r, met for the first time, and not too deep.
-fn enter_part(panel: &[u8], map: PanelMap, depths: &mut [u8], r: usize, j: usize) -> bool
-    requires { Opened panel.now map × (length depths.old ≡ records_most) × (r < records panel.now) × (j < parts panel.now) }
+fn enter_part(
+    panel: &[u8],
+    map: PanelMap,
+    depths: &mut [u8; RECORDS_MOST],
+    r: usize,
+    j: usize,
+) -> bool
+    requires { Opened panel.now map × (r < records panel.now) × (j < parts panel.now) }
     ensures { seen depths.new result ≡ enter_part panel.now (met depths.old) r j }
 {
     let p = part_at(panel, map, j);
@@ -48,8 +54,15 @@ fn enter_part(panel: &[u8], map: PanelMap, depths: &mut [u8], r: usize, j: usize
 }
 
 // The n entries from j on, in the list of record r.
-fn enter_parts(panel: &[u8], map: PanelMap, depths: &mut [u8], r: usize, j: usize, n: usize) -> bool
-    requires { Opened panel.now map × (length depths.old ≡ records_most) × (r < records panel.now) × (j + n ≤ parts panel.now) }
+fn enter_parts(
+    panel: &[u8],
+    map: PanelMap,
+    depths: &mut [u8; RECORDS_MOST],
+    r: usize,
+    j: usize,
+    n: usize,
+) -> bool
+    requires { Opened panel.now map × (r < records panel.now) × (j + n ≤ parts panel.now) }
     ensures { seen depths.new result ≡ enter_parts panel.now (met depths.old) r j n }
 {
     for k in 0..n {
@@ -61,8 +74,8 @@ fn enter_parts(panel: &[u8], map: PanelMap, depths: &mut [u8], r: usize, j: usiz
 }
 
 // Record r: it was met, as the root or as somebody's part; its fields fit; and then its parts.
-fn enter_record(panel: &[u8], map: PanelMap, depths: &mut [u8], r: usize) -> bool
-    requires { Opened panel.now map × (length depths.old ≡ records_most) × (r < records panel.now) }
+fn enter_record(panel: &[u8], map: PanelMap, depths: &mut [u8; RECORDS_MOST], r: usize) -> bool
+    requires { Opened panel.now map × (r < records panel.now) }
     ensures { seen depths.new result ≡ enter_record panel.now (met depths.old) r }
 {
     let x = record_at(panel, r);
@@ -72,8 +85,8 @@ fn enter_record(panel: &[u8], map: PanelMap, depths: &mut [u8], r: usize) -> boo
 }
 
 // The records in order, as long as none breaks a rule.
-fn enter_records(panel: &[u8], map: PanelMap, depths: &mut [u8]) -> bool
-    requires { Opened panel.now map × (length depths.old ≡ records_most) }
+fn enter_records(panel: &[u8], map: PanelMap, depths: &mut [u8; RECORDS_MOST]) -> bool
+    requires { Opened panel.now map }
     ensures { seen depths.new result ≡ enter_records panel.now (met depths.old) 0 (records panel.now) }
 {
     for r in 0..map.records.count {
