@@ -1,8 +1,7 @@
 // Refusal 23 of a panel: its shape, in one pass over the records in order and the parts of each in order. A part's number is
 // larger than its owner's, so that when a record is at hand its depth is known, or it is nobody's part. The depths are in one
 // buffer that is lent on, 0 for a record that was not met yet; each step answers whether no rule is broken.
-ghost use Rattle.std.specs.Prelude.{◌≡◌, List, ℕ, ◌+◌, ◌<◌, ◌≤◌, length};
-ghost use Rattle.spec_rules.specs.Limits.{records_most};
+ghost use Rattle.std.specs.Prelude.{◌≡◌, List, ℕ, ◌+◌, ◌<◌, ◌≤◌};
 ghost use Rattle.spec_rules.specs.PanelFile.{records, parts, panel_pool_size, panel_shape_fits};
 ghost use Rattle.format_panel.specs.Opened.{Opened, record_of};
 ghost use Rattle.format_panel.specs.Shape.{fields_fit, seen, met, enter_part, enter_parts, enter_record, enter_records};
@@ -65,6 +64,7 @@ fn enter_parts(
     requires { Opened panel.now map × (r < records panel.now) × (j + n ≤ parts panel.now) }
     ensures { seen depths.new result ≡ enter_parts panel.now (met depths.old) r j n }
 {
+    // no `all`: each step writes the depths, and a proof knows nothing of what a closure wrote
     for k in 0..n {
         if !enter_part(panel, map, depths, r, j + k) {
             return false;
@@ -89,6 +89,7 @@ fn enter_records(panel: &[u8], map: PanelMap, depths: &mut [u8; RECORDS_MOST]) -
     requires { Opened panel.now map }
     ensures { seen depths.new result ≡ enter_records panel.now (met depths.old) 0 (records panel.now) }
 {
+    // no `all`, as above
     for r in 0..map.records.count {
         if !enter_record(panel, map, depths, r) {
             return false;
