@@ -48,12 +48,9 @@ pub(crate) fn map_of(panel: &[u8]) -> PanelMap
     let records_at = start(panel, PANEL_TRAILER, panel_starts::RECORDS);
     let parts_at = start(panel, PANEL_TRAILER, panel_starts::PARTS);
     let pool_at = start(panel, PANEL_TRAILER, panel_starts::POOL);
-    let records = section_of(records_at, parts_at, RECORD_SIZE);
-    let parts = section_of(parts_at, pool_at, PART_SIZE);
-    let pool = section_of(pool_at, panel.len() - PANEL_TRAILER, BYTE_SIZE);
     PanelMap {
-        records,
-        parts,
-        pool,
+        records: section_of(records_at, parts_at, RECORD_SIZE),
+        parts: section_of(parts_at, pool_at, PART_SIZE),
+        pool: section_of(pool_at, panel.len() - PANEL_TRAILER, BYTE_SIZE),
     }
 }

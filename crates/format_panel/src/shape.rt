@@ -1,8 +1,7 @@
 // Refusal 23 of a panel: its shape, in one pass over the records in order and the parts of each in order. A part's number is
 // larger than its owner's, so that when a record is at hand its depth is known, or it is nobody's part. The depths are in one
 // buffer that is lent on, 0 for a record that was not met yet; each step answers whether no rule is broken.
-ghost use Rattle.std.specs.Prelude.{◌≡◌, List, ℕ, ◌+◌, ◌<◌, ◌≤◌, length};
-ghost use Rattle.spec_rules.specs.Limits.{records_most};
+ghost use Rattle.std.specs.Prelude.{◌≡◌, List, ℕ, ◌+◌, ◌<◌, ◌≤◌};
 ghost use Rattle.spec_rules.specs.PanelFile.{records, parts, panel_pool_size, panel_shape_fits};
 ghost use Rattle.format_panel.specs.Opened.{Opened, record_of};
 ghost use Rattle.format_panel.specs.Shape.{fields_fit, seen, met, enter_part, enter_parts, enter_record, enter_records};
@@ -35,8 +34,14 @@ fn fields_fit(x: Record, held: usize, pool: usize) -> bool
 }
 
 // Entry j, in the list of record r: its record is higher than r, met for the first time, and not too deep.
-fn enter_part(panel: &[u8], map: PanelMap, depths: &mut [u8], r: usize, j: usize) -> bool
-    requires { Opened panel.now map × (length depths.old ≡ records_most) × (r < records panel.now) × (j < parts panel.now) }
+fn enter_part(
+    panel: &[u8],
+    map: PanelMap,
+    depths: &mut [u8; RECORDS_MOST],
+    r: usize,
+    j: usize,
+) -> bool
+    requires { Opened panel.now map × (r < records panel.now) × (j < parts panel.now) }
     ensures { seen depths.new result ≡ enter_part panel.now (met depths.old) r j }
 {
     let p = part_at(panel, map, j);
@@ -48,10 +53,18 @@ fn enter_part(panel: &[u8], map: PanelMap, depths: &mut [u8], r: usize, j: usize
 }
 
 // The n entries from j on, in the list of record r.
-fn enter_parts(panel: &[u8], map: PanelMap, depths: &mut [u8], r: usize, j: usize, n: usize) -> bool
-    requires { Opened panel.now map × (length depths.old ≡ records_most) × (r < records panel.now) × (j + n ≤ parts panel.now) }
+fn enter_parts(
+    panel: &[u8],
+    map: PanelMap,
+    depths: &mut [u8; RECORDS_MOST],
+    r: usize,
+    j: usize,
+    n: usize,
+) -> bool
+    requires { Opened panel.now map × (r < records panel.now) × (j + n ≤ parts panel.now) }
     ensures { seen depths.new result ≡ enter_parts panel.now (met depths.old) r j n }
 {
+    // no `all`: each step writes the depths, and a proof knows nothing of what a closure wrote
     for k in 0..n {
         if !enter_part(panel, map, depths, r, j + k) {
             return false;
@@ -61,8 +74,8 @@ fn enter_parts(panel: &[u8], map: PanelMap, depths: &mut [u8], r: usize, j: usiz
 }
 
 // Record r: it was met, as the root or as somebody's part; its fields fit; and then its parts.
-fn enter_record(panel: &[u8], map: PanelMap, depths: &mut [u8], r: usize) -> bool
-    requires { Opened panel.now map × (length depths.old ≡ records_most) × (r < records panel.now) }
+fn enter_record(panel: &[u8], map: PanelMap, depths: &mut [u8; RECORDS_MOST], r: usize) -> bool
+    requires { Opened panel.now map × (r < records panel.now) }
     ensures { seen depths.new result ≡ enter_record panel.now (met depths.old) r }
 {
     let x = record_at(panel, r);
@@ -72,10 +85,11 @@ fn enter_record(panel: &[u8], map: PanelMap, depths: &mut [u8], r: usize) -> boo
 }
 
 // The records in order, as long as none breaks a rule.
-fn enter_records(panel: &[u8], map: PanelMap, depths: &mut [u8]) -> bool
-    requires { Opened panel.now map × (length depths.old ≡ records_most) }
+fn enter_records(panel: &[u8], map: PanelMap, depths: &mut [u8; RECORDS_MOST]) -> bool
+    requires { Opened panel.now map }
     ensures { seen depths.new result ≡ enter_records panel.now (met depths.old) 0 (records panel.now) }
 {
+    // no `all`, as above
     for r in 0..map.records.count {
         if !enter_record(panel, map, depths, r) {
             return false;

@@ -1,16 +1,14 @@
 -- Records read back: bytes of a record that stand at a place give its fields there, and the case that is read is the one that stands there.
 -- Rests on the laws of standing bytes; a record's bytes are as the tree file's definition writes them.
-use Rattle.std.specs.Prelude.{◌≡◌, refl, Bool, true, false, List, ◌++◌, ℕ, ◌+◌, ◌*◌, eqb}
-use Rattle.std.proofs.Common.{sym, ◌∙◌, arith, ne_eqb}
-use Rattle.base_words.specs.Words.{word_at, word_bytes, pick}
-use Rattle.spec_rules.specs.Kinds.{constr_case, int_case, bytes_case, list_case, list_with_tail_case}
+use Rattle.std.specs.Prelude.{◌≡◌, refl, List, ◌++◌, ℕ, ◌+◌, ◌*◌}
+use Rattle.std.proofs.Common.{sym, ◌∙◌, arith}
+use Rattle.base_words.specs.Words.{word_at, word_bytes}
 use Rattle.spec_rules.specs.Splitting as splitting
 use Rattle.spec_rules.specs.TreeFile.{node_bytes, case_bytes}
-use Rattle.spec_rules.specs.TreeReader.{List_with_tail_case, Unknown_case, case_kind_of}
+use Rattle.spec_rules.specs.TreeReader.{case_kind_of}
 use Rattle.spec_file.specs.StandingLaws.{Stands, byte_field, word_field}
 use Rattle.spec_file.specs.Writable.{test_kind}
 use Rattle.spec_file.specs.RecordsLaws.{test_number, test_length, case_fields, case_bytes_fields}
-use Rattle.format_records.specs.declared.reading.Test.{Test}
 use Rattle.format_records.specs.Records.{kind_in, zero_in, node_word_in, case_number_in, case_length_in, case_child_in, test_from, test_in, case_in, case_record, test_for}
 
 -- ---- nodes
@@ -58,16 +56,6 @@ case_fields_lem w at u start child s =
 
 pub case_is : (w : List ℕ) (at : ℕ) (u : splitting.Test) (start child : ℕ) → Stands w at (case_bytes u start child) → CaseIs w at u start child
 case_is w at u start child s = case_fields_lem w at u start child (rw (case_bytes_fields u start child) at s)
-
--- a kind past the fourth reads as the last
-pub last_test : (kind number count : ℕ) → (kind ≡ constr_case → ⊥) → (kind ≡ int_case → ⊥) → (kind ≡ bytes_case → ⊥) → (kind ≡ list_case → ⊥)
-    → Test.Tailed number ≡ test_from (case_kind_of kind) number count
-unfolding test_from case_kind_of
-last_test kind number count a b c d = rw (ne_eqb kind constr_case a, ne_eqb kind int_case b, ne_eqb kind bytes_case c, ne_eqb kind list_case d) (go (eqb kind list_with_tail_case))
-  where
-    go : (x : Bool) → Test.Tailed number ≡ test_from (pick x List_with_tail_case Unknown_case) number count
-    go true = refl
-    go false = refl
 
 test_fields : (u : splitting.Test) (start : ℕ) → test_from (case_kind_of (test_kind u)) (test_number start u) (test_length u) ≡ test_for start u
 unfolding test_from case_kind_of test_kind test_number test_length test_for

@@ -2,16 +2,14 @@
 -- Rests on the laws of stores; nothing here asks for room in the buffer that is written.
 use Rattle.std.specs.Prelude.{◌≡◌, List, [], ◌∷◌, ◌++◌, ℕ, ◌+◌}
 use Rattle.std.proofs.Math.Path.{refl, ap}
-use Rattle.std.proofs.Common.{sym, ◌∙◌, arith, add-one}
+use Rattle.std.proofs.Common.{◌∙◌, arith, add-one}
 use Rattle.std.proofs.Math.ListN.{set}
 use Rattle.base_words.specs.Words.{word_bytes}
 use Rattle.base_words.specs.Stored.{stored}
 use Rattle.base_words.specs.StoredLaws.{stored_append}
 use Rattle.spec_rules.specs.TreeFile.{node_bytes}
 use Rattle.spec_file.specs.RecordsLaws.{case_fields}
-use Rattle.format_records.specs.declared.reading.Test.{Test}
-use Rattle.format_records.specs.declared.reading.Case.{Case}
-use Rattle.format_records.specs.Records.{kind_of, number_of, length_of, case_record, step_record}
+use Rattle.format_records.specs.Records.{step_record}
 
 module _ (l : List ℕ) (at : ℕ) where
   pub head_stored : (kind next : ℕ) → set (set l at kind) (at + 1) next ≡ stored l at (kind ∷ next ∷ [])
@@ -44,9 +42,3 @@ module _ (l : List ℕ) (at : ℕ) where
       i
       ∙ ap (λ z. stored z (at + 2 + 8) (word_bytes e)) (h ∙ ap (λ z. stored z (at + 2 + 4) zs) (step_stored kind 0 a b f g) ∙ stored_append l at (at + 2 + 4) ys zs (omega arith))
       ∙ stored_append l at (at + 2 + 8) (ys ++ zs) (word_bytes e) (omega arith)
-
-  -- a case with a known test
-  pub case_stored : {l₁ : List ℕ} (x : Case) (t : Test) → x.test ≡ t → l₁ ≡ stored l at (case_fields (kind_of t) (number_of t) (length_of t) x.child)
-      → l₁ ≡ stored l at (case_record x)
-  unfolding case_record
-  case_stored x t e f = f ∙ ap (λ z. stored l at (case_fields (kind_of z) (number_of z) (length_of z) x.child)) (sym e)

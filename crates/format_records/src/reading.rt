@@ -90,6 +90,7 @@ pub fn case_child_in(b: &[u8], at: usize) -> u16
 }
 
 // What the case asks. A kind that is not known reads as the last.
+#[tactic(auto, unfolding(crate::specs::Records::test_in))]
 pub fn test_in(b: &[u8], at: usize) -> Test
     requires { at + case_size ≤ length b.now }
     ensures { result ≡ test_in b.now at }
@@ -99,13 +100,8 @@ pub fn test_in(b: &[u8], at: usize) -> Test
     let count = case_length_in(b, at);
     match kind {
         case_kinds::CONSTR => Test::Constr(number),
-        case_kinds::INT => Test::Text {
-            kind: case_kinds::INT,
-            start: number,
-            count,
-        },
-        case_kinds::BYTES => Test::Text {
-            kind: case_kinds::BYTES,
+        case_kinds::INT | case_kinds::BYTES => Test::Text {
+            kind,
             start: number,
             count,
         },
@@ -118,41 +114,40 @@ pub fn case_in(b: &[u8], at: usize) -> Case
     requires { at + case_size ≤ length b.now }
     ensures { result ≡ case_in b.now at }
 {
-    let test = test_in(b, at);
-    let child = case_child_in(b, at);
-    Case { test, child }
+    Case {
+        test: test_in(b, at),
+        child: case_child_in(b, at),
+    }
 }
 
 pub fn binding_in(b: &[u8], at: usize) -> Binding
     requires { at + binding_size ≤ length b.now }
     ensures { result ≡ binding_in b.now at }
 {
-    let name = word_at(b, at);
-    let path = word_at(b, at + tree_fields::BINDING_PATH);
-    Binding { name, path }
+    Binding {
+        name: word_at(b, at),
+        path: word_at(b, at + tree_fields::BINDING_PATH),
+    }
 }
 
 pub fn path_in(b: &[u8], at: usize) -> Path
     requires { at + path_size ≤ length b.now }
     ensures { result ≡ path_in b.now at }
 {
-    let first = word_at(b, at);
-    let count = word_at(b, at + tree_fields::PATH_COUNT);
-    Path { first, count }
+    Path {
+        first: word_at(b, at),
+        count: word_at(b, at + tree_fields::PATH_COUNT),
+    }
 }
 
 pub fn step_in(b: &[u8], at: usize) -> Step
     requires { at + step_size ≤ length b.now }
     ensures { result ≡ step_in b.now at }
 {
-    let kind = b[at];
-    let flag = b[at + tree_fields::FLAG];
-    let index = word_at(b, at + tree_fields::STEP_INDEX);
-    let of = word_at(b, at + tree_fields::STEP_TYPE);
     Step {
-        kind,
-        flag,
-        index,
-        of,
+        kind: b[at],
+        flag: b[at + tree_fields::FLAG],
+        index: word_at(b, at + tree_fields::STEP_INDEX),
+        of: word_at(b, at + tree_fields::STEP_TYPE),
     }
 }

@@ -52,13 +52,13 @@ pub fn put_case_fields(b: &mut [u8], at: usize, kind: u8, number: u16, count: u1
     put_word(b, at + tree_fields::CASE_CHILD, child);
 }
 
+#[tactic(auto, unfolding(crate::specs::Records::case_record))]
 pub fn put_case(b: &mut [u8], at: usize, case: Case)
     requires { at + case_size ≤ length b.old }
     ensures { b.new ≡ stored b.old at (case_record case) }
 {
-    let test = case.test;
     let child = case.child;
-    match test {
+    match case.test {
         Test::Constr(number) => put_case_fields(b, at, case_kinds::CONSTR, number, 0, child),
         Test::Text { kind, start, count } => put_case_fields(b, at, kind, start, count, child),
         Test::List(count) => put_case_fields(b, at, case_kinds::LIST, count, 0, child),

@@ -60,18 +60,12 @@ pub fn sections(tree: &[u8]) -> TreeMap
     let paths_at = start(tree, TREE_TRAILER, tree_starts::PATHS);
     let steps_at = start(tree, TREE_TRAILER, tree_starts::STEPS);
     let pool_at = start(tree, TREE_TRAILER, tree_starts::POOL);
-    let nodes = section_of(nodes_at, cases_at, NODE_SIZE);
-    let cases = section_of(cases_at, bindings_at, CASE_SIZE);
-    let bindings = section_of(bindings_at, paths_at, BINDING_SIZE);
-    let paths = section_of(paths_at, steps_at, PATH_SIZE);
-    let steps = section_of(steps_at, pool_at, STEP_SIZE);
-    let pool = section_of(pool_at, tree.len() - TREE_TRAILER, BYTE_SIZE);
     TreeMap {
-        nodes,
-        cases,
-        bindings,
-        paths,
-        steps,
-        pool,
+        nodes: section_of(nodes_at, cases_at, NODE_SIZE),
+        cases: section_of(cases_at, bindings_at, CASE_SIZE),
+        bindings: section_of(bindings_at, paths_at, BINDING_SIZE),
+        paths: section_of(paths_at, steps_at, PATH_SIZE),
+        steps: section_of(steps_at, pool_at, STEP_SIZE),
+        pool: section_of(pool_at, tree.len() - TREE_TRAILER, BYTE_SIZE),
     }
 }

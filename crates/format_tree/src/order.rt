@@ -80,6 +80,7 @@ fn end_of(tree: &[u8], map: TreeMap, k: usize) -> usize
     requires { Ruled tree.now map × (k < map.nodes.count) }
     ensures { result ≡ end_of tree.now k }
 {
+    // no counter: the last children are followed as far as they rise
     let mut at = k;
     let mut last = last_child(tree, map, k);
     while at < last {

@@ -45,6 +45,7 @@ fn switch_cases(tree: &[u8], map: TreeMap, k: usize) -> bool
     let first = node_word(tree, map, k, node_words::FIRST_CASE) as usize;
     let cases = node_word(tree, map, k, node_words::CASES) as usize;
     let tails = node_word(tree, map, k, node_words::TAIL_CASES) as usize;
+    // first, since the kind is that of the first case, and is read once for all of them
     if cases < 1 || tails != 0 {
         return false;
     }

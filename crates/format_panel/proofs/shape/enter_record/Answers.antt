@@ -15,7 +15,7 @@ enter_parts-requires c =
       | then-depths-r-gt0 w ↦ w.value-is ∙ met_fit v s c.args.r w.if-depths-r-gt0.true (w.fields_fit.ensures v c.args.r x.ensures c.requires.0.parts_are c.requires.0.pool_size)
       | else-depths-r-gt0 w ↦ w.value-is ∙ met_not v s c.args.r w.if-depths-r-gt0.false
     ] in
-    (c.requires.0, c.requires.1, c.requires.2, parts_inside v s c.args.r x.result x.ensures (sym is ∙ c.if-fields_fit.true) c.if-x-lt-LIST.false)
+    (c.requires.0, c.requires.1, parts_inside v s c.args.r x.result x.ensures (sym is ∙ c.if-fields_fit.true) c.if-x-lt-LIST.false)
 
 pub returns-then-x-lt-LIST : goal.returns-then-x-lt-LIST
 returns-then-x-lt-LIST c =
