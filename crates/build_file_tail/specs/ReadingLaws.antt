@@ -28,9 +28,6 @@ module _ {s : List ℕ} {m : SheetMap} {t : List ℕ} (ch : SheetAccepts s m) (t
   pub above_is : (above : ℕ) → above ≡ get_or t (above_at + p) 0 → above ≡ above_of s p
   above_is above e = e ∙ (tabled.placed p h).above
 
-  pub above_small : (above : ℕ) → above ≡ get_or t (above_at + p) 0 → above < patterns_most
-  above_small above e = omega (arith, above_is above e, above_known ch.ok p h, ch.ok.is_counted.patterns_most_holds)
-
   -- the type of the part stepped from
   pub above_type : (above type : ℕ) → above ≡ get_or t (above_at + p) 0 → type ≡ get_or t (type_at + above) 0 → type ≡ type_of s (above_of s p)
   above_type above type e f =

@@ -5,48 +5,21 @@ use Rattle.std.proofs.Common.{sym, ◌∙◌}
 use Rattle.std.proofs.Math.Path.{ap}
 use mathlib.Core.List.{List, [], ◌∷◌, ◌++◌, map}
 use native.Mathlib.Omega.{arith}
-use Rattle.std.proofs.Math.Nat.{add-zero, sub-zero}
-use borrow.Author.Tests.{eq-eqb, ne_eqb, le-leb, lt-leb}
+use Rattle.std.proofs.Math.Nat.{add-zero}
 use Rattle.base_words.specs.Words.{text_at}
 use Rattle.base_words.specs.Stored.{stored}
 use Rattle.spec_rules.specs.Limits.{path_size}
-use Rattle.spec_rules.specs.Kinds.{data_type, decorated_flag, constr_step}
 use Rattle.spec_rules.specs.SheetFile.{patterns, pool_at, pool_size, pool_text, pool}
-use Rattle.spec_rules.specs.Rows.{Path, bit}
+use Rattle.spec_rules.specs.Rows.{Path}
 use Rattle.spec_rules.specs.TreeFile.{paths_bytes}
 use Rattle.spec_file.specs.Writable.{steps_in}
-use Rattle.format_sheet.specs.declared.records.TypeRecord.{TypeRecord}
 use Rattle.format_sheet.specs.declared.SheetMap.{SheetMap}
 use Rattle.format_sheet.specs.SectionsLaws.{mapped}
 use Rattle.build_table.specs.Standing.{path_of}
 use Rattle.format_sheet.specs.Check.{SheetAccepts}
 use Rattle.build_table.specs.Tabled.{Tabled}
-use Rattle.build_file_tail.specs.Tail.{Puts, Begun, Used, used_paths, count_in, together, path_record, path_records, flag_of}
-use Rattle.build_file_tail.specs.StoringLaws.{begun, begun_more, begun_all, text_next, rest_next, rest_none}
-
--- ---- a flag, by the first test that fails
-module _ (step : ℕ) (ty : TypeRecord) where
-  pub flag_of_another_step : (step ≡ constr_step → ⊥) → 0 ≡ flag_of step ty
-  flag_of_another_step h = rw (ne_eqb step constr_step h)
-
-  module _ (is_constr : step ≡ constr_step) where
-    pub flag_of_no_data : (ty.kind ≡ data_type → ⊥) → 0 ≡ flag_of step ty
-    unfolding bit
-    flag_of_no_data h = rw (eq-eqb step constr_step is_constr, ne_eqb ty.kind data_type h)
-
-    module _ (is_data : ty.kind ≡ data_type) where
-      pub flag_of_several : (ty.count ≡ 1 → ⊥) → 0 ≡ flag_of step ty
-      unfolding bit
-      flag_of_several h = rw (eq-eqb step constr_step is_constr, eq-eqb ty.kind data_type is_data, ne_eqb ty.count 1 h)
-
-      module _ (is_one : ty.count ≡ 1) where
-        pub flag_of_undecorated : ty.flag < decorated_flag → 0 ≡ flag_of step ty
-        unfolding bit
-        flag_of_undecorated h = rw (eq-eqb step constr_step is_constr, eq-eqb ty.kind data_type is_data, eq-eqb ty.count 1 is_one, lt-leb decorated_flag ty.flag h)
-
-        pub flag_of_decorated : decorated_flag ≤ ty.flag → 1 ≡ flag_of step ty
-        unfolding bit
-        flag_of_decorated h = rw (eq-eqb step constr_step is_constr, eq-eqb ty.kind data_type is_data, eq-eqb ty.count 1 is_one, le-leb decorated_flag ty.flag h)
+use Rattle.build_file_tail.specs.Tail.{Puts, Begun, Used, used_paths, count_in, together, path_record, path_records}
+use Rattle.build_file_tail.specs.StoringLaws.{begun_more, begun_all, text_next, rest_next, rest_none}
 
 -- ---- path records
 records_paths : (first : ℕ) (ps : List Path) → path_records first (map length ps) ≡ paths_bytes first ps
@@ -96,12 +69,6 @@ module _ (t classes before : List ℕ) (at n : ℕ) where
   pub record Recorded (now : List ℕ) (first i : ℕ) : Type 0 where
     pub begun_so : Begun before now at (at + path_size * i) (path_records 0 (map (count_in t) (text_at classes 0 n))) (path_records first (map (count_in t) (text_at classes i (n - i))))
     pub counted : first + together (map (count_in t) (text_at classes i (n - i))) ≡ together (map (count_in t) (text_at classes 0 n))
-
-  pub recorded_none : Recorded before 0 0
-  recorded_none = record {
-    begun_so = rw (sub-zero n) (rw (add-zero at) (begun before at (path_records 0 (map (count_in t) (text_at classes 0 n))) (path_records 0 (map (count_in t) (text_at classes 0 n))) refl));
-    counted = rw (sub-zero n) (omega arith);
-  }
 
   module _ {now : List ℕ} {first i : ℕ} (r : Recorded now first i) where
     module _ (inside : n ≤ length classes) (l : i < n) where

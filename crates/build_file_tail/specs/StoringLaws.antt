@@ -1,11 +1,15 @@
 -- How stores of parts follow each other: a part behind a part, a whole by its parts in order, and the trailer by its words.
 -- Rests on Tail and the laws of stores; nothing here asks for room in the buffer that is written.
-use Rattle.std.specs.Prelude.{◌≡◌, refl, List, [], ◌∷◌, ◌++◌, ℕ, suc, ◌+◌, ◌-◌, ◌≤◌, ◌<◌, length, get_or, set}
-use Rattle.std.proofs.Common.{sym, ap, ◌∙◌, arith, add-zero, add-one, length-append, drop-cons}
+use Rattle.std.specs.Prelude.{◌≡◌, refl, List, [], ◌∷◌, ◌++◌, ℕ, suc, ◌+◌, ◌-◌, ◌≤◌, ◌<◌, length, get_or}
+use Rattle.std.proofs.Common.{sym, ap, ◌∙◌, arith, add-one, append_assoc, length-append, drop-cons, take, drop}
 use Rattle.std.proofs.Math.Nat.{sub-zero}
+use Rattle.std.proofs.lemmas.Slice.{put_mid-paste}
+use Rattle.std.proofs.lemmas.List.Edits.{paste_all}
+use borrow.Rule.Slice.PartMut.{put_mid}
 use Rattle.base_words.specs.Words.{word_bytes, text_at}
+use Rattle.base_words.specs.WordsLaws.{length_text_at}
 use Rattle.base_words.specs.Stored.{stored}
-use Rattle.base_words.specs.StoredLaws.{length_stored, stored_append, stored_nil}
+use Rattle.base_words.specs.StoredLaws.{length_stored, stored_append, stored_nil, stored_is}
 use Rattle.spec_rules.specs.Limits.{tree_trailer}
 use Rattle.build_file_tail.specs.Tail.{Puts, Begun, trailer_bytes}
 
@@ -90,29 +94,18 @@ module _ (l : List ℕ) (at : ℕ) where
       (puts_then (word_put (at + 10) (at + 12) pool f (omega arith)) (word_put (at + 12) (at + 14) (at + tree_trailer) g (omega arith)))))))
       ).is_stored
 
--- ---- one byte of a text
-pub byte_put : (l : List ℕ) (at x : ℕ) → Puts l (set l at x) at (at + 1) (x ∷ [])
-unfolding stored
-byte_put l at x = record { is_stored = refl; is_end = refl }
-
--- ---- a text of s copied byte by byte: i of `size` bytes are there
-module _ (s before : List ℕ) (at from size : ℕ) where
-  abbrev pub Copied : List ℕ → ℕ → Type 0
-  Copied now i = Begun before now at (at + i) (text_at s from size) (text_at s (from + i) (size - i))
-
-  pub copied_none : Copied before 0
-  copied_none = rw (add-zero at, add-zero from, sub-zero size) (begun before at (text_at s from size) (text_at s from size) refl)
-
-  module _ {now : List ℕ} (i : ℕ) (b : Copied now i) where
-    pub copied_more : from + size ≤ length s → i < size → Copied (set now (at + i) (get_or s (from + i) 0)) (i + 1)
-    copied_more room l =
-        let x = get_or s (from + i) 0 in
-        let e : from + i + 1 ≡ from + (i + 1) = omega arith in
-        let next : text_at s (from + i) (size - i) ≡ x ∷ text_at s (from + (i + 1)) (size - (i + 1)) = rest_next s (from + i) i size (omega arith) l ∙ rw e in
-        let put : Puts now (set now (at + i) x) (at + i) (at + (i + 1)) (x ∷ []) = record { is_stored = (byte_put now (at + i) x).is_stored; is_end = omega arith } in
-        begun_more b put (text_at s (from + (i + 1)) (size - (i + 1))) next
-
-    pub copied_all : i ≤ size → size ≤ i → Puts before now at (at + size) (text_at s from size)
-    copied_all h l =
-        let w = begun_all b (rest_none s (from + i) i size l) in
-        record { is_stored = w.is_stored; is_end = omega (arith, w.is_end) }
+-- ---- a text of s copied as a whole, as a copy to a part of the slice leaves it
+pub copied : (s l part : List ℕ) (at from size : ℕ) → from + size ≤ length s → at + size ≤ length l → part ≡ text_at s from (from + size - from)
+    → Puts l (put_mid at (at + size - at) l part) at (at + size) (text_at s from size)
+copied s l part at from size here there e =
+    let text = text_at s from size in
+    let long : length text ≡ size = length_text_at s from size here in
+    let same : part ≡ text = e ∙ ap (text_at s from) (omega arith) in
+    record {
+      is_stored =
+          put_mid-paste at (at + size - at) l part text (length text) same (omega (arith, long)) refl
+          ∙ paste_all l at text (length text) refl
+          ∙ sym (append_assoc (take at l) text (drop (at + length text) l))
+          ∙ sym (stored_is l at text (omega (arith, long)));
+      is_end = omega (arith, long);
+    }

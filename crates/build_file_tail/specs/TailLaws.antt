@@ -18,7 +18,7 @@ use Rattle.format_sheet.specs.declared.SheetMap.{SheetMap}
 use Rattle.build_table.specs.Standing.{path_of}
 use Rattle.build_table.specs.Table.{table_size}
 use Rattle.build_file_tail.specs.Tail.{Puts, Begun, Used, used_paths, count_in, together, path_records, trailer_bytes, tail_bytes, TailReady}
-use Rattle.build_file_tail.specs.StoringLaws.{length_put, puts_then, puts_as, begun, begun_more, begun_room, begun_all, rest_start, rest_next, rest_none}
+use Rattle.build_file_tail.specs.StoringLaws.{length_put, puts_then, puts_as, begun_more, begun_room, begun_all, rest_next, rest_none}
 use Rattle.build_file_tail.specs.RecordsLaws.{path_records_lem, path_counts, pool_size_lem, pool_room, pool_text_lem}
 use Rattle.build_file_tail.specs.FileLaws.{length_tail, length_trailer}
 
@@ -26,10 +26,6 @@ use Rattle.build_file_tail.specs.FileLaws.{length_tail, length_trailer}
 module _ (s classes before : List ℕ) (at n : ℕ) where
   abbrev pub Stepped : List ℕ → ℕ → ℕ → Type 0
   Stepped now end i = Begun before now at end (steps_bytes (used_paths s classes 0 n)) (steps_bytes (used_paths s classes i (n - i)))
-
-  pub stepped_none : Stepped before at 0
-  stepped_none = begun before at (steps_bytes (used_paths s classes 0 n)) (steps_bytes (used_paths s classes 0 (n - 0)))
-      (ap (λ (xs : List ℕ). steps_bytes (map (path_of s) xs)) (rest_start classes 0 n))
 
   module _ {now : List ℕ} {end i : ℕ} (b : Stepped now end i) where
     module _ (inside : n ≤ length classes) (l : i < n) (class : ℕ) (e : class ≡ get_or classes i 0) where

@@ -34,12 +34,9 @@ fn copy_pool(sheet: &[u8], map: SheetMap, tree: &mut [u8], at: usize) -> usize
 {
     let from = map.pool.start;
     let size = map.pool.count;
-    let mut i: usize = 0;
-    while i < size {
-        tree[at + i] = sheet[from + i];
-        i += 1;
-    }
-    at + size
+    let end = at + size;
+    tree[at..end].copy_from_slice(&sheet[from..from + size]);
+    end
 }
 
 fn put_number(tree: &mut [u8], at: usize, number: usize)

@@ -8,7 +8,6 @@ ghost use Rattle.build_table.specs.Table.{table_size};
 ghost use Rattle.build_file_tail.specs.Tail.{Puts, Used, count_in, together, path_record, path_records};
 
 use base_numbers::tree::PATH_SIZE;
-use base_words::wide;
 use build_table::DEPTH;
 use format_parts::sections::first_of;
 use format_records::writing::put_two_words;
@@ -33,12 +32,10 @@ pub(crate) fn put_paths(
     ensures { Puts tree.old tree.new at result (path_records 0 (map (count_in table.now) (text_at classes.now 0 count))) }
 {
     let mut first: u16 = 0;
-    let mut i: usize = 0;
-    while i < count {
-        let steps = wide(table[DEPTH + build_table::at(classes, i)]);
+    for i in 0..count {
+        let steps = u16::from(table[DEPTH + usize::from(classes[i])]);
         put_path(tree, at + PATH_SIZE * i, first, steps);
         first += steps;
-        i += 1;
     }
     at + PATH_SIZE * count
 }

@@ -10,7 +10,6 @@ ghost use Rattle.build_file_tail.specs.Tail.{Puts, Used, used_paths, own_steps, 
 
 use base_numbers::tree::STEP_SIZE;
 use base_numbers::{step_kinds, type_flags, type_kinds};
-use base_words::wide;
 use build_table::{ABOVE, DEPTH, INDEX, SAME, STEP, TYPE};
 use format_records::writing;
 use format_sheet::SheetMap;
@@ -20,19 +19,11 @@ use format_sheet::records::{TypeRecord, type_at};
 fn flag_of(step: u8, ty: TypeRecord) -> u8
     ensures { result ≡ flag_of step ty }
 {
-    if step != step_kinds::CONSTR {
-        return 0;
-    }
-    if ty.kind != type_kinds::DATA {
-        return 0;
-    }
-    if ty.count != 1 {
-        return 0;
-    }
-    if ty.flag < type_flags::DECORATED {
-        return 0;
-    }
-    1
+    let decorated = step == step_kinds::CONSTR
+        && ty.kind == type_kinds::DATA
+        && ty.count == 1
+        && ty.flag >= type_flags::DECORATED;
+    u8::from(decorated)
 }
 
 // The step to p itself, if there is one, so that it ends at `end`; where it starts.
@@ -53,10 +44,11 @@ fn put_step(
         return end;
     }
     let above = build_table::at(table, ABOVE + p);
-    let tipo = wide(table[TYPE + above]);
-    let flag = flag_of(step, type_at(sheet, map, tipo as usize));
+    let tipo = table[TYPE + above];
+    let flag = flag_of(step, type_at(sheet, map, usize::from(tipo)));
     let start = end - STEP_SIZE;
-    writing::put_step(tree, start, step, flag, wide(table[INDEX + p]), tipo);
+    let index = u16::from(table[INDEX + p]);
+    writing::put_step(tree, start, step, flag, index, u16::from(tipo));
     start
 }
 
@@ -98,10 +90,8 @@ pub(crate) fn put_all_steps(
     ensures { Puts tree.old tree.new at result (steps_bytes (used_paths sheet.now classes.now 0 count)) }
 {
     let mut end = at;
-    let mut i: usize = 0;
-    while i < count {
-        end = put_steps(sheet, map, table, build_table::at(classes, i), tree, end);
-        i += 1;
+    for i in 0..count {
+        end = put_steps(sheet, map, table, usize::from(classes[i]), tree, end);
     }
     end
 }

@@ -7,13 +7,13 @@ use borrow.Author.Tests.{eq-eqb, ne_eqb, eqb-true, eqb-false}
 use Rattle.std.proofs.Math.Seq.{slice}
 use Rattle.base_words.specs.Words.{pick}
 use Rattle.base_words.specs.WordsLaws.{pick_true, pick_false}
-use Rattle.spec_rules.specs.Limits.{patterns_most, children_most}
+use Rattle.spec_rules.specs.Limits.{patterns_most}
 use Rattle.spec_rules.specs.Kinds.{discard_pattern, variable_pattern, assign_pattern, constructor_pattern, tuple_pattern}
-use Rattle.spec_rules.specs.SheetFile.{patterns, children, clauses, pattern_kind, pattern_first, pattern_count, child, root}
+use Rattle.spec_rules.specs.SheetFile.{patterns, clauses, pattern_kind, pattern_first, pattern_count, child, root}
 use Rattle.spec_rules.specs.Patterns.{pattern_kind_of}
 use Rattle.spec_rules.specs.SheetRefusals.{has_children}
 use Rattle.spec_rules.specs.SplittingLaws.{All}
-use Rattle.spec_accepted.specs.SheetFacts.{Counted, Parent, Owns, Shaped, Accepted, assign_parent, many_parent, owned_entry, owned_pattern}
+use Rattle.spec_accepted.specs.SheetFacts.{Counted, Parent, Owns, Shaped, Accepted, assign_parent, many_parent, owned_pattern}
 use Rattle.format_sheet.specs.declared.SheetMap.{SheetMap}
 use Rattle.format_sheet.specs.declared.records.PatternRecord.{PatternRecord}
 use Rattle.format_sheet.specs.declared.records.Run.{Run}
@@ -177,24 +177,12 @@ abbrev pub each_from : List ℕ → ℕ → ℕ → ℕ → List ℕ
 each_from s j n k = binds_of_each s (j + k) (n - k)
 
 module _ (s : List ℕ) (j n : ℕ) where
-  pub each_first : each_from s j n 0 ≡ binds_of_each s j n
-  each_first = ap₂ (binds_of_each s) (omega arith) (omega arith)
-
   pub each_more : (k q : ℕ) → k < n → q ≡ child s (j + k) → each_from s j n k ≡ binds_of s q ++ each_from s j n (k + 1)
   each_more k q h e =
       binds_each_some s (j + k) (n - k) (omega arith) ∙ ap₂ ◌++◌ (ap (binds_of s) (sym e)) (ap₂ (binds_of_each s) (omega arith) (omega arith))
 
   pub each_none : (k : ℕ) → k ≡ n → each_from s j n k ≡ []
   each_none k e = ap (binds_of_each s (j + k)) (omega arith) ∙ binds_each_none s (j + k)
-
-module _ (s : List ℕ) (ok : Accepted s) (p j n : ℕ) (x : Entries s p j n) where
-  pub entry_below : (k q : ℕ) → k < n → q ≡ child s (j + k) → (j + k < children s) × (q < patterns s) × (p < q) × (j + k < children_most) × (q < patterns_most)
-  entry_below k q h e =
-      let own = x.owns (j + k) (omega arith) (omega arith) in
-      let entry = owned_entry ok.is_shaped p (j + k) x.known own in
-      let known = owned_pattern ok.is_shaped p (j + k) x.known own in
-      let above = ok.is_shaped.child_above p (j + k) x.known own in
-      (entry, omega arith, omega arith, omega (arith, ok.is_counted.children_most_holds), omega (arith, ok.is_counted.patterns_most_holds))
 
 -- ---- what a test opened
 -- a pattern's children, as they were read

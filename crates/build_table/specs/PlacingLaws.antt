@@ -2,14 +2,14 @@
 -- Rests on the facts of an accepted sheet and on Table.
 use Rattle.std.specs.Prelude.{◌≡◌, Bool, true, List, eqb, length, get_or}
 use Rattle.std.proofs.Math.Path.{refl, ap, ap₂}
-use Rattle.std.proofs.Common.{sym, ◌∙◌, ⊎_elim, length-set}
+use Rattle.std.proofs.Common.{sym, ◌∙◌, length-set}
 use Rattle.std.proofs.Math.Logic.{inl, inr}
 use Prim.Native.Nat.{ℕ, zero, suc, ◌+◌, ◌-◌, ◌*◌, ◌≤◌, ◌<◌}
 use native.Mathlib.Omega.{arith}
 use Rattle.base_words.specs.Words.{both, pick}
 use Rattle.spec_rules.specs.Limits.{patterns_most}
 use Rattle.spec_rules.specs.Kinds.{data_type, assign_pattern, list_pattern, list_with_tail_pattern, constructor_pattern, pair_pattern, tuple_pattern, pair_step, tuple_step, constr_step, list_step, listtail_step}
-use Rattle.spec_rules.specs.SheetFile.{constructors, patterns, entries, children, type_first, constructor_first, entry, pattern_kind, pattern_a, pattern_first, pattern_count, child}
+use Rattle.spec_rules.specs.SheetFile.{constructors, patterns, children, type_first, constructor_first, entry, pattern_kind, pattern_a, pattern_first, pattern_count, child}
 use Rattle.spec_rules.specs.Patterns.{PatternKind, Discard, Variable, Assign, Integer, ByteString, ListOfAll, ListWithRest, Constructor, Pair, Tuple, Unknown, one_constructor, constructor_of, pattern, fits}
 use Rattle.spec_rules.specs.SheetRefusals.{has_children}
 use Rattle.spec_accepted.specs.KindsLaws.{pattern_number, byte_pattern, pattern_byte}
@@ -71,31 +71,6 @@ module _ (s : List ℕ) (p step e stride owner n : ℕ) where
       let number : q ≡ child s (pattern_first s p + i) = eq ∙ ap (λ (k : ℕ). child s (k + i)) first in
       rw (eu, number, ev) (sym (placed_each_next t i l))
 
--- ---- what a loop over children asks
-module _ {s : List ℕ} {m : SheetMap} (ch : SheetAccepts s m) {p n e stride : ℕ} (parts : Parts s p n e stride) where
-  pub parts_owns : (i : ℕ) → i < n → Owns s p (pattern_first s p + i)
-  parts_owns i l = record { parent = parts.has; from = omega arith; to = omega (arith, parts.most) }
-
-  pub parts_entry : (i : ℕ) → i < n → pattern_first s p + i < children s
-  parts_entry i l = owned_entry ch.ok.is_shaped p (pattern_first s p + i) parts.known (parts_owns i l)
-
-  pub parts_type : (i : ℕ) → i < n → e + stride * i < entries s
-  parts_type i l = ⊎_elim (λ w. rw w.0 (omega (arith, w.1))) (λ w. rw w.0 (omega (arith, w.1))) parts.enough
-
-  pub parts_few : n ≤ patterns_most
-  parts_few = omega (arith, parts.most, (ch.ok.is_shaped.children_run p parts.known parts.has).inside, ch.ok.is_counted.children_most_holds)
-
-  -- of one child
-  pub parts_put : (i q v : ℕ) (r : PatternRecord) → i < n → r ≡ pattern_of s p → q ≡ child s (r.first + i) → v ≡ entry s (e + stride * i)
-      → (p < patterns_most) × (q < patterns_most) × (i < 256) × (v < 256)
-  parts_put i q v r l er eq ev =
-      let first : r.first ≡ pattern_first s p = ap (λ (x : PatternRecord). x.first) er in
-      let number : q ≡ child s (pattern_first s p + i) = eq ∙ ap (λ (k : ℕ). child s (k + i)) first in
-      let known = owned_pattern ch.ok.is_shaped p (pattern_first s p + i) parts.known (parts_owns i l) in
-      let most = ch.ok.is_counted.patterns_most_holds in
-      let typed = ch.ok.is_typed.entry_type (e + stride * i) (parts_type i l) in
-      (omega (arith, parts.known), omega arith, omega (arith, parts_few), omega (arith, ch.ok.is_counted.types_most_holds))
-
 -- ---- what the record of a pattern and of its type say, as the code has read them
 pub reading_here : {s : List ℕ} {m : SheetMap} {t : List ℕ} {p tipo : ℕ} {r : PatternRecord} {ty : TypeRecord} → SheetAccepts s m → length t ≡ table_size → p < patterns s → Placed s t p
     → r ≡ pattern_of s p → tipo ≡ get_or t (type_at + p) 0 → ty ≡ type_of_record s tipo → Reading s m t p r ty (get_or t (owner_at + p) 0)
@@ -122,9 +97,6 @@ module _ {s : List ℕ} {m : SheetMap} {t : List ℕ} {p : ℕ} {r : PatternReco
 
   pub known_small : p + 1 < 256
   known_small = omega (arith, rd.known, rd.checked.ok.is_counted.patterns_most_holds)
-
-  pub reading_owned : Reading s m t p r ty (owner_of s p)
-  reading_owned = record { checked = rd.checked; long = rd.long; known = rd.known; is_pattern = rd.is_pattern; is_type = rd.is_type; is_owner = refl }
 
   -- ---- which children are placed, by the kind byte
   pub list_of_parts : r.kind ≡ list_pattern → Parts s p r.count ty.first 0

@@ -7,9 +7,8 @@ pub put_paths-steps-requires : goal.put_paths-steps-requires
 put_paths-steps-requires c =
     let asked = paths_asked c.requires in record { table_len = asked.0; count_bound = asked.1 }
 
-pub put_all_steps-pool-requires : goal.put_all_steps-pool-requires
-put_all_steps-pool-requires c =
-    let r = c.requires in record { sheet_accepts = (r.checked, r.tabled, r.used); count_in_bounds = steps_asked r c.put_paths-steps.ensures }
+pub put_all_steps-pool-requires-clause-count_in_bounds : goal.put_all_steps-pool-requires-clause-count_in_bounds
+put_all_steps-pool-requires-clause-count_in_bounds c = steps_asked c.requires c.put_paths-steps.ensures
 
 pub copy_pool-end-requires : goal.copy_pool-end-requires
 copy_pool-end-requires c =
