@@ -1,5 +1,5 @@
 -- Each call has one answer: two results that fit, with their buffers, are equal.
-use Rattle.std.specs.Prelude.{◌≡◌, refl, Option, Some, None, Result, Ok, Err, List, ℕ, eqb}
+use Rattle.std.specs.Prelude.{◌≡◌, refl, Some, None, Result, Ok, Err, List, ℕ, eqb}
 use Rattle.std.proofs.Common.{sym, ap, ◌∙◌, arith}
 use Rattle.base_words.specs.Words.{pick}
 use Rattle.spec_rules.specs.Calls.{Built, BuildCall, leaf_of, without_leaf, stuck_at, WalkCall, Span}

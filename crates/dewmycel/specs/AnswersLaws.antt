@@ -1,7 +1,7 @@
 -- Each way out of a call, packed: from what the code has answered to the rules' answer.
 -- Rests on Packed, and for the bounds of a text on what an accepted panel gives.
 use Rattle.std.specs.Prelude.{◌≡◌, refl, Bool, true, false, Some, None, Ok, Err, List, ℕ, ◌+◌, ◌<◌}
-use Rattle.std.proofs.Common.{sym, ◌∙◌, arith, ltb-true, leb-true}
+use Rattle.std.proofs.Common.{◌∙◌, arith, ltb-true, leb-true}
 use Rattle.std.proofs.Math.Path.{ap}
 use Rattle.base_words.specs.WordsLaws.{both_true}
 use Rattle.spec_rules.specs.RefusalNumbers.{stuck_refusal, no_text_refusal}
@@ -14,9 +14,9 @@ use Rattle.format_parts.specs.declared.refusals.Refusal.{Refusal}
 use Rattle.format_parts.specs.Refusals.{number_of}
 use Rattle.walk.specs.declared.Leaf.{Leaf}
 use Rattle.walk.specs.declared.WalkError.TheVariants.{Refused, Stuck}
-use Rattle.walk.specs.Answers.{answer_of, call_of}
+use Rattle.walk.specs.Answers.{call_of}
 use Rattle.build_call.specs.declared.BuiltTree.{BuiltTree}
-use Rattle.build_call.specs.Answers.{answer_of as build_answer_of, call_of as build_of}
+use Rattle.build_call.specs.Answers.{call_of as build_of}
 use Rattle.dewmycel.specs.Packed.{packed, packed_build, packed_fit, packed_walk, packed_text}
 use Rattle.dewmycel.specs.Face.{BuildFace, WalkFace}
 
