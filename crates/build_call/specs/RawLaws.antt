@@ -1,6 +1,6 @@
 -- What follows from these facts: the refusals 12, 13 and 14 that the code gives, what finding scopes and writing ask, and the file written.
 -- Rests on what hoisting adds to a tree, on what is written, and on the file's sections.
-use Rattle.std.specs.Prelude.{◌≡◌, Bool, ℕ, zero, suc, ◌+◌, ◌*◌, ◌≤◌, ◌<◌}
+use Rattle.std.specs.Prelude.{◌≡◌, Bool, Ok, ℕ, zero, suc, ◌+◌, ◌*◌, ◌≤◌, ◌<◌}
 use Rattle.std.proofs.Math.Path.{refl, sym, ap}
 use Rattle.std.proofs.Common.{ap₂, subst, ◌∙◌}
 use Rattle.std.proofs.Math.Bool.{true, false, not}
@@ -49,7 +49,6 @@ use Rattle.build_file_nodes.specs.declared.Tops.{Tops}
 use Rattle.build_file_nodes.specs.Written.{WritingAsked, Written}
 use Rattle.build_file_tail.specs.Tail.{Puts, used_paths, front_bytes, tail_bytes, TailReady}
 use Rattle.build_file_tail.specs.FileLaws.{tail_ready, file_put}
-use Rattle.build_call.specs.declared.Built.TheVariants.{Tree as BuiltAs}
 use Rattle.build_call.specs.Answers.{Gives, tree_end}
 use Rattle.build_call.specs.VerdictLaws.{raw_tree, hoists_of, hoist_bindings, whole_nodes, whole_bindings, refused_12, refused_13, refused_14, none_refused}
 use Rattle.build_call.specs.Counts.{is_marked, leaf_bindings}
@@ -384,7 +383,7 @@ module _ {s : List ℕ} (ok : Accepted s) where
 
       -- THEOREM: the file is written, and the answer tells it
       pub file_written : (after : List ℕ) (end : ℕ) → tree ≡ zeros (length tree) → tree_room ≤ length tree → Puts middle after (paths_from_tops r) end tail_of
-          → Gives s (tree_end s) tree after (BuiltAs end r.nodes r.bindings)
+          → Gives s (tree_end s) tree after (Ok (record { length = end; nodes = r.nodes; bindings = r.bindings }))
       unfolding sheet_tree_file built_of
       file_written after end clear room puts =
           let done = file_stands after end puts in

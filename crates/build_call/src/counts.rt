@@ -3,7 +3,6 @@
 ghost use Rattle.std.specs.Prelude.{◌≡◌, ◌≤◌, length, get_or};
 ghost use Rattle.spec_rules.specs.Limits.{clauses_most};
 ghost use Rattle.spec_rules.specs.Searching.{times};
-ghost use Rattle.spec_rules.specs.Rows.{bit};
 ghost use Rattle.spec_hoist.specs.Trees.{sum};
 ghost use Rattle.build_arena.specs.Arena.{arena_end};
 ghost use Rattle.build_call.specs.Counts.{is_marked, leaf_bindings};
@@ -14,27 +13,12 @@ use base_numbers::tree::NODES_MOST;
 use build_arena::reading::node_word;
 use build_scopes::Scopes;
 
-fn one_if(mark: u8) -> usize
-    ensures { result ≡ bit (is_marked mark) }
-{
-    if mark == 0 {
-        return 0;
-    }
-    1
-}
-
 // How many clauses have a leaf.
 pub(crate) fn hoists(leaves: [u8; CLAUSES_MOST], clauses: usize) -> usize
     requires { clauses ≤ clauses_most }
     ensures { result ≡ times (λ c. is_marked (get_or leaves c 0)) 0 clauses }
 {
-    let mut n: usize = 0;
-    let mut c: usize = 0;
-    while c < clauses {
-        n += one_if(leaves[c]);
-        c += 1;
-    }
-    n
+    leaves[..clauses].iter().filter(|mark| **mark != 0).count()
 }
 
 // The bindings of a leaf; none where the number is no node's.
@@ -42,11 +26,12 @@ fn bindings_of(work: &[u8], leaf: u16) -> usize
     requires { arena_end ≤ length work.now }
     ensures { result ≡ leaf_bindings work.now leaf }
 {
-    let k = leaf as usize;
-    if NODES_MOST <= k {
-        return 0;
+    let k = usize::from(leaf);
+    if k < NODES_MOST {
+        usize::from(node_word(work, k, node_words::BINDINGS))
+    } else {
+        0
     }
-    node_word(work, k, node_words::BINDINGS) as usize
 }
 
 // The bindings of all hoists.
@@ -54,11 +39,6 @@ pub(crate) fn hoist_bindings(work: &[u8], scopes: Scopes, clauses: usize) -> usi
     requires { (arena_end ≤ length work.now) × (clauses ≤ clauses_most) }
     ensures { result ≡ sum (λ c. leaf_bindings work.now (get_or scopes.leaf c 0)) 0 clauses }
 {
-    let mut n: usize = 0;
-    let mut c: usize = 0;
-    while c < clauses {
-        n += bindings_of(work, scopes.leaf[c]);
-        c += 1;
-    }
-    n
+    let leaves = &scopes.leaf[..clauses];
+    leaves.iter().map(|leaf| bindings_of(work, *leaf)).sum()
 }

@@ -1,6 +1,6 @@
 // The tree of an accepted sheet on its way into the file: refusals 12, 13 and 14 in that order, none of them after more work than a tree of
 // 1,024 nodes takes; then its scopes, and the file.
-ghost use Rattle.std.specs.Prelude.{◌≡◌, ◌≤◌, length};
+ghost use Rattle.std.specs.Prelude.{◌≡◌, ◌≤◌, Ok, length};
 ghost use Rattle.base_words.specs.Words.{zeros};
 ghost use Rattle.spec_rules.specs.Limits.{tree_room, work_room};
 ghost use Rattle.format_sheet.specs.Check.{SheetAccepts};
@@ -8,9 +8,8 @@ ghost use Rattle.build_table.specs.Tabled.{Tabled};
 ghost use Rattle.build_call.specs.Promises.{ClearTree, GivesTree};
 ghost use Rattle.build_call.specs.Raw.{Raw, Fitting, Hoistable, Whole};
 
-use crate::Built;
+use crate::BuiltTree;
 use crate::counts::{hoist_bindings, hoists};
-use base_numbers::refusals;
 use base_numbers::sheet::{CLAUSES_MOST, PATTERNS_MOST};
 use base_numbers::tree::{BINDING_SIZE, BINDINGS_MOST, CASE_SIZE, NODE_SIZE, NODES_MOST};
 use build_file_nodes::write_nodes;
@@ -19,14 +18,8 @@ use build_nodes::raw;
 use build_nodes::tops::Tops;
 use build_scopes::{NODES_FEW, Scopes, get_hoist_paths};
 use build_table::{TABLE, fill};
+use format_parts::refusals::{Reason, Refusal, require};
 use format_sheet::SheetMap;
-
-// A refusal whose place is 0.
-fn refused(number: u16) -> Built
-    ensures { result ≡ Built.Refused number 0 }
-{
-    Built::Refused { number, place: 0 }
-}
 
 // The file: nodes, cases and bindings, then what follows them.
 fn write_tree(
@@ -37,10 +30,10 @@ fn write_tree(
     tops: Tops,
     scopes: Scopes,
     tree: &mut [u8],
-) -> Built
+) -> BuiltTree
     requires sheet_accepts { SheetAccepts sheet.now map × Tabled sheet.now table.now × Whole sheet.now work.now tops.nodes tops.cases scopes }
     requires clear_tree { ClearTree tree.old }
-    ensures { GivesTree sheet.now tree.old tree.new result }
+    ensures { GivesTree sheet.now tree.old tree.new (Ok result) }
 {
     let mut classes = [0u8; PATTERNS_MOST];
     let written = write_nodes(
@@ -52,16 +45,16 @@ fn write_tree(
         tree,
         &mut classes,
     );
-    let second = NODE_SIZE * written.nodes;
-    let third = second + CASE_SIZE * written.cases;
-    let fourth = third + BINDING_SIZE * written.bindings;
+    let cases = NODE_SIZE * written.nodes;
+    let bindings = cases + CASE_SIZE * written.cases;
+    let paths = bindings + BINDING_SIZE * written.bindings;
     let starts = Starts {
-        cases: second,
-        bindings: third,
-        paths: fourth,
+        cases,
+        bindings,
+        paths,
     };
     let end = put_tail(sheet, map, table, &classes, written.paths, tree, starts);
-    Built::Tree {
+    BuiltTree {
         length: end as u16,
         nodes: written.nodes as u16,
         bindings: written.bindings as u16,
@@ -77,23 +70,21 @@ fn write_hoisted(
     tops: Tops,
     scopes: Scopes,
     tree: &mut [u8],
-) -> Built
+) -> Result<BuiltTree, Refusal>
     requires sheet_accepts { SheetAccepts sheet.now map × Tabled sheet.now table.now × Hoistable sheet.now work.now tops.nodes tops.cases tops.bindings scopes }
     requires clear_tree { ClearTree tree.old }
     ensures { GivesTree sheet.now tree.old tree.new result }
 {
     let more = hoist_bindings(work, scopes, map.clauses.count);
-    if BINDINGS_MOST < tops.bindings + more {
-        return refused(refusals::BINDINGS);
-    }
+    require(tops.bindings + more <= BINDINGS_MOST, Reason::Bindings)?;
     let idle = scopes.idle;
     if idle < CLAUSES_MOST {
-        return Built::Refused {
-            number: refusals::IDLE,
+        return Err(Refusal {
+            reason: Reason::Idle,
             place: idle as u16,
-        };
+        });
     }
-    write_tree(sheet, map, table, work, tops, scopes, tree)
+    Ok(write_tree(sheet, map, table, work, tops, scopes, tree))
 }
 
 // Its scopes, over a table with room for the nodes: `sets` then has the clauses with a leaf at or below each of them.
@@ -105,7 +96,7 @@ fn hoist_with(
     tops: Tops,
     sets: &mut [u32],
     tree: &mut [u8],
-) -> Built
+) -> Result<BuiltTree, Refusal>
     requires sheet_accepts { SheetAccepts sheet.now map × Tabled sheet.now table.now × Fitting sheet.now work.now tops.nodes tops.cases tops.bindings × (tops.nodes ≤ length sets.old) }
     requires clear_tree { ClearTree tree.old }
     ensures { GivesTree sheet.now tree.old tree.new result }
@@ -122,7 +113,7 @@ fn hoist_tree(
     work: &[u8],
     tops: Tops,
     tree: &mut [u8],
-) -> Built
+) -> Result<BuiltTree, Refusal>
     requires sheet_accepts { SheetAccepts sheet.now map × Tabled sheet.now table.now × Fitting sheet.now work.now tops.nodes tops.cases tops.bindings }
     requires clear_tree { ClearTree tree.old }
     ensures { GivesTree sheet.now tree.old tree.new result }
@@ -143,33 +134,34 @@ fn finish(
     work: &[u8],
     tops: Tops,
     tree: &mut [u8],
-) -> Built
+) -> Result<BuiltTree, Refusal>
     requires sheet_accepts { SheetAccepts sheet.now map × Tabled sheet.now table.now × Raw sheet.now work.now tops.nodes tops.cases tops.bindings tops.leaves }
     requires clear_tree { ClearTree tree.old }
     ensures { GivesTree sheet.now tree.old tree.new result }
 {
-    let clauses = map.clauses.count;
-    let leaves = tops.leaves;
-    let more = hoists(leaves, clauses);
-    if NODES_MOST < tops.nodes + more {
-        return refused(refusals::NODES);
-    }
-    if BINDINGS_MOST < tops.bindings {
-        return refused(refusals::BINDINGS);
-    }
+    let more = hoists(tops.leaves, map.clauses.count);
+    require(tops.nodes + more <= NODES_MOST, Reason::Nodes)?;
+    require(tops.bindings <= BINDINGS_MOST, Reason::Bindings)?;
     hoist_tree(sheet, map, table, work, tops, tree)
 }
 
 // The tree of an accepted sheet, on buffers that are large enough, the tree's all zero.
-pub(crate) fn build_tree(sheet: &[u8], map: SheetMap, tree: &mut [u8], work: &mut [u8]) -> Built
+pub(crate) fn build_tree(
+    sheet: &[u8],
+    map: SheetMap,
+    tree: &mut [u8],
+    work: &mut [u8],
+) -> Result<BuiltTree, Refusal>
     requires { SheetAccepts sheet.now map × (tree_room ≤ length tree.old) × (work_room ≤ length work.old) × (tree.old ≡ zeros (length tree.old)) }
     ensures { GivesTree sheet.now tree.old tree.new result }
 {
     let mut table = [0u8; TABLE];
     fill(sheet, map, &mut table);
-    let built = raw::build_tree(sheet, map, &table, work);
-    if !built.fits {
-        return refused(refusals::NODES);
-    }
-    finish(sheet, map, &table, work, built.tops, tree)
+    let Some(tops) = raw::build_tree(sheet, map, &table, work) else {
+        return Err(Refusal {
+            reason: Reason::Nodes,
+            place: 0,
+        });
+    };
+    finish(sheet, map, &table, work, tops, tree)
 }

@@ -1,10 +1,10 @@
 -- The laws of a column by the numbers of its tests: the tests read row by row from the table, and the longest lengths found from the
 -- last test on, each a number that two bytes hold. Rests on what one pattern says of its lengths.
-use Rattle.std.specs.Prelude.{◌≡◌, refl, Bool, true, false, not, ℕ, zero, suc, ◌+◌, ◌-◌, ◌≤◌, ◌<◌, eqb, leb, length, get_or, take}
-use Rattle.std.proofs.Common.{sym, ap, ◌∙◌}
+use Rattle.std.specs.Prelude.{◌≡◌, refl, Bool, true, false, not, ℕ, zero, suc, ◌-◌, ◌≤◌, ◌<◌, eqb, leb, length, get_or, drop, Some, None}
+use Rattle.std.proofs.Common.{sym, ap, ap₂, ◌∙◌}
 use mathlib.Core.List.{List, [], ◌∷◌, ◌++◌, map, append_assoc, append-nil}
 use native.Mathlib.Omega.{arith}
-use Rattle.std.proofs.Math.Seq.{slice, slice_empty}
+use Rattle.std.proofs.Math.Seq.{take-length, drop-length, drop-cons}
 use Rattle.base_words.specs.Words.{pick, both, either, Bytes as IsBytes}
 use Rattle.base_words.specs.WordsLaws.{word_at_small}
 use Rattle.spec_rules.specs.Kinds.{list_pattern, list_with_tail_pattern}
@@ -15,14 +15,12 @@ use Rattle.format_sheet.specs.declared.records.PatternRecord.{PatternRecord}
 use Rattle.format_sheet.specs.Records as records
 use Rattle.build_table.specs.Standing.{pattern_of}
 use Rattle.spec_rules.specs.SplittingLaws.{All}
-use Rattle.build_matrix.specs.declared.Held.{Held}
-use Rattle.build_matrix.specs.declared.Held.TheVariants.{Test as HeldTest, Wildcard}
+use Rattle.build_matrix.specs.Columns.{Held}
 use Rattle.build_matrix.specs.declared.PerRow.{PerRow}
 use Rattle.build_matrix.specs.HeldRows.{held_tests}
-use Rattle.build_matrix.specs.Lists.{numbers_in, HoldsRows, WholeRows}
-use Rattle.build_matrix.specs.ListsLaws.{holds_rows_same}
+use Rattle.build_matrix.specs.Lists.{numbers_in, HoldsRows}
 use Rattle.build_matrix.specs.Reading.{cell_in, owner_in, cell_held, held_in, InTable}
-use Rattle.build_matrix.specs.ReadingLaws.{all_at, slice_on}
+use Rattle.build_matrix.specs.ReadingLaws.{all_at}
 use Rattle.build_matrix.specs.Ready.{TestKnown}
 use Rattle.build_cases.specs.declared.tests.Longest.{Longest}
 use Rattle.build_cases.specs.Rows.{longest_of, longer, held_test, TestSmall}
@@ -61,28 +59,31 @@ module _ {s : List ℕ} (bytes : IsBytes s) (ok : Accepted s) where
   longest_few ps a l e = rw e (longest_most ps a)
 
 -- ---- the longest lengths from the last test on
-pub longest_starts : (s : List ℕ) (ps : List ℕ) (n : ℕ) → ◌≡◌ {A = Longest} (record { tailless = 0; tails = 0 }) (longest_of s (slice n n ps))
+pub all_here : (P : ℕ → Type 0) (ps : List ℕ) (i : ℕ) → i < length ps → All P ps → P (get_or ps i 0)
+all_here P ps i h a = all_at P ps (length ps) i h (omega arith) (rw take-length a)
+
+pub longest_starts : (s ps : List ℕ) (n : ℕ) → n ≡ length ps → ◌≡◌ {A = Longest} (record { tailless = 0; tails = 0 }) (longest_of s (drop n ps))
 unfolding longest
-longest_starts s ps n = rw (slice_empty n ps)
+longest_starts s ps n e = rw (e, drop-length ps)
 
-pub longest_step : {s : List ℕ} → Accepted s → (ps : List ℕ) (n i : ℕ) → n ≤ length ps → 0 < i → i ≤ n → All (TestKnown s) (take n ps) → (p : ℕ) → p ≡ get_or ps (i - 1) 0
-    → (r : PatternRecord) → r ≡ records.pattern_of s p → (l next : Longest) → l ≡ longest_of s (slice i n ps) → next ≡ longer r l → next ≡ longest_of s (slice (i - 1) n ps)
-longest_step {s} ok ps n i long some h a p is r er l next el en =
-    let known : TestKnown s p = rw is (all_at (TestKnown s) ps n (i - 1) (omega arith) long a) in
-    let one : i - 1 + 1 ≡ i = omega arith in
-    en ∙ longest_more ok p known r l (slice i n ps) er el
+pub longest_step : {s : List ℕ} → Accepted s → (ps : List ℕ) (i : ℕ) → 0 < i → i ≤ length ps → All (TestKnown s) ps → (p : ℕ) → p ≡ get_or ps (i - 1) 0
+    → (r : PatternRecord) → r ≡ records.pattern_of s p → (l next : Longest) → l ≡ longest_of s (drop i ps) → next ≡ longer r l → next ≡ longest_of s (drop (i - 1) ps)
+longest_step {s} ok ps i some h a p is r er l next el en =
+    let known : TestKnown s p = rw is (all_here (TestKnown s) ps (i - 1) (omega arith) a) in
+    let one : suc (i - 1) ≡ i = omega arith in
+    en ∙ longest_more ok p known r l (drop i ps) er el
     ∙ ap (longest_of s)
-    (ap (λ (x : ℕ). x ∷ slice i n ps) is ∙ ap (λ (j : ℕ). get_or ps (i - 1) 0 ∷ slice j n ps) (sym one) ∙ sym (slice_on ps (i - 1) n (omega arith) long))
+    (ap₂ (λ (x j : ℕ). x ∷ drop j ps) is (sym one) ∙ sym (drop-cons ps (i - 1) 0 (omega arith)))
 
-pub longest_ends : (s : List ℕ) (ps : List ℕ) (n i : ℕ) (l : Longest) → i ≤ 0 → l ≡ longest_of s (slice i n ps) → l ≡ longest_of s (take n ps)
-longest_ends s ps n i l h e = let z : i ≡ 0 = omega arith in e ∙ ap (λ (j : ℕ). longest_of s (slice j n ps)) z
+pub longest_ends : (s : List ℕ) (ps : List ℕ) (i : ℕ) (l : Longest) → i ≤ 0 → l ≡ longest_of s (drop i ps) → l ≡ longest_of s ps
+longest_ends s ps i l h e = let z : i ≡ 0 = omega arith in e ∙ ap (λ (j : ℕ). longest_of s (drop j ps)) z
 
 -- ---- the tests of a column, one row after the other
 held_in_small : (t opened : List ℕ) (class c : ℕ) → InTable t class c → TestSmall (held_in t opened class c)
 unfolding held_in
 held_in_small t opened class c x = go (cell_in t class c) refl
   where
-    in_byte : (b : Bool) (p : ℕ) → p < 256 → TestSmall (pick b (HeldTest p) Wildcard)
+    in_byte : (b : Bool) (p : ℕ) → p < 256 → TestSmall (pick b (Some p) None)
     in_byte true p h = h
     in_byte false p h = tt
 
@@ -98,8 +99,8 @@ unfolding held_tests
 tests_more held c cs = go (held c) refl
   where
     go : (h : Held) → held c ≡ h → held_tests held (c ∷ cs) ≡ held_test (held c) ++ held_tests held cs
-    go (HeldTest p) e = rw (e, held_tests)
-    go Wildcard e = rw (e, held_tests)
+    go (Some p) e = rw (e, held_tests)
+    go None e = rw (e, held_tests)
 
 pub tests_step : (held : ℕ → Held) (r next : PerRow) (c : ℕ) (h : Held) (cs : List ℕ) → held c ≡ h → HoldsRows next (numbers_in r ++ held_test h)
     → numbers_in next ++ held_tests held cs ≡ numbers_in r ++ held_tests held (c ∷ cs)
@@ -112,14 +113,5 @@ unfolding held_tests
 tests_end held l cs e = sym (ap (λ (x : List ℕ). l ++ held_tests held x) e ∙ append-nil l)
 
 pub held_test_most : (h : Held) → length (held_test h) ≤ 1
-held_test_most (HeldTest p) = omega arith
-held_test_most Wildcard = omega arith
-
-pub test_in_byte : (held : Held) (p : ℕ) → held ≡ HeldTest p → TestSmall held → p < 256
-test_in_byte held p e h = rw e at h
-
-pub keep_one : (r next : PerRow) (held : Held) (p : ℕ) → held ≡ HeldTest p → HoldsRows next (numbers_in r ++ p ∷ []) → HoldsRows next (numbers_in r ++ held_test held)
-keep_one r next held p e h = rw e h
-
-pub keep_none : (r : PerRow) (held : Held) → held ≡ Wildcard → WholeRows r → HoldsRows r (numbers_in r ++ held_test held)
-keep_none r held e h = holds_rows_same h (sym (ap (λ (x : Held). numbers_in r ++ held_test x) e ∙ append-nil (numbers_in r)))
+held_test_most (Some p) = omega arith
+held_test_most None = omega arith

@@ -1,6 +1,6 @@
 -- What is told of the cases of a column once both passes are done: their records, those without a tail first, or that there are more
 -- than there is room for. MadeLaws has that two passes make this.
-use Rattle.std.specs.Prelude.{◌≡◌, List, ◌++◌, map, ℕ, ◌+◌, ◌*◌, ◌≤◌, ◌<◌, length}
+use Rattle.std.specs.Prelude.{◌≡◌, Option, Some, None, List, ◌++◌, map, ℕ, ◌+◌, ◌*◌, ◌≤◌, ◌<◌, length}
 use Rattle.base_words.specs.Stored.{stored}
 use Rattle.spec_rules.specs.Limits.{nodes_most, bindings_most, case_size}
 use Rattle.spec_rules.specs.Patterns.{Pat}
@@ -12,8 +12,6 @@ use Rattle.build_arena.specs.Arena.{cases_start, cases_most}
 use Rattle.build_arena.specs.WritingLaws.{Kept}
 use Rattle.build_table.specs.Standing.{pattern_of}
 use Rattle.build_cases.specs.declared.CasesMet.{CasesMet}
-use Rattle.build_cases.specs.declared.Meeting.{Meeting}
-use Rattle.build_cases.specs.declared.Meeting.TheVariants.{Met as MetTo, TooMany}
 use Rattle.build_cases.specs.Passes.{case_records}
 use Rattle.build_cases.specs.SoFar.{InSheet}
 
@@ -42,6 +40,6 @@ pub record CasesPast (qs : List Pat) (first : ℕ) (w w' : List ℕ) : Type 0 wh
   pub more : cases_most ≤ first + length (cases_of qs)
   pub kept : Kept nodes_most first bindings_most w w'
 
-abbrev pub MeetsTo : List ℕ → List Pat → ℕ → List ℕ → List ℕ → Meeting → Type 0
-MeetsTo s qs first w w' (MetTo c) = CasesMade s qs first w w' c
-MeetsTo s qs first w w' TooMany = CasesPast qs first w w'
+abbrev pub MeetsTo : List ℕ → List Pat → ℕ → List ℕ → List ℕ → Option CasesMet → Type 0
+MeetsTo s qs first w w' (Some c) = CasesMade s qs first w w' c
+MeetsTo s qs first w w' None = CasesPast qs first w w'

@@ -1,6 +1,6 @@
 -- The laws of both passes together: the records of the second stand behind those of the first, and they are all there unless the
 -- number of cases reaches what there is room for. Rests on the laws of the passes and of stores.
-use Rattle.std.specs.Prelude.{◌≡◌, Bool, true, false, List, [], ℕ, ◌+◌, ◌-◌, ◌*◌, ◌≤◌, ◌<◌, min, ltb, length}
+use Rattle.std.specs.Prelude.{◌≡◌, Option, Bool, true, false, List, [], ℕ, ◌+◌, ◌-◌, ◌*◌, ◌≤◌, ◌<◌, min, ltb, length}
 use Rattle.std.proofs.Common.{sym, ap, ◌∙◌, arith, length-take, take_all}
 use Rattle.base_words.specs.Stored.{stored}
 use Rattle.base_words.specs.StoredLaws.{length_stored, stored_nil, stored_append, get_or_stored_below, get_or_stored_above}
@@ -23,7 +23,7 @@ use Rattle.build_matrix.specs.Ready.{ReadyTable, TestKnown}
 use Rattle.build_matrix.specs.PuttingLaws.{all_map}
 use Rattle.build_matrix.specs.InNumbersLaws.{tests_read}
 use Rattle.build_cases.specs.declared.tests.Longest.{Longest}
-use Rattle.build_cases.specs.declared.Meeting.{Meeting}
+use Rattle.build_cases.specs.declared.CasesMet.{CasesMet}
 use Rattle.build_cases.specs.Passes.{up_to, case_records}
 use Rattle.build_cases.specs.PassesLaws.{pass_cases, sorts_length, has_list_longest}
 use Rattle.build_cases.specs.SoFar.{SoFar, Begun, Meets}
@@ -117,6 +117,6 @@ module _ {s : List ℕ} {m : SheetMap} {t : List ℕ} (ready : ReadyTable s m t)
       (all_map (TestIn s class) (TestKnown s) (λ p h. record { known = h.known; test = h.test }) (held_tests (live_in s opened class) rows)
       (tests_in s opened class rows))
 
-  pub column_meets : (first : ℕ) (w w' : List ℕ) (r : Meeting) → MeetsTo s (column_of s (numbers_in tests)) first w w' r
+  pub column_meets : (first : ℕ) (w w' : List ℕ) (r : Option CasesMet) → MeetsTo s (column_of s (numbers_in tests)) first w w' r
       → MeetsTo s (column_of s (held_tests (live_in s opened class) rows)) first w w' r
   column_meets first w w' r a = rw (← column_tests) a

@@ -1,6 +1,6 @@
 -- What a row's test meets, as the code reads it: the one case of a test without a tail, the rising cases of one with, and the longest
 -- lengths of a column. RowsLaws has that these are rule 4's.
-use Rattle.std.specs.Prelude.{Bool, true, false, List, [], ◌∷◌, map, ℕ, suc, ◌<◌, eqb}
+use Rattle.std.specs.Prelude.{Bool, true, false, List, [], ◌∷◌, map, ℕ, suc, ◌<◌, eqb, Some, None}
 use Rattle.base_words.specs.Words.{pick}
 use Rattle.spec_rules.specs.Kinds.{integer_pattern, byte_string_pattern, list_pattern, list_with_tail_pattern, int_case, bytes_case}
 use Rattle.spec_rules.specs.Splitting.{Test, ListOf, ListWithTail, Met, rising, tailless_length, tailed_length, larger, longest, meet}
@@ -8,8 +8,7 @@ use Rattle.spec_match.specs.Depth.{is_tail, is_exact}
 use Rattle.format_sheet.specs.declared.records.PatternRecord.{PatternRecord}
 use Rattle.format_records.specs.declared.reading.Test as tests
 use Rattle.build_table.specs.Standing.{pattern_of}
-use Rattle.build_matrix.specs.declared.Held.{Held}
-use Rattle.build_matrix.specs.declared.Held.TheVariants.{Test as HeldTest, Wildcard}
+use Rattle.build_matrix.specs.Columns.{Held}
 use Rattle.build_cases.specs.declared.tests.Longest.{Longest}
 use Rattle.build_cases.specs.Passes.{meet_row, meet_rows, up_to}
 
@@ -65,10 +64,10 @@ longer r l = record {
 
 -- ---- the tests of a column, by number
 abbrev pub held_test : Held → List ℕ
-held_test (HeldTest p) = p ∷ []
-held_test Wildcard = []
+held_test (Some p) = p ∷ []
+held_test None = []
 
 -- a number that a byte holds
 abbrev pub TestSmall : Held → Type 0
-TestSmall (HeldTest p) = p < 256
-TestSmall Wildcard = Unit {0}
+TestSmall (Some p) = p < 256
+TestSmall None = Unit {0}

@@ -1,12 +1,12 @@
 -- The laws of what a row's test meets, from what the code reads of its pattern: by its kind it is rule 4's meeting of that row.
 -- Rests on the laws by which patterns are read from a sheet.
-use Rattle.std.specs.Prelude.{◌≡◌, refl, Bool, true, false, List, [], ◌∷◌, ◌++◌, map, eqb, length, get_or, take}
-use Rattle.std.proofs.Common.{sym, ◌∙◌, true≢false, take-suc}
+use Rattle.std.specs.Prelude.{◌≡◌, refl, Bool, true, false, List, [], ◌∷◌, ◌++◌, map, eqb, leb, max, length, get_or, take}
+use Rattle.std.proofs.Common.{sym, ◌∙◌, true≢false, take-suc, take_all}
 use Rattle.std.proofs.Math.Path.{ap, ap₂}
 use Prim.Native.Nat.{ℕ, suc, ◌+◌, ◌-◌, ◌≤◌, ◌<◌}
 use native.Mathlib.Omega.{arith}
 use Rattle.std.proofs.Math.Numerals.{add-one}
-use borrow.Author.Tests.{le-leb, lt-leb, not-true, ne_eqb}
+use borrow.Author.Tests.{le-leb, leb-true, leb-false, not-true}
 use Rattle.base_words.specs.Words.{pick, Bytes as IsBytes}
 use Rattle.base_words.specs.WordsLaws.{word_at_small}
 use Rattle.spec_rules.specs.Kinds.{integer_pattern, byte_string_pattern, list_pattern, list_with_tail_pattern, constructor_pattern, constr_case, int_case, bytes_case, list_case, list_with_tail_case}
@@ -40,26 +40,21 @@ unfolding larger
 larger_or true x n = refl
 larger_or false x n = rw (le-leb 0 n (omega arith))
 
--- the longest lengths, by what is compared
-module _ (r : PatternRecord) (l : Longest) where
-  pub longer_list : r.kind ≡ list_pattern → l.tailless ≤ r.count → ◌≡◌ {A = Longest} (record { tailless = r.count + 1; tails = l.tails }) (longer r l)
-  unfolding larger
-  longer_list e h = rw (e, lt-leb (suc r.count) l.tailless (omega arith), add-one r.count)
+larger_max : (x n : ℕ) → larger x n ≡ max n x
+unfolding larger
+larger_max x n = go (leb x n) refl
+  where
+    go : (b : Bool) → leb x n ≡ b → pick b n x ≡ max n x
+    go true e = let h = leb-true x n e in omega arith
+    go false e = let h = leb-false x n e in omega arith
 
-  pub longer_list_not : r.kind ≡ list_pattern → r.count < l.tailless → l ≡ longer r l
-  unfolding larger
-  longer_list_not e h = rw (e, le-leb (suc r.count) l.tailless (omega arith))
+-- the longest lengths, by kind
+module _ (r : PatternRecord) (l : Longest) (n : ℕ) where
+  pub longer_list : r.kind ≡ list_pattern → n ≡ max l.tailless (r.count + 1) → ◌≡◌ {A = Longest} (record { tailless = n; tails = l.tails }) (longer r l)
+  longer_list e h = rw (e, larger_max (suc r.count) l.tailless, h, add-one r.count)
 
-  pub longer_tailed : r.kind ≡ list_with_tail_pattern → l.tails < r.count → ◌≡◌ {A = Longest} (record { tailless = l.tailless; tails = r.count }) (longer r l)
-  unfolding larger
-  longer_tailed e h = rw (e, lt-leb r.count l.tails h)
-
-  pub longer_tailed_not : r.kind ≡ list_with_tail_pattern → r.count ≤ l.tails → l ≡ longer r l
-  unfolding larger
-  longer_tailed_not e h = rw (e, le-leb r.count l.tails (omega arith))
-
-  pub longer_other : (r.kind ≡ list_pattern → ⊥) → (r.kind ≡ list_with_tail_pattern → ⊥) → l ≡ longer r l
-  longer_other n m = rw (ne_eqb r.kind list_pattern n, ne_eqb r.kind list_with_tail_pattern m)
+  pub longer_tailed : r.kind ≡ list_with_tail_pattern → n ≡ max l.tails r.count → ◌≡◌ {A = Longest} (record { tailless = l.tailless; tails = n }) (longer r l)
+  longer_tailed e h = rw (e, larger_max r.count l.tails, h)
 
 fit_text : (s : List ℕ) (kind number len : ℕ) → kind ≤ list_with_tail_case → is_text kind ≡ true → number + len ≤ pool_size s → Fit s kind number len
 fit_text s kind number len known text inside = record { known = known; inside = λ e. inside; plain = λ e. absurd (true≢false (sym text ∙ e)) }
@@ -283,5 +278,5 @@ module _ {s w : List ℕ} {from to : ℕ} (tail : Bool) (l : Longest) (ps : List
       ∙ ap (λ (q : ℕ). map (pattern_of s) (take i ps) ++ pattern_of s q ∷ []) (sym is))))
       (meets_then (meet_tests s from tail l (take i ps)) (meet_test s from tail l p) a b)
 
-  pub pass_ends : (i n : ℕ) → i ≡ n → {next : ℕ} {w' : List ℕ} → Meets s w from to (meet_tests s from tail l (take i ps)) next w' → Meets s w from to (meet_tests s from tail l (take n ps)) next w'
-  pass_ends i n e a = rw (← e) a
+  pub pass_ends : (i : ℕ) → length ps ≤ i → {next : ℕ} {w' : List ℕ} → Meets s w from to (meet_tests s from tail l (take i ps)) next w' → Meets s w from to (meet_tests s from tail l ps) next w'
+  pass_ends i e a = rw (take_all i ps e) at a

@@ -12,18 +12,17 @@ ghost use Rattle.build_cases.specs.Promises.{TestsAsked};
 use crate::tests::{Longest, longer_of};
 use base_numbers::sheet::{CLAUSES_MOST, PATTERNS_MOST};
 use build_matrix::rows::{put_row, test_at};
-use build_matrix::{Held, wide};
 use format_sheet::SheetMap;
 use format_sheet::records::pattern_at;
 
 // One test more, if the row has one.
-fn keep_test(list: &mut [u8; CLAUSES_MOST], count: usize, held: Held) -> usize
+fn keep_test(list: &mut [u8; CLAUSES_MOST], count: usize, held: Option<usize>) -> usize
     requires { WholeRows (as_rows list.old count) × (count < clauses_most) × TestSmall held }
     ensures { HoldsRows (as_rows list.new result) (take count list.old ++ held_test held) }
 {
     match held {
-        Held::Test(p) => put_row(list, count, p as u8),
-        Held::Wildcard => count,
+        Some(p) => put_row(list, count, p as u8),
+        None => count,
     }
 }
 
@@ -40,32 +39,27 @@ pub(crate) fn column_tests<'a>(
     ensures { HoldsRows (as_rows list.new result) (held_tests (held_in table.now opened.now class) (take n rows.now)) }
 {
     let mut count: usize = 0;
-    let mut i: usize = 0;
-    while i < n {
-        count = keep_test(list, count, test_at(table, opened, wide(rows[i]), class));
-        i += 1;
+    for i in 0..n {
+        count = keep_test(
+            list,
+            count,
+            test_at(table, opened, usize::from(rows[i]), class),
+        );
     }
     count
 }
 
-// The longest lengths of the lists among the first n of these tests.
-pub(crate) fn longest_of(
-    sheet: &[u8],
-    map: SheetMap,
-    tests: &[u8; CLAUSES_MOST],
-    n: usize,
-) -> Longest
-    requires { TestsAsked sheet.now map tests.now n }
-    ensures { result ≡ longest_of sheet.now (take n tests.now) }
+// The longest lengths of the lists among these tests.
+pub(crate) fn longest_of(sheet: &[u8], map: SheetMap, tests: &[u8]) -> Longest
+    requires { TestsAsked sheet.now map tests.now }
+    ensures { result ≡ longest_of sheet.now tests.now }
 {
     let mut longest = Longest {
         tailless: 0,
         tails: 0,
     };
-    let mut i = n;
-    while 0 < i {
-        i -= 1;
-        longest = longer_of(pattern_at(sheet, map, wide(tests[i])), longest);
+    for i in (0..tests.len()).rev() {
+        longest = longer_of(pattern_at(sheet, map, usize::from(tests[i])), longest);
     }
     longest
 }

@@ -37,26 +37,19 @@ pub struct CasesMet {
     pub list: bool,
 }
 
-#[derive(Drop)]
-pub enum Meeting {
-    Met(CasesMet),
-    TooMany,
-}
-
-// The cases of the first n of these tests, from case `first` on: those without a tail, then those with one.
+// The cases of these tests, from case `first` on: those without a tail, then those with one.
 fn meet_both(
     sheet: &[u8],
     map: SheetMap,
-    tests: &[u8; CLAUSES_MOST],
-    n: usize,
+    tests: &[u8],
     work: &mut [u8],
     first: usize,
-) -> Meeting
-    requires tests_asked { TestsAsked sheet.now map tests.now n }
+) -> Option<CasesMet>
+    requires tests_asked { TestsAsked sheet.now map tests.now }
     requires arena_end_in_bounds { (arena_end ≤ length work.old) × (first ≤ cases_most) }
-    ensures { MeetsTo sheet.now (column_of sheet.now (take n tests.now)) first work.old work.new result }
+    ensures { MeetsTo sheet.now (column_of sheet.now tests.now) first work.old work.new result }
 {
-    let longest = longest_of(sheet, map, tests, n);
+    let longest = longest_of(sheet, map, tests);
     let tailless = Pass {
         tail: false,
         longest,
@@ -65,12 +58,12 @@ fn meet_both(
         tail: true,
         longest,
     };
-    let mid = meet_rows(sheet, map, tests, n, tailless, work, first);
-    let end = meet_rows(sheet, map, tests, n, tailed, work, mid);
+    let mid = meet_rows(sheet, map, tests, tailless, work, first);
+    let end = meet_rows(sheet, map, tests, tailed, work, mid);
     if end == CASES_MOST {
-        return Meeting::TooMany;
+        return None;
     }
-    Meeting::Met(CasesMet {
+    Some(CasesMet {
         mid,
         end,
         list: 0 < longest.tailless + longest.tails,
@@ -88,12 +81,12 @@ pub fn meet_cases<'a>(
     class: usize,
     work: &mut [u8],
     first: usize,
-) -> Meeting
+) -> Option<CasesMet>
     requires ready_table { ReadyTable sheet.now map table.now × WholeRows (as_rows rows.now n) × All (λ c. c < clauses sheet.now) (take n rows.now) × (class < patterns_most) }
     requires arena_end_in_bounds { (arena_end ≤ length work.old) × (first ≤ cases_most) }
     ensures { MeetsTo sheet.now (live_column sheet.now opened.now class (take n rows.now)) first work.old work.new result }
 {
     let mut tests = [0u8; CLAUSES_MOST];
     let found = column_tests(table, rows, n, opened, class, &mut tests);
-    meet_both(sheet, map, &tests, found, work, first)
+    meet_both(sheet, map, &tests[..found], work, first)
 }

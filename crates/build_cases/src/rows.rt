@@ -1,6 +1,6 @@
 // A pass down the rows of a column, by the numbers of their tests' patterns: a test without a tail meets its one case, one with a tail
 // rising cases up to the longest lengths of the column. Rests on the meeting of one test and on the sheet's records.
-ghost use Rattle.std.specs.Prelude.{◌≡◌, ◌-◌, ◌≤◌, take};
+ghost use Rattle.std.specs.Prelude.{◌≡◌, ◌-◌, ◌≤◌};
 ghost use Rattle.spec_accepted.specs.SheetFacts.{Laid};
 ghost use Rattle.format_sheet.specs.Sections.{map_of};
 ghost use Rattle.format_sheet.specs.Check.{SheetAccepts};
@@ -12,8 +12,6 @@ ghost use Rattle.build_cases.specs.Promises.{PassAsked};
 use crate::meet::meet;
 use crate::tests::{Longest, list_test, longest_with, test_of};
 use base_numbers::pattern_kinds;
-use base_numbers::sheet::CLAUSES_MOST;
-use build_matrix::wide;
 use format_sheet::SheetMap;
 use format_sheet::records::pattern_at;
 
@@ -40,10 +38,8 @@ fn meet_rising(
     ensures { Meets sheet.now work.old from to (rise_to from tail least (end - least)) result work.new }
 {
     let mut top = to;
-    let mut i = least;
-    while i < end {
+    for i in least..end {
         top = meet(sheet, map, work, from, top, list_test(tail, i));
-        i += 1;
     }
     top
 }
@@ -74,25 +70,22 @@ fn meet_test(
     meet(sheet, map, work, from, to, test_of(r))
 }
 
-// The pass: the cases met that the first n of these tests join.
+// The pass: the cases met that these tests join.
 pub(crate) fn meet_rows(
     sheet: &[u8],
     map: SheetMap,
-    tests: &[u8; CLAUSES_MOST],
-    n: usize,
+    tests: &[u8],
     pass: Pass,
     work: &mut [u8],
     from: usize,
 ) -> usize
-    requires pass_asked { PassAsked sheet.now map tests.now n pass.longest }
+    requires pass_asked { PassAsked sheet.now map tests.now pass.longest }
     requires begun { Begun sheet.now work.old from from }
-    ensures { Meets sheet.now work.old from from (meet_tests sheet.now from pass.tail pass.longest (take n tests.now)) result work.new }
+    ensures { Meets sheet.now work.old from from (meet_tests sheet.now from pass.tail pass.longest tests.now) result work.new }
 {
     let mut top = from;
-    let mut i: usize = 0;
-    while i < n {
-        top = meet_test(sheet, map, pass, wide(tests[i]), work, from, top);
-        i += 1;
+    for &test in tests {
+        top = meet_test(sheet, map, pass, usize::from(test), work, from, top);
     }
     top
 }

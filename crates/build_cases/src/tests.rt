@@ -9,7 +9,7 @@ use format_records::reading::Test;
 use format_sheet::records::PatternRecord;
 
 // The longest lengths of lists in a column, each one more than it is, or 0 where there is none: of those without a tail, and of those
-// with, whose tail is not counted.
+// with, whose tail is not counted. They are the ends of ranges of lengths, as the rules have them: an option would be no plainer.
 #[derive(Clone, Copy)]
 pub struct Longest {
     pub tailless: usize,
@@ -21,24 +21,17 @@ pub(crate) fn longer_of(r: PatternRecord, longest: Longest) -> Longest
     requires { Small r }
     ensures { result ≡ longer r longest }
 {
-    if r.kind == pattern_kinds::LIST {
-        if longest.tailless <= r.count {
-            return Longest {
-                tailless: r.count + 1,
-                tails: longest.tails,
-            };
-        }
-        return longest;
+    match r.kind {
+        pattern_kinds::LIST => Longest {
+            tailless: longest.tailless.max(r.count + 1),
+            ..longest
+        },
+        pattern_kinds::LIST_WITH_TAIL => Longest {
+            tails: longest.tails.max(r.count),
+            ..longest
+        },
+        _ => longest,
     }
-    if r.kind == pattern_kinds::LIST_WITH_TAIL {
-        if longest.tails < r.count {
-            return Longest {
-                tailless: longest.tailless,
-                tails: r.count,
-            };
-        }
-    }
-    longest
 }
 
 // The test of a pattern without a tail.
@@ -82,7 +75,8 @@ pub(crate) fn longest_with(longest: Longest, tail: bool) -> usize
     ensures { result ≡ pick tail longest.tails longest.tailless }
 {
     if tail {
-        return longest.tails;
+        longest.tails
+    } else {
+        longest.tailless
     }
-    longest.tailless
 }

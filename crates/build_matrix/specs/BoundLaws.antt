@@ -1,6 +1,6 @@
 -- The bindings of a row are those of the numbers that it binds, in the same order, and a leaf has those of its first row.
 -- Rests on the states of rows, and on what crate build_table shows of the bindings of a pattern.
-use Rattle.std.specs.Prelude.{◌≡◌, ℕ, ◌+◌, ◌<◌}
+use Rattle.std.specs.Prelude.{◌≡◌, ℕ, ◌+◌, ◌<◌, Some, None}
 use Rattle.std.proofs.Math.Path.{refl, sym, ap₂}
 use Rattle.std.proofs.Common.{ap, ◌∙◌}
 use mathlib.Core.List.{List, [], ◌∷◌, ◌++◌, map, map-append}
@@ -11,8 +11,7 @@ use Rattle.spec_accepted.specs.SheetFacts.{Accepted}
 use Rattle.build_table.specs.Standing.{path_of}
 use Rattle.build_table.specs.Seen.{binds_of, binding_at}
 use Rattle.build_table.specs.Meets.{clause_bindings_meet, opened_bindings_meet}
-use Rattle.build_matrix.specs.declared.Held.{Held}
-use Rattle.build_matrix.specs.declared.Held.TheVariants.{Test, Wildcard}
+use Rattle.build_matrix.specs.Columns.{Held}
 use Rattle.build_matrix.specs.RowStates.{row_of, row_of_clause}
 use Rattle.build_matrix.specs.Live.{opened_test, bindings_held, bound_by, State}
 use Rattle.build_matrix.specs.LiveLaws.{opened_test_lem}
@@ -23,10 +22,10 @@ use Rattle.build_matrix.specs.Bound.{numbers_held, opened_numbers, leaf_numbers,
 module _ {s : List ℕ} (ok : Accepted s) where
   module _ (opened : List ℕ) (c : ℕ) where
     held_bindings : (time class : ℕ) (h : Held) → opened_test s opened c time class ≡ h → bindings_held s h ≡ map (binding_at s) (numbers_held s h)
-    held_bindings time class (Test p) e =
+    held_bindings time class (Some p) e =
         let t = (opened_test_lem s opened c time class p e).test_of in
         opened_bindings_meet ok.is_shaped ok.is_counted p t.known t.test
-    held_bindings time class Wildcard e = refl
+    held_bindings time class None e = refl
 
     opened_bindings : (time : ℕ) (classes : List ℕ) → bound_by s opened c time classes ≡ map (binding_at s) (opened_numbers s opened c time classes)
     unfolding bound_by opened_numbers

@@ -1,13 +1,12 @@
 -- A matrix as the code has it, in arrays, and the matrix by numbers that it stands for; what splitting it by a column asks, and the
 -- matrix of the default as the table tells it. InNumbersLaws has that these are the same of a table that is a sheet's.
-use Rattle.std.specs.Prelude.{true, List, [], ◌∷◌, ◌++◌, ◌≡◌, ℕ, ◌<◌, length}
+use Rattle.std.specs.Prelude.{true, List, [], ◌∷◌, ◌++◌, ◌≡◌, ℕ, ◌<◌, length, None}
 use Rattle.spec_rules.specs.Limits.{patterns_most}
 use Rattle.spec_rules.specs.SheetRefusals.{is_in}
 use Rattle.spec_rules.specs.SplittingLaws.{All}
 use Rattle.build_matrix.specs.declared.Matrix.{Matrix}
 use Rattle.build_matrix.specs.declared.Sizes.{Sizes}
-use Rattle.build_matrix.specs.declared.Choice.{Choice}
-use Rattle.build_matrix.specs.declared.Choice.TheVariants.{Leaf}
+use Rattle.build_matrix.specs.Columns.{Choice}
 use Rattle.build_matrix.specs.HeldRows.{count_of, best_of, wild_of}
 use Rattle.build_matrix.specs.Lists.{classes_in, numbers_in, as_classes, as_rows, Whole, WholeRows}
 use Rattle.build_matrix.specs.Numbered.{Numbered}
@@ -49,7 +48,7 @@ pub record Splits (t : List ℕ) (x : Matrix) (class : ℕ) : Type 0 where
 -- ---- what the table tells
 unfoldable pub chosen_read : List ℕ → Numbered → Choice
 unfolding best_of count_of held_in
-chosen_read t M = best_of (λ k. count_of (held_in t M.opened k) M.rows) Leaf 0 M.columns
+chosen_read t M = best_of (λ k. count_of (held_in t M.opened k) M.rows) None 0 M.columns
 
 unfoldable pub default_read : List ℕ → ℕ → Numbered → Numbered
 unfolding wild_of held_in without_class

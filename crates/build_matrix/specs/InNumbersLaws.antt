@@ -1,6 +1,6 @@
 -- Laws of a matrix in arrays: a matrix is what its parts hold; and where the table is the sheet's and the matrix is sound, what the table
 -- tells is what the sheet says: the column chosen, and the matrix of the default.
-use Rattle.std.specs.Prelude.{◌≡◌, true, ltb, length}
+use Rattle.std.specs.Prelude.{◌≡◌, true, ltb, length, Some, None}
 use Rattle.std.proofs.Math.Path.{refl, ap, ap₂}
 use Rattle.std.proofs.Common.{◌∙◌, arith}
 use mathlib.Core.List.{List, [], ◌∷◌, ◌++◌}
@@ -15,10 +15,7 @@ use Rattle.format_sheet.specs.declared.SheetMap.{SheetMap}
 use Rattle.build_table.specs.Standing.{owner_of, cell_of}
 use Rattle.build_table.specs.TabledLaws.{cell_most, cell_inside, cell_owner_inside}
 use Rattle.build_matrix.specs.declared.Matrix.{Matrix}
-use Rattle.build_matrix.specs.declared.Held.{Held}
-use Rattle.build_matrix.specs.declared.Held.TheVariants.{Test, Wildcard}
-use Rattle.build_matrix.specs.declared.Choice.{Choice}
-use Rattle.build_matrix.specs.declared.Choice.TheVariants.{Column, Leaf}
+use Rattle.build_matrix.specs.Columns.{Held, Choice}
 use Rattle.build_matrix.specs.Live.{available, is_live, live_cell, live_test, live_in, IsClass}
 use Rattle.build_matrix.specs.HeldRows.{count_of, best_of, held_tests, wild_of}
 use Rattle.build_matrix.specs.Lists.{classes_in, numbers_in, Holds, HoldsRows}
@@ -53,24 +50,24 @@ module _ (f g : ℕ → Held) where
   count_alike : (cs : List ℕ) → All Alike cs → count_of f cs ≡ count_of g cs
   unfolding count_of
   count_alike [] h = refl
-  count_alike (c ∷ cs) h = ap₂ (λ (x : Held) (n : ℕ). elim x [ Test p ↦ suc n | Wildcard ↦ 0 ]) h.0 (count_alike cs h.1)
+  count_alike (c ∷ cs) h = ap₂ (λ (x : Held) (n : ℕ). elim x [ Some p ↦ suc n | None ↦ 0 ]) h.0 (count_alike cs h.1)
 
   wild_alike : (cs : List ℕ) → All Alike cs → wild_of f cs ≡ wild_of g cs
   unfolding wild_of
   wild_alike [] h = refl
-  wild_alike (c ∷ cs) h = ap₂ (λ (x : Held) (l : List ℕ). elim x [ Test p ↦ l | Wildcard ↦ c ∷ l ]) h.0 (wild_alike cs h.1)
+  wild_alike (c ∷ cs) h = ap₂ (λ (x : Held) (l : List ℕ). elim x [ Some p ↦ l | None ↦ c ∷ l ]) h.0 (wild_alike cs h.1)
 
   tests_alike : (cs : List ℕ) → All Alike cs → held_tests f cs ≡ held_tests g cs
   unfolding held_tests
   tests_alike [] h = refl
-  tests_alike (c ∷ cs) h = ap₂ (λ (x : Held) (l : List ℕ). elim x [ Test p ↦ p ∷ l | Wildcard ↦ l ]) h.0 (tests_alike cs h.1)
+  tests_alike (c ∷ cs) h = ap₂ (λ (x : Held) (l : List ℕ). elim x [ Some p ↦ p ∷ l | None ↦ l ]) h.0 (tests_alike cs h.1)
 
 pub best_alike : (f g : ℕ → ℕ) (chosen : Choice) (n : ℕ) (ks : List ℕ) → All (λ k. f k ≡ g k) ks → best_of f chosen n ks ≡ best_of g chosen n ks
 unfolding best_of
 best_alike f g chosen n [] h = refl
 best_alike f g chosen n (k ∷ ks) h =
-    ap (λ (x : ℕ). pick (ltb n x) (best_of f (Column k) x ks) (best_of f chosen n ks)) h.0
-    ∙ ap₂ (λ (a b : Choice). pick (ltb n (g k)) a b) (best_alike f g (Column k) (g k) ks h.1) (best_alike f g chosen n ks h.1)
+    ap (λ (x : ℕ). pick (ltb n x) (best_of f (Some k) x ks) (best_of f chosen n ks)) h.0
+    ∙ ap₂ (λ (a b : Choice). pick (ltb n (g k)) a b) (best_alike f g (Some k) (g k) ks h.1) (best_alike f g chosen n ks h.1)
 
 pub rising_below : (n from : ℕ) (cs : List ℕ) → Rising n from cs → All (λ c. c < n) cs
 rising_below n from [] r = tt
@@ -131,7 +128,7 @@ module _ {s : List ℕ} {m : SheetMap} {t : List ℕ} (ready : ReadyTable s m t)
     pub chosen_read_lem : chosen_read t M ≡ chosen_in s M
     unfolding chosen_read chosen_in
     chosen_read_lem =
-        best_alike (λ k. count_of (held_in t M.opened k) M.rows) (λ k. count_of (live_in s M.opened k) M.rows) Leaf 0 M.columns
+        best_alike (λ k. count_of (held_in t M.opened k) M.rows) (λ k. count_of (live_in s M.opened k) M.rows) None 0 M.columns
         (all_map (IsClass s) (λ k. count_of (held_in t M.opened k) M.rows ≡ count_of (live_in s M.opened k) M.rows)
         (λ k h. count_read M.rows rows_low k (class_most k h) M.opened) M.columns sound.are_classes)
 

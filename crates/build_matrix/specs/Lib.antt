@@ -1,3 +1,4 @@
+pub mod Columns
 pub mod RowStates
 pub mod Numbers
 pub mod Live

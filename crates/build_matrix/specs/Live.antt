@@ -1,6 +1,6 @@
 -- What a row has in a column, by numbers: the clause's test there, if it is not opened and the test that it is inside of is.
 -- `opened` says of each pattern when its test was opened: one more than the place among the columns tested, or 0.
-use Rattle.std.specs.Prelude.{Bool, true, not, List, [], ◌∷◌, ◌++◌, map, ◌≡◌, ℕ, zero, suc, ◌+◌, ◌-◌, ◌≤◌, ◌<◌, eqb, ltb, length, get_or}
+use Rattle.std.specs.Prelude.{Bool, true, not, List, [], ◌∷◌, ◌++◌, map, ◌≡◌, ℕ, zero, suc, ◌+◌, ◌-◌, ◌≤◌, ◌<◌, eqb, ltb, length, get_or, Some, None}
 use Rattle.std.proofs.Math.Option.{Option, none, some}
 use Rattle.base_words.specs.Words.{both, either, pick}
 use Rattle.spec_rules.specs.SheetFile.{patterns}
@@ -8,8 +8,7 @@ use Rattle.spec_rules.specs.Patterns.{Pat, clause_pattern}
 use Rattle.spec_rules.specs.Rows.{Cell, Binding, bit, bindings_of, opened_bindings}
 use Rattle.build_table.specs.Standing.{clause_of, path_of, owner_of, pattern_of, is_test, class_of, cell_of}
 use Rattle.build_table.specs.Seen.{cell_at}
-use Rattle.build_matrix.specs.declared.Held.{Held}
-use Rattle.build_matrix.specs.declared.Held.TheVariants.{Test, Wildcard}
+use Rattle.build_matrix.specs.Columns.{Held}
 use Rattle.build_matrix.specs.RowStates.{row_of}
 use Rattle.build_matrix.specs.Numbers.{copies}
 
@@ -22,8 +21,8 @@ unfoldable pub is_live : List ℕ → List ℕ → ℕ → Bool
 is_live s opened p = both (eqb (get_or opened p 0) 0) (available s opened p)
 
 abbrev pub live_cell : List ℕ → List ℕ → ℕ → Held
-live_cell s opened zero = Wildcard
-live_cell s opened (suc p) = pick (is_live s opened p) (Test p) Wildcard
+live_cell s opened zero = None
+live_cell s opened (suc p) = pick (is_live s opened p) (Some p) None
 
 -- what clause c's row has in the column of the class
 unfoldable pub live_test : List ℕ → List ℕ → ℕ → ℕ → Held
@@ -34,20 +33,20 @@ abbrev pub live_in : List ℕ → List ℕ → ℕ → ℕ → Held
 live_in s opened class c = live_test s opened c class
 
 abbrev pub pattern_held : List ℕ → Held → Option Pat
-pattern_held s (Test p) = some (pattern_of s p)
-pattern_held s Wildcard = none
+pattern_held s (Some p) = some (pattern_of s p)
+pattern_held s None = none
 
 -- the clause's test there, if it was opened as the column was tested, `time` columns before it
 abbrev pub opened_cell : List ℕ → ℕ → ℕ → Held
-opened_cell opened time zero = Wildcard
-opened_cell opened time (suc p) = pick (eqb (get_or opened p 0) (time + 1)) (Test p) Wildcard
+opened_cell opened time zero = None
+opened_cell opened time (suc p) = pick (eqb (get_or opened p 0) (time + 1)) (Some p) None
 
 unfoldable pub opened_test : List ℕ → List ℕ → ℕ → ℕ → ℕ → Held
 opened_test s opened c time class = opened_cell opened time (cell_of s c class)
 
 abbrev pub bindings_held : List ℕ → Held → List Binding
-bindings_held s (Test p) = opened_bindings (path_of s p) (pattern_of s p)
-bindings_held s Wildcard = []
+bindings_held s (Some p) = opened_bindings (path_of s p) (pattern_of s p)
+bindings_held s None = []
 
 -- what the columns of these classes opened in clause c's row, in order; the first was tested after `time` others
 unfoldable pub bound_by : List ℕ → List ℕ → ℕ → ℕ → List ℕ → List Binding

@@ -1,6 +1,6 @@
 -- What a row has in a column is what the numbers say, and the state of a row is kept: by the column that is tested, whether the row
 -- has a wildcard there or a test that is opened, and by what is opened in other rows. Rests on MeetingLaws and on the rows of RowStates.
-use Rattle.std.specs.Prelude.{◌≡◌, Bool, ltb, get_or, set}
+use Rattle.std.specs.Prelude.{◌≡◌, Bool, ltb, get_or, set, Some, None}
 use Rattle.std.proofs.Math.Path.{refl, sym, ap}
 use Rattle.std.proofs.Common.{ap₂, ◌∙◌, true≢false, length-append, get_or-set_same, get_or-set_other}
 use Rattle.std.proofs.Math.Bool.{true, false}
@@ -27,7 +27,6 @@ use Rattle.build_table.specs.Standing.{clause_of, path_of, owner_of, pattern_of,
 use Rattle.build_table.specs.StandingLaws.{Owner, inside_none, inside_test, owner, owner_below}
 use Rattle.build_table.specs.ClassLaws.{same_path_class_lem, same_class_path}
 use Rattle.build_table.specs.Seen.{tests_of, opened_tests, cell_at}
-use Rattle.build_matrix.specs.declared.Held.TheVariants.{Test, Wildcard}
 use Rattle.build_matrix.specs.RowStates.{row_after, row_of, row_of_wild, row_of_test}
 use Rattle.build_matrix.specs.Numbers.{copies, first_with, less_first, copies_append, first_with_some, first_with_none, copies_less_first, all_copies}
 use Rattle.build_matrix.specs.Live.{available, is_live, live_cell, live_test, pattern_held, opened_cell, opened_test, bindings_held, bound_by, is_test_of, is_inside, is_live_of, IsClass, Lives, State}
@@ -247,24 +246,24 @@ bound_by_same s a b c time (k ∷ classes) e =
     ap₂ ◌++◌ (ap (bindings_held s) (e time k (omega arith))) (bound_by_same s a b c (time + 1) classes (λ t class l. e t class (omega arith)))
 
 opened_test_not : (s opened : List ℕ) (c time class : ℕ) → ((p : ℕ) → IsCell s c class p → get_or opened p 0 ≡ time + 1 → ⊥)
-    → opened_test s opened c time class ≡ Wildcard
+    → opened_test s opened c time class ≡ None
 unfolding opened_test
 opened_test_not s opened c time class h = go (cell_of s c class) refl
   where
-    go : (n : ℕ) → cell_of s c class ≡ n → opened_cell opened time (cell_of s c class) ≡ Wildcard
+    go : (n : ℕ) → cell_of s c class ≡ n → opened_cell opened time (cell_of s c class) ≡ None
     go zero e = rw e
     go (suc p) e = rw (e, ne_eqb (get_or opened p 0) (time + 1) (h p (cell_some s c class p e)))
 
-pub opened_test_lem : (s opened : List ℕ) (c time class p : ℕ) → opened_test s opened c time class ≡ Test p → IsCell s c class p
+pub opened_test_lem : (s opened : List ℕ) (c time class p : ℕ) → opened_test s opened c time class ≡ Some p → IsCell s c class p
 unfolding opened_test
 opened_test_lem s opened c time class p e = go (cell_of s c class) refl
   where
-    found : (q : ℕ) → cell_of s c class ≡ suc q → (b : Bool) → pick b (Test q) Wildcard ≡ Test p → IsCell s c class p
+    found : (q : ℕ) → cell_of s c class ≡ suc q → (b : Bool) → pick b (Some q) None ≡ Some p → IsCell s c class p
     found q x true z = let d : q ≡ p = cc in cell_some s c class p (x ∙ ap suc d)
     found q x false z = let w : ◌≡◌ {A = ℕ} 0 1 = cc in absurd (omega arith)
 
     go : (n : ℕ) → cell_of s c class ≡ n → IsCell s c class p
-    go zero x = let w : Wildcard ≡ Test p = rw x at e in let z : ◌≡◌ {A = ℕ} 0 1 = cc in absurd (omega arith)
+    go zero x = let w : None ≡ Some p = rw x at e in let z : ◌≡◌ {A = ℕ} 0 1 = cc in absurd (omega arith)
     go (suc q) x = found q x (eqb (get_or opened q 0) (time + 1)) (rw x at e)
 
 opened_test_same : (s a b : List ℕ) (c time class : ℕ) → ((p : ℕ) → IsCell s c class p → eqb (get_or a p 0) (time + 1) ≡ eqb (get_or b p 0) (time + 1))
@@ -424,18 +423,18 @@ module _ (s opened : List ℕ) (p v : ℕ) (room : p < length opened) (some_time
         same false x = apart (eqb-false q p x) (is_test_of s c q) refl
 
 -- ---- a live test is the clause's cell, and is live
-pub live_test_lem : (s opened : List ℕ) (c class p : ℕ) → live_test s opened c class ≡ Test p → IsCell s c class p × Live s opened p
+pub live_test_lem : (s opened : List ℕ) (c class p : ℕ) → live_test s opened c class ≡ Some p → IsCell s c class p × Live s opened p
 unfolding live_test
 live_test_lem s opened c class p e = go (cell_of s c class) refl
   where
-    found : (q : ℕ) → cell_of s c class ≡ suc q → (b : Bool) → is_live s opened q ≡ b → pick b (Test q) Wildcard ≡ Test p → IsCell s c class p × Live s opened p
+    found : (q : ℕ) → cell_of s c class ≡ suc q → (b : Bool) → is_live s opened q ≡ b → pick b (Some q) None ≡ Some p → IsCell s c class p × Live s opened p
     found q x true y z =
         let d : q ≡ p = cc in
         (cell_some s c class p (x ∙ ap suc d), live_true s opened p (ap (is_live s opened) (sym d) ∙ y))
     found q x false y z = let w : ◌≡◌ {A = ℕ} 0 1 = cc in absurd (omega arith)
 
     go : (n : ℕ) → cell_of s c class ≡ n → IsCell s c class p × Live s opened p
-    go zero x = let w : Wildcard ≡ Test p = rw x at e in let z : ◌≡◌ {A = ℕ} 0 1 = cc in absurd (omega arith)
+    go zero x = let w : None ≡ Some p = rw x at e in let z : ◌≡◌ {A = ℕ} 0 1 = cc in absurd (omega arith)
     go (suc q) x = found q x (is_live s opened q) refl (rw x at e)
 
 pub paths_next : (s : List ℕ) (tested : List ℕ) (k : ℕ) → map (path_of s) (tested ++ k ∷ []) ≡ map (path_of s) tested ++ path_of s k ∷ []
@@ -464,7 +463,7 @@ module _ {s : List ℕ} (ok : Accepted s) (m : Meeting s) where
     pub held : test_at (path_of s k) (row_of s (map (path_of s) tested) c).tests ≡ pattern_held s (live_test s opened c k)
     held = test_at_lem m st.tests k class.known ∙ ap (λ (n : ℕ). pattern_held s (live_test s opened c n)) class.itself
 
-    pub state_wild : live_test s opened c k ≡ Wildcard → State s (tested ++ k ∷ []) opened c
+    pub state_wild : live_test s opened c k ≡ None → State s (tested ++ k ∷ []) opened c
     state_wild e = record {
       tests = rw same st.tests;
       bindings =
@@ -479,10 +478,10 @@ module _ {s : List ℕ} (ok : Accepted s) (m : Meeting s) where
         same : row_of s (map (path_of s) (tested ++ k ∷ [])) c ≡ row_of s (map (path_of s) tested) c
         same = ap (λ (ps : List Path). row_of s ps c) (paths_next s tested k) ∙ row_of_wild s (map (path_of s) tested) (path_of s k) c (held ∙ ap (pattern_held s) e)
 
-        none_bound : opened_test s opened c (0 + length tested) k ≡ Wildcard
+        none_bound : opened_test s opened c (0 + length tested) k ≡ None
         none_bound = opened_test_not s opened c (0 + length tested) k (λ p x z. omega (arith, st.timely p x.test_of.known x.test_of.clause))
 
-    pub state_open : patterns s ≤ length opened → (p : ℕ) → live_test s opened c k ≡ Test p → State s (tested ++ k ∷ []) (set opened p (length tested + 1)) c
+    pub state_open : patterns s ≤ length opened → (p : ℕ) → live_test s opened c k ≡ Some p → State s (tested ++ k ∷ []) (set opened p (length tested + 1)) c
     unfolding open_row
     state_open long p e = record {
       tests = rw same (record { numbers = next; are = cells; once = counted });
@@ -558,7 +557,7 @@ module _ {s : List ℕ} (ok : Accepted s) (m : Meeting s) where
                 rw (d, after, l.1.shut, ne_eqb v (time + 1) (λ w. omega arith), ne_eqb 0 (time + 1) (λ w. omega arith))
             at_time q false y = rw (other q (eqb-false q p y))
 
-        now : opened_test s (set opened p v) c (0 + length tested) k ≡ Test p
+        now : opened_test s (set opened p v) c (0 + length tested) k ≡ Some p
         now =
             unfold opened_test in (rw (cell_is m c k p l.0, after, eq-eqb v (0 + length tested + 1) (omega arith)))
 

@@ -1,6 +1,6 @@
 -- The clauses' matrix is sound, and with a sound one its default's and each case's; and rules 2 to 4 give the rows and columns of these.
 -- Rests on the states of rows in LiveLaws, on the filters of HeldRows and on the order of Ordered.
-use Rattle.std.specs.Prelude.{◌≡◌, Bool, leb, length, get_or, set}
+use Rattle.std.specs.Prelude.{◌≡◌, Bool, leb, length, get_or, set, Some, None}
 use Rattle.std.proofs.Math.Path.{refl, sym, ap, ap₂}
 use Rattle.std.proofs.Common.{◌∙◌, true≢false, length-set, get_or-set_same, get_or-set_other}
 use Rattle.std.proofs.Math.Bool.{true, false}
@@ -27,9 +27,7 @@ use Rattle.build_table.specs.Standing.{clause_of, path_of, owner_of, pattern_of,
 use Rattle.build_table.specs.ClassLaws.{same_class_path}
 use Rattle.build_table.specs.Seen.{opened_tests, cell_at}
 use Rattle.build_table.specs.MembersLaws.{test_at, test_inside}
-use Rattle.build_matrix.specs.declared.Held.{Held}
-use Rattle.build_matrix.specs.declared.Held.TheVariants.{Test as HeldTest, Wildcard}
-use Rattle.build_matrix.specs.declared.Choice.TheVariants.{Leaf}
+use Rattle.build_matrix.specs.Columns.{Held}
 use Rattle.build_matrix.specs.RowStates.{row_after, row_of, rows_of, up_from, clause_rows_lem}
 use Rattle.build_matrix.specs.Numbers.{length_times, times_add, all_copies}
 use Rattle.build_matrix.specs.Live.{available, live_in, is_test_of, is_inside, IsClass, State}
@@ -55,8 +53,8 @@ rising_wild held n from [] r = tt
 rising_wild held n from (c ∷ cs) r = go (held c) refl (rising_wild held n (c + 1) cs r.2)
   where
     go : (h : Held) → held c ≡ h → Rising n (c + 1) (wild_of held cs) → Rising n from (wild_of held (c ∷ cs))
-    go (HeldTest p) e ih = rw (e, wild_of) (rising_later n from (c + 1) (wild_of held cs) (omega (arith, r.0)) ih)
-    go Wildcard e ih = rw (e, wild_of) (r.0, r.1, ih)
+    go (Some p) e ih = rw (e, wild_of) (rising_later n from (c + 1) (wild_of held cs) (omega (arith, r.0)) ih)
+    go None e ih = rw (e, wild_of) (r.0, r.1, ih)
 
 rising_join : (joins : ℕ → Bool) (held : ℕ → Held) (n from : ℕ) (cs : List ℕ) → Rising n from cs → Rising n from (join_of joins held cs)
 unfolding join_of
@@ -68,8 +66,8 @@ rising_join joins held n from (c ∷ cs) r = go (held c) refl (rising_join joins
     tested false ih = rising_later n from (c + 1) (join_of joins held cs) (omega (arith, r.0)) ih
 
     go : (h : Held) → held c ≡ h → Rising n (c + 1) (join_of joins held cs) → Rising n from (join_of joins held (c ∷ cs))
-    go (HeldTest p) e ih = rw (e, join_of) (tested (joins p) ih)
-    go Wildcard e ih = rw (e, join_of) (r.0, r.1, ih)
+    go (Some p) e ih = rw (e, join_of) (tested (joins p) ih)
+    go None e ih = rw (e, join_of) (r.0, r.1, ih)
 
 -- ---- what each has
 all_next : (P : ℕ → Type 0) (xs : List ℕ) (x : ℕ) → All P xs → P x → All P (xs ++ x ∷ [])
@@ -111,7 +109,7 @@ one_less true b w c = go b (eqb w c) refl (leb c w) refl
     go true false x false y = let l = leb-false c w y in rw (x, y, lt-leb (c + 1) w (omega arith))
 
 -- ---- the tests of the column of a class
-live_in_lem : (s opened : List ℕ) (k c p : ℕ) → live_in s opened k c ≡ HeldTest p → TestIn s k p
+live_in_lem : (s opened : List ℕ) (k c p : ℕ) → live_in s opened k c ≡ Some p → TestIn s k p
 live_in_lem s opened k c p e = let l = (live_test_lem s opened c k p e).0 in record { known = l.test_of.known; test = l.test_of.test; class = l.class_of_holds }
 
 pub tests_in : (s opened : List ℕ) (k : ℕ) (cs : List ℕ) → All (TestIn s k) (held_tests (live_in s opened k) cs)
@@ -120,22 +118,22 @@ tests_in s opened k [] = tt
 tests_in s opened k (c ∷ cs) = go (live_in s opened k c) refl (tests_in s opened k cs)
   where
     go : (o : Held) → live_in s opened k c ≡ o → All (TestIn s k) (held_tests (live_in s opened k) cs) → All (TestIn s k) (held_tests (live_in s opened k) (c ∷ cs))
-    go (HeldTest p) e ih = rw (e, held_tests) (live_in_lem s opened k c p e, ih)
-    go Wildcard e ih = rw (e, held_tests) ih
+    go (Some p) e ih = rw (e, held_tests) (live_in_lem s opened k c p e, ih)
+    go None e ih = rw (e, held_tests) ih
 
 pub opens_in_lem : (s : List ℕ) (joins : ℕ → Bool) (opened : List ℕ) (k : ℕ) (cs : List ℕ) → All (TestIn s k) (opens_of joins (live_in s opened k) cs)
 unfolding opens_of
 opens_in_lem s joins opened k [] = tt
 opens_in_lem s joins opened k (c ∷ cs) = go (live_in s opened k c) refl (opens_in_lem s joins opened k cs)
   where
-    test : (p : ℕ) → live_in s opened k c ≡ HeldTest p → (b : Bool) → All (TestIn s k) (opens_of joins (live_in s opened k) cs)
+    test : (p : ℕ) → live_in s opened k c ≡ Some p → (b : Bool) → All (TestIn s k) (opens_of joins (live_in s opened k) cs)
         → All (TestIn s k) (pick b (p ∷ opens_of joins (live_in s opened k) cs) (opens_of joins (live_in s opened k) cs))
     test p e true ih = (live_in_lem s opened k c p e, ih)
     test p e false ih = ih
 
     go : (o : Held) → live_in s opened k c ≡ o → All (TestIn s k) (opens_of joins (live_in s opened k) cs) → All (TestIn s k) (opens_of joins (live_in s opened k) (c ∷ cs))
-    go (HeldTest p) e ih = rw (e, opens_of) (test p e (joins p) ih)
-    go Wildcard e ih = rw (e, opens_of) ih
+    go (Some p) e ih = rw (e, opens_of) (test p e (joins p) ih)
+    go None e ih = rw (e, opens_of) ih
 
 -- ---- how many tests are reached
 module _ {s : List ℕ} (ok : Accepted s) where
@@ -183,10 +181,10 @@ module _ {s : List ℕ} (ok : Accepted s) where
 
     -- rule 3
     pub choice_is : choice (columns_at s columns) (rows_at s tested rows)
-        ≡ path_chosen s (best_of (λ k. count_of (live_in s opened k) rows) Leaf 0 columns)
+        ≡ path_chosen s (best_of (λ k. count_of (live_in s opened k) rows) None 0 columns)
     unfolding choice
     choice_is =
-        best_is s (rows_at s tested rows) (λ k. count_of (live_in s opened k) rows) Leaf 0 columns
+        best_is s (rows_at s tested rows) (λ k. count_of (live_in s opened k) rows) None 0 columns
         (all_map (IsClass s) _ (λ k class. count_states s (map (path_of s) tested) (path_of s k) (live_in s opened k) rows (told k class)) columns x.are_classes)
 
     pub column_is : (k : ℕ) → IsClass s k → column (path_of s k) (rows_at s tested rows) ≡ map (pattern_of s) (held_tests (live_in s opened k) rows)
@@ -203,8 +201,8 @@ module _ {s : List ℕ} (ok : Accepted s) where
       wild_states (c ∷ cs) h = go (live_in s opened k c) refl (wild_states cs h.1)
         where
           go : (o : Held) → live_in s opened k c ≡ o → All (State s (tested ++ k ∷ []) opened) (wild_of (live_in s opened k) cs) → All (State s (tested ++ k ∷ []) opened) (wild_of (live_in s opened k) (c ∷ cs))
-          go (HeldTest p) e ih = rw (e, wild_of) ih
-          go Wildcard e ih = rw (e, wild_of) (state_wild ok (meeting ok) tested opened c k column_class h.0 e, ih)
+          go (Some p) e ih = rw (e, wild_of) ih
+          go None e ih = rw (e, wild_of) (state_wild ok (meeting ok) tested opened c k column_class h.0 e, ih)
 
       pub default_sound : Sound s (wild_of (live_in s opened k) rows) (without_class k columns) (tested ++ k ∷ []) opened
       default_sound = record {
@@ -253,7 +251,7 @@ module _ {s : List ℕ} (ok : Accepted s) where
         (λ acc' l' same'. marks cs (c + 1) acc' r.2 h.1 l' same')
       where
         -- a row with a wildcard
-        wild : live_in s opened k c ≡ Wildcard → Marks (c + 1) acc (opens_by cs) (join_by cs)
+        wild : live_in s opened k c ≡ None → Marks (c + 1) acc (opens_by cs) (join_by cs)
             → Marks from acc (opens_by cs) (c ∷ join_by cs)
         wild e ih = record {
           reaches = ih.reaches;
@@ -273,7 +271,7 @@ module _ {s : List ℕ} (ok : Accepted s) where
         passed ih = record { reaches = ih.reaches; keeps = λ q a b. ih.keeps q a (omega (arith, r.0)); long = ih.long; states = ih.states }
 
         -- a row with a test that is opened
-        opens : (p : ℕ) → live_in s opened k c ≡ HeldTest p → Marks (c + 1) (set acc p time) (opens_by cs) (join_by cs)
+        opens : (p : ℕ) → live_in s opened k c ≡ Some p → Marks (c + 1) (set acc p time) (opens_by cs) (join_by cs)
             → Marks from acc (p ∷ opens_by cs) (c ∷ join_by cs)
         opens p e ih = record {
           reaches = omega (arith, ih.reaches, reached_more acc p time inside some_time shut t.known t.test, length_gather (opened_tests s) p (opens_by cs));
@@ -317,8 +315,8 @@ module _ {s : List ℕ} (ok : Accepted s) where
             → ((a : List ℕ) → length a ≡ length opened → ((q : ℕ) → q < patterns s → c + 1 ≤ clause_of s q → get_or a q 0 ≡ get_or opened q 0)
             → Marks (c + 1) a (opens_by cs) (join_by cs))
             → Marks from acc (opens_by (c ∷ cs)) (join_by (c ∷ cs))
-        go Wildcard e ih next = rw (e, opens_of, join_of) (wild e ih)
-        go (HeldTest p) e ih next = rw (e, opens_of, join_of) (test (joins p))
+        go None e ih next = rw (e, opens_of, join_of) (wild e ih)
+        go (Some p) e ih next = rw (e, opens_of, join_of) (test (joins p))
           where
             further : Marks (c + 1) (set acc p time) (opens_by cs) (join_by cs)
             further =

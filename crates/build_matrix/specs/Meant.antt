@@ -1,14 +1,13 @@
 -- A case's test as the arena has it and the test of rule 4 that it means, a text by where it is in the pool; and whether the test of a
 -- pattern belongs to a case, by the pattern's record alone. MeantLaws has that this is what rules says of the pattern.
-use Rattle.std.specs.Prelude.{Bool, List, [], ◌∷◌, ℕ, ◌+◌, ◌-◌, ◌≤◌, eqb, leb}
+use Rattle.std.specs.Prelude.{Bool, List, [], ◌∷◌, ℕ, ◌+◌, ◌-◌, ◌≤◌, eqb, leb, Some, None}
 use Rattle.base_words.specs.Words.{both, either, pick, same_text}
 use Rattle.spec_rules.specs.Kinds.{integer_pattern, byte_string_pattern, list_pattern, list_with_tail_pattern, constructor_pattern, int_case}
 use Rattle.spec_rules.specs.SheetFile.{pool_size, pool_text}
 use Rattle.spec_rules.specs.Splitting as splitting
 use Rattle.format_sheet.specs.declared.records.PatternRecord.{PatternRecord}
 use Rattle.format_records.specs.declared.reading.Test.{Test}
-use Rattle.build_matrix.specs.declared.Held.{Held}
-use Rattle.build_matrix.specs.declared.Held.TheVariants.{Test as HeldTest, Wildcard}
+use Rattle.build_matrix.specs.Columns.{Held}
 use Rattle.build_matrix.specs.declared.PerRow.{PerRow}
 use Rattle.build_matrix.specs.HeldRows.{joins_case}
 use Rattle.build_matrix.specs.Lists.{HoldsRows}
@@ -58,17 +57,17 @@ covers_read s r (Test.Tailed count) = covers_tailed r count
 -- ---- the rows of a case, one by one
 -- a row's test is a test of the sheet
 abbrev pub HeldKnown : List ℕ → Held → Type 0
-HeldKnown s (HeldTest p) = TestKnown s p
-HeldKnown s Wildcard = Unit {0}
+HeldKnown s (Some p) = TestKnown s p
+HeldKnown s None = Unit {0}
 
 -- the row of clause c, if it joins; and the test that it opens
 abbrev pub join_row : (ℕ → Bool) → Held → ℕ → List ℕ
-join_row joins (HeldTest p) c = pick (joins p) (c ∷ []) []
-join_row joins Wildcard c = c ∷ []
+join_row joins (Some p) c = pick (joins p) (c ∷ []) []
+join_row joins None c = c ∷ []
 
 abbrev pub open_row : (ℕ → Bool) → Held → List ℕ
-open_row joins (HeldTest p) = pick (joins p) (p ∷ []) []
-open_row joins Wildcard = []
+open_row joins (Some p) = pick (joins p) (p ∷ []) []
+open_row joins None = []
 
 -- the rows of a case and the tests that they open, in arrays
 pub record JoinsTo (in_rows in_opens : PerRow) (rows opens : List ℕ) : Type 0 where

@@ -1,6 +1,6 @@
 -- A matrix by numbers as one value, the matrices that rules 2 to 4 make of it, the column chosen in it and the tree that it gives.
 -- Rests on Matrices, Ordered and HeldRows, and on the tree of a matrix in crate spec_match; TreesLaws has how these meet.
-use Rattle.std.specs.Prelude.{List, [], ◌∷◌, ◌++◌, ℕ, ◌+◌, length}
+use Rattle.std.specs.Prelude.{List, [], ◌∷◌, ◌++◌, ℕ, ◌+◌, length, None}
 use Rattle.base_words.specs.Words.{zeros}
 use Rattle.spec_rules.specs.Limits.{patterns_most}
 use Rattle.spec_rules.specs.SheetFile.{clauses}
@@ -8,8 +8,7 @@ use Rattle.spec_rules.specs.Splitting.{Test}
 use Rattle.spec_rules.specs.Building.{Tree}
 use Rattle.spec_match.specs.Depth.{matrix_tree}
 use Rattle.build_table.specs.Seen.{opened_tests}
-use Rattle.build_matrix.specs.declared.Choice.{Choice}
-use Rattle.build_matrix.specs.declared.Choice.TheVariants.{Leaf}
+use Rattle.build_matrix.specs.Columns.{Choice}
 use Rattle.build_matrix.specs.RowStates.{up_from}
 use Rattle.build_matrix.specs.Live.{live_in}
 use Rattle.build_matrix.specs.HeldRows.{count_of, best_of, held_tests, wild_of, join_of, opens_of, joins_case}
@@ -62,7 +61,7 @@ case_numbered s k u M = record {
 -- ---- what is chosen, the tests of a column top down, and the tree
 unfoldable pub chosen_in : List ℕ → Numbered → Choice
 unfolding best_of count_of
-chosen_in s M = best_of (λ k. count_of (live_in s M.opened k) M.rows) Leaf 0 M.columns
+chosen_in s M = best_of (λ k. count_of (live_in s M.opened k) M.rows) None 0 M.columns
 
 unfoldable pub tests_in : List ℕ → ℕ → Numbered → List ℕ
 unfolding held_tests

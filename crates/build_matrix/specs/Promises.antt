@@ -11,7 +11,7 @@ use Rattle.format_sheet.specs.declared.SheetMap.{SheetMap}
 use Rattle.format_sheet.specs.declared.records.PatternRecord.{PatternRecord}
 use Rattle.build_table.specs.Seen.{tests_of, tests_of_each, opened_tests}
 use Rattle.build_matrix.specs.declared.Classes.{Classes}
-use Rattle.build_matrix.specs.declared.Held.{Held}
+use Rattle.build_matrix.specs.Columns.{Held}
 use Rattle.build_matrix.specs.declared.Matrix.{Matrix}
 use Rattle.build_matrix.specs.declared.PerRow.{PerRow}
 use Rattle.build_matrix.specs.declared.Sizes.{Sizes}

@@ -1,12 +1,10 @@
 -- What a row has in a column and what is chosen, as the code reads it from the table: by bytes alone.
 -- ReadingLaws has that these are the same of a table that is a sheet's.
-use Rattle.std.specs.Prelude.{Bool, true, false, not, List, [], ◌∷◌, ◌≡◌, ℕ, zero, suc, ◌+◌, ◌-◌, ◌*◌, ◌≤◌, ◌<◌, eqb, ltb, length, get_or}
+use Rattle.std.specs.Prelude.{Bool, not, List, [], ◌∷◌, ◌≡◌, ℕ, zero, suc, ◌+◌, ◌-◌, ◌*◌, ◌≤◌, ◌<◌, eqb, ltb, length, get_or, Some, None}
 use Rattle.base_words.specs.Words.{both, either, pick}
 use Rattle.spec_rules.specs.Limits.{patterns_most, clauses_most, depth_most}
 use Rattle.build_table.specs.Table.{owner_at, depth_at, cells_at, table_size, first_before, indices_in}
-use Rattle.build_matrix.specs.declared.Held.{Held}
-use Rattle.build_matrix.specs.declared.Held.TheVariants.{Test, Wildcard}
-use Rattle.build_matrix.specs.declared.Choice.TheVariants.{Column}
+use Rattle.build_matrix.specs.Columns.{Held}
 use Rattle.build_matrix.specs.declared.rows.Best.{Best}
 
 -- the test of clause c in the column of a class
@@ -18,9 +16,9 @@ abbrev pub owner_in : List ℕ → ℕ → ℕ
 owner_in t p = get_or t (owner_at + p) 0
 
 abbrev pub cell_held : List ℕ → List ℕ → ℕ → Held
-cell_held t opened zero = Wildcard
+cell_held t opened zero = None
 cell_held t opened (suc p) =
-    pick (both (eqb (get_or opened p 0) 0) (either (eqb (owner_in t p) 0) (not (eqb (get_or opened (owner_in t p - 1) 0) 0)))) (Test p) Wildcard
+    pick (both (eqb (get_or opened p 0) 0) (either (eqb (owner_in t p) 0) (not (eqb (get_or opened (owner_in t p - 1) 0) 0)))) (Some p) None
 
 unfoldable pub held_in : List ℕ → List ℕ → ℕ → ℕ → Held
 held_in t opened class c = cell_held t opened (cell_in t class c)
@@ -41,16 +39,11 @@ pub record Ranked (t : List ℕ) (k : ℕ) : Type 0 where
 abbrev pub first_in : List ℕ → ℕ → ℕ → Bool
 first_in t a b = first_before (indices_in t a) (indices_in t b)
 
--- a row with a test is counted, up to the first without
-abbrev pub has_test : Held → Bool
-has_test (Test p) = true
-has_test Wildcard = false
-
 -- the better of two columns; of equal ones the first
 abbrev pub bettered : Best → ℕ → ℕ → Best
-bettered best class amount = pick (ltb best.amount amount) (record { choice = Column class; amount = amount }) best
+bettered best class amount = pick (ltb best.amount amount) (record { choice = Some class; amount = amount }) best
 
 -- a row that stays in the default
 abbrev pub kept : Held → ℕ → List ℕ
-kept (Test p) c = []
-kept Wildcard c = c ∷ []
+kept (Some p) c = []
+kept None c = c ∷ []

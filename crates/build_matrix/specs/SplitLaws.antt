@@ -1,6 +1,6 @@
 -- Laws of the matrices as their loops make them: the rows of all clauses, the columns of the clauses from the last up, and the rows,
 -- the tests opened and the columns of a case.
-use Rattle.std.specs.Prelude.{◌≡◌, Bool, ℕ, zero, suc, ◌+◌, ◌-◌, ◌≤◌, ◌<◌, get_or, take, set}
+use Rattle.std.specs.Prelude.{◌≡◌, Bool, ℕ, zero, suc, ◌+◌, ◌-◌, ◌≤◌, ◌<◌, get_or, take, set, Some, None}
 use Rattle.std.proofs.Math.Path.{refl, sym, ap, ap₂}
 use Rattle.std.proofs.Common.{◌∙◌, take-append-drop}
 use Rattle.std.proofs.Math.Bool.{true, false}
@@ -21,8 +21,7 @@ use Rattle.build_table.specs.Seen.{tests_of, opened_tests}
 use Rattle.build_matrix.specs.declared.Classes.{Classes}
 use Rattle.build_matrix.specs.declared.PerRow.{PerRow}
 use Rattle.build_matrix.specs.declared.Matrix.{Matrix}
-use Rattle.build_matrix.specs.declared.Held.{Held}
-use Rattle.build_matrix.specs.declared.Held.TheVariants.{Test, Wildcard}
+use Rattle.build_matrix.specs.Columns.{Held}
 use Rattle.build_matrix.specs.Live.{live_in}
 use Rattle.build_matrix.specs.LiveLaws.{live_test_lem}
 use Rattle.build_matrix.specs.HeldRows.{join_of, opens_of, joins_case}
@@ -33,7 +32,7 @@ use Rattle.build_matrix.specs.RowStates.{up_from}
 use Rattle.build_matrix.specs.Matrices.{TestIn, gather, root_tests, marked}
 use Rattle.build_matrix.specs.Numbered.{SoundOf, first_numbered, opens_in, case_numbered}
 use Rattle.build_matrix.specs.TreesLaws.{sound_first, few_columns, sound_case, opens_known}
-use Rattle.build_matrix.specs.ReadingLaws.{all_at, slice_on, slice_end}
+use Rattle.build_matrix.specs.ReadingLaws.{all_at, left_on, left_end, slice_on, slice_end}
 use Rattle.build_matrix.specs.Ready.{ReadyTable, Listed, put_tests, Roomy, TestKnown}
 use Rattle.build_matrix.specs.PuttingLaws.{each_least, all_map, tests_known, opened_known, listed}
 use Rattle.build_matrix.specs.InNumbers.{in_numbers, WholeMatrix, StandsFor}
@@ -141,7 +140,7 @@ module _ {s : List ℕ} {m : SheetMap} {t : List ℕ} (ready : ReadyTable s m t)
 -- ---- the rows of a case, one by one
 -- `joined` has the rows so far and `opens` the tests that they open
 module _ (joins : ℕ → Bool) (joined opens : PerRow) (h : Held) (c : ℕ) where
-  pub joined_not : {p : ℕ} → WholeRows joined → WholeRows opens → h ≡ Test p → joins p ≡ false
+  pub joined_not : {p : ℕ} → WholeRows joined → WholeRows opens → h ≡ Some p → joins p ≡ false
       → JoinsTo joined opens (numbers_in joined ++ join_row joins h c) (numbers_in opens ++ open_row joins h)
   joined_not {p} a b e f =
       let rows_are : join_row joins h c ≡ [] = rw (e, f) in
@@ -152,7 +151,7 @@ module _ (joins : ℕ → Bool) (joined opens : PerRow) (h : Held) (c : ℕ) whe
       }
 
   pub joined_test : {p : ℕ} (rows tests : PerRow) → HoldsRows rows (numbers_in joined ++ c ∷ []) → HoldsRows tests (numbers_in opens ++ p ∷ [])
-      → h ≡ Test p → joins p ≡ true → JoinsTo rows tests (numbers_in joined ++ join_row joins h c) (numbers_in opens ++ open_row joins h)
+      → h ≡ Some p → joins p ≡ true → JoinsTo rows tests (numbers_in joined ++ join_row joins h c) (numbers_in opens ++ open_row joins h)
   joined_test {p} rows tests a b e f =
       let rows_are : join_row joins h c ≡ c ∷ [] = rw (e, f) in
       let opens_are : open_row joins h ≡ p ∷ [] = rw (e, f) in
@@ -161,7 +160,7 @@ module _ (joins : ℕ → Bool) (joined opens : PerRow) (h : Held) (c : ℕ) whe
         has_opens = holds_rows_same b (sym (ap (λ (x : List ℕ). numbers_in opens ++ x) opens_are));
       }
 
-  pub joined_wild : (rows : PerRow) → HoldsRows rows (numbers_in joined ++ c ∷ []) → WholeRows opens → h ≡ Wildcard
+  pub joined_wild : (rows : PerRow) → HoldsRows rows (numbers_in joined ++ c ∷ []) → WholeRows opens → h ≡ None
       → JoinsTo rows opens (numbers_in joined ++ join_row joins h c) (numbers_in opens ++ open_row joins h)
   joined_wild rows a b e =
       let rows_are : join_row joins h c ≡ c ∷ [] = rw e in
@@ -171,29 +170,29 @@ module _ (joins : ℕ → Bool) (joined opens : PerRow) (h : Held) (c : ℕ) whe
         has_opens = holds_rows_same b (sym (ap (λ (x : List ℕ). numbers_in opens ++ x) opens_are ∙ append-nil (numbers_in opens)));
       }
 
-pub held_test : (s : List ℕ) (h : Held) {p : ℕ} → HeldKnown s h → h ≡ Test p → TestKnown s p
+pub held_test : (s : List ℕ) (h : Held) {p : ℕ} → HeldKnown s h → h ≡ Some p → TestKnown s p
 held_test s h k e = rw e at k
 
 pub held_live : (s opened : List ℕ) (class c : ℕ) (h : Held) → h ≡ live_in s opened class c → HeldKnown s h
-held_live s opened class c (Test p) e = let x = (live_test_lem s opened c class p (sym e)).0.test_of in record { known = x.known; test = x.test }
-held_live s opened class c Wildcard e = tt
+held_live s opened class c (Some p) e = let x = (live_test_lem s opened c class p (sym e)).0.test_of in record { known = x.known; test = x.test }
+held_live s opened class c None e = tt
 
 -- at most one row more, and one test
 pub join_most : (joins : ℕ → Bool) (h : Held) (c : ℕ) → length (join_row joins h c) ≤ 1
-join_most joins (Test p) c = go (joins p)
+join_most joins (Some p) c = go (joins p)
   where
     go : (b : Bool) → length (pick b (c ∷ []) []) ≤ 1
     go true = omega arith
     go false = omega arith
-join_most joins Wildcard c = omega arith
+join_most joins None c = omega arith
 
 pub open_most : (joins : ℕ → Bool) (h : Held) → length (open_row joins h) ≤ 1
-open_most joins (Test p) = go (joins p)
+open_most joins (Some p) = go (joins p)
   where
     go : (b : Bool) → length (pick b (p ∷ []) []) ≤ 1
     go true = omega arith
     go false = omega arith
-open_most joins Wildcard = omega arith
+open_most joins None = omega arith
 
 -- the rows joined so far and those that are left are all
 pub record Joining (joins : ℕ → Bool) (held : ℕ → Held) (joined opens : PerRow) (left rows : List ℕ) : Type 0 where
@@ -209,10 +208,10 @@ module _ (joins : ℕ → Bool) (held : ℕ → Held) where
       tested true = refl
       tested false = refl
 
-      go : (h : Held) → elim h [ Test p ↦ pick (joins p) (c ∷ join_of joins held cs) (join_of joins held cs) | Wildcard ↦ c ∷ join_of joins held cs ]
+      go : (h : Held) → elim h [ Some p ↦ pick (joins p) (c ∷ join_of joins held cs) (join_of joins held cs) | None ↦ c ∷ join_of joins held cs ]
           ≡ join_row joins h c ++ join_of joins held cs
-      go (Test p) = tested (joins p)
-      go Wildcard = refl
+      go (Some p) = tested (joins p)
+      go None = refl
 
   open_more : (c : ℕ) (cs : List ℕ) → opens_of joins held (c ∷ cs) ≡ open_row joins (held c) ++ opens_of joins held cs
   unfolding opens_of
@@ -222,10 +221,10 @@ module _ (joins : ℕ → Bool) (held : ℕ → Held) where
       tested p true = refl
       tested p false = refl
 
-      go : (h : Held) → elim h [ Test p ↦ pick (joins p) (p ∷ opens_of joins held cs) (opens_of joins held cs) | Wildcard ↦ opens_of joins held cs ]
+      go : (h : Held) → elim h [ Some p ↦ pick (joins p) (p ∷ opens_of joins held cs) (opens_of joins held cs) | None ↦ opens_of joins held cs ]
           ≡ open_row joins h ++ opens_of joins held cs
-      go (Test p) = tested p (joins p)
-      go Wildcard = refl
+      go (Some p) = tested p (joins p)
+      go None = refl
 
   module _ (joined opens next next_opens : PerRow) (rows : List ℕ) (h : Held) (c : ℕ) (is : h ≡ held c)
       (j : JoinsTo next next_opens (numbers_in joined ++ join_row joins h c) (numbers_in opens ++ open_row joins h)) where
@@ -255,16 +254,16 @@ module _ (joins : ℕ → Bool) (held : ℕ → Held) where
       }
 
 -- ---- tests marked from the front
-pub mark_on : (time : ℕ) (out whole l : List ℕ) (n i p : ℕ) → i < n → n ≤ length l → p ≡ get_or l i 0 → marked time out (slice i n l) ≡ whole
+pub mark_on : (time : ℕ) (out whole l : List ℕ) (n i p : ℕ) → i < length (take n l) → p ≡ get_or (take n l) i 0 → marked time out (slice i n l) ≡ whole
     → marked time (set out p time) (slice (i + 1) n l) ≡ whole
 unfolding marked
-mark_on time out whole l n i p h room is e =
-    let f : marked time out (get_or l i 0 ∷ slice (i + 1) n l) ≡ whole = rw (slice_on l i n h room) at e in
+mark_on time out whole l n i p h is e =
+    let f : marked time out (get_or (take n l) i 0 ∷ slice (i + 1) n l) ≡ whole = rw (left_on l n i h) at e in
     rw is f
 
-pub mark_end : (time : ℕ) (out whole l : List ℕ) (n i : ℕ) → i ≡ n → marked time out (slice i n l) ≡ whole → out ≡ whole
+pub mark_end : (time : ℕ) (out whole l : List ℕ) (n i : ℕ) → length (take n l) ≤ i → marked time out (slice i n l) ≡ whole → out ≡ whole
 unfolding marked
-mark_end time out whole l n i d e = let f : marked time out [] ≡ whole = rw (slice_end l i n d) at e in f
+mark_end time out whole l n i d e = let f : marked time out [] ≡ whole = rw (left_end l n i d) at e in f
 
 -- ---- the columns that tests open to, from the last up: those of the tests from place i on
 abbrev pub opens_from : List ℕ → List ℕ → ℕ → ℕ → List ℕ

@@ -2,7 +2,7 @@
 -- row's leaf, else a switch on that column's tests, whose subtrees are those of the cases' matrices and of the default's, all sound.
 -- Rests on MatricesLaws, and on the two equations of a tree in crate spec_match.
 use Rattle.std.proofs.Math.Path.{◌≡◌, sym, ap, ap₂, fun_ext}
-use Rattle.std.specs.Prelude.{refl, ◌⊎◌, Bool, true, false, ℕ, zero, suc, ◌+◌, ◌≤◌, ◌<◌, ltb, length, get_or}
+use Rattle.std.specs.Prelude.{refl, ◌⊎◌, Bool, true, false, ℕ, zero, suc, ◌+◌, ◌≤◌, ◌<◌, ltb, length, get_or, Some, None}
 use Rattle.std.proofs.Common.{◌∙◌, inl, inr, arith, ltb-true}
 use Rattle.std.proofs.lemmas.Bool.{false≢true}
 use mathlib.Core.List.{List, [], ◌∷◌, map}
@@ -28,10 +28,7 @@ use Rattle.spec_match.specs.Tests.{HasTest, TestRow, take_test, others_have, col
 use Rattle.spec_match.specs.Depth.{choice_nothing, node_on, case_columns, matrix_tree, plain_tree_matrix, tree_none, tree_some}
 use Rattle.build_table.specs.Standing.{path_of, pattern_of}
 use Rattle.build_table.specs.MembersLaws.{is_in_head, is_in_tail}
-use Rattle.build_matrix.specs.declared.Held.{Held}
-use Rattle.build_matrix.specs.declared.Held.TheVariants.{Test as HeldTest, Wildcard}
-use Rattle.build_matrix.specs.declared.Choice.{Choice}
-use Rattle.build_matrix.specs.declared.Choice.TheVariants.{Column, Leaf}
+use Rattle.build_matrix.specs.Columns.{Held, Choice}
 use Rattle.build_matrix.specs.RowStates.{open_at, row_after, row_of, rows_of, up_from, open_at_wild, open_at_test}
 use Rattle.build_matrix.specs.Live.{live_in, IsClass}
 use Rattle.build_matrix.specs.HeldRows.{count_of, best_of, path_chosen, held_tests, join_of, joins_case}
@@ -61,26 +58,26 @@ rows_tests s ps [] = tt
 rows_tests s ps (c ∷ cs) = (unfold row_of clause_row in (row_after_tests ps (clause_row c (clause_pattern s c)) (columns_of_test [] (clause_pattern s c))), rows_tests s ps cs)
 
 -- ---- the column chosen
-same_column : (a b : ℕ) → Column a ≡ Column b → a ≡ b
+same_column : (a b : ℕ) → Some a ≡ Some b → a ≡ b
 same_column a b e = cc
 
-best_some : (counts : ℕ → ℕ) (chosen : Choice) (n : ℕ) (ks : List ℕ) (k : ℕ) → best_of counts chosen n ks ≡ Column k
-    → (chosen ≡ Column k) ⊎ ((is_in k ks ≡ true) × (0 < counts k))
+best_some : (counts : ℕ → ℕ) (chosen : Choice) (n : ℕ) (ks : List ℕ) (k : ℕ) → best_of counts chosen n ks ≡ Some k
+    → (chosen ≡ Some k) ⊎ ((is_in k ks ≡ true) × (0 < counts k))
 unfolding best_of
 best_some counts chosen n [] k e = inl e
-best_some counts chosen n (z ∷ ks) k e = go (ltb n (counts z)) refl (best_some counts (Column z) (counts z) ks k) (best_some counts chosen n ks k)
+best_some counts chosen n (z ∷ ks) k e = go (ltb n (counts z)) refl (best_some counts (Some z) (counts z) ks k) (best_some counts chosen n ks k)
   where
-    later : (o : Choice) → (o ≡ Column k) ⊎ ((is_in k ks ≡ true) × (0 < counts k)) → (o ≡ Column k) ⊎ ((is_in k (z ∷ ks) ≡ true) × (0 < counts k))
+    later : (o : Choice) → (o ≡ Some k) ⊎ ((is_in k ks ≡ true) × (0 < counts k)) → (o ≡ Some k) ⊎ ((is_in k (z ∷ ks) ≡ true) × (0 < counts k))
     later o (inl a) = inl a
     later o (inr b) = inr (is_in_tail k z ks b.0, b.1)
 
     go : (b : Bool) → ltb n (counts z) ≡ b
-        → (best_of counts (Column z) (counts z) ks ≡ Column k → (Column z ≡ Column k) ⊎ ((is_in k ks ≡ true) × (0 < counts k)))
-        → (best_of counts chosen n ks ≡ Column k → (chosen ≡ Column k) ⊎ ((is_in k ks ≡ true) × (0 < counts k)))
-        → (chosen ≡ Column k) ⊎ ((is_in k (z ∷ ks) ≡ true) × (0 < counts k))
-    go true y new old = found (later (Column z) (new (rw y at e)))
+        → (best_of counts (Some z) (counts z) ks ≡ Some k → (Some z ≡ Some k) ⊎ ((is_in k ks ≡ true) × (0 < counts k)))
+        → (best_of counts chosen n ks ≡ Some k → (chosen ≡ Some k) ⊎ ((is_in k ks ≡ true) × (0 < counts k)))
+        → (chosen ≡ Some k) ⊎ ((is_in k (z ∷ ks) ≡ true) × (0 < counts k))
+    go true y new old = found (later (Some z) (new (rw y at e)))
       where
-        found : (Column z ≡ Column k) ⊎ ((is_in k (z ∷ ks) ≡ true) × (0 < counts k)) → (chosen ≡ Column k) ⊎ ((is_in k (z ∷ ks) ≡ true) × (0 < counts k))
+        found : (Some z ≡ Some k) ⊎ ((is_in k (z ∷ ks) ≡ true) × (0 < counts k)) → (chosen ≡ Some k) ⊎ ((is_in k (z ∷ ks) ≡ true) × (0 < counts k))
         found (inl a) = let d = same_column z k a in inr (rw d (is_in_head k ks), rw (← d) (omega (arith, ltb-true n (counts z) y)))
         found (inr b) = inr b
     go false y new old = later chosen (old (rw y at e))
@@ -91,7 +88,7 @@ pub record FirstTest (held : ℕ → Held) (rows : List ℕ) : Type 0 where
   pub rest : List ℕ
   pub test : ℕ
   pub are : rows ≡ clause ∷ rest
-  pub holds : held clause ≡ HeldTest test
+  pub holds : held clause ≡ Some test
 
 count_first : (held : ℕ → Held) (rows : List ℕ) → 0 < count_of held rows → FirstTest held rows
 unfolding count_of
@@ -99,8 +96,8 @@ count_first held [] h = absurd (omega arith)
 count_first held (c ∷ cs) h = go (held c) refl
   where
     go : (o : Held) → held c ≡ o → FirstTest held (c ∷ cs)
-    go (HeldTest p) e = record { clause = c; rest = cs; test = p; are = refl; holds = e }
-    go Wildcard e = let l : 0 < 0 = rw (e, count_of) at h in absurd (omega arith)
+    go (Some p) e = record { clause = c; rest = cs; test = p; are = refl; holds = e }
+    go None e = let l : 0 < 0 = rw (e, count_of) at h in absurd (omega arith)
 
 -- ---- the rows of a case that some test of the column belongs to
 join_some : (s : List ℕ) (u : Test) (held : ℕ → Held) (rows : List ℕ) → any_covers u (map (pattern_of s) (held_tests held rows)) ≡ true
@@ -111,8 +108,8 @@ join_some s u held (c ∷ cs) h = go (held c) refl (join_some s u held cs)
   where
     go : (o : Held) → held c ≡ o → (any_covers u (map (pattern_of s) (held_tests held cs)) ≡ true → 1 ≤ length (join_of (joins_case s u) held cs))
         → 1 ≤ length (join_of (joins_case s u) held (c ∷ cs))
-    go Wildcard e ih = rw (e, join_of) (omega arith)
-    go (HeldTest p) e ih = test (covers (pattern_of s p) u) refl
+    go None e ih = rw (e, join_of) (omega arith)
+    go (Some p) e ih = test (covers (pattern_of s p) u) refl
       where
         test : (b : Bool) → covers (pattern_of s p) u ≡ b → 1 ≤ length (join_of (joins_case s u) held (c ∷ cs))
         test true y = rw (e, join_of, y) (omega arith)
@@ -172,12 +169,12 @@ module _ (s : List ℕ) (M : Numbered) (k : ℕ) where
   case_some u e = join_some s u (live_in s M.opened k) M.rows (case_covered u (map (pattern_of s) (held_tests (live_in s M.opened k) M.rows)) e)
 
   -- the column chosen is there, and the first row has a test in it
-  module _ (chosen : chosen_in s M ≡ Column k) where
+  module _ (chosen : chosen_in s M ≡ Some k) where
     chosen_facts : (is_in k M.columns ≡ true) × (0 < count_of (live_in s M.opened k) M.rows)
     unfolding chosen_in
-    chosen_facts = go (best_some (λ z. count_of (live_in s M.opened z) M.rows) Leaf 0 M.columns k chosen)
+    chosen_facts = go (best_some (λ z. count_of (live_in s M.opened z) M.rows) None 0 M.columns k chosen)
       where
-        go : (Leaf ≡ Column k) ⊎ ((is_in k M.columns ≡ true) × (0 < count_of (live_in s M.opened k) M.rows))
+        go : (None ≡ Some k) ⊎ ((is_in k M.columns ≡ true) × (0 < count_of (live_in s M.opened k) M.rows))
             → (is_in k M.columns ≡ true) × (0 < count_of (live_in s M.opened k) M.rows)
         go (inl a) = let z : ◌≡◌ {A = ℕ} 0 1 = cc in absurd (omega arith)
         go (inr b) = b
@@ -212,7 +209,7 @@ module _ {s : List ℕ} (ok : Accepted s) where
     chosen_choice = choice_is ok sound
 
     -- "All counts 0: a leaf of the first row"
-    pub tree_leaf : chosen_in s M ≡ Leaf → tree_at s M ≡ leaf_of (rows_at s M.tested M.rows)
+    pub tree_leaf : chosen_in s M ≡ None → tree_at s M ≡ leaf_of (rows_at s M.tested M.rows)
     unfolding tree_at
     tree_leaf e = tree_none (columns_at s M.columns) (rows_at s M.tested M.rows) (chosen_choice ∙ ap (path_chosen s) e)
 
@@ -237,7 +234,7 @@ module _ {s : List ℕ} (ok : Accepted s) where
       case_tree u = ap₂ matrix_tree (case_columns_lem ok sound k there u) (case_rows_lem ok sound k there u)
 
     -- ---- the column chosen
-    module _ (k : ℕ) (chosen : chosen_in s M ≡ Column k) where
+    module _ (k : ℕ) (chosen : chosen_in s M ≡ Some k) where
       pub chosen_class : IsClass s k
       chosen_class = column_class ok sound k (chosen_there s M k chosen)
 

@@ -13,7 +13,7 @@ ghost use Rattle.build_matrix.specs.Reading.{first_in};
 ghost use Rattle.build_matrix.specs.Ready.{ReadyTable, Puts, put_tests, itself_or_inside, Gives};
 ghost use Rattle.build_matrix.specs.Promises.{PatternAsked, ChildrenAsked, TestAsked};
 
-use crate::{Classes, wide};
+use crate::Classes;
 use base_numbers::pattern_kinds;
 use base_numbers::sheet::PATTERNS_MOST;
 use build_table::{CLASS, at, before, is_test};
@@ -43,11 +43,7 @@ fn insert(list: &mut [u8; PATTERNS_MOST], count: usize, place: usize, class: usi
     requires { Whole (as_classes list.old count) × (place ≤ count) × (count < patterns_most) × (class < patterns_most) }
     ensures { Holds (as_classes list.new result) (take place list.old ++ class ∷ slice place count list.old) }
 {
-    let mut i = count;
-    while place < i {
-        list[i] = list[i - 1];
-        i -= 1;
-    }
+    list.copy_within(place..count, place + 1);
     list[place] = class as u8;
     count + 1
 }
@@ -64,14 +60,9 @@ fn put_part(
     requires from_le_to { (from ≤ to) × (to ≤ patterns_most) × (count + (to - from) ≤ patterns_most) }
     ensures { Holds (as_classes list.new result) (take count list.old ++ slice from to cs.now) }
 {
-    let mut n = count;
-    let mut i = from;
-    while i < to {
-        list[n] = cs[i];
-        n += 1;
-        i += 1;
-    }
-    n
+    let end = count + (to - from);
+    list[count..end].copy_from_slice(&cs[from..to]);
+    end
 }
 
 // The first place of the class among the first n of cs, or n.
@@ -79,14 +70,7 @@ fn place_of(cs: &[u8; PATTERNS_MOST], n: usize, class: usize) -> usize
     requires { Whole (as_classes cs.now n) }
     ensures { result ≡ first_place class (take n cs.now) }
 {
-    let mut i: usize = 0;
-    while i < n {
-        if wide(cs[i]) == class {
-            return i;
-        }
-        i += 1;
-    }
-    i
+    cs[..n].iter().position(|c| usize::from(*c) == class).unwrap_or(n)
 }
 
 // The first n of cs without the one tested, behind those in the list.
@@ -110,18 +94,16 @@ fn put(table: &[u8], list: &mut [u8; PATTERNS_MOST], count: usize, class: usize)
     requires { Puts table.now (as_classes list.old count) class }
     ensures { Holds (as_classes list.new result) (put_class (first_in table.now) class (take count list.old)) }
 {
-    let mut i: usize = 0;
-    while i < count {
-        let other = wide(list[i]);
+    for i in 0..count {
+        let other = usize::from(list[i]);
         if other == class {
             return count;
         }
         if before(table, class, other) {
             return insert(list, count, i, class);
         }
-        i += 1;
     }
-    insert(list, count, i, class)
+    insert(list, count, count, class)
 }
 
 // What a pattern gives to the columns of its row: nothing, its own class, or what its children give.

@@ -26,25 +26,20 @@ fn same_texts(
     requires { SheetAccepts sheet.now map × (start + count ≤ pool_size sheet.now) × (other + size ≤ pool_size sheet.now) }
     ensures { result ≡ same_text (pool_text sheet.now start count) (pool_text sheet.now other size) }
 {
-    if count != size {
-        return false;
-    }
-    same_text(
-        sheet,
-        map.pool.start + start,
-        sheet,
-        map.pool.start + other,
-        count,
-    )
+    count == size
+        && same_text(
+            sheet,
+            map.pool.start + start,
+            sheet,
+            map.pool.start + other,
+            count,
+        )
 }
 
 fn covers_constructor(r: PatternRecord, number: u16) -> bool
     ensures { result ≡ covers_constructor r number }
 {
-    if r.kind != pattern_kinds::CONSTRUCTOR {
-        return false;
-    }
-    number as usize == r.a
+    r.kind == pattern_kinds::CONSTRUCTOR && number as usize == r.a
 }
 
 // The kind of a pattern with such a text: an integer, or a byte string.
@@ -69,28 +64,20 @@ fn covers_text(
     requires { SheetAccepts sheet.now map × (start + count ≤ pool_size sheet.now) × TextInPool sheet.now r }
     ensures { result ≡ covers_text sheet.now r kind start count }
 {
-    if r.kind != text_pattern(kind) {
-        return false;
-    }
-    same_texts(sheet, map, start as usize, count as usize, r.first, r.count)
+    r.kind == text_pattern(kind)
+        && same_texts(sheet, map, start as usize, count as usize, r.first, r.count)
 }
 
 fn covers_tailed(r: PatternRecord, count: u16) -> bool
     ensures { result ≡ covers_tailed r count }
 {
-    if r.kind != pattern_kinds::LIST_WITH_TAIL {
-        return false;
-    }
-    r.count <= count as usize + 1
+    r.kind == pattern_kinds::LIST_WITH_TAIL && r.count <= count as usize + 1
 }
 
 fn covers_list(r: PatternRecord, count: u16) -> bool
     ensures { result ≡ covers_list r count }
 {
-    if r.kind == pattern_kinds::LIST {
-        return count as usize == r.count;
-    }
-    covers_tailed(r, count)
+    (r.kind == pattern_kinds::LIST && count as usize == r.count) || covers_tailed(r, count)
 }
 
 // The test of pattern p belongs to the case.

@@ -19,20 +19,6 @@ pub mod splitting;
 
 ghost use Rattle.std.specs.Prelude.{◌≡◌};
 
-// What a row has in a column: a test, by its pattern's number, or a wildcard.
-#[derive(Drop)]
-pub enum Held {
-    Test(usize),
-    Wildcard,
-}
-
-// The column to test, by its class; or the first row's leaf.
-#[derive(Drop)]
-pub enum Choice {
-    Column(usize),
-    Leaf,
-}
-
 // Numbers, at most one for each row.
 #[derive(Drop)]
 pub struct PerRow {

@@ -1,47 +1,42 @@
 // Rule 3 on the rows of a matrix: what each has in a column, how many stand before a column's first wildcard, and the column to test.
 // The rows with a wildcard are the default's.
-ghost use Rattle.std.specs.Prelude.{◌≡◌, [], ◌∷◌, ◌++◌, ◌<◌, length, take};
+ghost use Rattle.std.specs.Prelude.{◌≡◌, [], ◌∷◌, ◌++◌, ◌<◌, None, length, take};
 ghost use Rattle.spec_rules.specs.Limits.{clauses_most};
 ghost use Rattle.spec_rules.specs.SplittingLaws.{All};
-ghost use Rattle.build_matrix.specs.declared.Choice.TheVariants.{Leaf};
 ghost use Rattle.build_matrix.specs.HeldRows.{count_of, best_of, wild_of};
 ghost use Rattle.build_matrix.specs.Lists.{as_classes, as_rows, Whole, WholeRows, HoldsRows};
-ghost use Rattle.build_matrix.specs.Reading.{held_in, InTable, has_test, bettered, kept};
+ghost use Rattle.build_matrix.specs.Reading.{held_in, InTable, bettered, kept};
 
-use crate::{Choice, Held, wide};
 use base_numbers::sheet::{CLAUSES_MOST, PATTERNS_MOST};
 use build_table::{CELL, OWNER, at};
 
-// What clause c's row has in the column of this class: its test there, if it is not opened and the test that it is inside of is.
-pub fn test_at(table: &[u8], opened: &[u8; PATTERNS_MOST], c: usize, class: usize) -> Held
+// What clause c's row has in the column of this class: its test there, by the pattern's number, if it is not opened and the test that it
+// is inside of is; None for a wildcard.
+pub fn test_at(
+    table: &[u8],
+    opened: &[u8; PATTERNS_MOST],
+    c: usize,
+    class: usize,
+) -> Option<usize>
     requires { InTable table.now class c }
     ensures { result ≡ held_in table.now opened.now class c }
 {
     let cell = at(table, CELL + PATTERNS_MOST * c + class);
     if cell == 0 {
-        return Held::Wildcard;
+        return None;
     }
     let p = cell - 1;
     if opened[p] != 0 {
-        return Held::Wildcard;
+        return None;
     }
     let owner = at(table, OWNER + p);
     if owner == 0 {
-        return Held::Test(p);
+        return Some(p);
     }
     if opened[owner - 1] == 0 {
-        return Held::Wildcard;
+        return None;
     }
-    Held::Test(p)
-}
-
-fn has_test(held: Held) -> bool
-    ensures { result ≡ has_test held }
-{
-    match held {
-        Held::Test(_) => true,
-        Held::Wildcard => false,
-    }
+    Some(p)
 }
 
 // The first n of these rows before the column's first wildcard.
@@ -55,20 +50,16 @@ fn occurrence(
     requires { WholeRows (as_rows rows.now n) × All (InTable table.now class) (take n rows.now) }
     ensures { result ≡ count_of (held_in table.now opened.now class) (take n rows.now) }
 {
-    let mut i: usize = 0;
-    while i < n {
-        if !has_test(test_at(table, opened, wide(rows[i]), class)) {
-            return i;
-        }
-        i += 1;
-    }
-    i
+    rows[..n]
+        .iter()
+        .position(|c| test_at(table, opened, usize::from(*c), class).is_none())
+        .unwrap_or(n)
 }
 
-// The column with the most so far.
+// The column with the most so far, by its class; None before the first with any.
 #[derive(Drop)]
 struct Best {
-    choice: Choice,
+    choice: Option<usize>,
     amount: usize,
 }
 
@@ -78,14 +69,15 @@ fn better_of(best: Best, class: usize, amount: usize) -> Best
 {
     if best.amount < amount {
         return Best {
-            choice: Choice::Column(class),
+            choice: Some(class),
             amount,
         };
     }
     best
 }
 
-// The column to test: of the first `width` columns the one with the most of the first `height` rows before its first wildcard.
+// The column to test, by its class: of the first `width` columns the one with the most of the first `height` rows before its first
+// wildcard; None where the first row has no test, so that its leaf comes.
 pub fn highest_occurrence<'a>(
     table: &[u8],
     rows: &'a [u8; CLAUSES_MOST],
@@ -93,19 +85,17 @@ pub fn highest_occurrence<'a>(
     columns: &'a [u8; PATTERNS_MOST],
     width: usize,
     opened: &'a [u8; PATTERNS_MOST],
-) -> Choice
+) -> Option<usize>
     requires { WholeRows (as_rows rows.now height) × Whole (as_classes columns.now width) × All (λ c. All (InTable table.now c) (take height rows.now)) (take width columns.now) }
-    ensures { result ≡ best_of (λ c. count_of (held_in table.now opened.now c) (take height rows.now)) Leaf 0 (take width columns.now) }
+    ensures { result ≡ best_of (λ c. count_of (held_in table.now opened.now c) (take height rows.now)) None 0 (take width columns.now) }
 {
     let mut best = Best {
-        choice: Choice::Leaf,
+        choice: None,
         amount: 0,
     };
-    let mut i: usize = 0;
-    while i < width {
-        let class = wide(columns[i]);
+    for column in &columns[..width] {
+        let class = usize::from(*column);
         best = better_of(best, class, occurrence(table, rows, height, opened, class));
-        i += 1;
     }
     best.choice
 }
@@ -119,13 +109,14 @@ pub fn put_row(list: &mut [u8; CLAUSES_MOST], count: usize, number: u8) -> usize
     count + 1
 }
 
-fn keep_wild(list: &mut [u8; CLAUSES_MOST], count: usize, c: u8, held: Held) -> usize
+// Clause c's number behind the others, if its row has no test in the column.
+fn keep_wild(list: &mut [u8; CLAUSES_MOST], count: usize, c: u8, held: Option<usize>) -> usize
     requires { WholeRows (as_rows list.old count) × (count < clauses_most) }
     ensures { HoldsRows (as_rows list.new result) (take count list.old ++ kept held c) }
 {
     match held {
-        Held::Test(_) => count,
-        Held::Wildcard => put_row(list, count, c),
+        Some(_) => count,
+        None => put_row(list, count, c),
     }
 }
 
@@ -142,11 +133,8 @@ pub(crate) fn wild_rows<'a>(
     ensures { HoldsRows (as_rows list.new result) (wild_of (held_in table.now opened.now class) (take n rows.now)) }
 {
     let mut count: usize = 0;
-    let mut i: usize = 0;
-    while i < n {
-        let c = rows[i];
-        count = keep_wild(list, count, c, test_at(table, opened, wide(c), class));
-        i += 1;
+    for c in &rows[..n] {
+        count = keep_wild(list, count, *c, test_at(table, opened, usize::from(*c), class));
     }
     count
 }

@@ -18,7 +18,7 @@ ghost use Rattle.build_matrix.specs.Promises.{rows_before, rows_after, matrix_no
 use crate::columns::{empty, map_pattern_to_row, open, push, put_rest};
 use crate::covering::covers;
 use crate::rows::{put_row, test_at, wild_rows};
-use crate::{Classes, Held, Matrix, PerRow, Sizes, wide};
+use crate::{Classes, Matrix, PerRow, Sizes};
 use base_numbers::sheet::{CLAUSES_MOST, PATTERNS_MOST};
 use format_records::reading::Test;
 use format_sheet::SheetMap;
@@ -30,10 +30,8 @@ fn all_rows(n: usize) -> PerRow
     ensures { HoldsRows result (up_from 0 n) }
 {
     let mut list: [u8; CLAUSES_MOST] = [0; CLAUSES_MOST];
-    let mut c: usize = 0;
-    while c < n {
+    for c in 0..n {
         list[c] = c as u8;
-        c += 1;
     }
     PerRow { list, count: n }
 }
@@ -45,9 +43,7 @@ fn first_columns(sheet: &[u8], map: SheetMap, table: &[u8]) -> Classes
 {
     let mut list = [0u8; PATTERNS_MOST];
     let mut count: usize = 0;
-    let mut c = map.clauses.count;
-    while 0 < c {
-        c -= 1;
+    for c in (0..map.clauses.count).rev() {
         count = map_pattern_to_row(sheet, map, table, &mut list, count, root_at(sheet, map, c));
     }
     Classes { list, count }
@@ -101,7 +97,7 @@ struct Counts {
     opens: usize,
 }
 
-// The row of clause c, which has this in the column: a wildcard joins, and a test that belongs to the case.
+// The row of clause c, which has this in the column: a wildcard, which is None, joins, and a test that belongs to the case.
 fn join_row(
     sheet: &[u8],
     map: SheetMap,
@@ -109,7 +105,7 @@ fn join_row(
     opens: &mut [u8; CLAUSES_MOST],
     counts: Counts,
     c: u8,
-    held: Held,
+    held: Option<usize>,
     test: Test,
 ) -> Counts
     requires sheet_accepts { SheetAccepts sheet.now map × HeldKnown sheet.now held × InPool sheet.now test }
@@ -117,7 +113,7 @@ fn join_row(
     ensures { JoinsRow sheet.now test held c (rows_before rows.old counts.rows) (rows_before opens.old counts.opens) (rows_after rows.new result.rows) (rows_after opens.new result.opens) }
 {
     match held {
-        Held::Test(p) => {
+        Some(p) => {
             if !covers(sheet, map, p, test) {
                 return counts;
             }
@@ -126,13 +122,10 @@ fn join_row(
                 opens: put_row(opens, counts.opens, p as u8),
             }
         }
-        Held::Wildcard => {
-            let count = put_row(rows, counts.rows, c);
-            Counts {
-                rows: count,
-                opens: counts.opens,
-            }
-        }
+        None => Counts {
+            rows: put_row(rows, counts.rows, c),
+            opens: counts.opens,
+        },
     }
 }
 
@@ -154,12 +147,9 @@ fn join_rows<'a, 'b>(
     ensures { JoinsRows sheet.now test opened.now class (take n from.now) (rows_after rows.new result.rows) (rows_after opens.new result.opens) }
 {
     let mut counts = Counts { rows: 0, opens: 0 };
-    let mut i: usize = 0;
-    while i < n {
-        let c = from[i];
-        let held = test_at(table, opened, wide(c), class);
-        counts = join_row(sheet, map, rows, opens, counts, c, held, test);
-        i += 1;
+    for c in &from[..n] {
+        let held = test_at(table, opened, usize::from(*c), class);
+        counts = join_row(sheet, map, rows, opens, counts, *c, held, test);
     }
     counts
 }
@@ -169,11 +159,8 @@ fn mark(opened: &mut [u8; PATTERNS_MOST], opens: &[u8; CLAUSES_MOST], n: usize, 
     requires { (length opened.old ≡ patterns_most) × WholeRows (as_rows opens.now n) × All (λ p. p < patterns_most) (take n opens.now) × (time ≤ patterns_most) }
     ensures { opened.new ≡ marked time opened.old (take n opens.now) }
 {
-    let mut i: usize = 0;
-    while i < n {
-        let p = wide(opens[i]);
-        opened[p] = time as u8;
-        i += 1;
+    for p in &opens[..n] {
+        opened[usize::from(*p)] = time as u8;
     }
 }
 
@@ -191,10 +178,8 @@ fn open_all(
     ensures { Holds (as_classes list.new result) (columns_opened sheet.now (take n opens.now)) }
 {
     let mut count: usize = 0;
-    let mut i = n;
-    while 0 < i {
-        i -= 1;
-        count = open(sheet, map, table, list, count, wide(opens[i]));
+    for i in (0..n).rev() {
+        count = open(sheet, map, table, list, count, usize::from(opens[i]));
     }
     count
 }

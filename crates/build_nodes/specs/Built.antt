@@ -1,6 +1,6 @@
 -- What building a tree into the arena answers: how far its records reach and what holds of the work buffer after it; the same of the
 -- cases of a switch that are built so far; and what is known where there are too many nodes.
-use Rattle.std.specs.Prelude.{◌≡◌, Bool, true, false, List, [], ◌++◌, ℕ, ◌+◌, ◌*◌, ◌≤◌, ◌<◌, length, get_or}
+use Rattle.std.specs.Prelude.{◌≡◌, Option, Some, None, Bool, List, [], ◌++◌, ℕ, ◌+◌, ◌*◌, ◌≤◌, ◌<◌, length, get_or}
 use Rattle.base_words.specs.Words.{pick}
 use Rattle.spec_rules.specs.Limits.{clauses_most, nodes_most, bindings_most, case_size}
 use Rattle.spec_rules.specs.Rows.{Path, Binding}
@@ -15,7 +15,6 @@ use Rattle.build_arena.specs.WritingLaws.{Kept}
 use Rattle.build_leaves.specs.Bindings.{capped}
 use Rattle.build_cases.specs.Passes.{case_records}
 use Rattle.build_nodes.specs.declared.tops.Tops.{Tops}
-use Rattle.build_nodes.specs.declared.tops.Built.{Built}
 
 -- ---- how far
 -- n nodes, c cases, the bindings bs and leaves of the clauses that `has` says are there besides
@@ -46,10 +45,13 @@ pub record Put (table : List Path) (w w' : List ℕ) (a : Tree) (from to : Tops)
 abbrev pub TooMany : Tree → Tops → Type 0
 TooMany a from = (pending : ℕ) → from.cases ≤ from.nodes + pending → nodes_most < from.nodes + pending + nodes_in a
 
-pub record Builds (table : List Path) (w w' : List ℕ) (a : Tree) (from : Tops) (r : Built) : Type 0 where
-  pub put : r.fits ≡ true → Put table w w' a from r.tops
-  pub fewer_cases : r.fits ≡ true → cases_in a < nodes_in a
-  pub over : r.fits ≡ false → TooMany a from
+pub record BuiltTo (table : List Path) (w w' : List ℕ) (a : Tree) (from to : Tops) : Type 0 where
+  pub put : Put table w w' a from to
+  pub fewer_cases : cases_in a < nodes_in a
+
+abbrev pub Builds : List Path → List ℕ → List ℕ → Tree → Tops → Option Tops → Type 0
+Builds table w w' a from (Some to) = BuiltTo table w w' a from to
+Builds table w w' a from None = TooMany a from
 
 -- ---- the cases of a switch, whose records stand from number `first` on
 -- those of `done` are built, each with the tree that f gives its test; those of `rest` have their records, with no child
@@ -76,9 +78,9 @@ pub record Partly (table : List Path) (f : Test → Tree) (ms : List Met) (first
 abbrev pub TooManyOf : (Test → Tree) → List Met → ℕ → Tops → Type 0
 TooManyOf f ms first from = (pending : ℕ) → first + 1 ≤ from.nodes + pending → nodes_most < from.nodes + pending + nodes_in_of (cases_on f ms)
 
-pub record BuildsCases (table : List Path) (f : Test → Tree) (ms : List Met) (first : ℕ) (w w' : List ℕ) (from : Tops) (r : Built) : Type 0 where
-  pub put : r.fits ≡ true → CasesPut table f ms [] first w w' from r.tops
-  pub over : r.fits ≡ false → TooManyOf f ms first from
+abbrev pub BuildsCases : List Path → (Test → Tree) → List Met → ℕ → List ℕ → List ℕ → Tops → Option Tops → Type 0
+BuildsCases table f ms first w w' from (Some to) = CasesPut table f ms [] first w w' from to
+BuildsCases table f ms first w w' from None = TooManyOf f ms first from
 
 -- ---- what building the cases asks
 pub record CasesOpen (ms : List Met) (first : ℕ) (w : List ℕ) (from : Tops) : Type 0 where

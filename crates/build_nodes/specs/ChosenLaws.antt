@@ -1,9 +1,8 @@
 -- A switch as the code builds it: its cases met, their trees built, its node put, and its default built where it has one.
 -- Rests on the laws of a switch over plain values.
-use Rattle.std.specs.Prelude.{◌≡◌, refl, true, false, List, [], ℕ, ◌+◌, ◌-◌, ◌*◌, ◌≤◌, ◌<◌}
+use Rattle.std.specs.Prelude.{◌≡◌, refl, Option, Some, None, List, [], ℕ, ◌+◌, ◌-◌, ◌*◌, ◌≤◌, ◌<◌}
 use Rattle.std.proofs.Math.Path.{sym}
 use Rattle.std.proofs.Common.{ap, subst, ◌∙◌, add-one, arith}
-use Rattle.std.proofs.lemmas.Bool.{false≢true}
 use Rattle.std.proofs.Math.ListN.{length}
 use Rattle.base_words.specs.Words.{pick}
 use Rattle.base_words.specs.Stored.{stored}
@@ -15,7 +14,7 @@ use Rattle.spec_rules.specs.SplittingLaws.{All}
 use Rattle.spec_rules.specs.Building.{Tree, absent, leaf, hoist, switch, listswitch}
 use Rattle.spec_rules.specs.Hoisting.{nodes_in}
 use Rattle.spec_rules.specs.TreeFile.{path_number, node_bytes, cases_in, default_field}
-use Rattle.spec_match.specs.Depth.{is_tail, is_exact, only}
+use Rattle.spec_match.specs.Depth.{is_tail, is_exact, only, node_on}
 use Rattle.format_sheet.specs.declared.SheetMap.{SheetMap}
 use Rattle.build_table.specs.Standing.{sheet_paths, path_of, class_of}
 use Rattle.build_matrix.specs.declared.Matrix.{Matrix}
@@ -28,15 +27,12 @@ use Rattle.build_matrix.specs.TreesLaws.{some_tree, chosen_class}
 use Rattle.build_arena.specs.Arena.{cases_start, cases_most, arena_end}
 use Rattle.build_arena.specs.WritingLaws.{Kept, stands_stored}
 use Rattle.build_cases.specs.declared.CasesMet.{CasesMet}
-use Rattle.build_cases.specs.declared.Meeting.{Meeting}
-use Rattle.build_cases.specs.declared.Meeting.TheVariants.{TooMany, Met as MetTo}
 use Rattle.build_cases.specs.Passes.{case_records}
 use Rattle.build_cases.specs.SoFar.{InSheet}
 use Rattle.build_cases.specs.SoFarLaws.{length_case_records}
 use Rattle.build_cases.specs.Made.{column_of, CasesMade, MeetsTo}
 use Rattle.build_nodes.specs.declared.tops.Tops.{Tops}
-use Rattle.build_nodes.specs.declared.tops.Built.{Built}
-use Rattle.build_nodes.specs.Built.{Roomy, Put, Builds, CasesPut, BuildsCases, CasesOpen}
+use Rattle.build_nodes.specs.Built.{Roomy, Put, Builds, TooMany, CasesPut, TooManyOf, CasesOpen}
 use Rattle.build_nodes.specs.BuiltLaws.{absent_put, kept_cases}
 use Rattle.build_nodes.specs.SwitchLaws.{in_order, switch_kind, SwitchPut, switch_put, switch_fewer, met_over, cases_over, default_over}
 use Rattle.build_nodes.specs.ColumnLaws.{order_parts, order_length, column_known, cases_there, default_there, default_none, default_are, as_switch, some_case}
@@ -63,25 +59,19 @@ there_field n (listswitch p cs ts d) h = add-one n
 abbrev met_column : List ℕ → ℕ → Matrix → List Pat
 met_column s k x = column_of s (held_tests (live_in s x.opened k) (numbers_in x.rows))
 
-column_met : (s : List ℕ) (k : ℕ) (x : Matrix) (first : ℕ) (w w' : List ℕ) (r o : Meeting) → r ≡ o → MeetsTo s (met_column s k x) first w w' r
+column_met : (s : List ℕ) (k : ℕ) (x : Matrix) (first : ℕ) (w w' : List ℕ) (r o : Option CasesMet) → r ≡ o → MeetsTo s (met_column s k x) first w w' r
     → MeetsTo s (chosen_column s k (in_numbers x)) first w w' o
 unfolding tests_in
 column_met s k x first w w' r o e h = subst (MeetsTo s (met_column s k x) first w w') e h
 
 -- ---- no room for the cases
-module _ {s : List ℕ} {m : SheetMap} {t : List ℕ} {x : Matrix} {k : ℕ} (col : AskedColumn s m t x k) {tops : Tops} where
-  pub no_room : (w w' : List ℕ) (r : Built) (z : Meeting) → z ≡ TooMany → MeetsTo s (met_column s k x) tops.cases w w' z → r ≡ record { fits = false; tops = tops }
-      → Builds (sheet_paths s) w w' (tree_at s (in_numbers x)) tops r
-  no_room w w' r z none met e =
-      let more = (column_met s k x tops.cases w w' z TooMany none met).more in
-      rw (e, as_switch col)
-      (record {
-        put = λ f. absurd (false≢true f);
-        fewer_cases = λ f. absurd (false≢true f);
-        over = λ _.
-            met_over (path_of s k) (chosen_column s k (in_numbers x)) (case_tree s k (in_numbers x)) (default_tree s k (in_numbers x)) tops (cases_there col)
-            (omega (arith, more, order_length (chosen_column s k (in_numbers x))));
-      })
+module _ {s : List ℕ} {m : SheetMap} {t : List ℕ} {x : Matrix} {k : ℕ} (col : AskedColumn s m t x k) where
+  pub no_room : (tops : Tops) (w w' : List ℕ) (z : Option CasesMet) → z ≡ None → MeetsTo s (met_column s k x) tops.cases w w' z → TooMany (tree_at s (in_numbers x)) tops
+  no_room tops w w' z none met =
+      let more = (column_met s k x tops.cases w w' z None none met).more in
+      rw (as_switch col)
+      (met_over (path_of s k) (chosen_column s k (in_numbers x)) (case_tree s k (in_numbers x)) (default_tree s k (in_numbers x)) tops (cases_there col)
+      (omega (arith, more, order_length (chosen_column s k (in_numbers x)))))
 
 -- ---- the cases met
 pub record Opened (s : List ℕ) (m : SheetMap) (t : List ℕ) (x : Matrix) (k : ℕ) (w : List ℕ) (tops : Tops) (w₁ : List ℕ) (c : CasesMet) (from : Tops) : Type 0 where
@@ -93,10 +83,10 @@ pub record Opened (s : List ℕ) (m : SheetMap) (t : List ℕ) (x : Matrix) (k :
 
 -- as the code has them
 pub opened : {s : List ℕ} {m : SheetMap} {t : List ℕ} {x : Matrix} {k : ℕ} → AskedColumn s m t x k → {w : List ℕ} {tops : Tops} → Roomy w tops → tops.nodes < nodes_most
-    → {w₁ : List ℕ} (r : Meeting) (c : CasesMet) → r ≡ MetTo c → MeetsTo s (met_column s k x) tops.cases w w₁ r
+    → {w₁ : List ℕ} (r : Option CasesMet) (c : CasesMet) → r ≡ Some c → MeetsTo s (met_column s k x) tops.cases w w₁ r
     → Opened s m t x k w tops w₁ c (record { nodes = tops.nodes + 1; cases = c.end; bindings = tops.bindings; leaves = tops.leaves })
 opened {s} {m} {t} {x} {k} col {w} {tops} room l {w₁} r c e h =
-    record { col = col; room = room; node_room = l; made = column_met s k x tops.cases w w₁ r (MetTo c) e h; from_is = refl }
+    record { col = col; room = room; node_room = l; made = column_met s k x tops.cases w w₁ r (Some c) e h; from_is = refl }
 
 module _ {s : List ℕ} {m : SheetMap} {t : List ℕ} {x : Matrix} {k : ℕ} {w : List ℕ} {tops : Tops} {w₁ : List ℕ} {c : CasesMet} {from : Tops}
     (o : Opened s m t x k w tops w₁ c from) where
@@ -142,47 +132,43 @@ module _ {s : List ℕ} {m : SheetMap} {t : List ℕ} {x : Matrix} {k : ℕ} {w 
       (omega (arith, o.made.small, end_is, length_case_records (case_list s k (in_numbers x)))))
 
   -- the cases have too many nodes
-  pub switch_cases_over : (w' : List ℕ) (r : Built) → r.fits ≡ false
-      → BuildsCases (sheet_paths s) (case_tree s k (in_numbers x)) (case_list s k (in_numbers x)) tops.cases w₁ w' from r → Builds (sheet_paths s) w w' (tree_at s (in_numbers x)) tops r
-  switch_cases_over w' r f b =
+  pub switch_cases_over : TooManyOf (case_tree s k (in_numbers x)) (case_list s k (in_numbers x)) tops.cases from → TooMany (tree_at s (in_numbers x)) tops
+  switch_cases_over over =
       rw (as_switch o.col)
-      (record {
-        put = λ g. absurd (false≢true (sym f ∙ g));
-        fewer_cases = λ g. absurd (false≢true (sym f ∙ g));
-        over = λ _.
-            cases_over (path_of s k) (chosen_column s k (in_numbers x)) (case_tree s k (in_numbers x)) (default_tree s k (in_numbers x)) tops from
-            (ap (λ (z : Tops). z.nodes) o.from_is) (b.over f);
-      })
+      (cases_over (path_of s k) (chosen_column s k (in_numbers x)) (case_tree s k (in_numbers x)) (default_tree s k (in_numbers x)) tops from
+      (ap (λ (z : Tops). z.nodes) o.from_is) over)
 
 -- ---- the cases built, and the default's matrix made
-pub record Cased (s : List ℕ) (m : SheetMap) (t : List ℕ) (x : Matrix) (k : ℕ) (w : List ℕ) (tops : Tops) (w₁ : List ℕ) (c : CasesMet) (from : Tops) (w₂ : List ℕ) (r : Built) (d : Matrix) : Type 0 where
+pub record Cased (s : List ℕ) (m : SheetMap) (t : List ℕ) (x : Matrix) (k : ℕ) (w : List ℕ) (tops : Tops) (w₁ : List ℕ) (c : CasesMet) (from : Tops) (w₂ : List ℕ) (at : Tops) (d : Matrix) : Type 0 where
   pub begun : Opened s m t x k w tops w₁ c from
-  pub fit : r.fits ≡ true
-  pub built : BuildsCases (sheet_paths s) (case_tree s k (in_numbers x)) (case_list s k (in_numbers x)) tops.cases w₁ w₂ from r
+  pub put : CasesPut (sheet_paths s) (case_tree s k (in_numbers x)) (case_list s k (in_numbers x)) [] tops.cases w₁ w₂ from at
   pub stands : StandsFor d (default_read t k (in_numbers x))
 
-module _ {s : List ℕ} {m : SheetMap} {t : List ℕ} {x : Matrix} {k : ℕ} {w : List ℕ} {tops : Tops} {w₁ : List ℕ} {c : CasesMet} {from : Tops} {w₂ : List ℕ} {r : Built} {d : Matrix}
-    (y : Cased s m t x k w tops w₁ c from w₂ r d) where
+pub cased : {s : List ℕ} {m : SheetMap} {t : List ℕ} {x : Matrix} {k : ℕ} {w : List ℕ} {tops : Tops} {w₁ : List ℕ} {c : CasesMet} {from : Tops} {w₂ : List ℕ} {at : Tops} {d : Matrix}
+    → Opened s m t x k w tops w₁ c from
+    → CasesPut (sheet_paths s) (case_tree s k (in_numbers x)) (case_list s k (in_numbers x)) [] tops.cases w₁ w₂ from at
+    → StandsFor d (default_read t k (in_numbers x)) → Cased s m t x k w tops w₁ c from w₂ at d
+cased begun put stands = record { begun = begun; put = put; stands = stands }
+
+module _ {s : List ℕ} {m : SheetMap} {t : List ℕ} {x : Matrix} {k : ℕ} {w : List ℕ} {tops : Tops} {w₁ : List ℕ} {c : CasesMet} {from : Tops} {w₂ : List ℕ} {at : Tops} {d : Matrix}
+    (y : Cased s m t x k w tops w₁ c from w₂ at d) where
   abbrev o : Opened s m t x k w tops w₁ c from
   o = y.begun
 
-  abbrev put : CasesPut (sheet_paths s) (case_tree s k (in_numbers x)) (case_list s k (in_numbers x)) [] tops.cases w₁ w₂ from r.tops
-  put = y.built.put y.fit
-
-  pub switch_node_asked : (arena_end ≤ length w₂) × (tops.nodes < nodes_most) × (k < patterns_most) × (r.tops.nodes + 1 ≤ nodes_most + 1)
+  pub switch_node_asked : (arena_end ≤ length w₂) × (tops.nodes < nodes_most) × (k < patterns_most) × (at.nodes + 1 ≤ nodes_most + 1)
   switch_node_asked =
-      (put.room.long, o.node_room, column_known o.col, omega (arith, put.room.nodes_most_holds))
+      (y.put.room.long, o.node_room, column_known o.col, omega (arith, y.put.room.nodes_most_holds))
 
   pub switch_met_asked : (tops.cases ≤ c.mid) × (c.mid ≤ c.end) × (c.end < cases_most)
   switch_met_asked = (omega (arith, o.made.mid_is), omega (arith, o.made.end_is), o.made.small)
 
   module _ (w₃ : List ℕ) (default : ℕ)
       (node : w₃ ≡ stored w₂ (node_size * tops.nodes) (node_bytes (pick c.list 1 0) k tops.cases (c.mid - tops.cases) (c.end - c.mid) default)) where
-    node_is : default ≡ default_field r.tops.nodes (default_tree s k (in_numbers x))
+    node_is : default ≡ default_field at.nodes (default_tree s k (in_numbers x))
         → w₃
         ≡ stored w₂ (node_size * tops.nodes)
         (node_bytes (switch_kind (chosen_column s k (in_numbers x))) (path_number (sheet_paths s) (path_of s k)) tops.cases (length (only is_exact (cases_of (chosen_column s k (in_numbers x)))))
-        (length (only is_tail (cases_of (chosen_column s k (in_numbers x))))) (default_field r.tops.nodes (default_tree s k (in_numbers x))))
+        (length (only is_tail (cases_of (chosen_column s k (in_numbers x))))) (default_field at.nodes (default_tree s k (in_numbers x))))
     unfolding class_of
     node_is e =
         let class : k ≡ path_number (sheet_paths s) (path_of s k) = sym (chosen_class o.col.ready.checked.ok (in_numbers x) o.col.there.sound k o.col.chosen).itself in
@@ -195,9 +181,9 @@ module _ {s : List ℕ} {m : SheetMap} {t : List ℕ} {x : Matrix} {k : ℕ} {w 
         ap length node
         ∙ length_stored w₂ (node_size * tops.nodes) (node_bytes (pick c.list 1 0) k tops.cases (c.mid - tops.cases) (c.end - c.mid) default)
 
-    parts : {w' : List ℕ} {to : Tops} → default ≡ default_field r.tops.nodes (default_tree s k (in_numbers x))
-        → Put (sheet_paths s) w₃ w' (default_tree s k (in_numbers x)) r.tops to
-        → SwitchPut (sheet_paths s) (path_of s k) (chosen_column s k (in_numbers x)) (case_tree s k (in_numbers x)) (default_tree s k (in_numbers x)) w w₁ w₂ w₃ w' tops from r.tops to
+    parts : {w' : List ℕ} {to : Tops} → default ≡ default_field at.nodes (default_tree s k (in_numbers x))
+        → Put (sheet_paths s) w₃ w' (default_tree s k (in_numbers x)) at to
+        → SwitchPut (sheet_paths s) (path_of s k) (chosen_column s k (in_numbers x)) (case_tree s k (in_numbers x)) (default_tree s k (in_numbers x)) w w₁ w₂ w₃ w' tops from at to
     parts e p =
         record {
           room = o.room;
@@ -208,52 +194,51 @@ module _ {s : List ℕ} {m : SheetMap} {t : List ℕ} {x : Matrix} {k : ℕ} {w 
           from_cases = ap (λ (z : Tops). z.cases) o.from_is ∙ end_is o;
           from_bindings = ap (λ (z : Tops). z.bindings) o.from_is;
           from_leaves = ap (λ (z : Tops). z.leaves) o.from_is;
-          cases = put;
+          cases = y.put;
           node = node_is e;
           default = p;
         }
 
-    room₃ : Roomy w₃ r.tops
+    room₃ : Roomy w₃ at
     room₃ =
         record {
-          long = omega (arith, put.room.long, node_length);
-          nodes_most_holds = put.room.nodes_most_holds;
-          cases_most_holds = put.room.cases_most_holds;
-          bindings_most_holds = put.room.bindings_most_holds;
-          leaves_long = put.room.leaves_long;
+          long = omega (arith, y.put.room.long, node_length);
+          nodes_most_holds = y.put.room.nodes_most_holds;
+          cases_most_holds = y.put.room.cases_most_holds;
+          bindings_most_holds = y.put.room.bindings_most_holds;
+          leaves_long = y.put.room.leaves_long;
         }
 
     -- the default's matrix
-    pub switch_asked : (d.rows.count ≡ 0 → ⊥) → Asked s m t d w₃ r.tops
+    pub switch_asked : (d.rows.count ≡ 0 → ⊥) → Asked s m t d w₃ at
     switch_asked filled = record { ready = o.col.ready; there = default_there o.col d y.stands filled; room = room₃ }
 
     -- there is no default
-    pub switch_done : d.rows.count ≡ 0 → default ≡ 0 → Builds (sheet_paths s) w w₃ (tree_at s (in_numbers x)) tops r
+    pub switch_done : d.rows.count ≡ 0 → default ≡ 0 → Builds (sheet_paths s) w w₃ (tree_at s (in_numbers x)) tops (Some at)
     switch_done empty zero_is =
         let gone : default_tree s k (in_numbers x) ≡ absent = default_none o.col d y.stands empty in
-        let p = parts (zero_is ∙ no_default r.tops.nodes ∙ ap (default_field r.tops.nodes) (sym gone))
-        (subst (λ (a : Tree). Put (sheet_paths s) w₃ w₃ a r.tops r.tops) (sym gone) (absent_put (sheet_paths s) w₃ r.tops room₃)) in
+        let p = parts (zero_is ∙ no_default at.nodes ∙ ap (default_field at.nodes) (sym gone))
+        (subst (λ (a : Tree). Put (sheet_paths s) w₃ w₃ a at at) (sym gone) (absent_put (sheet_paths s) w₃ at room₃)) in
         rw (as_switch o.col)
-        (record {
-          put = λ _. switch_put p;
-          fewer_cases = λ _. switch_fewer p (subst (λ (a : Tree). cases_in a ≤ nodes_in a) (sym gone) absent_fewer);
-          over = λ g. absurd (false≢true (sym g ∙ y.fit));
-        })
+        (record { put = switch_put p; fewer_cases = switch_fewer p (subst (λ (a : Tree). cases_in a ≤ nodes_in a) (sym gone) absent_fewer) })
 
     -- the default is built, or has too many nodes
-    pub switch_default : (w' : List ℕ) (r' : Built) → (d.rows.count ≡ 0 → ⊥) → default ≡ r.tops.nodes + 1
-        → Builds (sheet_paths s) w₃ w' (tree_at s (in_numbers d)) r.tops r' → Builds (sheet_paths s) w w' (tree_at s (in_numbers x)) tops r'
-    switch_default w' r' filled default_is bd =
+    pub switch_default : (w' : List ℕ) (r : Option Tops) → (d.rows.count ≡ 0 → ⊥) → default ≡ at.nodes + 1
+        → Builds (sheet_paths s) w₃ w' (tree_at s (in_numbers d)) at r → Builds (sheet_paths s) w w' (tree_at s (in_numbers x)) tops r
+    switch_default w' r filled default_is bd =
         let same : tree_at s (in_numbers d) ≡ default_tree s k (in_numbers x) = ap (tree_at s) (default_are o.col d y.stands) in
         let there : 1 ≤ nodes_in (default_tree s k (in_numbers x)) =
         subst (λ (a : Tree). 1 ≤ nodes_in a) same (some_tree s (in_numbers d) (default_there o.col d y.stands filled).some_row) in
-        let field : default ≡ default_field r.tops.nodes (default_tree s k (in_numbers x)) = default_is ∙ there_field r.tops.nodes (default_tree s k (in_numbers x)) there in
-        let whole_bd = subst (λ (a : Tree). Builds (sheet_paths s) w₃ w' a r.tops r') same bd in
-        rw (as_switch o.col)
-        (record {
-          put = λ g. switch_put (parts field (whole_bd.put g));
-          fewer_cases = λ g. switch_fewer (parts field (whole_bd.put g)) (omega (arith, whole_bd.fewer_cases g));
-          over = λ g.
-              default_over (path_of s k) (chosen_column s k (in_numbers x)) (case_tree s k (in_numbers x)) (default_tree s k (in_numbers x)) tops w₁ w₂ (sheet_paths s) from r.tops
-              (ap (λ (z : Tops). z.nodes) o.from_is) (ap (λ (z : Tops). z.cases) o.from_is ∙ end_is o) put (whole_bd.over g);
-        })
+        let field : default ≡ default_field at.nodes (default_tree s k (in_numbers x)) = default_is ∙ there_field at.nodes (default_tree s k (in_numbers x)) there in
+        rw (as_switch o.col) (whole field r (subst (λ (a : Tree). Builds (sheet_paths s) w₃ w' a at r) same bd))
+      where
+        tree : Tree
+        tree = default_tree s k (in_numbers x)
+
+        whole : default ≡ default_field at.nodes tree → (r : Option Tops) → Builds (sheet_paths s) w₃ w' tree at r
+            → Builds (sheet_paths s) w w' (node_on (path_of s k) (chosen_column s k (in_numbers x)) (case_tree s k (in_numbers x)) tree) tops r
+        whole field (Some to) b =
+            record { put = switch_put (parts field b.put); fewer_cases = switch_fewer (parts field b.put) (omega (arith, b.fewer_cases)) }
+        whole field None b =
+            default_over (path_of s k) (chosen_column s k (in_numbers x)) (case_tree s k (in_numbers x)) tree tops w₁ w₂ (sheet_paths s) from at
+            (ap (λ (z : Tops). z.nodes) o.from_is) (ap (λ (z : Tops). z.cases) o.from_is ∙ end_is o) y.put b

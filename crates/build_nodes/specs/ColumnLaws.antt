@@ -25,7 +25,7 @@ use Rattle.spec_match.specs.Switches.{own_test, own_met}
 use Rattle.format_sheet.specs.declared.SheetMap.{SheetMap}
 use Rattle.build_table.specs.Standing.{path_of, pattern_of}
 use Rattle.build_matrix.specs.declared.Matrix.{Matrix}
-use Rattle.build_matrix.specs.declared.Held.{Held}
+use Rattle.build_matrix.specs.Columns.{Held}
 use Rattle.build_matrix.specs.Lists.{classes_in, numbers_in}
 use Rattle.build_matrix.specs.Numbered.{Numbered, SoundOf, default_numbered, case_numbered, tests_in, tree_at}
 use Rattle.build_matrix.specs.InNumbers.{in_numbers, WholeMatrix, StandsFor, Splits, default_read}

@@ -1,9 +1,8 @@
 -- The leaf of a matrix in which no column is chosen, as the code puts it; and a matrix for whose tree there is no node more.
 -- Rests on the bindings put by the crate build_leaves.
-use Rattle.std.specs.Prelude.{◌≡◌, true, false, List, map, ℕ, ◌+◌, ◌-◌, ◌*◌, ◌≤◌, ◌<◌, length, take, set}
+use Rattle.std.specs.Prelude.{◌≡◌, List, map, ℕ, ◌+◌, ◌-◌, ◌*◌, ◌≤◌, ◌<◌, length, take, set, Some, None}
 use Rattle.std.proofs.Math.Path.{sym}
 use Rattle.std.proofs.Common.{ap, ◌∙◌, arith}
-use Rattle.std.proofs.lemmas.Bool.{false≢true}
 use Rattle.base_words.specs.Stored.{stored}
 use Rattle.spec_rules.specs.Limits.{clauses_most, nodes_most, bindings_most, node_size}
 use Rattle.spec_rules.specs.Kinds.{leaf_node}
@@ -16,8 +15,7 @@ use Rattle.format_sheet.specs.declared.SheetMap.{SheetMap}
 use Rattle.build_table.specs.Standing.{sheet_paths}
 use Rattle.build_table.specs.Seen.{binding_at}
 use Rattle.build_matrix.specs.declared.Matrix.{Matrix}
-use Rattle.build_matrix.specs.declared.Choice.{Choice}
-use Rattle.build_matrix.specs.declared.Choice.TheVariants.{Leaf}
+use Rattle.build_matrix.specs.Columns.{Choice}
 use Rattle.build_matrix.specs.HeldRows.{count_of, best_of}
 use Rattle.build_matrix.specs.Lists.{classes_in, numbers_in}
 use Rattle.build_matrix.specs.Reading.{held_in}
@@ -30,8 +28,7 @@ use Rattle.build_leaves.specs.Bindings.{bound, bound_all, LeafAsked, first_claus
 use Rattle.build_leaves.specs.PuttingLaws.{leaf_asked}
 use Rattle.build_leaves.specs.StandsLaws.{all_bound, leaf_is}
 use Rattle.build_nodes.specs.declared.tops.Tops.{Tops}
-use Rattle.build_nodes.specs.declared.tops.Built.{Built}
-use Rattle.build_nodes.specs.Built.{Roomy, Put, Builds}
+use Rattle.build_nodes.specs.Built.{Roomy, Put, Builds, TooMany}
 use Rattle.build_nodes.specs.BuiltLaws.{leaf_put}
 use Rattle.build_nodes.specs.SwitchLaws.{full_over}
 use Rattle.build_nodes.specs.ColumnLaws.{rows_count}
@@ -83,37 +80,26 @@ module _ {s : List ℕ} (ok : Accepted s) {x : Matrix} (there : MatrixThere s x)
   pub clause_asked : (c : ℕ) → c ≡ first_clause x → LeafAsked s c x.tested.list x.tested.count
   clause_asked c e = leaf_asked s x with_row ok.is_counted.patterns_most_holds c e
 
-  leaf_tree : chosen_in s (in_numbers x) ≡ Leaf → (c : ℕ) → c ≡ first_clause x → tree_at s (in_numbers x) ≡ clause_leaf s x.opened (classes_in x.tested) c
+  leaf_tree : chosen_in s (in_numbers x) ≡ None → (c : ℕ) → c ≡ first_clause x → tree_at s (in_numbers x) ≡ clause_leaf s x.opened (classes_in x.tested) c
   leaf_tree e c is = tree_leaf ok (in_numbers x) there.sound e ∙ leaf_is s ok x with_row ∙ ap (clause_leaf s x.opened (classes_in x.tested)) (sym is)
 
   -- it is built
-  pub leaf_builds : (w w' : List ℕ) (tops to : Tops) (r : Built) (c : ℕ) → chosen_in s (in_numbers x) ≡ Leaf → c ≡ first_clause x → r ≡ record { fits = true; tops = to }
-      → Put (sheet_paths s) w w' (clause_leaf s x.opened (classes_in x.tested) c) tops to → Builds (sheet_paths s) w w' (tree_at s (in_numbers x)) tops r
-  leaf_builds w w' tops to r c e is r_is p =
-      rw (r_is, leaf_tree e c is)
-      (record {
-        put = λ _. p;
-        fewer_cases = λ _. leaf_fewer c (map (binding_at s) (leaf_numbers s x.opened (classes_in x.tested) c));
-        over = λ f. absurd (false≢true (sym f));
-      })
+  pub leaf_builds : (w w' : List ℕ) (tops to : Tops) (c : ℕ) → chosen_in s (in_numbers x) ≡ None → c ≡ first_clause x
+      → Put (sheet_paths s) w w' (clause_leaf s x.opened (classes_in x.tested) c) tops to → Builds (sheet_paths s) w w' (tree_at s (in_numbers x)) tops (Some to)
+  leaf_builds w w' tops to c e is p =
+      rw (leaf_tree e c is)
+      (record { put = p; fewer_cases = leaf_fewer c (map (binding_at s) (leaf_numbers s x.opened (classes_in x.tested) c)) })
 
   -- ---- no node more
-  pub full_builds : (w w' : List ℕ) (tops : Tops) (r : Built) → tops.nodes ≡ nodes_most → r ≡ record { fits = false; tops = tops }
-      → Builds (sheet_paths s) w w' (tree_at s (in_numbers x)) tops r
-  full_builds w w' tops r e r_is =
-      rw r_is
-      (record {
-        put = λ f. absurd (false≢true f);
-        fewer_cases = λ f. absurd (false≢true f);
-        over = λ _. full_over (tree_at s (in_numbers x)) tops e (some_tree s (in_numbers x) there.some_row);
-      })
+  pub full_builds : (tops : Tops) → tops.nodes ≡ nodes_most → TooMany (tree_at s (in_numbers x)) tops
+  full_builds tops e = full_over (tree_at s (in_numbers x)) tops e (some_tree s (in_numbers x) there.some_row)
 
 -- the column that the table tells
 module _ {s : List ℕ} {m : SheetMap} {t : List ℕ} {x : Matrix} {w : List ℕ} {tops : Tops} (asked : Asked s m t x w tops) where
   pub asked_readable : Readable t x
   asked_readable = readable asked.ready x asked.there.whole asked.there.sound
 
-  pub asked_chosen : (r : Choice) → r ≡ best_of (λ k. count_of (held_in t x.opened k) (numbers_in x.rows)) Leaf 0 (classes_in x.columns) → {o : Choice} → r ≡ o
+  pub asked_chosen : (r : Choice) → r ≡ best_of (λ k. count_of (held_in t x.opened k) (numbers_in x.rows)) None 0 (classes_in x.columns) → {o : Choice} → r ≡ o
       → chosen_in s (in_numbers x) ≡ o
   unfolding chosen_read
   asked_chosen r e f = sym (chosen_read_lem asked.ready (in_numbers x) asked.there.sound) ∙ sym e ∙ f

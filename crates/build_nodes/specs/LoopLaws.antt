@@ -1,9 +1,8 @@
 -- The loop over the cases of a switch, as the code takes it: a case's test read, its matrix, its child's number written and its tree built.
 -- Rests on the laws of cases over plain values.
-use Rattle.std.specs.Prelude.{◌≡◌, true, false, List, ◌∷◌, ℕ, ◌+◌, ◌-◌, ◌*◌, ◌≤◌, ◌<◌, length}
+use Rattle.std.specs.Prelude.{◌≡◌, Option, Some, true, List, ◌∷◌, ℕ, ◌+◌, ◌-◌, ◌*◌, ◌≤◌, ◌<◌, length}
 use Rattle.std.proofs.Math.Path.{refl}
 use Rattle.std.proofs.Common.{sym, ap, ap₂, subst, ◌∙◌, arith}
-use Rattle.std.proofs.lemmas.Bool.{false≢true}
 use Rattle.base_words.specs.Words.{word_bytes}
 use Rattle.base_words.specs.Stored.{stored}
 use Rattle.base_words.specs.StoredLaws.{length_stored}
@@ -31,8 +30,7 @@ use Rattle.format_records.specs.RecordsLaws.{case_is, case_read}
 use Rattle.build_cases.specs.Fields.{test_in}
 use Rattle.build_cases.specs.SoFar.{InSheet}
 use Rattle.build_nodes.specs.declared.tops.Tops.{Tops}
-use Rattle.build_nodes.specs.declared.tops.Built.{Built}
-use Rattle.build_nodes.specs.Built.{Put, Builds, Partly, TooMany, BuildsCases, CasesOpen}
+use Rattle.build_nodes.specs.Built.{Put, BuiltTo, Builds, Partly, TooMany, TooManyOf, BuildsCases, CasesOpen}
 use Rattle.build_nodes.specs.CasesLaws.{Next, next_case, next_stands, case_built, case_over, cases_begin, cases_end}
 use Rattle.build_nodes.specs.TestedLaws.{tested_in, still_numbers, still_column}
 use Rattle.build_nodes.specs.ColumnLaws.{met_among, order_met, cases_there, case_there}
@@ -67,26 +65,39 @@ module _ {s : List ℕ} {m : SheetMap} {t : List ℕ} {x : Matrix} {k : ℕ} {te
         room = asked.room;
       }
 
-  pub case_tree_is : {w' : List ℕ} {r : Built} → Builds (sheet_paths s) w w' (tree_at s (in_numbers y)) tops r
+  pub case_tree_is : (w' : List ℕ) (r : Option Tops) → Builds (sheet_paths s) w w' (tree_at s (in_numbers y)) tops r
       → Builds (sheet_paths s) w w' (case_tree s k (in_numbers x) (meant s test)) tops r
-  case_tree_is {w'} {r} b = subst (λ (a : Tree). Builds (sheet_paths s) w w' a tops r) (ap (tree_at s) stands.are) b
+  case_tree_is w' r b = subst (λ (a : Tree). Builds (sheet_paths s) w w' a tops r) (ap (tree_at s) stands.are) b
 
 -- ---- a turn
--- i cases are built, and there is one more
-pub record Turn (s : List ℕ) (m : SheetMap) (t : List ℕ) (x : Matrix) (k first : ℕ) (w₀ : List ℕ) (from : Tops) (i : ℕ) (l w : List ℕ) (tops : Tops) : Type 0 where
+-- the cases up to number n are built, and there is one more
+pub record Turn (s : List ℕ) (m : SheetMap) (t : List ℕ) (x : Matrix) (k first : ℕ) (w₀ : List ℕ) (from : Tops) (n : ℕ) (l w : List ℕ) (tops : Tops) : Type 0 where
   pub col : AskedColumn s m t x k
   pub asked : AskedCases s k (in_numbers x) first w₀ from
-  pub part : Partly (sheet_paths s) (case_tree s k (in_numbers x)) (case_list s k (in_numbers x)) first i w₀ w from tops
-  pub inside : i < from.cases - first
+  pub part : Partly (sheet_paths s) (case_tree s k (in_numbers x)) (case_list s k (in_numbers x)) first (n - first) w₀ w from tops
+  pub begins : first ≤ n
+  pub inside : n < from.cases
   pub kept : StillTested x.tested.count x.tested.list l
 
-module _ {s : List ℕ} {m : SheetMap} {t : List ℕ} {x : Matrix} {k first : ℕ} {w₀ : List ℕ} {from : Tops} {i : ℕ} {l w : List ℕ} {tops : Tops}
-    (turn : Turn s m t x k first w₀ from i l w tops) where
+pub turn_at : {s : List ℕ} {m : SheetMap} {t : List ℕ} {x : Matrix} {k first : ℕ} {w₀ : List ℕ} {from : Tops} (n : ℕ) {l w : List ℕ} {tops : Tops}
+    → AskedColumn s m t x k → AskedCases s k (in_numbers x) first w₀ from
+    → Partly (sheet_paths s) (case_tree s k (in_numbers x)) (case_list s k (in_numbers x)) first (n - first) w₀ w from tops
+    → first ≤ n → n < from.cases → StillTested x.tested.count x.tested.list l → Turn s m t x k first w₀ from n l w tops
+turn_at n col asked part begins inside kept = record { col = col; asked = asked; part = part; begins = begins; inside = inside; kept = kept }
+
+module _ {s : List ℕ} {m : SheetMap} {t : List ℕ} {x : Matrix} {k first : ℕ} {w₀ : List ℕ} {from : Tops} {n : ℕ} {l w : List ℕ} {tops : Tops}
+    (turn : Turn s m t x k first w₀ from n l w tops) where
+  abbrev i : ℕ
+  i = n - first
+
+  is_number : first + i ≡ n
+  is_number = omega (arith, turn.begins)
+
   abbrev begun : CasesOpen (case_list s k (in_numbers x)) first w₀ from
   begun = turn.asked.begun
 
   next : Next (sheet_paths s) (case_tree s k (in_numbers x)) (case_list s k (in_numbers x)) first w₀ from i w tops
-  next = next_case (sheet_paths s) (case_tree s k (in_numbers x)) (case_list s k (in_numbers x)) first w₀ from i w tops (omega (arith, begun.to_come, turn.inside)) turn.part
+  next = next_case (sheet_paths s) (case_tree s k (in_numbers x)) (case_list s k (in_numbers x)) first w₀ from i w tops (omega (arith, begun.to_come, turn.begins, turn.inside)) turn.part
 
   abbrev u : splitting.Test
   u = next.case.test
@@ -95,22 +106,22 @@ module _ {s : List ℕ} {m : SheetMap} {t : List ℕ} {x : Matrix} {k first : �
   u_met = order_met (chosen_column s k (in_numbers x)) u (rw next.whole (met_among next.done next.case next.rest))
 
   -- the test that is read is its own
-  test_is : (test : Test) → test ≡ (case_of w (first + i)).test → test ≡ test_for next.case.start u
+  test_is : (test : Test) → test ≡ (case_of w n).test → test ≡ test_for next.case.start u
   test_is test e =
       let stands = next_stands (sheet_paths s) (case_tree s k (in_numbers x)) (case_list s k (in_numbers x)) first w₀ from begun i w tops next in
       let at = cases_start + case_size * (first + i) in
       let read = case_read w at u next.case.start 0 (case_is w at u next.case.start 0 stands) in
-      e ∙ ap (λ (z : Case). z.test) read
+      e ∙ ap (λ (j : ℕ). (case_of w j).test) (sym is_number) ∙ ap (λ (z : Case). z.test) read
 
   u_meant : Meant s next.case
   u_meant = sheet_meant s next.case (all_back (InSheet s) next.done (next.case ∷ next.rest) (subst (All (InSheet s)) next.whole turn.asked.each)).0
 
-  pub turn_room : (first + i < cases_most) × (tops.nodes ≤ nodes_most) × (arena_end ≤ length w)
+  pub turn_room : (n < cases_most) × (tops.nodes ≤ nodes_most) × (arena_end ≤ length w)
   turn_room =
       let r = next.put.room in
       (omega (arith, begun.room.cases_most_holds, begun.to_come, turn.inside), r.nodes_most_holds, r.long)
 
-  module _ (test : Test) (e : test ≡ (case_of w (first + i)).test) where
+  module _ (test : Test) (e : test ≡ (case_of w n).test) where
     abbrev now_is : in_numbers (tested_in x l) ≡ in_numbers x
     now_is = still_numbers x turn.kept
 
@@ -118,7 +129,7 @@ module _ {s : List ℕ} {m : SheetMap} {t : List ℕ} {x : Matrix} {k first : �
     meant_is = ap (meant s) (test_is test e) ∙ u_meant.0
 
     -- its child is written
-    module _ (w₁ : List ℕ) (child : w₁ ≡ stored w (cases_start + case_size * (first + i) + 6) (word_bytes tops.nodes)) where
+    module _ (w₁ : List ℕ) (child : w₁ ≡ stored w (cases_start + case_size * n + 6) (word_bytes tops.nodes)) where
       pub turn_asked : AskedCase s m t (tested_in x l) k test w₁ tops
       turn_asked =
           let r = next.put.room in
@@ -127,7 +138,7 @@ module _ {s : List ℕ} {m : SheetMap} {t : List ℕ} {x : Matrix} {k first : �
             pool = subst (InPool s) (sym (test_is test e)) u_meant.1;
             met = ap₂ (λ (z : splitting.Test) (M : Numbered). is_met z (cases_of (chosen_column s k M))) meant_is now_is ∙ u_met;
             room = record {
-              long = omega (arith, r.long, ap length child, length_stored w (cases_start + case_size * (first + i) + 6) (word_bytes tops.nodes));
+              long = omega (arith, r.long, ap length child, length_stored w (cases_start + case_size * n + 6) (word_bytes tops.nodes));
               nodes_most_holds = r.nodes_most_holds;
               cases_most_holds = r.cases_most_holds;
               bindings_most_holds = r.bindings_most_holds;
@@ -136,24 +147,22 @@ module _ {s : List ℕ} {m : SheetMap} {t : List ℕ} {x : Matrix} {k first : �
           }
 
       -- its tree is built, or has too many nodes
-      module _ (w₂ : List ℕ) (r : Built) (b : Builds (sheet_paths s) w₁ w₂ (case_tree s k (in_numbers (tested_in x l)) (meant s test)) tops r) where
-        as_case : case_tree s k (in_numbers (tested_in x l)) (meant s test) ≡ case_tree s k (in_numbers x) u
-        as_case = ap₂ (λ (z : splitting.Test) (M : Numbered). case_tree s k M z) meant_is now_is
+      as_case : case_tree s k (in_numbers (tested_in x l)) (meant s test) ≡ case_tree s k (in_numbers x) u
+      as_case = ap₂ (λ (z : splitting.Test) (M : Numbered). case_tree s k M z) meant_is now_is
 
-        pub turn_done : r.fits ≡ true
-            → Partly (sheet_paths s) (case_tree s k (in_numbers x)) (case_list s k (in_numbers x)) first (i + 1) w₀ w₂ from r.tops
-        turn_done f =
-            case_built (sheet_paths s) (case_tree s k (in_numbers x)) (case_list s k (in_numbers x)) first w₀ from begun i w tops next w₁ w₂ r.tops child
-            (subst (λ (a : Tree). Put (sheet_paths s) w₁ w₂ a tops r.tops) as_case (b.put f)) (subst (λ (a : Tree). cases_in a < nodes_in a) as_case (b.fewer_cases f))
+      pub turn_done : (w₂ : List ℕ) (to : Tops) → BuiltTo (sheet_paths s) w₁ w₂ (case_tree s k (in_numbers (tested_in x l)) (meant s test)) tops to
+          → Partly (sheet_paths s) (case_tree s k (in_numbers x)) (case_list s k (in_numbers x)) first (n + 1 - first) w₀ w₂ from to
+      turn_done w₂ to b =
+          let one : i + 1 ≡ n + 1 - first = omega (arith, turn.begins) in
+          rw (← one)
+          (case_built (sheet_paths s) (case_tree s k (in_numbers x)) (case_list s k (in_numbers x)) first w₀ from begun i w tops next w₁ w₂ to
+          (child ∙ ap (λ (j : ℕ). stored w (cases_start + case_size * j + 6) (word_bytes tops.nodes)) (sym is_number))
+          (subst (λ (a : Tree). Put (sheet_paths s) w₁ w₂ a tops to) as_case b.put) (subst (λ (a : Tree). cases_in a < nodes_in a) as_case b.fewer_cases))
 
-        pub turn_over : r.fits ≡ false → BuildsCases (sheet_paths s) (case_tree s k (in_numbers x)) (case_list s k (in_numbers x)) first w₀ w₂ from r
-        turn_over f =
-            record {
-              put = λ g. absurd (false≢true (sym f ∙ g));
-              over = λ _.
-                  case_over (sheet_paths s) (case_tree s k (in_numbers x)) (case_list s k (in_numbers x)) first w₀ from begun i w tops next (cases_there turn.col)
-                  (subst (λ (a : Tree). TooMany a tops) as_case (b.over f));
-            }
+      pub turn_over : TooMany (case_tree s k (in_numbers (tested_in x l)) (meant s test)) tops → TooManyOf (case_tree s k (in_numbers x)) (case_list s k (in_numbers x)) first from
+      turn_over over =
+          case_over (sheet_paths s) (case_tree s k (in_numbers x)) (case_list s k (in_numbers x)) first w₀ from begun i w tops next (cases_there turn.col)
+          (subst (λ (a : Tree). TooMany a tops) as_case over)
 
 -- ---- the loop
 module _ {s : List ℕ} {m : SheetMap} {t : List ℕ} {x : Matrix} {k : ℕ} (col : AskedColumn s m t x k) {first : ℕ} {w₀ : List ℕ} {from : Tops}
@@ -161,15 +170,13 @@ module _ {s : List ℕ} {m : SheetMap} {t : List ℕ} {x : Matrix} {k : ℕ} (co
   abbrev Done : ℕ → List ℕ → Tops → Type 0
   Done i w tops = Partly (sheet_paths s) (case_tree s k (in_numbers x)) (case_list s k (in_numbers x)) first i w₀ w from tops
 
-  pub loop_begin : Done 0 w₀ from
-  loop_begin = cases_begin (sheet_paths s) (case_tree s k (in_numbers x)) (case_list s k (in_numbers x)) first w₀ from asked.begun
+  pub loop_begin : Done (first - first) w₀ from
+  loop_begin =
+      let none : first - first ≡ 0 = omega arith in
+      rw none
+      (cases_begin (sheet_paths s) (case_tree s k (in_numbers x)) (case_list s k (in_numbers x)) first w₀ from asked.begun)
 
-  pub loop_end : (i : ℕ) (w : List ℕ) (tops : Tops) (r : Built) → Done i w tops → from.cases - first ≤ i → r ≡ record { fits = true; tops = tops }
-      → BuildsCases (sheet_paths s) (case_tree s k (in_numbers x)) (case_list s k (in_numbers x)) first w₀ w from r
-  loop_end i w tops r part l e =
-      rw e
-      (record {
-        put = λ _.
-            cases_end (sheet_paths s) (case_tree s k (in_numbers x)) (case_list s k (in_numbers x)) first w₀ from i w tops (omega (arith, asked.begun.to_come)) part;
-        over = λ f. absurd (false≢true (sym f));
-      })
+  pub loop_end : (n : ℕ) (w : List ℕ) (tops : Tops) → Done (n - first) w tops → from.cases ≤ n
+      → BuildsCases (sheet_paths s) (case_tree s k (in_numbers x)) (case_list s k (in_numbers x)) first w₀ w from (Some tops)
+  loop_end n w tops part l =
+      cases_end (sheet_paths s) (case_tree s k (in_numbers x)) (case_list s k (in_numbers x)) first w₀ from (n - first) w tops (omega (arith, asked.begun.to_come)) part

@@ -1,6 +1,6 @@
 -- What the contracts say at length or more than once, in a word each. Those that begin with what is done take what lent
 -- parameters hold before and after.
-use Rattle.std.specs.Prelude.{List, ℕ, ◌-◌}
+use Rattle.std.specs.Prelude.{Option, List, ℕ, ◌-◌}
 use Rattle.base_words.specs.Words.{pick}
 use Rattle.spec_rules.specs.Kinds.{list_switch_node, switch_node}
 use Rattle.spec_rules.specs.Building.{Tree}
@@ -11,7 +11,6 @@ use Rattle.build_matrix.specs.Meant.{meant}
 use Rattle.build_matrix.specs.Numbered.{Numbered}
 use Rattle.build_cases.specs.declared.CasesMet.{CasesMet}
 use Rattle.build_nodes.specs.declared.tops.Tops.{Tops}
-use Rattle.build_nodes.specs.declared.tops.Built.{Built}
 use Rattle.build_nodes.specs.Built.{Put, Builds, BuildsCases}
 use Rattle.build_nodes.specs.Steps.{case_list, case_tree, StillTested}
 
@@ -24,11 +23,11 @@ abbrev pub PutsTree : List ℕ → List ℕ → List ℕ → Tree → Tops → T
 PutsTree sheet work work' a from to = Put (sheet_paths sheet) work work' a from to
 
 -- the same, or it has too many nodes
-abbrev pub BuildsTree : List ℕ → List ℕ → List ℕ → Tree → Tops → Built → Type 0
+abbrev pub BuildsTree : List ℕ → List ℕ → List ℕ → Tree → Tops → Option Tops → Type 0
 BuildsTree sheet work work' a from r = Builds (sheet_paths sheet) work work' a from r
 
 -- the cases of the column of a class of the matrix M are built, whose records stand from number `first` on, or they have too many nodes
-abbrev pub BuildsColumn : List ℕ → List ℕ → List ℕ → ℕ → Numbered → ℕ → Tops → Built → Type 0
+abbrev pub BuildsColumn : List ℕ → List ℕ → List ℕ → ℕ → Numbered → ℕ → Tops → Option Tops → Type 0
 BuildsColumn sheet work work' class M first from r =
     BuildsCases (sheet_paths sheet) (case_tree sheet class M) (case_list sheet class M) first work work' from r
 

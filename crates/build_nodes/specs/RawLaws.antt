@@ -1,5 +1,5 @@
 -- The matrix of the clauses, built from empty tops, is the tree of the sheet.
-use Rattle.std.specs.Prelude.{◌≡◌, refl, List, ℕ, zero, suc, ◌+◌, ◌≤◌, min, length, get_or}
+use Rattle.std.specs.Prelude.{◌≡◌, refl, Option, Some, None, List, ℕ, zero, suc, ◌+◌, ◌≤◌, min, length, get_or}
 use Rattle.std.proofs.Common.{sym, ap, subst, ◌∙◌, arith, zero-add}
 use Rattle.std.proofs.lemmas.List.{length-replicate}
 use Rattle.base_words.specs.Words.{pick, zeros}
@@ -16,8 +16,7 @@ use Rattle.build_matrix.specs.InNumbers.{in_numbers, StandsFor}
 use Rattle.build_matrix.specs.TreesLaws.{sound_first, first_tree, first_some}
 use Rattle.build_arena.specs.Arena.{arena_end}
 use Rattle.build_nodes.specs.declared.tops.Tops.{Tops}
-use Rattle.build_nodes.specs.declared.tops.Built.{Built}
-use Rattle.build_nodes.specs.Built.{Builds}
+use Rattle.build_nodes.specs.Built.{BuiltTo, Builds, TooMany}
 use Rattle.build_nodes.specs.Steps.{Asked}
 use Rattle.build_nodes.specs.Raw.{raw_tree, BuildsRaw}
 
@@ -53,22 +52,21 @@ module _ {s : List ℕ} {m : SheetMap} {t : List ℕ} (ready : ReadyTable s m t)
   tree_is = ap (tree_at s) stands.are ∙ first_tree ready.checked.ok
 
   -- THEOREM: it is the tree of the sheet
-  pub raw_builds : (w' : List ℕ) (r : Built) → Builds (sheet_paths s) w w' (tree_at s (in_numbers x)) no_tops r → BuildsRaw s w' r
-  raw_builds w' r built =
-      let b = subst (λ (a : Tree). Builds (sheet_paths s) w w' a no_tops r) tree_is built in
+  pub raw_builds : (w' : List ℕ) (r : Option Tops) → Builds (sheet_paths s) w w' (tree_at s (in_numbers x)) no_tops r → BuildsRaw s w' r
+  raw_builds w' (Some to) built =
+      let b = subst (λ (a : Tree). BuiltTo (sheet_paths s) w w' a no_tops to) tree_is built in
+      let p = b.put in
       record {
-        put = λ f.
-            let p = b.put f in
-            record {
-              nodes = p.counted.nodes ∙ zero-add (nodes_in (raw_tree s));
-              cases = p.counted.cases ∙ zero-add (cases_in (raw_tree s));
-              bindings = p.counted.bindings ∙ ap (λ z. min z (bindings_most + 1)) (zero-add (length (bindings_in (raw_tree s))));
-              leaves_long = p.room.leaves_long;
-              leaves = λ c l. p.counted.leaves c l ∙ ap (pick (has_leaf c (raw_tree s)) 1) (zeros_zero clauses_most c);
-              nodes_most_holds = omega (arith, p.counted.nodes, p.room.nodes_most_holds);
-              cases_most_holds = omega (arith, p.counted.cases, p.room.cases_most_holds);
-              fewer_cases = b.fewer_cases f;
-              held = λ h. p.held (omega arith);
-            };
-        over = λ f. omega (arith, b.over f 0 (omega arith));
+        nodes = p.counted.nodes ∙ zero-add (nodes_in (raw_tree s));
+        cases = p.counted.cases ∙ zero-add (cases_in (raw_tree s));
+        bindings = p.counted.bindings ∙ ap (λ z. min z (bindings_most + 1)) (zero-add (length (bindings_in (raw_tree s))));
+        leaves_long = p.room.leaves_long;
+        leaves = λ c l. p.counted.leaves c l ∙ ap (pick (has_leaf c (raw_tree s)) 1) (zeros_zero clauses_most c);
+        nodes_most_holds = omega (arith, p.counted.nodes, p.room.nodes_most_holds);
+        cases_most_holds = omega (arith, p.counted.cases, p.room.cases_most_holds);
+        fewer_cases = b.fewer_cases;
+        held = λ h. p.held (omega arith);
       }
+  raw_builds w' None over =
+      let b = subst (λ (a : Tree). TooMany a no_tops) tree_is over in
+      omega (arith, b 0 (omega arith))

@@ -1,6 +1,6 @@
 -- What building a matrix asks, and the column chosen in it: its tests, its cases in the order of their records, their trees.
 -- Rests on the matrix by numbers and on the cases met.
-use Rattle.std.specs.Prelude.{◌≡◌, true, List, ℕ, ◌≤◌, length, take}
+use Rattle.std.specs.Prelude.{◌≡◌, true, List, ℕ, ◌≤◌, length, take, Some}
 use Rattle.spec_rules.specs.Limits.{patterns_most}
 use Rattle.spec_rules.specs.Patterns.{Pat}
 use Rattle.spec_rules.specs.Splitting.{Test, Met, is_met, cases_of}
@@ -8,7 +8,6 @@ use Rattle.spec_rules.specs.SplittingLaws.{All}
 use Rattle.spec_rules.specs.Building.{Tree}
 use Rattle.format_sheet.specs.declared.SheetMap.{SheetMap}
 use Rattle.build_matrix.specs.declared.Matrix.{Matrix}
-use Rattle.build_matrix.specs.declared.Choice.TheVariants.{Column}
 use Rattle.format_records.specs.declared.reading.Test as reading
 use Rattle.build_matrix.specs.Ready.{ReadyTable}
 use Rattle.build_matrix.specs.Meant.{meant, InPool}
@@ -56,7 +55,7 @@ default_tree s k M = tree_at s (default_numbered s k M)
 pub record AskedColumn (s : List ℕ) (m : SheetMap) (t : List ℕ) (x : Matrix) (k : ℕ) : Type 0 where
   pub ready : ReadyTable s m t
   pub there : MatrixThere s x
-  pub chosen : chosen_in s (in_numbers x) ≡ Column k
+  pub chosen : chosen_in s (in_numbers x) ≡ Some k
 
 -- what building a case asks: its test is one of them
 pub record AskedCase (s : List ℕ) (m : SheetMap) (t : List ℕ) (x : Matrix) (k : ℕ) (test : reading.Test) (w : List ℕ) (tops : Tops) : Type 0 where

@@ -18,17 +18,17 @@ ghost use Rattle.build_nodes.specs.Built.{Roomy};
 ghost use Rattle.build_nodes.specs.Steps.{Asked, AskedColumn, AskedCase, AskedCases};
 ghost use Rattle.build_nodes.specs.Promises.{test_tree, PutsTree, BuildsTree, BuildsColumn, KeepsTested, switch_record};
 
-use crate::tops::{Built, Tops};
+use crate::tops::Tops;
 use base_numbers::node_kinds;
 use base_numbers::sheet::{CLAUSES_MOST, PATTERNS_MOST};
 use base_numbers::tree::NODES_MOST;
 use build_arena::reading::case_at;
 use build_arena::writing::{put_child, put_node};
-use build_cases::{CasesMet, Meeting, meet_cases};
+use build_cases::{CasesMet, meet_cases};
 use build_leaves::leaf_bindings;
+use build_matrix::Sizes;
 use build_matrix::rows::highest_occurrence;
 use build_matrix::splitting::{case_matrix, default_matrix};
-use build_matrix::{Choice, Sizes, wide};
 use format_parts::sections::first_of;
 use format_records::reading::Test;
 use format_sheet::SheetMap;
@@ -127,7 +127,7 @@ fn build_case<'a>(
     test: Test,
     work: &mut [u8],
     tops: Tops,
-) -> Built
+) -> Option<Tops>
     requires { AskedCase sheet.now map table.now (matrix_now rows.now columns.now tested.old opened.now sizes) class test work.old tops }
     ensures { BuildsTree sheet.now work.old work.new (test_tree sheet.now class (numbers_before rows.now columns.now tested.old opened.now sizes) test) tops result × KeepsTested sizes.tested tested.old tested.new }
 {
@@ -158,28 +158,20 @@ fn build_cases<'a>(
     work: &mut [u8],
     first: usize,
     from: Tops,
-) -> Built
+) -> Option<Tops>
     requires asked_column { AskedColumn sheet.now map table.now (matrix_now rows.now columns.now tested.old opened.now sizes) class }
     requires asked_cases { AskedCases sheet.now class (in_numbers (matrix_now rows.now columns.now tested.old opened.now sizes)) first work.old from }
     ensures { BuildsColumn sheet.now work.old work.new class (numbers_before rows.now columns.now tested.old opened.now sizes) first from result × KeepsTested sizes.tested tested.old tested.new }
 {
-    let count = from.cases - first;
     let mut tops = from;
-    let mut i: usize = 0;
-    while i < count {
-        let case = case_at(work, first + i);
-        let test = case.test;
-        put_child(work, first + i, tops.nodes as u16);
-        let built = build_case(
+    for i in first..from.cases {
+        let test = case_at(work, i).test;
+        put_child(work, i, tops.nodes as u16);
+        tops = build_case(
             sheet, map, table, rows, columns, tested, opened, sizes, class, test, work, tops,
-        );
-        if !built.fits {
-            return built;
-        }
-        tops = built.tops;
-        i += 1;
+        )?;
     }
-    Built { fits: true, tops }
+    Some(tops)
 }
 
 // A switch on the column of this class.
@@ -196,27 +188,20 @@ fn build_switch<'a>(
     class: usize,
     work: &mut [u8],
     tops: Tops,
-) -> Built
+) -> Option<Tops>
     requires { AskedColumn sheet.now map table.now (matrix_now rows.now columns.now tested.old opened.now sizes) class × Roomy work.old tops × (tops.nodes < nodes_most) }
     ensures { BuildsTree sheet.now work.old work.new (tree_at sheet.now (numbers_before rows.now columns.now tested.old opened.now sizes)) tops result × KeepsTested sizes.tested tested.old tested.new }
 {
     let first = tops.cases;
-    let meeting = meet_cases(
+    let met = meet_cases(
         sheet, map, table, rows, sizes.rows, opened, class, work, first,
-    );
-    let Meeting::Met(met) = meeting else {
-        return Built { fits: false, tops };
-    };
+    )?;
     let mut from = tops;
     from.nodes += 1;
     from.cases = met.end;
-    let built = build_cases(
+    let next = build_cases(
         sheet, map, table, rows, columns, tested, opened, sizes, class, work, first, from,
-    );
-    if !built.fits {
-        return built;
-    }
-    let next = built.tops;
+    )?;
     let mut wild = [0u8; CLAUSES_MOST];
     let mut rest = [0u8; PATTERNS_MOST];
     let default_sizes = default_matrix(
@@ -224,7 +209,7 @@ fn build_switch<'a>(
     );
     if default_sizes.rows == 0 {
         put_switch(work, tops.nodes, class, first, met, 0);
-        return built;
+        return Some(next);
     }
     put_switch(work, tops.nodes, class, first, met, next.nodes + 1);
     do_build_tree(
@@ -254,32 +239,30 @@ pub(crate) fn do_build_tree<'a>(
     sizes: Sizes,
     work: &mut [u8],
     tops: Tops,
-) -> Built
+) -> Option<Tops>
     requires { Asked sheet.now map table.now (matrix_now rows.now columns.now tested.old opened.now sizes) work.old tops }
     ensures { BuildsTree sheet.now work.old work.new (tree_at sheet.now (numbers_before rows.now columns.now tested.old opened.now sizes)) tops result × KeepsTested sizes.tested tested.old tested.new }
 {
     if tops.nodes == NODES_MOST {
-        return Built { fits: false, tops };
+        return None;
     }
-    let choice = highest_occurrence(table, rows, sizes.rows, columns, sizes.columns, opened);
-    let Choice::Column(class) = choice else {
-        let next = put_leaf(
-            sheet,
-            map,
-            table,
-            wide(rows[0]),
-            tested,
-            sizes.tested,
-            opened,
-            work,
-            tops,
-        );
-        return Built {
-            fits: true,
-            tops: next,
-        };
-    };
-    build_switch(
-        sheet, map, table, rows, columns, tested, opened, sizes, class, work, tops,
-    )
+    match highest_occurrence(table, rows, sizes.rows, columns, sizes.columns, opened) {
+        Some(class) => build_switch(
+            sheet, map, table, rows, columns, tested, opened, sizes, class, work, tops,
+        ),
+        None => {
+            let clause = usize::from(rows[0]);
+            Some(put_leaf(
+                sheet,
+                map,
+                table,
+                clause,
+                tested,
+                sizes.tested,
+                opened,
+                work,
+                tops,
+            ))
+        }
+    }
 }

@@ -6,14 +6,14 @@ ghost use Rattle.build_arena.specs.Arena.{arena_end};
 ghost use Rattle.build_nodes.specs.Raw.{BuildsRaw};
 
 use crate::build::do_build_tree;
-use crate::tops::{Built, Tops};
+use crate::tops::Tops;
 use base_numbers::sheet::CLAUSES_MOST;
 use build_matrix::Sizes;
 use build_matrix::splitting::first_matrix;
 use format_sheet::SheetMap;
 
-// By the sheet's table.
-pub fn build_tree(sheet: &[u8], map: SheetMap, table: &[u8], work: &mut [u8]) -> Built
+// By the sheet's table; none where it has more than 1,024 nodes.
+pub fn build_tree(sheet: &[u8], map: SheetMap, table: &[u8], work: &mut [u8]) -> Option<Tops>
     requires { ReadyTable sheet.now map table.now × (arena_end ≤ length work.old) }
     ensures { BuildsRaw sheet.now work.new result }
 {

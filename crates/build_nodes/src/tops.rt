@@ -1,5 +1,5 @@
 // How far a tree is built: how many nodes, cases and bindings the arena has, and which clauses have a leaf.
-// An answer is these and whether the tree fits; an enum cannot hold an array, so it is a struct.
+// A tree with more than 1,024 nodes has none.
 use base_numbers::sheet::CLAUSES_MOST;
 
 // Where there are more bindings than there is room for, their number is told as one more than the room.
@@ -10,11 +10,4 @@ pub struct Tops {
     pub cases: usize,
     pub bindings: usize,
     pub leaves: [u8; CLAUSES_MOST],
-}
-
-// Whether the tree is in the arena; if not it has more than 1,024 nodes, and the tops say nothing.
-#[derive(Drop)]
-pub struct Built {
-    pub fits: bool,
-    pub tops: Tops,
 }

@@ -4,8 +4,8 @@ use Rattle.base_words.specs.Words.{zeros}
 use Rattle.build_call.specs.AnswersLaws.{call_whole}
 use Rattle.build_call.proofs.build.Goals as goal
 
-pub build_clear-r-requires : goal.build_clear-r-requires
-build_clear-r-requires c =
+pub build_clear-built-requires : goal.build_clear-built-requires
+build_clear-built-requires c =
     let z = c.zero_all in
     z.ensures ∙ ap zeros (sym z.auto.b)
 
@@ -13,6 +13,6 @@ pub returns : goal.returns
 returns c =
     let a = c.args in
     let z = c.zero_all in
-    let b = c.build_clear-r in
+    let b = c.build_clear-built in
     let w = c.zero_all-2 in
     call_whole a.sheet.now _ _ _ _ _ _ _ _ z.auto.b refl z.auto.b b.ensures (w.ensures ∙ ap zeros b.auto.work)

@@ -2,7 +2,6 @@
 use mathlib.Core.Path.{refl}
 use lib.ListN.{take}
 use Rattle.build_matrix.specs.Lists.{as_rows}
-use Rattle.build_matrix.specs.ListsLaws.{whole_rows}
 use Rattle.build_matrix.specs.InNumbersLaws.{cells_in}
 use Rattle.build_cases.specs.MadeLaws.{column_known, column_meets}
 use Rattle.build_cases.proofs.meet_cases.Goals as goal
@@ -15,7 +14,7 @@ column_tests-found-requires c =
 pub meet_both-requires : goal.meet_both-requires
 meet_both-requires c =
     let a = c.args in
-    let t = c.column_tests-found in record { tests_asked = (c.requires.ready_table.0.checked, whole_rows t.ensures, column_known c.requires.ready_table.0 (take a.n a.rows.now) c.requires.ready_table.2 a.opened.now a.class c.requires.ready_table.3 (as_rows t.new.list t.result) t.ensures); arena_end_in_bounds = c.requires.arena_end_in_bounds }
+    let t = c.column_tests-found in record { tests_asked = (c.requires.ready_table.0.checked, column_known c.requires.ready_table.0 (take a.n a.rows.now) c.requires.ready_table.2 a.opened.now a.class c.requires.ready_table.3 (as_rows t.new.list t.result) t.ensures); arena_end_in_bounds = c.requires.arena_end_in_bounds }
 
 pub returns : goal.returns
 returns c =

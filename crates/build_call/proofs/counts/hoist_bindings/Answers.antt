@@ -1,44 +1,24 @@
--- `build_call::counts::hoist_bindings` meets its contract. The loop's invariant: those summed and those to come are all.
-use native.Mathlib.Omega.{arith}
-use Prim.Native.Nat.{ℕ}
-use lib.ListN.{get_or}
+-- `build_call::counts::hoist_bindings` meets its contract: each of the first clauses adds a word.
+use Rattle.std.proofs.Common.{rules, ◌≡◌, ◌∙◌, ◌<◌, ◌^◌, arith, take, get_or, sum_by}
 use Rattle.base_words.specs.WordsLaws.{bytes_of_fits}
-use Rattle.spec_hoist.specs.Trees.{sum}
 use Rattle.build_call.specs.Counts.{leaf_bindings}
-use Rattle.build_call.specs.CountsLaws.{leaf_most, sum_start, sum_more, sum_done}
+use Rattle.build_call.specs.CountsLaws.{sum_list, sum_most, leaf_most}
 use Rattle.build_call.proofs.counts.hoist_bindings.Goals as goal
 
-pub loop-c-init : goal.loop-c-init
-loop-c-init c = (omega arith, omega arith, sum_start (λ k. leaf_bindings c.args.work.now (get_or c.args.scopes.leaf k 0)) c.args.clauses)
-
-pub bounds-scopes-c : goal.bounds-scopes-c
-bounds-scopes-c c = omega (arith, c.requires.1, c.loop-c-test.true)
-
-pub bindings_of-n-requires : goal.bindings_of-n-requires
-bindings_of-n-requires c = c.requires.0
-
-pub overflow_add-n : goal.overflow_add-n
-overflow_add-n c =
-    let l = c.loop-c in
-    omega (arith, c.requires.1, c.loop-c-test.true, l.invariant.1, c.bindings_of-n.ensures, leaf_most c.args.work.now (get_or c.args.scopes.leaf l.c 0) (bytes_of_fits c.args.work.now c.shared_slice_known-1.given))
-
-pub overflow_add-c : goal.overflow_add-c
-overflow_add-c c = omega (arith, c.requires.1, c.loop-c-test.true)
-
-pub loop-c-smaller : goal.loop-c-smaller
-loop-c-smaller c = omega (arith, c.loop-c-test.true)
-
-pub loop-c-preserved : goal.loop-c-preserved
-loop-c-preserved c =
+pub sum-requires-clause-fits : goal.sum-requires-clause-fits
+sum-requires-clause-fits c =
     let a = c.args in
-    let l = c.loop-c in
-    let t = c.loop-c-test.true in
-    let f : ℕ → ℕ = λ k. leaf_bindings a.work.now (get_or a.scopes.leaf k 0) in
-    (omega (arith, t), omega (arith, l.invariant.1, c.bindings_of-n.ensures, leaf_most a.work.now (get_or a.scopes.leaf l.c 0) (bytes_of_fits c.args.work.now c.shared_slice_known-1.given)), sum_more f l.c a.clauses (sum f 0 a.clauses) l.n c.bindings_of-n.result t l.invariant.2 c.bindings_of-n.ensures)
+    let few : sum_by (leaf_bindings a.work.now) (take a.clauses a.scopes.leaf) < 2 ^ 64 =
+    omega (
+      arith,
+      c.requires.1,
+      sum_list (leaf_bindings a.work.now) a.scopes.leaf a.clauses (omega arith),
+      sum_most (λ k. leaf_bindings a.work.now (get_or a.scopes.leaf k 0)) 65535 0 a.clauses (λ k. leaf_most a.work.now (get_or a.scopes.leaf k 0) (bytes_of_fits a.work.now c.type_inv.work)),
+    ) in
+    search rules
 
 pub returns : goal.returns
 returns c =
     let a = c.args in
-    let l = c.loop-c in
-    let f : ℕ → ℕ = λ k. leaf_bindings a.work.now (get_or a.scopes.leaf k 0) in
-    sum_done f l.c a.clauses (sum f 0 a.clauses) l.n (omega (arith, c.loop-c-test.false)) l.invariant.2
+    let told : c.sum.result ≡ sum_by (leaf_bindings a.work.now) (take a.clauses a.scopes.leaf) = search rules in
+    told ∙ sum_list (leaf_bindings a.work.now) a.scopes.leaf a.clauses (omega arith)

@@ -3,40 +3,31 @@ use borrow.Author.Rules.{rules}
 use Prim.Native.Nat.{◌-◌}
 use native.Mathlib.Omega.{arith}
 use Rattle.base_words.specs.WordsLaws.{bytes_of_fits}
-use Rattle.build_matrix.specs.ReadingLaws.{all_at}
 use Rattle.build_matrix.specs.Ready.{TestKnown}
 use Rattle.build_cases.specs.RowsLaws.{record_small}
-use Rattle.build_cases.specs.ColumnLaws.{longest_starts, longest_step, longest_ends}
+use Rattle.build_cases.specs.ColumnLaws.{all_here, longest_starts, longest_step, longest_ends}
 use Rattle.build_cases.proofs.column.longest_of.Goals as goal
 
 pub loop-i-init : goal.loop-i-init
-loop-i-init c = (search rules, longest_starts c.args.sheet.now c.args.tests.now c.args.n)
-
-pub bounds-tests-i : goal.bounds-tests-i
-bounds-tests-i c = omega (arith, c.requires.1.long, c.requires.1.most)
+loop-i-init c = longest_starts c.args.sheet.now c.args.tests.now _ (search rules)
 
 pub pattern_at-requires : goal.pattern_at-requires
 pattern_at-requires c =
     let a = c.args in
-    let l = c.loop-i in
-    let known = all_at (TestKnown a.sheet.now) a.tests.now a.n (l.i - 1) (omega arith) (omega (arith, c.requires.1.long, c.requires.1.most)) c.requires.2 in
-    (c.requires.0.ok.is_laid, c.requires.0.is_map, rw c.wide.ensures known.known)
+    let known = all_here (TestKnown a.sheet.now) a.tests.now (c.loop-i.i - 1) (omega arith) c.requires.1 in
+    (c.requires.0.ok.is_laid, c.requires.0.is_map, rw c.from.ensures known.known)
 
 pub longer_of-longest-requires : goal.longer_of-longest-requires
 longer_of-longest-requires c =
-    record_small (bytes_of_fits c.args.sheet.now c.shared_slice_known-1.given) c.wide.result c.pattern_at.result c.pattern_at.ensures
+    record_small (bytes_of_fits c.args.sheet.now c.type_inv.sheet) c.from.result c.pattern_at.result c.pattern_at.ensures
 
 pub loop-i-preserved : goal.loop-i-preserved
 loop-i-preserved c =
-    let a = c.args in
-    let l = c.loop-i in (
-      search rules,
-      longest_step c.requires.0.ok a.tests.now a.n l.i (omega (arith, c.requires.1.long, c.requires.1.most)) (omega arith) l.invariant.0 c.requires.2
-          c.wide.result c.wide.ensures c.pattern_at.result c.pattern_at.ensures l.longest c.longer_of-longest.result l.invariant.1 c.longer_of-longest.ensures,
-    )
+    let l = c.loop-i in
+    longest_step c.requires.0.ok c.args.tests.now l.i (omega arith) (omega arith) c.requires.1
+    c.from.result c.from.ensures c.pattern_at.result c.pattern_at.ensures l.longest c.longer_of-longest.result l.invariant c.longer_of-longest.ensures
 
 pub returns : goal.returns
 returns c =
-    let a = c.args in
     let l = c.loop-i in
-    longest_ends a.sheet.now a.tests.now a.n l.i l.longest (omega arith) l.invariant.1
+    longest_ends c.args.sheet.now c.args.tests.now l.i l.longest (omega arith) l.invariant

@@ -5,7 +5,4 @@ use Rattle.build_cases.specs.Rows.{rise_to}
 use Rattle.build_cases.proofs.rows.meet_rising.Given as goal
 
 abbrev pub invariant-loop-i : goal.invariant-loop-i
-invariant-loop-i l = (l.least ≤ l.i) × (l.i - l.least ≤ l.end - l.least) × Meets l.sheet l.initial.work l.from l.to (rise_to l.from l.tail l.least (l.i - l.least)) l.top l.work
-
-abbrev pub decreases-loop-i : goal.decreases-loop-i
-decreases-loop-i l = l.end - l.i
+invariant-loop-i l = (l.i - l.least ≤ l.end - l.least) × Meets l.sheet l.initial.work l.from l.to (rise_to l.from l.tail l.least (l.i - l.least)) l.top l.work

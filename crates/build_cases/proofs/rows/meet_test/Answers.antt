@@ -22,7 +22,7 @@ returns-then-pass c =
 
 pub test_of-requires : goal.test_of-requires
 test_of-requires c =
-    record_small (bytes_of_fits c.args.sheet.now c.shared_slice_known-1.given) c.args.p c.pattern_at-r.result c.pattern_at-r.ensures
+    record_small (bytes_of_fits c.args.sheet.now c.type_inv.sheet) c.args.p c.pattern_at-r.result c.pattern_at-r.ensures
 
 pub meet-requires : goal.meet-requires
 meet-requires c = record { laid = (c.requires.sheet_accepts.0.ok.is_laid, c.requires.sheet_accepts.0.is_map, row_fit c.requires.sheet_accepts.0 c.args.p c.requires.sheet_accepts.1 c.pattern_at-r.result c.pattern_at-r.ensures c.if-r-eq-LIST_WITH_TAIL.false c.test_of.result c.test_of.ensures); begun = c.requires.begun }

@@ -7,6 +7,3 @@ use Rattle.build_matrix.proofs.columns.put.Given as goal
 
 abbrev pub invariant-loop-i : goal.invariant-loop-i
 invariant-loop-i l = (l.list ≡ l.initial.list) × (l.i ≤ l.count) × Passed (first_in l.table) l.class l.initial.list l.count l.i
-
-abbrev pub decreases-loop-i : goal.decreases-loop-i
-decreases-loop-i l = l.count - l.i

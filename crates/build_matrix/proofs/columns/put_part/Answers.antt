@@ -1,36 +1,21 @@
--- `columns::put_part`: what was appended and what is left are all.
-use borrow.Author.Rules.{rules}
-use mathlib.Core.Path.{refl}
-use mathlib.Core.List.{◌++◌}
+-- `columns::put_part`: the part is copied behind those in the list.
 use native.Mathlib.Omega.{arith}
-use lib.ListN.{take, length-set}
-use lib.Seq.{slice}
-use Rattle.build_matrix.specs.ListsLaws.{part_more, part_all}
+use Rattle.std.proofs.Common.{◌∙◌, ◌≡◌, refl, ap, length, take, ◌++◌, ◌+◌, ◌-◌}
+use Rattle.std.proofs.Math.Seq.{slice, length-slice}
+use Rattle.std.proofs.lemmas.Slice.{take-put_mid, put_mid-paste}
+use Rattle.std.proofs.lemmas.List.Edits.{length-paste}
+use Rattle.build_matrix.specs.ListsLaws.{cut}
 use Rattle.build_matrix.proofs.columns.put_part.Goals as goal
-
-pub loop-i-init : goal.loop-i-init
-loop-i-init c = (search rules, search rules, search rules, c.requires.whole.0.long, refl)
-
-pub loop-i-preserved : goal.loop-i-preserved
-loop-i-preserved c =
-    let a = c.args in
-    let l = c.loop-i in (
-      search rules,
-      search rules,
-      omega (arith, l.invariant.0, l.invariant.2),
-      simp length-set l.invariant.3,
-      part_more l.list a.cs.now (take a.count a.list.now ++ slice a.from a.to a.cs.now) l.n l.i a.to
-          (omega (arith, c.requires, l.invariant)) (omega arith) (omega (arith, c.requires)) l.invariant.4,
-    )
 
 pub returns : goal.returns
 returns c =
     let a = c.args in
-    let l = c.loop-i in
+    let part = c.copy_from_slice in
+    let n = a.count + (a.to - a.from) - a.count in
+    let is : part.new.self ≡ slice a.from a.to a.cs.now = part.ensures.after ∙ cut a.cs.now a.from a.to c.requires.from_le_to.0 in
+    let long : length part.new.self ≡ a.to - a.from = ap length is ∙ length-slice a.from a.to a.cs.now (omega (arith, c.requires)) in
     record {
-      long = l.invariant.3;
-      most = omega (arith, l.invariant, c.requires);
-      are =
-          part_all l.list a.cs.now (take a.count a.list.now ++ slice a.from a.to a.cs.now) l.n l.i a.to
-          (omega (arith, l.invariant)) l.invariant.4;
+      long = ap length (put_mid-paste a.count n a.list.now part.new.self part.new.self n refl refl (omega (arith, long))) ∙ length-paste a.list.now a.count part.new.self n (omega (arith, c.requires)) (omega (arith, long)) ∙ c.requires.whole.0.long;
+      most = omega (arith, c.requires);
+      are = take-put_mid a.count n a.list.now part.new.self (a.count + (a.to - a.from)) (omega (arith, long)) (omega (arith, c.requires)) ∙ ap (λ x. take a.count a.list.now ++ x) is;
     }

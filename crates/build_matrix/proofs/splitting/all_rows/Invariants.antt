@@ -8,6 +8,3 @@ use Rattle.build_matrix.proofs.splitting.all_rows.Given as goal
 
 abbrev pub invariant-loop-c : goal.invariant-loop-c
 invariant-loop-c l = (l.c ≤ l.n) × (length l.list ≡ 32) × (take l.c l.list ++ up_from l.c (l.n - l.c) ≡ up_from 0 l.n)
-
-abbrev pub decreases-loop-c : goal.decreases-loop-c
-decreases-loop-c l = l.n - l.c

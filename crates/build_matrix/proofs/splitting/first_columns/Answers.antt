@@ -19,9 +19,6 @@ loop-c-init c =
       holds_same h (sym (ap (columns_from c.args.sheet.now) e ∙ columns_none c.args.sheet.now)),
     )
 
-pub overflow_sub-c : goal.overflow_sub-c
-overflow_sub-c c = omega (arith, c.loop-c-test.true)
-
 pub root_at-requires : goal.root_at-requires
 root_at-requires c =
     (c.requires.checked.ok.is_laid, c.requires.checked.is_map, omega (arith, c.loop-c.invariant.0, c.loop-c-test.true))
@@ -31,9 +28,6 @@ map_pattern_to_row-count-requires c =
     let l = c.loop-c in
     let r = c.root_at in
     (c.requires, l.invariant.1, root_known c.requires l.c c.loop-c-test.true l.invariant.0 r.result r.ensures (as_classes l.list l.count) l.invariant.1 l.invariant.2, root_room c.requires l.c c.loop-c-test.true l.invariant.0 r.result r.ensures (as_classes l.list l.count) l.invariant.1 l.invariant.2)
-
-pub loop-c-smaller : goal.loop-c-smaller
-loop-c-smaller c = omega (arith, c.loop-c-test.true)
 
 pub loop-c-preserved : goal.loop-c-preserved
 loop-c-preserved c =

@@ -8,6 +8,3 @@ use Rattle.build_matrix.proofs.splitting.first_columns.Given as goal
 
 abbrev pub invariant-loop-c : goal.invariant-loop-c
 invariant-loop-c l = (l.c ≤ clauses l.sheet) × Listed l.sheet (as_classes l.list l.count) × Holds (as_classes l.list l.count) (columns_from l.sheet l.c)
-
-abbrev pub decreases-loop-c : goal.decreases-loop-c
-decreases-loop-c l = l.c

@@ -13,30 +13,24 @@ loop-i-init c =
     let h : Holds (as_classes a.list.now 0) [] = record { long = c.requires.list_len; most = omega arith; are = refl } in
     (omega arith, record { whole = whole h; each = tt }, holds_same h (sym (opens_none a.sheet.now a.opens.now a.n)))
 
-pub overflow_sub-i : goal.overflow_sub-i
-overflow_sub-i c = omega (arith, c.loop-i-test.true)
-
 pub bounds-opens-i : goal.bounds-opens-i
 bounds-opens-i c = omega (arith, c.requires.opens_asked.1.most, c.requires.opens_asked.1.long, c.loop-i.invariant.0, c.loop-i-test.true)
 
-pub wide-requires : goal.wide-requires
-wide-requires c = tt
+pub from-requires : goal.from-requires
+from-requires c = tt
 
 pub open-count-requires : goal.open-count-requires
 open-count-requires c =
     let a = c.args in
     let l = c.loop-i in
-    let p = c.wide in
+    let p = c.from in
     (c.requires.opens_asked.0, l.invariant.1, test_known c.requires.opens_asked.0 a.opens.now a.n (omega (arith, c.requires.opens_asked.1.long, c.requires.opens_asked.1.most)) c.requires.opens_asked.2 c.requires.opens_asked.3 l.i c.loop-i-test.true l.invariant.0 p.result p.ensures (as_classes l.list l.count) l.invariant.1 l.invariant.2, test_room c.requires.opens_asked.0 a.opens.now a.n (omega (arith, c.requires.opens_asked.1.long, c.requires.opens_asked.1.most)) c.requires.opens_asked.2 c.requires.opens_asked.3 l.i c.loop-i-test.true l.invariant.0 p.result p.ensures (as_classes l.list l.count) l.invariant.1 l.invariant.2)
-
-pub loop-i-smaller : goal.loop-i-smaller
-loop-i-smaller c = omega (arith, c.loop-i-test.true)
 
 pub loop-i-preserved : goal.loop-i-preserved
 loop-i-preserved c =
     let a = c.args in
     let l = c.loop-i in
-    let p = c.wide in (
+    let p = c.from in (
       omega (arith, l.invariant.0),
       opened_listed c.requires.opens_asked.0 a.opens.now a.n (omega (arith, c.requires.opens_asked.1.long, c.requires.opens_asked.1.most)) c.requires.opens_asked.2 c.requires.opens_asked.3 l.i c.loop-i-test.true l.invariant.0 p.result p.ensures (as_classes l.list l.count) l.invariant.1 l.invariant.2 c.open-count.ensures,
       opened_columns c.requires.opens_asked.0 a.opens.now a.n (omega (arith, c.requires.opens_asked.1.long, c.requires.opens_asked.1.most)) c.requires.opens_asked.2 c.requires.opens_asked.3 l.i c.loop-i-test.true l.invariant.0 p.result p.ensures (as_classes l.list l.count) l.invariant.1 l.invariant.2 c.open-count.ensures,

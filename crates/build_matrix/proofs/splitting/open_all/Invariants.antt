@@ -7,6 +7,3 @@ use Rattle.build_matrix.proofs.splitting.open_all.Given as goal
 
 abbrev pub invariant-loop-i : goal.invariant-loop-i
 invariant-loop-i l = (l.i ≤ l.n) × Listed l.sheet (as_classes l.list l.count) × Holds (as_classes l.list l.count) (opens_from l.sheet l.opens l.n l.i)
-
-abbrev pub decreases-loop-i : goal.decreases-loop-i
-decreases-loop-i l = l.i
