@@ -4,7 +4,7 @@ use Rattle.std.specs.Prelude.{◌≡◌, List, ℕ, length, Option, None, IfSome
 use Rattle.io.specs.Counts.{IsPrefixLen}
 use Rattle.base_words.specs.Words.{pick, zeros}
 use Rattle.spec_rules.specs.TreeReader.{tree_fits}
-use Rattle.spec_rules.specs.Listing.{listing, refused_line, sheet_listing}
+use Rattle.spec_rules.specs.Listing.{listing, sheet_listing}
 use Rattle.app_listing.specs.Answers.{LineCall, line_of, shown}
 
 -- the listing of a tree file; nothing where it is none
@@ -19,9 +19,6 @@ pub record Shows (call : LineCall) (r : Option ℕ) (out : List ℕ) : Type 0 wh
 -- the answers r of the functions that list: `out` is the buffer after the call, `first` before it
 abbrev pub ShowsTree : List ℕ → List ℕ → Option ℕ → List ℕ → Type 0
 ShowsTree t first r out = Shows (tree_shown t (length first)) r out
-
-abbrev pub ShowsRefusal : ℕ → ℕ → List ℕ → Option ℕ → List ℕ → Type 0
-ShowsRefusal number place first r out = Shows (shown (refused_line number place) (length first)) r out
 
 abbrev pub ShowsSheet : List ℕ → List ℕ → Option ℕ → List ℕ → Type 0
 ShowsSheet s first r out = Shows (shown (sheet_listing s) (length first)) r out

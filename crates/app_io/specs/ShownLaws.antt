@@ -12,15 +12,15 @@ use Rattle.base_words.specs.Words.{pick, zeros}
 use Rattle.spec_rules.specs.Limits.{tree_room, work_room}
 use Rattle.spec_rules.specs.RefusalNumbers.{tree_refusal}
 use Rattle.spec_rules.specs.TreeReader.{tree_fits}
-use Rattle.spec_rules.specs.Calls.{Answer, answers, refuses, Built as BuiltTree, BuildCall, build_answer, build_call, sheet_tree_file}
+use Rattle.spec_rules.specs.Calls.{Answer, answers, refuses, Built, BuildCall, build_answer, build_call, sheet_tree_file}
 use Rattle.spec_rules.specs.Listing.{listing, refused_line, printed, sheet_listing}
 use Rattle.spec_theorems.specs.CallsLaws.{build_answers_only}
 use Rattle.spec_theorems.specs.Theorems.{the_buffer_has_the_file}
 use Rattle.spec_theorems.proofs.Theorems.{the_file_fits}
+use Rattle.format_parts.specs.Refusals.{number_of}
 use Rattle.format_parts.specs.declared.refusals.Refusal.{Refusal}
-use Rattle.app_listing.specs.Answers.{text_in, end_in, ListingCall, call_of, listing_call, LineCall, line_of, shown}
-use Rattle.build_call.specs.declared.Built.{Built}
-use Rattle.build_call.specs.declared.Built.TheVariants.{Tree, Refused}
+use Rattle.app_listing.specs.Answers.{text_in, end_in, ListingCall, call_of, listing_call, LineCall, line_of, shown, refused_line_call}
+use Rattle.build_call.specs.declared.BuiltTree.{BuiltTree}
 use Rattle.build_call.specs.Answers.{answer_of as build_answer_of}
 use Rattle.dewmycel.specs.Promises.{BuildFits}
 use Rattle.app_io.specs.Shown.{tree_shown, Shows}
@@ -90,7 +90,7 @@ module _ (t : List ℕ) (room : ℕ) where
 
 -- ---- the listing of a sheet
 -- built in buffers of n and m bytes, which are the least that a build takes
-module _ (s : List ℕ) (n m : ℕ) (b : Built) (tree work : List ℕ) (is_built : BuildFits s n m b tree work) (tree_room_holds : tree_room ≡ n) (work_room_holds : work_room ≡ m) where
+module _ (s : List ℕ) (n m : ℕ) (b : Result BuiltTree Refusal) (tree work : List ℕ) (is_built : BuildFits s n m b tree work) (tree_room_holds : tree_room ≡ n) (work_room_holds : work_room ≡ m) where
   fits : BuildFits s tree_room work_room b tree work
   fits = is_built ∙ sym (ap₂ (λ (x y : ℕ). build_call s x y) tree_room_holds work_room_holds)
 
@@ -99,19 +99,21 @@ module _ (s : List ℕ) (n m : ℕ) (b : Built) (tree work : List ℕ) (is_built
   the_answer = ap (λ (x : BuildCall). x.answer) fits
 
   module _ (room : ℕ) (r : Option ℕ) (out : List ℕ) where
-    pub sheet_refused : (number place : ℕ) → b ≡ Refused number place → Shows (shown (refused_line number place) room) r out → Shows (shown (sheet_listing s) room) r out
+    pub sheet_refused : (refusal : Refusal) → b ≡ Err refusal → line_of r out ≡ refused_line_call (number_of refusal.reason) refusal.place room
+        → Shows (shown (sheet_listing s) room) r out
     unfolding sheet_listing printed
-    sheet_refused number place e h =
-        let is : printed (build_answer s tree_room work_room) (sheet_tree_file s) ≡ refused_line number place = ap (λ a. printed a (sheet_tree_file s)) (sym the_answer ∙ ap build_answer_of e) in
-        rw is h
+    sheet_refused refusal e h =
+        let is : printed (build_answer s tree_room work_room) (sheet_tree_file s) ≡ refused_line (number_of refusal.reason) refusal.place
+        = ap (λ a. printed a (sheet_tree_file s)) (sym the_answer ∙ ap build_answer_of e) in
+        rw is (shows (refused_line (number_of refusal.reason) refusal.place) room r out h)
 
-    pub sheet_listed : (bytes nodes bindings : ℕ) → b ≡ Tree bytes nodes bindings → Shows (tree_shown (take bytes tree) room) r out → Shows (shown (sheet_listing s) room) r out
+    pub sheet_listed : (built : BuiltTree) → b ≡ Ok built → Shows (tree_shown (take built.length tree) room) r out → Shows (shown (sheet_listing s) room) r out
     unfolding sheet_listing printed
-    sheet_listed bytes nodes bindings e h =
-        let x : BuiltTree = record { bytes = bytes; nodes = nodes; bindings = bindings } in
+    sheet_listed built e h =
+        let x : Built = record { bytes = built.length; nodes = built.nodes; bindings = built.bindings } in
         let a : build_answer s tree_room work_room ≡ answers x = sym the_answer ∙ ap build_answer_of e in
-        let file : take bytes tree ≡ sheet_tree_file s = ap (λ (y : BuildCall). take bytes y.tree) fits ∙ the_buffer_has_the_file s tree_room work_room x a in
+        let file : take built.length tree ≡ sheet_tree_file s = ap (λ (y : BuildCall). take built.length y.tree) fits ∙ the_buffer_has_the_file s tree_room work_room x a in
         let read : tree_fits (sheet_tree_file s) ≡ true = the_file_fits s (build_answers_only s tree_room work_room x a).builds.sheet in
         let is : printed (build_answer s tree_room work_room) (sheet_tree_file s) ≡ listing (sheet_tree_file s) = ap (λ y. printed y (sheet_tree_file s)) a in
-        let call : tree_shown (take bytes tree) room ≡ shown (sheet_listing s) room = ap (λ z. tree_shown z room) file ∙ rw (read, is) refl in
+        let call : tree_shown (take built.length tree) room ≡ shown (sheet_listing s) room = ap (λ z. tree_shown z room) file ∙ rw (read, is) refl in
         record { count = h.count; is = h.is ∙ call }

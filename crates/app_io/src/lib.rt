@@ -4,11 +4,10 @@
 
 ghost use Rattle.std.specs.Prelude.{◌≡◌, length, IfOk, IfSome};
 ghost use Rattle.io.specs.Counts.{IsPrefixLen};
-ghost use Rattle.app_io.specs.Shown.{ShowsTree, ShowsRefusal, ShowsSheet};
+ghost use Rattle.app_io.specs.Shown.{ShowsTree, ShowsSheet};
 
 use base_numbers::panel::PANEL_MOST;
 use base_numbers::sheet::SHEET_MOST;
-use build_call::Built;
 use std::env::{Env, FillError};
 use std::fmt::Display;
 use std::fs;
@@ -126,13 +125,6 @@ fn list_tree(tree: &[u8], out: &mut [u8]) -> Option<usize>
     app_listing::listing(tree, out).unwrap_or(None)
 }
 
-// `refused NUMBER PLACE`; none where it has no room.
-fn refuse(number: u16, place: u16, out: &mut [u8]) -> Option<usize>
-    ensures { ShowsRefusal number place out.old result out.new }
-{
-    app_listing::refused_line(number, place, out)
-}
-
 // The listing of a sheet's tree, or the line of its refusal: how many bytes it has, and none where it has no room.
 pub fn list(sheet: &[u8], out: &mut [u8]) -> Option<usize>
     ensures { ShowsSheet sheet.now out.old result out.new }
@@ -140,14 +132,7 @@ pub fn list(sheet: &[u8], out: &mut [u8]) -> Option<usize>
     let mut tree = io::large_buffer();
     let mut work = io::large_buffer();
     match dewmycel::build(sheet, &mut tree, &mut work) {
-        Built::Tree {
-            length,
-            nodes,
-            bindings,
-        } => {
-            let n = length as usize;
-            list_tree(&tree[..n], out)
-        }
-        Built::Refused { number, place } => refuse(number, place, out),
+        Ok(built) => list_tree(&tree[..built.length as usize], out),
+        Err(refusal) => app_listing::refused_line(refusal, out),
     }
 }

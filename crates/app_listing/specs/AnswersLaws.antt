@@ -6,11 +6,15 @@ use Rattle.std.proofs.Common.{◌∙◌, ap₂, arith, le-leb, leb-true, leb-fal
 use mathlib.Core.List.{List}
 use Rattle.std.proofs.lemmas.Bool.{lt-leb}
 use Rattle.std.proofs.lemmas.List.{length-replicate}
-use Rattle.base_words.specs.Words.{zeros}
+use Rattle.base_words.specs.Words.{pick, zeros}
 use Rattle.base_words.specs.StoredLaws.{stored_zeros}
+use Rattle.spec_rules.specs.RefusalNumbers.{tree_refusal}
+use Rattle.spec_rules.specs.SheetRefusals.{accepted, refused, require}
 use Rattle.spec_rules.specs.TreeReader.{tree_fits}
+use Rattle.spec_rules.specs.Calls.{answers, refuses, tree_file_verdict}
 use Rattle.spec_rules.specs.Listing.{listing}
-use Rattle.format_parts.specs.declared.refusals.Reason.{Reason}
+use Rattle.format_parts.specs.Refusals.{number_of}
+use Rattle.format_parts.specs.declared.refusals.Refusal.{Refusal}
 use Rattle.app_listing.specs.Writing.{Writes}
 use Rattle.app_listing.specs.WritingLaws.{length_written}
 use Rattle.app_listing.specs.Answers.{text_in, end_in, call_of, listing_call, LineCall, line_of, shown, EndsText}
@@ -74,9 +78,14 @@ pub ended : (room : ℕ) {before after out : List ℕ} (text : List ℕ) {end : 
 ended room text empty w e = e room text (rw empty at w)
 
 module _ (t : List ℕ) (room : ℕ) where
-  pub call_refused : (l : List ℕ) → tree_fits t ≡ false → l ≡ zeros room → call_of (Err (record { reason = Reason.Tree; place = 0 })) l ≡ listing_call t room
-  unfolding listing_call
-  call_refused l f e = rw (f, e)
+  pub call_refused : {l : List ℕ} → l ≡ zeros room → (r : Refusal) → refused (number_of r.reason) r.place ≡ tree_file_verdict t → call_of (Err r) l ≡ listing_call t room
+  unfolding listing_call tree_file_verdict
+  call_refused {l} empty r e = go (tree_fits t) e
+    where
+      go : (b : Bool) → refused (number_of r.reason) r.place ≡ require b tree_refusal accepted
+          → call_of (Err r) l ≡ pick b (record { answer = answers (end_in (listing t) room); out = text_in (listing t) room }) (record { answer = refuses tree_refusal 0; out = zeros room })
+      go true f = let z : ◌≡◌ {A = ℕ} 0 1 = cc in absurd (omega arith)
+      go false f = cc
 
   pub call_listed : (r : Option ℕ) (l : List ℕ) → tree_fits t ≡ true → line_of r l ≡ shown (listing t) room → call_of (Ok r) l ≡ listing_call t room
   unfolding listing_call

@@ -3,11 +3,12 @@
 #![tactic(auto)]
 
 ghost use Rattle.std.specs.Prelude.{◌≡◌, length};
+ghost use Rattle.format_parts.specs.Refusals.{number_of};
 ghost use Rattle.app_listing.specs.Answers.{call_of, listing_call, line_of, refused_line_call, EndsText};
 
 use base_words::zero_all;
-use format_parts::refusals::{Reason, Refusal};
-use format_tree::{CheckedTree, check};
+use format_parts::refusals::Refusal;
+use format_tree::check;
 use lines::{put_listing, put_refused};
 
 pub mod lines;
@@ -30,21 +31,16 @@ pub fn listing(tree: &[u8], out: &mut [u8]) -> Result<Option<usize>, Refusal>
     ensures { call_of result out.new ≡ listing_call tree.now (length out.old) }
 {
     zero_all(out);
-    let CheckedTree::Accepted(map) = check(tree) else {
-        return Err(Refusal {
-            reason: Reason::Tree,
-            place: 0,
-        });
-    };
+    let map = check(tree)?;
     let end = put_listing(out, tree, map);
     Ok(written(out, end))
 }
 
 // How many bytes were written: none where the line has no room.
-pub fn refused_line(number: u16, place: u16, out: &mut [u8]) -> Option<usize>
-    ensures { line_of result out.new ≡ refused_line_call number place (length out.old) }
+pub fn refused_line(refusal: Refusal, out: &mut [u8]) -> Option<usize>
+    ensures { line_of result out.new ≡ refused_line_call (number_of refusal.reason) refusal.place (length out.old) }
 {
     zero_all(out);
-    let end = put_refused(out, number, place);
+    let end = put_refused(out, refusal);
     written(out, end)
 }

@@ -2,28 +2,29 @@
 -- Rests on what the walk of a sheet's tree file is on a panel that fits the sheet.
 use Rattle.std.proofs.Math.Path.{◌≡◌, sym, ap}
 use Rattle.std.proofs.Common.{ap₂, ◌∙◌, arith}
-use Rattle.std.specs.Prelude.{true, List, ◌++◌, ℕ, ◌-◌, ◌*◌, ◌≤◌, leb}
+use Rattle.std.specs.Prelude.{true, List, ◌++◌, ℕ, ◌-◌, ◌*◌, ◌≤◌, Option, Some, None, Result, Ok, Err}
 use Rattle.std.proofs.Math.ListN.{length, take}
-use Rattle.base_words.specs.Words.{pick, zeros}
+use Rattle.base_words.specs.Words.{zeros}
 use Rattle.spec_rules.specs.Limits.{tree_room, work_room, bound_room, node_bindings_most}
 use Rattle.spec_rules.specs.SheetRefusals.{accepted}
 use Rattle.spec_rules.specs.TreeReader.{tree_fits, tree_of}
 use Rattle.spec_rules.specs.PanelFile.{panel_verdict}
 use Rattle.spec_rules.specs.Walking.{Bound, reached, stuck, walk}
 use Rattle.spec_rules.specs.WalkPlaces.{last_node, stuck_step}
-use Rattle.spec_rules.specs.Calls.{answers, refuses, Built as BuiltTree, BuildCall, build_answer, build_call, sheet_tree_file, fit_call, leaf_of, without_leaf, stuck_at, bound_words, WalkCall, walk_answer, walk_call}
+use Rattle.spec_rules.specs.Calls.{answers, refuses, Built, BuildCall, build_answer, build_call, sheet_tree_file, fit_call, leaf_of, without_leaf, stuck_at, bound_words, WalkCall, walk_answer, walk_call}
 use Rattle.spec_rules.specs.Listing.{refused_line}
 use Rattle.spec_theorems.specs.Said.{WalkEnds, at_a_leaf, without_a_leaf, with_32}
 use Rattle.spec_theorems.specs.CallsLaws.{build_answers_only, fit_accepts_only}
 use Rattle.spec_theorems.specs.Theorems.{the_buffer_has_the_file, few_are_bound, the_walk_ends}
 use Rattle.spec_theorems.proofs.Theorems.{the_file_fits}
-use Rattle.fit.specs.declared.Fitted.{Fitted}
-use Rattle.walk.specs.declared.Walked.{Walked}
-use Rattle.walk.specs.Answers.{answer_of}
-use Rattle.build_call.specs.declared.Built.{Built}
+use Rattle.format_parts.specs.Refusals.{number_of, verdict_of}
+use Rattle.format_parts.specs.declared.refusals.Refusal.{Refusal}
+use Rattle.walk.specs.declared.Leaf.{Leaf}
+use Rattle.walk.specs.declared.WalkError.TheVariants.{Refused, Stuck}
+use Rattle.walk.specs.Answers.{Walked, answer_of}
+use Rattle.build_call.specs.declared.BuiltTree.{BuiltTree}
 use Rattle.build_call.specs.Answers.{answer_of as build_answer_of}
 use Rattle.dewmycel.specs.Promises.{BuildFits, FitFits, WalkFits}
-use Rattle.dewmycel.specs.Answers.{verdict_of}
 use Rattle.app_report.specs.Telling.{no_leaf_line, leaf_line, stuck_line, walked_text, built_text, telling}
 use Rattle.app_report.specs.Lines.{word_lines}
 use Rattle.app_report.specs.LinesLaws.{lines_bound}
@@ -54,19 +55,19 @@ module _ (t v : List ℕ) (n : ℕ) (r : Walked) (bound : List ℕ) (fits : tree
     text = rw (e, f, g, lines_bound v xs (zeros (n - 3 * length xs)), w);
   }
 
-  pub walked_leaf : (clause count : ℕ) → r ≡ Walked.Leaf clause count → AtLeaf clause count
-  walked_leaf clause count e = go ends
+  pub walked_leaf : (leaf : Leaf) → r ≡ Ok (Some leaf) → AtLeaf leaf.clause leaf.count
+  walked_leaf leaf e = go ends
     where
-      told : answers (leaf_of clause count) ≡ walk_answer t v n
+      told : answers (leaf_of leaf.clause leaf.count) ≡ walk_answer t v n
       told = sym (ap answer_of e) ∙ the_answer
 
-      go : WalkEnds t v n → AtLeaf clause count
+      go : WalkEnds t v n → AtLeaf leaf.clause leaf.count
       go (at_a_leaf c xs w a b) =
-          at_leaf clause count c xs (cc (told, a)) (cc (told, a)) (the_words ∙ b) w
+          at_leaf leaf.clause leaf.count c xs (cc (told, a)) (cc (told, a)) (the_words ∙ b) w
       go (without_a_leaf w a b) = let z : ◌≡◌ {A = ℕ} 0 1 = cc (told, a) in absurd (omega arith)
       go (with_32 w a b) = let z : ◌≡◌ {A = ℕ} 0 1 = cc (told, a) in absurd (omega arith)
 
-  pub walked_without : r ≡ Walked.NoLeaf → no_leaf_line ≡ walked_text t v (walk (tree_of t) v)
+  pub walked_without : r ≡ Ok None → no_leaf_line ≡ walked_text t v (walk (tree_of t) v)
   walked_without e = go ends
     where
       told : answers without_leaf ≡ walk_answer t v n
@@ -82,7 +83,7 @@ module _ (t v : List ℕ) (n : ℕ) (r : Walked) (bound : List ℕ) (fits : tree
   unfolding walked_text
   stuck_there node step w e f = rw (w, e, f)
 
-  pub walked_stuck : (node step : ℕ) → r ≡ Walked.Stuck node step → stuck_line node step ≡ walked_text t v (walk (tree_of t) v)
+  pub walked_stuck : (node step : ℕ) → r ≡ Err (Stuck node step) → stuck_line node step ≡ walked_text t v (walk (tree_of t) v)
   walked_stuck node step e = go ends
     where
       told : answers (stuck_at node step) ≡ walk_answer t v n
@@ -93,19 +94,19 @@ module _ (t v : List ℕ) (n : ℕ) (r : Walked) (bound : List ℕ) (fits : tree
       go (without_a_leaf w a b) = let z : ◌≡◌ {A = ℕ} 0 1 = cc (told, a) in absurd (omega arith)
       go (with_32 w a b) = stuck_there node step w (cc (told, a)) (cc (told, a))
 
-  pub walked_refused : (number place : ℕ) → r ≡ Walked.Refused number place → refused_line number place ≡ walked_text t v (walk (tree_of t) v)
-  walked_refused number place e = go ends
+  pub walked_refused : (refusal : Refusal) → r ≡ Err (Refused refusal) → refused_line (number_of refusal.reason) refusal.place ≡ walked_text t v (walk (tree_of t) v)
+  walked_refused refusal e = go ends
     where
-      told : refuses number place ≡ walk_answer t v n
+      told : refuses (number_of refusal.reason) refusal.place ≡ walk_answer t v n
       told = sym (ap answer_of e) ∙ the_answer
 
-      go : WalkEnds t v n → refused_line number place ≡ walked_text t v (walk (tree_of t) v)
+      go : WalkEnds t v n → refused_line (number_of refusal.reason) refusal.place ≡ walked_text t v (walk (tree_of t) v)
       go (at_a_leaf c xs w a b) = let z : ◌≡◌ {A = ℕ} 0 1 = cc (told, a) in absurd (omega arith)
       go (without_a_leaf w a b) = let z : ◌≡◌ {A = ℕ} 0 1 = cc (told, a) in absurd (omega arith)
       go (with_32 w a b) = let z : ◌≡◌ {A = ℕ} 0 1 = cc (told, a) in absurd (omega arith)
 
 -- ---- the build, in buffers of the least room, of a sheet that the panel fits
-module _ (s v : List ℕ) (n m : ℕ) (b : Built) (tree work : List ℕ) (is : BuildFits s n m b tree work) (tree_room_holds : tree_room ≡ n) (work_room_holds : work_room ≡ m)
+module _ (s v : List ℕ) (n m : ℕ) (b : Result BuiltTree Refusal) (tree work : List ℕ) (is : BuildFits s n m b tree work) (tree_room_holds : tree_room ≡ n) (work_room_holds : work_room ≡ m)
     (fit : fit_call s v ≡ accepted) where
   in_least_room : BuildFits s tree_room work_room b tree work
   in_least_room = is ∙ sym (ap₂ (λ (x y : ℕ). build_call s x y) tree_room_holds work_room_holds)
@@ -114,9 +115,9 @@ module _ (s v : List ℕ) (n m : ℕ) (b : Built) (tree work : List ℕ) (is : B
   unfolding build_call
   built_answer = ap (λ (x : BuildCall). x.answer) in_least_room
 
-  pub built_refused : (number place : ℕ) → b ≡ Built.Refused number place → refused_line number place ≡ built_text s v
+  pub built_refused : (refusal : Refusal) → b ≡ Err refusal → refused_line (number_of refusal.reason) refusal.place ≡ built_text s v
   unfolding built_text
-  built_refused number place e = rw (sym built_answer ∙ ap build_answer_of e)
+  built_refused refusal e = rw (sym built_answer ∙ ap build_answer_of e)
 
   -- the first bytes of the buffer are a tree file, and the panel is one
   pub record OfTree (t : List ℕ) : Type 0 where
@@ -124,12 +125,12 @@ module _ (s v : List ℕ) (n m : ℕ) (b : Built) (tree work : List ℕ) (is : B
     pub panel_fits_holds : panel_verdict v ≡ accepted
     pub text : walked_text t v (walk (tree_of t) v) ≡ built_text s v
 
-  pub built_tree : (bytes nodes bindings : ℕ) → b ≡ Built.Tree bytes nodes bindings → OfTree (take bytes tree)
+  pub built_tree : (built : BuiltTree) → b ≡ Ok built → OfTree (take built.length tree)
   unfolding built_text
-  built_tree bytes nodes bindings e =
-      let x : BuiltTree = record { bytes = bytes; nodes = nodes; bindings = bindings } in
+  built_tree built e =
+      let x : Built = record { bytes = built.length; nodes = built.nodes; bindings = built.bindings } in
       let a : build_answer s tree_room work_room ≡ answers x = sym built_answer ∙ ap build_answer_of e in
-      let file : take bytes tree ≡ sheet_tree_file s = ap (λ (y : BuildCall). take bytes y.tree) in_least_room ∙ the_buffer_has_the_file s tree_room work_room x a in
+      let file : take built.length tree ≡ sheet_tree_file s = ap (λ (y : BuildCall). take built.length y.tree) in_least_room ∙ the_buffer_has_the_file s tree_room work_room x a in
       record {
         tree_fits_holds = rw file (the_file_fits s (build_answers_only s tree_room work_room x a).builds.sheet);
         panel_fits_holds = (fit_accepts_only s v fit).1.panel;
@@ -137,14 +138,14 @@ module _ (s v : List ℕ) (n m : ℕ) (b : Built) (tree work : List ℕ) (is : B
       }
 
 -- ---- the fit check
-module _ (s v : List ℕ) (f : Fitted) (is : FitFits s v f) where
-  pub fit_accepted : f ≡ Fitted.Fits → fit_call s v ≡ accepted
+module _ (s v : List ℕ) (f : Result (Unit {0}) Refusal) (is : FitFits s v f) where
+  pub fit_accepted : f ≡ Ok tt → fit_call s v ≡ accepted
   fit_accepted e = sym is ∙ ap verdict_of e
 
-  pub told_built : f ≡ Fitted.Fits → built_text s v ≡ telling s v
+  pub told_built : f ≡ Ok tt → built_text s v ≡ telling s v
   unfolding telling
   told_built e = rw (fit_accepted e)
 
-  pub told_refused : (number place : ℕ) → f ≡ Fitted.Refused number place → refused_line number place ≡ telling s v
+  pub told_refused : (refusal : Refusal) → f ≡ Err refusal → refused_line (number_of refusal.reason) refusal.place ≡ telling s v
   unfolding telling
-  told_refused number place e = rw (sym is ∙ ap verdict_of e)
+  told_refused refusal e = rw (sym is ∙ ap verdict_of e)

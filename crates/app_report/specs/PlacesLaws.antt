@@ -70,15 +70,15 @@ module _ (v : List ℕ) (r d : ℕ) (x : Record) (read : x ≡ record_of v r) wh
 
 -- ---- a position
 module _ (v : List ℕ) (r d : ℕ) where
-  pub no_panel : (number place : ℕ) → panel_verdict v ≡ refused number place → [] ≡ place_text v r d
+  pub no_panel : {number place : ℕ} → refused number place ≡ panel_verdict v → [] ≡ place_text v r d
   unfolding place_text
-  no_panel number place e = rw e
+  no_panel e = rw (← e)
 
-  module _ (ok : panel_verdict v ≡ accepted) where
+  module _ (ok : accepted ≡ panel_verdict v) where
     pub no_record : records v ≤ r → [] ≡ place_text v r d
     unfolding place_text
-    no_record h = rw (ok, le-ltb r (records v) h)
+    no_record h = rw (← ok, le-ltb r (records v) h)
 
     pub record_there : r < records v → record_text v r d ≡ place_text v r d
     unfolding place_text
-    record_there h = rw (ok, lt-ltb r (records v) h)
+    record_there h = rw (← ok, lt-ltb r (records v) h)

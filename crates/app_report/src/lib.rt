@@ -18,10 +18,8 @@ use app_listing::texts::put_text;
 use app_listing::written;
 use base_numbers::tree::BOUND_ROOM;
 use base_words::zero_all;
-use build_call::Built;
-use fit::Fitted;
 use lines::{put_leaf, put_stuck};
-use walk::Walked;
+use walk::WalkError;
 
 mod lines;
 mod places;
@@ -33,10 +31,10 @@ fn put_walked(out: &mut [u8], tree: &[u8], panel: &[u8]) -> usize
 {
     let mut bound = [0u16; BOUND_ROOM];
     match dewmycel::walk(tree, panel, &mut bound) {
-        Walked::Leaf { clause, count } => put_leaf(out, panel, clause, &bound, count),
-        Walked::NoLeaf => put_text(out, 0, b"no leaf\n"),
-        Walked::Stuck { node, step } => put_stuck(out, node, step),
-        Walked::Refused { number, place } => put_refused(out, number, place),
+        Ok(Some(leaf)) => put_leaf(out, panel, leaf, &bound),
+        Ok(None) => put_text(out, 0, b"no leaf\n"),
+        Err(WalkError::Stuck { node, step }) => put_stuck(out, node, step),
+        Err(WalkError::Refused(refusal)) => put_refused(out, refusal),
     }
 }
 
@@ -48,15 +46,8 @@ fn put_built(out: &mut [u8], sheet: &[u8], panel: &[u8]) -> usize
     let mut tree = io::large_buffer();
     let mut work = io::large_buffer();
     match dewmycel::build(sheet, &mut tree, &mut work) {
-        Built::Tree {
-            length,
-            nodes,
-            bindings,
-        } => {
-            let n = length as usize;
-            put_walked(out, &tree[..n], panel)
-        }
-        Built::Refused { number, place } => put_refused(out, number, place),
+        Ok(built) => put_walked(out, &tree[..built.length as usize], panel),
+        Err(refusal) => put_refused(out, refusal),
     }
 }
 
@@ -64,8 +55,8 @@ fn put_telling(out: &mut [u8], sheet: &[u8], panel: &[u8]) -> usize
     ensures { Writes out.old out.new 0 result (telling_of sheet.now panel.now) }
 {
     match dewmycel::fit(sheet, panel) {
-        Fitted::Fits => put_built(out, sheet, panel),
-        Fitted::Refused { number, place } => put_refused(out, number, place),
+        Ok(()) => put_built(out, sheet, panel),
+        Err(refusal) => put_refused(out, refusal),
     }
 }
 

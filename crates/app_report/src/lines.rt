@@ -7,8 +7,9 @@ ghost use Rattle.app_report.specs.Lines.{word_lines};
 
 use crate::places::put_place;
 use app_listing::texts::{put, put_numbered};
-use base_numbers::refusals;
 use base_numbers::tree::BOUND_WORDS;
+use format_parts::refusals::Reason;
+use walk::Leaf;
 
 fn put_binding(out: &mut [u8], at: usize, panel: &[u8], name: u16, r: u16, dropped: u16) -> usize
     ensures { Writes out.old out.new at result (binding_line panel.now name r dropped) }
@@ -33,20 +34,20 @@ fn put_bindings(out: &mut [u8], at: usize, panel: &[u8], bound: &[u16], n: usize
     end
 }
 
-pub fn put_leaf(out: &mut [u8], panel: &[u8], clause: u16, bound: &[u16], count: u16) -> usize
-    requires { 3 * count ≤ length bound.now }
-    ensures { Writes out.old out.new 0 result (leaf_line clause ++ word_lines panel.now bound.now 0 count) }
+pub fn put_leaf(out: &mut [u8], panel: &[u8], leaf: Leaf, bound: &[u16]) -> usize
+    requires { 3 * leaf.count ≤ length bound.now }
+    ensures { Writes out.old out.new 0 result (leaf_line leaf.clause ++ word_lines panel.now bound.now 0 leaf.count) }
 {
-    let number = put_numbered(out, 0, b"leaf ", clause);
+    let number = put_numbered(out, 0, b"leaf ", leaf.clause);
     let line = put(out, number, b'\n');
-    put_bindings(out, line, panel, bound, count as usize)
+    put_bindings(out, line, panel, bound, leaf.count as usize)
 }
 
 // `refused 32 NODE STEP`.
 pub fn put_stuck(out: &mut [u8], node: u16, step: u16) -> usize
     ensures { Writes out.old out.new 0 result (stuck_line node step) }
 {
-    let number = put_numbered(out, 0, b"refused ", refusals::STUCK);
+    let number = put_numbered(out, 0, b"refused ", Reason::Stuck.number());
     let node_end = put_numbered(out, number, b" ", node);
     let step_end = put_numbered(out, node_end, b" ", step);
     put(out, step_end, b'\n')

@@ -9,7 +9,6 @@ ghost use Rattle.app_report.specs.Telling.{int_word, bytes_word, list_text, reco
 
 use app_listing::texts::{put_hex, put_numbered, put_text};
 use base_numbers::record_kinds;
-use format_panel::CheckedPanel;
 use format_panel::records::{Record, record_at};
 
 fn put_int(out: &mut [u8], at: usize, panel: &[u8], r: u16, dropped: u16) -> usize
@@ -56,7 +55,7 @@ fn put_record(out: &mut [u8], at: usize, panel: &[u8], x: Record, r: u16, droppe
 pub fn put_place(out: &mut [u8], at: usize, panel: &[u8], r: u16, dropped: u16) -> usize
     ensures { Writes out.old out.new at result (place_text panel.now r dropped) }
 {
-    let CheckedPanel::Accepted(map) = format_panel::check(panel) else {
+    let Ok(map) = format_panel::check(panel) else {
         return at;
     };
     let i = r as usize;

@@ -1,5 +1,5 @@
-// What the test programs share: sheets and panels made piece by piece in a buffer. Whatever would lie past its end is left out.
-// Each contract is one store at a place; a store past the end changes nothing, so none asks for room.
+// What the test programs share: sheets and panels made piece by piece in a buffer, and the line of a refusal. Whatever would lie past
+// the buffer's end is left out. Each contract is one store at a place; a store past the end changes nothing, so none asks for room.
 #![tactic(auto)]
 
 ghost use Rattle.std.specs.Prelude.{◌≡◌, ◌-◌};
@@ -9,6 +9,8 @@ ghost use Rattle.test_make.specs.Pieces.{low_word, words_of, number_words, trail
 use base_numbers::sheet::{
     CHILD_SIZE, CLAUSE_SIZE, CONSTRUCTOR_SIZE, ENTRY_SIZE, PATTERN_SIZE, SHEET_TRAILER, TYPE_SIZE,
 };
+use format_parts::refusals::Refusal;
+use std::io;
 
 // The bytes of a text from byte i on.
 pub fn bytes(b: &mut [u8], i: usize, text: &[u8])
@@ -107,4 +109,11 @@ pub fn end(b: &mut [u8], n: Sizes, subject: usize) -> usize
         ],
     );
     length
+}
+
+// The line of a case that is refused.
+pub fn say_refused(rt: &impl Print, name: &str, refusal: Refusal) -> io::Result<()> {
+    let number = refusal.reason.number();
+    let place = refusal.place;
+    println!(rt; "{name}: refused {number} {place}")
 }

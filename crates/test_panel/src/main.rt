@@ -6,22 +6,20 @@ ghost use Rattle.std.specs.Prelude.{◌<◌, ◌≤◌, length};
 
 mod make;
 
-use fit::Fitted;
-use format_panel::{CheckedPanel, Located};
 use make::{chain, end, leaf, record, three, wide};
 use std::io;
-use test_make::{ONE_CLAUSE, Sizes, words};
+use test_make::{ONE_CLAUSE, Sizes, say_refused, words};
 
 // The check of a panel.
 fn check(rt: &impl Print, name: &str, panel: &[u8]) -> io::Result<()> {
     match format_panel::check(panel) {
-        CheckedPanel::Accepted(map) => {
+        Ok(map) => {
             println!(rt;
                 "{name}: accepted {} {}",
                 map.records.count, map.parts.count
             )
         }
-        CheckedPanel::Refused { number, place } => println!(rt; "{name}: refused {number} {place}"),
+        Err(refusal) => say_refused(rt, name, refusal),
     }
 }
 
@@ -36,12 +34,12 @@ fn check_first(rt: &impl Print, name: &str, b: &[u8], n: usize) -> io::Result<()
 // The text call and its twin.
 fn text(rt: &impl Print, name: &str, panel: &[u8], r: u16, dropped: u16) -> io::Result<()> {
     match format_panel::text(panel, r, dropped) {
-        Located::At { start, count } => {
-            print!(rt; "{name}: at {start} {count} `")?;
+        Ok(span) => {
+            print!(rt; "{name}: at {} {} `", span.start, span.count)?;
             rt.write_all(format_panel::text_part(panel, r, dropped))?;
             rt.write_all(b"`\n")
         }
-        Located::Refused { number, place } => println!(rt; "{name}: refused {number} {place}"),
+        Err(refusal) => say_refused(rt, name, refusal),
     }
 }
 
@@ -62,8 +60,8 @@ fn text_first(
 // The fit check.
 fn fit(rt: &impl Print, name: &str, sheet: &[u8], panel: &[u8]) -> io::Result<()> {
     match fit::fit(sheet, panel) {
-        Fitted::Fits => println!(rt; "{name}: fits"),
-        Fitted::Refused { number, place } => println!(rt; "{name}: refused {number} {place}"),
+        Ok(()) => println!(rt; "{name}: fits"),
+        Err(refusal) => say_refused(rt, name, refusal),
     }
 }
 

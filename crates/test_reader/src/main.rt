@@ -1,9 +1,9 @@
 // The three answers of `clause_pattern`: each line names a case and gives the answer, and the file stdout has them by hand.
 #![tactic(auto)]
 
-use format_sheet_reader::{Clause, clause_pattern};
+use format_sheet_reader::clause_pattern;
 use std::io;
-use test_make::{ONE_CLAUSE, Sizes, end, word, words};
+use test_make::{ONE_CLAUSE, Sizes, end, say_refused, word, words};
 
 // One type, Int, the subject's; pattern 0 is the variable of name 7, pattern 1 a discard; clause 0 has root 1, clause 1 has root 0.
 fn sheet(b: &mut [u8]) {
@@ -19,9 +19,9 @@ fn sheet(b: &mut [u8]) {
 
 fn show(rt: &impl Print, name: &str, sheet: &[u8], c: u16) -> io::Result<()> {
     match clause_pattern(sheet, c) {
-        Clause::At(r) => println!(rt; "{name}: kind {} a {}", r.kind, r.a),
-        Clause::NoClause => println!(rt; "{name}: no clause"),
-        Clause::Refused { number, place } => println!(rt; "{name}: refused {number} {place}"),
+        Ok(Some(r)) => println!(rt; "{name}: kind {} a {}", r.kind, r.a),
+        Ok(None) => println!(rt; "{name}: no clause"),
+        Err(refusal) => say_refused(rt, name, refusal),
     }
 }
 

@@ -6,21 +6,20 @@ ghost use Rattle.std.specs.Prelude.{◌<◌, length};
 
 mod make;
 
-use format_sheet::CheckedSheet;
 use make::{clauses, list_of, nested};
 use std::io;
-use test_make::{ONE_CLAUSE, Sizes, bytes, end, word, words};
+use test_make::{ONE_CLAUSE, Sizes, bytes, end, say_refused, word, words};
 
 // ---- a case
 fn check(rt: &impl Print, name: &str, sheet: &[u8]) -> io::Result<()> {
     match format_sheet::check(sheet) {
-        CheckedSheet::Accepted(map) => {
+        Ok(map) => {
             println!(rt;
                 "{name}: accepted {} {}",
                 map.patterns.count, map.clauses.count
             )
         }
-        CheckedSheet::Refused { number, place } => println!(rt; "{name}: refused {number} {place}"),
+        Err(refusal) => say_refused(rt, name, refusal),
     }
 }
 

@@ -1,9 +1,9 @@
 // What the walk answers, written as a line. The buffer is filled beforehand; a word after the bindings that is not zero is said.
 use crate::rows::number;
-use base_numbers::refusals;
 use base_numbers::tree::BOUND_WORDS;
+use format_parts::refusals::Reason;
 use std::io;
-use walk::Walked;
+use walk::{Leaf, WalkError};
 
 fn say_binding(rt: &impl Print, binding: &[u16]) -> io::Result<()> {
     let [name, record, dropped] = binding else {
@@ -34,25 +34,30 @@ fn say_rest(rt: &impl Print, bound: &[u16], from: usize) -> io::Result<()> {
     rt.write_all(b"\n")
 }
 
-fn say(rt: &impl Print, name: &[u8], answer: Walked, bound: &[u16]) -> io::Result<()> {
+fn say(
+    rt: &impl Print,
+    name: &[u8],
+    answer: Result<Option<Leaf>, WalkError>,
+    bound: &[u16],
+) -> io::Result<()> {
     rt.write_all(name)?;
     match answer {
-        Walked::Leaf { clause, count } => {
-            let count = usize::from(count);
-            print!(rt; ": leaf {clause}")?;
+        Ok(Some(leaf)) => {
+            let count = usize::from(leaf.count);
+            print!(rt; ": leaf {}", leaf.clause)?;
             say_bindings(rt, bound, count)?;
             say_rest(rt, bound, BOUND_WORDS * count)
         }
-        Walked::NoLeaf => {
+        Ok(None) => {
             rt.write_all(b": no leaf")?;
             say_rest(rt, bound, 0)
         }
-        Walked::Stuck { node, step } => {
-            print!(rt; ": refused {} {node} {step}", refusals::STUCK)?;
+        Err(WalkError::Stuck { node, step }) => {
+            print!(rt; ": refused {} {node} {step}", Reason::Stuck.number())?;
             say_rest(rt, bound, 0)
         }
-        Walked::Refused { number, place } => {
-            print!(rt; ": refused {number} {place}")?;
+        Err(WalkError::Refused(refusal)) => {
+            print!(rt; ": refused {} {}", refusal.reason.number(), refusal.place)?;
             say_rest(rt, bound, 0)
         }
     }

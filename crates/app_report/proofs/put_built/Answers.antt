@@ -7,18 +7,18 @@ pub put_walked-requires : goal.put_walked-requires
 put_walked-requires c =
     let t =
     built_tree c.args.sheet.now c.args.panel.now _ _ c.build.result _ _ c.build.ensures c.large_buffer-tree.ensures c.large_buffer-work.ensures
-    c.requires c.in-Tree.length c.in-Tree.nodes c.in-Tree.bindings c.in-Tree.is in
+    c.requires c.in-Ok.built c.in-Ok.is in
     (t.tree_fits_holds, t.panel_fits_holds)
 
-pub returns-in-Tree : goal.returns-in-Tree
-returns-in-Tree c =
+pub returns-in-Ok : goal.returns-in-Ok
+returns-in-Ok c =
     let t =
     built_tree c.args.sheet.now c.args.panel.now _ _ c.build.result _ _ c.build.ensures c.large_buffer-tree.ensures c.large_buffer-work.ensures
-    c.requires c.in-Tree.length c.in-Tree.nodes c.in-Tree.bindings c.in-Tree.is in
+    c.requires c.in-Ok.built c.in-Ok.is in
     writes_as c.put_walked.ensures t.text
 
-pub returns-in-Refused : goal.returns-in-Refused
-returns-in-Refused c =
+pub returns-in-Err : goal.returns-in-Err
+returns-in-Err c =
     writes_as c.put_refused.ensures
     (built_refused c.args.sheet.now c.args.panel.now _ _ c.build.result _ _ c.build.ensures c.large_buffer-tree.ensures c.large_buffer-work.ensures
-    c.requires c.in-Refused.number c.in-Refused.place c.in-Refused.is)
+    c.requires c.in-Err.refusal c.in-Err.is)

@@ -8,29 +8,29 @@ pub put_leaf-requires : goal.put_leaf-requires
 put_leaf-requires c =
     let l =
     walked_leaf c.args.tree.now c.args.panel.now _ c.walk.result _ c.requires.0 c.requires.1 (search rules) c.walk.ensures
-    c.in-Leaf.clause c.in-Leaf.count c.in-Leaf.is in
+    c.in-Ok-Some.leaf c.in-Ok-Some.is in
     omega (arith, l.few, c.walk.auto.bound)
 
-pub returns-in-Leaf : goal.returns-in-Leaf
-returns-in-Leaf c =
+pub returns-in-Ok-Some : goal.returns-in-Ok-Some
+returns-in-Ok-Some c =
     let l =
     walked_leaf c.args.tree.now c.args.panel.now _ c.walk.result _ c.requires.0 c.requires.1 (search rules) c.walk.ensures
-    c.in-Leaf.clause c.in-Leaf.count c.in-Leaf.is in
+    c.in-Ok-Some.leaf c.in-Ok-Some.is in
     writes_as c.put_leaf.ensures l.text
 
-pub returns-in-NoLeaf : goal.returns-in-NoLeaf
-returns-in-NoLeaf c =
+pub returns-in-Ok-None : goal.returns-in-Ok-None
+returns-in-Ok-None c =
     writes_as c.put_text.ensures
-    (walked_without c.args.tree.now c.args.panel.now _ c.walk.result _ c.requires.0 c.requires.1 (search rules) c.walk.ensures c.in-NoLeaf.is)
+    (walked_without c.args.tree.now c.args.panel.now _ c.walk.result _ c.requires.0 c.requires.1 (search rules) c.walk.ensures c.in-Ok-None.is)
 
-pub returns-in-Stuck : goal.returns-in-Stuck
-returns-in-Stuck c =
+pub returns-in-Err-Stuck : goal.returns-in-Err-Stuck
+returns-in-Err-Stuck c =
     writes_as c.put_stuck.ensures
     (walked_stuck c.args.tree.now c.args.panel.now _ c.walk.result _ c.requires.0 c.requires.1 (search rules) c.walk.ensures
-    c.in-Stuck.node c.in-Stuck.step c.in-Stuck.is)
+    c.in-Err-Stuck.node c.in-Err-Stuck.step c.in-Err-Stuck.is)
 
-pub returns-in-Refused : goal.returns-in-Refused
-returns-in-Refused c =
+pub returns-in-Err-Refused : goal.returns-in-Err-Refused
+returns-in-Err-Refused c =
     writes_as c.put_refused.ensures
     (walked_refused c.args.tree.now c.args.panel.now _ c.walk.result _ c.requires.0 c.requires.1 (search rules) c.walk.ensures
-    c.in-Refused.number c.in-Refused.place c.in-Refused.is)
+    c.in-Err-Refused.refusal c.in-Err-Refused.is)

@@ -7,4 +7,4 @@ pub returns : goal.returns
 returns c =
     writes_as
     (writes_then c.put_numbered-number.ensures (writes_then c.put-line.ensures c.put_bindings.ensures))
-    (leaf_is c.args.clause _)
+    (leaf_is c.args.leaf.clause _)
