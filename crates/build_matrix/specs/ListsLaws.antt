@@ -1,6 +1,6 @@
 -- Laws of lists held in arrays, as the loops over them use: moving up by one, appending one more, and looking up from the front.
 use Rattle.std.specs.Prelude.{◌≡◌, refl, Bool, true, false, not, List, [], ◌∷◌, ◌++◌, length, get_or, take, drop, set, eqb, ltb, position, Option, Some, None}
-use Rattle.std.proofs.Common.{sym, ap₂, ◌∙◌, append_assoc, add-one, length-append, length-set, length-drop, take-suc, take-take, length-take-le, take-suc-set}
+use Rattle.std.proofs.Common.{sym, ap₂, ◌∙◌, append_assoc, add-one, length-append, length-drop, take-suc, take-take, length-take-le, take-suc-set}
 use Rattle.std.proofs.Math.Path.{ap}
 use Rattle.std.proofs.Math.Bool.{cond}
 use Prim.Native.Nat.{ℕ, suc, ◌+◌, ◌-◌, ◌≤◌, ◌<◌}
@@ -13,7 +13,6 @@ use Rattle.std.proofs.lemmas.List.{set_at, drop-take}
 use Rattle.std.proofs.lemmas.List.Edits.{take-paste}
 use Rattle.std.proofs.lemmas.List.Recursion.{is_position_or_len}
 use Rattle.std.proofs.lemmas.List.Sums.{prefix_len-le-length}
-use Rattle.spec_rules.specs.Limits.{patterns_most, clauses_most}
 use Rattle.spec_rules.specs.SheetRefusals.{is_in}
 use Rattle.build_matrix.specs.declared.PerRow.{PerRow}
 use Rattle.build_matrix.specs.declared.Classes.{Classes}
@@ -79,12 +78,6 @@ whole h = record { long = h.long; most = h.most; are = refl }
 
 pub whole_rows : {r : PerRow} {l : List ℕ} → HoldsRows r l → WholeRows r
 whole_rows h = record { long = h.long; most = h.most; are = refl }
-
-pub holds_push : (l : List ℕ) (n x : ℕ) → length l ≡ patterns_most → n < patterns_most → Holds (record { list = set l n x; count = n + 1 }) (take n l ++ x ∷ [])
-holds_push l n x e h = record { long = length-set l n x ∙ e; most = omega arith; are = push_one l n x (omega arith) }
-
-pub holds_push_row : (l : List ℕ) (n x : ℕ) → length l ≡ clauses_most → n < clauses_most → HoldsRows (record { list = set l n x; count = n + 1 }) (take n l ++ x ∷ [])
-holds_push_row l n x e h = record { long = length-set l n x ∙ e; most = omega arith; are = push_one l n x (omega arith) }
 
 -- ---- the others put behind: all before the place of k, and all behind it
 module _ (o cs front out : Classes) (k place : ℕ) (a : Whole o) (b : Whole cs) (there : is_in k (classes_in cs) ≡ true) (is : place ≡ first_place k (classes_in cs)) where

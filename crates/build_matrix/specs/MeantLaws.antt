@@ -4,7 +4,7 @@ use Rattle.std.proofs.Math.Path.{refl, sym, ap}
 use Rattle.std.proofs.Common.{◌∙◌, arith}
 use Rattle.std.proofs.Math.Bool.{true, false}
 use Rattle.std.proofs.lemmas.Bool.{false≢true}
-use borrow.Author.Tests.{le-leb, lt-leb, leb-true, leb-false, not-true, eq-eqb, ne_eqb}
+use borrow.Author.Tests.{not-true}
 use Rattle.std.proofs.Math.ListN.{length}
 use Rattle.base_words.specs.Words.{both, either, pick, text_at, same_text}
 use Rattle.base_words.specs.WordsLaws.{length_text_at, not_same_text}
@@ -24,7 +24,7 @@ use Rattle.format_sheet.specs.Check.{SheetAccepts}
 use Rattle.format_records.specs.declared.reading.Test.{Test}
 use Rattle.build_matrix.specs.HeldRows.{joins_case}
 use Rattle.build_matrix.specs.Ready.{TestKnown}
-use Rattle.build_matrix.specs.Meant.{meant, InPool, covers_constructor, text_pattern, covers_text, covers_tailed, covers_list, covers_read}
+use Rattle.build_matrix.specs.Meant.{meant, covers_read}
 
 -- ---- by the kind's number
 module _ (s : List ℕ) (z a first count : ℕ) where
@@ -149,55 +149,10 @@ module _ {s : List ℕ} (ok : Accepted s) (p : ℕ) (k : TestKnown s p) (u : Tes
   unfolding joins_case
   covers_read_lem = by_kind (pattern_kind_of (pattern_kind s p)) refl ∙ ap (λ (q : Pat). covers q (meant s u)) (sym (opens_as (pattern_kind_of (pattern_kind s p)) refl))
 
-  -- a text pattern's text lies in the pool
-  pub text_inside : integer_pattern ≤ pattern_kind s p → pattern_kind s p ≤ byte_string_pattern → pattern_first s p + pattern_count s p ≤ pool_size s
-  text_inside low high = (ok.is_shaped.text_run p k.known low high).inside
-
--- ---- counting a tail as the code does
-pub tail_counts : (count n : ℕ) → leb count (n + 1) ≡ leb (count - 1) n
-tail_counts count n = go (leb count (n + 1)) refl
-  where
-    go : (b : Bool) → leb count (n + 1) ≡ b → leb count (n + 1) ≡ leb (count - 1) n
-    go true e = let l = leb-true count (n + 1) e in e ∙ sym (le-leb (count - 1) n (omega arith))
-    go false e = let l = leb-false count (n + 1) e in e ∙ sym (lt-leb (count - 1) n (omega arith))
-
 -- ---- as the code has them
-module _ (r : PatternRecord) (n : ℕ) where
-  pub constructor_not : (r.kind ≡ constructor_pattern → ⊥) → false ≡ covers_constructor r n
-  constructor_not h = rw (ne_eqb r.kind constructor_pattern h)
-
-  pub constructor_is : r.kind ≡ constructor_pattern → eqb n r.a ≡ covers_constructor r n
-  constructor_is e = rw e
-
-  pub tailed_not : (r.kind ≡ list_with_tail_pattern → ⊥) → false ≡ covers_tailed r n
-  tailed_not h = rw (ne_eqb r.kind list_with_tail_pattern h)
-
-  pub tailed_is : r.kind ≡ list_with_tail_pattern → leb r.count (n + 1) ≡ covers_tailed r n
-  tailed_is e = rw e (tail_counts r.count n)
-
-  pub list_is : r.kind ≡ list_pattern → eqb n r.count ≡ covers_list r n
-  list_is e = rw e (go (eqb n r.count))
-    where
-      go : (b : Bool) → b ≡ either b false
-      go true = refl
-      go false = refl
-
-  pub list_not : (x : Bool) → (r.kind ≡ list_pattern → ⊥) → x ≡ covers_tailed r n → x ≡ covers_list r n
-  list_not x h e = e ∙ rw (ne_eqb r.kind list_pattern h)
-
-pub text_pattern_most : (kind : ℕ) → (integer_pattern ≤ text_pattern kind) × (text_pattern kind ≤ byte_string_pattern)
-text_pattern_most kind = go (eqb kind int_case)
-  where
-    go : (b : Bool) → (integer_pattern ≤ pick b integer_pattern byte_string_pattern) × (pick b integer_pattern byte_string_pattern ≤ byte_string_pattern)
-    go true = (omega arith, omega arith)
-    go false = (omega arith, omega arith)
-
 module _ (s : List ℕ) (m : SheetMap) (c : SheetAccepts s m) (a n b k : ℕ) where
   pool_is : m.pool.start ≡ pool_at s
   pool_is = ap (λ (x : SheetMap). x.pool.start) c.is_map
-
-  pub text_there : (i : ℕ) (l : ℕ) → i + l ≤ pool_size s → m.pool.start + i + l ≤ length s
-  text_there i l h = omega (arith, pool_is, text_in c.ok.is_laid i l h)
 
   pub texts_not : a + n ≤ pool_size s → b + k ≤ pool_size s → (n ≡ k → ⊥) → false ≡ same_text (pool_text s a n) (pool_text s b k)
   unfolding pool_text
@@ -212,21 +167,6 @@ module _ (s : List ℕ) (m : SheetMap) (c : SheetAccepts s m) (a n b k : ℕ) wh
       f ∙ ap (λ (i : ℕ). same_text (text_at s (i + a) n) (text_at s (i + b) n)) pool_is
       ∙ ap (λ (l : ℕ). same_text (text_at s (pool_at s + a) n) (text_at s (pool_at s + b) l)) e
 
-module _ (s : List ℕ) (r : PatternRecord) (kind start count : ℕ) (pattern_kind_holds : ℕ) (is : pattern_kind_holds ≡ text_pattern kind) where
-  pub text_not : (r.kind ≡ pattern_kind_holds → ⊥) → false ≡ covers_text s r kind start count
-  text_not h = rw (ne_eqb r.kind (text_pattern kind) (λ e. h (e ∙ sym is)))
-
-  pub text_is : (x : Bool) → r.kind ≡ pattern_kind_holds → x ≡ same_text (pool_text s start count) (pool_text s r.first r.count) → x ≡ covers_text s r kind start count
-  text_is x e f = f ∙ rw (eq-eqb r.kind (text_pattern kind) (e ∙ is))
-
-pub pool_text_lem : (s : List ℕ) (test : Test) {kind start count : ℕ} → InPool s test → test ≡ Test.Text kind start count → start + count ≤ pool_size s
-pool_text_lem s test h e = rw e at h
-
 module _ {s : List ℕ} (ok : Accepted s) (p : ℕ) (k : TestKnown s p) (r : PatternRecord) (is : r ≡ record_of s p) where
   pub covers_by : (test : Test) (x : Bool) → x ≡ covers_read s r test → x ≡ joins_case s (meant s test) p
   covers_by test x e = e ∙ ap (λ (z : PatternRecord). covers_read s z test) is ∙ covers_read_lem ok p k test
-
-  pub record_text : integer_pattern ≤ r.kind → r.kind ≤ byte_string_pattern → r.first + r.count ≤ pool_size s
-  record_text low high =
-      let e = ap (λ (z : PatternRecord). z.kind) is in
-      rw is (text_inside ok p k (Test.List 0) (omega arith) (omega arith))

@@ -8,12 +8,11 @@ use borrow.Author.Tests.{eq-eqb, ne_eqb}
 use Rattle.std.proofs.Math.ListN.{get_or, take, take-append-drop}
 use Rattle.std.proofs.Math.Seq.{slice, slice-cons, slice_empty, length-slice, take-suc, append_snoc}
 use Rattle.base_words.specs.Words.{pick}
-use Rattle.spec_rules.specs.Limits.{children_most}
 use Rattle.spec_rules.specs.Kinds.{variable_pattern, assign_pattern, integer_pattern, list_pattern, list_with_tail_pattern, constructor_pattern, pair_pattern, tuple_pattern}
-use Rattle.spec_rules.specs.SheetFile.{patterns, children, pattern_kind, child}
+use Rattle.spec_rules.specs.SheetFile.{patterns, pattern_kind, child}
 use Rattle.spec_rules.specs.SheetRefusals.{is_in}
 use Rattle.spec_rules.specs.SplittingLaws.{All}
-use Rattle.spec_accepted.specs.SheetFacts.{Accepted, Parent, Owns, owned_pattern, owned_entry, assign_parent, many_parent}
+use Rattle.spec_accepted.specs.SheetFacts.{Accepted, Parent, Owns, owned_pattern, assign_parent, many_parent}
 use Rattle.format_sheet.specs.declared.SheetMap.{SheetMap}
 use Rattle.format_sheet.specs.declared.records.PatternRecord.{PatternRecord}
 use Rattle.format_sheet.specs.Records.{pattern_of}
@@ -154,9 +153,6 @@ module _ {s : List ℕ} {m : SheetMap} {t : List ℕ} (ready : ReadyTable s m t)
         let parent = many_parent s p (omega (arith, kind_is)) (omega (arith, kind_is)) in
         (each_child parent (no_test_of_pair s p (omega (arith, kind_is))), all_children parent)
 
-    pub kind_known : tuple_pattern < r.kind → ⊥
-    kind_known k = omega (arith, kind_is, ok.is_shaped.pattern_kind_holds p h)
-
     module _ (class : ℕ) (told : class ≡ get_or t (class_at + p) 0) where
       class_told : class ≡ class_of s p
       class_told = told ∙ (ready.tabled.classed p h).class
@@ -207,24 +203,8 @@ module _ {s : List ℕ} {m : SheetMap} {t : List ℕ} (ready : ReadyTable s m t)
       pub itself_is : {r : Classes} → Holds r (put_class (first_in t) class (classes_in o)) → Holds r (put_tests s (tests_of s p) (classes_in o))
       itself_is r = holds_same r itself_tests
 
-    module _ {g : Given} {j n : ℕ} (x : Gives s p g) (e : g ≡ Inside j n) where
-      inside_told : (tests_of s p ≡ tests_of_each s j n) × Children s p j n
-      inside_told = rw e at x
-
-      pub inside_children : Children s p j n
-      inside_children = inside_told.1
-
-      pub inside_room : Roomy s (tests_of_each s j n) o
-      inside_room = rw (← inside_told.0) room
-
-      pub inside_is : {r : Classes} → Holds r (put_tests s (tests_of_each s j n) (classes_in o)) → Holds r (put_tests s (tests_of s p) (classes_in o))
-      inside_is r = holds_same r (sym (ap (λ (qs : List ℕ). put_tests s qs (classes_in o)) inside_told.0))
-
   -- ---- the children of p, the last first
   module _ {o : Classes} (l : Listed s o) (p j n : ℕ) (c : Children s p j n) (room : Roomy s (tests_of_each s j n) o) where
-    pub children_few : j + n ≤ children_most
-    children_few = omega (arith, c.to, (ok.is_shaped.children_run p c.known c.parent).inside, ok.is_counted.children_most_holds)
-
     pub none_is : n ≡ 0 → Holds o (put_tests s (tests_of_each s j n) (classes_in o))
     unfolding put_each
     none_is e =
@@ -234,9 +214,6 @@ module _ {s : List ℕ} {m : SheetMap} {t : List ℕ} (ready : ReadyTable s m t)
     module _ (some_left : n ≡ 0 → ⊥) where
       owns : Owns s p j
       owns = record { parent = c.parent; from = c.from; to = omega (arith, c.to) }
-
-      pub child_there : j < children s
-      child_there = owned_entry ok.is_shaped p j c.known owns
 
       pub child_known : child s j < patterns s
       child_known = owned_pattern ok.is_shaped p j c.known owns

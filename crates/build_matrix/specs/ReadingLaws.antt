@@ -1,22 +1,21 @@
 -- Laws of what the code reads from a table: each way through a function says what it answers; and a sheet's own table says what the sheet does.
-use Rattle.std.specs.Prelude.{◌≡◌, refl, Bool, true, false, not, is_some, List, [], ◌∷◌, ◌++◌, ℕ, zero, suc, ◌+◌, ◌-◌, ◌≤◌, ◌<◌, ltb, length, get_or, take, Some, None}
+use Rattle.std.specs.Prelude.{◌≡◌, refl, Bool, true, false, not, is_some, List, [], ◌∷◌, ◌++◌, ℕ, zero, suc, ◌+◌, ◌-◌, ◌≤◌, ◌<◌, eqb, ltb, length, get_or, take, Some, None}
 use Rattle.std.proofs.Common.{sym, ap, ◌∙◌, append_assoc, append-nil, arith, add-one}
 use Rattle.std.proofs.Math.Bool.{cond}
+use Rattle.std.specs.Bool.{then_some}
 use Rattle.std.specs.List.{position_or_len}
 use Rattle.std.proofs.lemmas.List.Recursion.{is_position_or_len}
 use borrow.Author.Tests.{ne_eqb}
 use Rattle.std.proofs.Math.Seq.{slice, slice-cons, slice_empty, drop-cons}
 use Rattle.std.proofs.lemmas.List.{drop_all}
-use Rattle.base_words.specs.Words.{pick}
-use Rattle.spec_rules.specs.Limits.{patterns_most}
+use Rattle.base_words.specs.Words.{either, pick}
 use Rattle.spec_rules.specs.SplittingLaws.{All}
 use Rattle.build_matrix.specs.declared.PerRow.{PerRow}
 use Rattle.build_matrix.specs.Columns.{Held}
 use Rattle.build_matrix.specs.declared.rows.Best.{Best}
 use Rattle.build_matrix.specs.HeldRows.{count_of, best_of, wild_of}
-use Rattle.build_matrix.specs.Lists.{numbers_in, WholeRows, HoldsRows}
-use Rattle.build_matrix.specs.ListsLaws.{holds_rows_same}
-use Rattle.build_matrix.specs.Reading.{cell_in, owner_in, held_in, InTable, bettered, kept}
+use Rattle.build_matrix.specs.Lists.{numbers_in, HoldsRows}
+use Rattle.build_matrix.specs.Reading.{cell_in, owner_in, held_in, bettered, kept}
 
 -- ---- what a row has, by what was read
 module _ (t opened : List ℕ) (class c cell : ℕ) (is : cell ≡ cell_in t class c) where
@@ -33,22 +32,13 @@ module _ (t opened : List ℕ) (class c cell : ℕ) (is : cell ≡ cell_in t cla
     held_opened n = rw (cell_back, ne_eqb (get_or opened (cell - 1) 0) 0 n)
 
     module _ (shut : get_or opened (cell - 1) 0 ≡ 0) (owner : ℕ) (is_owner : owner ≡ owner_in t (cell - 1)) where
-      pub held_free : owner ≡ 0 → Some (cell - 1) ≡ held_in t opened class c
+      pub held_owned : (live : Bool) → live ≡ either (eqb owner 0) (not (eqb (get_or opened (owner - 1) 0) 0)) → then_some live (cell - 1) ≡ held_in t opened class c
       unfolding held_in
-      held_free e = rw (cell_back, shut, ← is_owner, e)
-
-      module _ (some_owner : owner ≡ 0 → ⊥) where
-        pub held_shut : get_or opened (owner - 1) 0 ≡ 0 → None ≡ held_in t opened class c
-        unfolding held_in
-        held_shut e = rw (cell_back, shut, ← is_owner, ne_eqb owner 0 some_owner, e)
-
-        pub held_inside : (get_or opened (owner - 1) 0 ≡ 0 → ⊥) → Some (cell - 1) ≡ held_in t opened class c
-        unfolding held_in
-        held_inside n = rw (cell_back, shut, ← is_owner, ne_eqb owner 0 some_owner, ne_eqb (get_or opened (owner - 1) 0) 0 n)
-
--- what a test is inside of is a pattern
-pub owner_most : (t : List ℕ) (class c : ℕ) → InTable t class c → (cell : ℕ) → cell ≡ cell_in t class c → (owner : ℕ) → owner ≡ owner_in t (cell - 1) → owner ≤ patterns_most
-owner_most t class c h cell e owner f = omega (arith, h.owner, f ∙ ap (λ (x : ℕ). owner_in t (x - 1)) e)
+      held_owned live e = rw (e, cell_back, shut, ← is_owner) (go (either (eqb owner 0) (not (eqb (get_or opened (owner - 1) 0) 0))))
+        where
+          go : (b : Bool) → then_some b (cell - 1) ≡ pick b (Some (cell - 1)) None
+          go true = refl
+          go false = refl
 
 -- ---- rows counted from the front: up to the place of the first that has no test
 pub count_found : (held : ℕ → Held) (cs : List ℕ) → count_of held cs ≡ position_or_len (λ c. not (is_some (held c))) cs
@@ -94,12 +84,6 @@ wild_step held r next c h cs e w =
 pub wild_end : (held : ℕ → Held) (l cs : List ℕ) → cs ≡ [] → l ≡ l ++ wild_of held cs
 unfolding wild_of
 wild_end held l cs e = sym (ap (λ (x : List ℕ). l ++ wild_of held x) e ∙ append-nil l)
-
-pub keep_none : (r : PerRow) (h : Held) (c : ℕ) {p : ℕ} → WholeRows r → h ≡ Some p → HoldsRows r (numbers_in r ++ kept h c)
-keep_none r h c w e = holds_rows_same w (sym (ap (λ (x : Held). numbers_in r ++ kept x c) e ∙ append-nil (numbers_in r)))
-
-pub keep_one : (r next : PerRow) (h : Held) (c : ℕ) → HoldsRows next (numbers_in r ++ c ∷ []) → h ≡ None → HoldsRows next (numbers_in r ++ kept h c)
-keep_one r next h c w e = holds_rows_same w (sym (ap (λ (x : Held). numbers_in r ++ kept x c) e))
 
 pub kept_most : (h : Held) (c : ℕ) → length (kept h c) ≤ 1
 kept_most (Some p) c = omega arith

@@ -25,7 +25,7 @@ use Rattle.build_matrix.specs.Columns.{Held}
 use Rattle.build_matrix.specs.Live.{live_in}
 use Rattle.build_matrix.specs.LiveLaws.{live_test_lem}
 use Rattle.build_matrix.specs.HeldRows.{join_of, opens_of, joins_case}
-use Rattle.build_matrix.specs.Lists.{classes_in, numbers_in, Holds, HoldsRows, WholeRows}
+use Rattle.build_matrix.specs.Lists.{classes_in, numbers_in, Holds, WholeRows}
 use Rattle.build_matrix.specs.ListsLaws.{holds_same, holds_rows_same, holds_count, holds_rows_count, push_one, whole}
 use Rattle.build_matrix.specs.Ordered.{put_each, path_before, each_append, without_class, without_one}
 use Rattle.build_matrix.specs.RowStates.{up_from}
@@ -43,9 +43,6 @@ use Rattle.build_matrix.specs.Meant.{HeldKnown, join_row, open_row, JoinsTo}
 up_on : (c n : ℕ) → c < n → up_from c (n - c) ≡ c ∷ up_from (c + 1) (n - (c + 1))
 unfolding up_from
 up_on c n h = let e : n - c ≡ suc (n - (c + 1)) = omega arith in rw e
-
-pub rows_none : (n : ℕ) → up_from 0 (n - 0) ≡ up_from 0 n
-rows_none n = let e : n - 0 ≡ n = omega arith in rw e
 
 pub rows_more : (l : List ℕ) (c n : ℕ) (whole : List ℕ) → c < length l → c < n → take c l ++ up_from c (n - c) ≡ whole
     → take (c + 1) (set l c c) ++ up_from (c + 1) (n - (c + 1)) ≡ whole
@@ -89,9 +86,6 @@ columns_from s c = put_tests s (gather (root_tests s) (up_from c (clauses s - c)
 pub columns_none : (s : List ℕ) → columns_from s (clauses s) ≡ []
 unfolding up_from gather put_each
 columns_none s = let e : clauses s - clauses s ≡ 0 = omega arith in rw e
-
-pub columns_all : (s : List ℕ) → columns_from s 0 ≡ put_tests s (gather (root_tests s) (up_from 0 (clauses s))) []
-columns_all s = ap (λ (cs : List ℕ). put_tests s (gather (root_tests s) cs) []) (rows_none (clauses s))
 
 module _ {s : List ℕ} {m : SheetMap} {t : List ℕ} (ready : ReadyTable s m t) where
   ok : Accepted s
@@ -138,41 +132,6 @@ module _ {s : List ℕ} {m : SheetMap} {t : List ℕ} (ready : ReadyTable s m t)
       next_columns = holds_same n columns_more
 
 -- ---- the rows of a case, one by one
--- `joined` has the rows so far and `opens` the tests that they open
-module _ (joins : ℕ → Bool) (joined opens : PerRow) (h : Held) (c : ℕ) where
-  pub joined_not : {p : ℕ} → WholeRows joined → WholeRows opens → h ≡ Some p → joins p ≡ false
-      → JoinsTo joined opens (numbers_in joined ++ join_row joins h c) (numbers_in opens ++ open_row joins h)
-  joined_not {p} a b e f =
-      let rows_are : join_row joins h c ≡ [] = rw (e, f) in
-      let opens_are : open_row joins h ≡ [] = rw (e, f) in
-      record {
-        has_rows = holds_rows_same a (sym (ap (λ (x : List ℕ). numbers_in joined ++ x) rows_are ∙ append-nil (numbers_in joined)));
-        has_opens = holds_rows_same b (sym (ap (λ (x : List ℕ). numbers_in opens ++ x) opens_are ∙ append-nil (numbers_in opens)));
-      }
-
-  pub joined_test : {p : ℕ} (rows tests : PerRow) → HoldsRows rows (numbers_in joined ++ c ∷ []) → HoldsRows tests (numbers_in opens ++ p ∷ [])
-      → h ≡ Some p → joins p ≡ true → JoinsTo rows tests (numbers_in joined ++ join_row joins h c) (numbers_in opens ++ open_row joins h)
-  joined_test {p} rows tests a b e f =
-      let rows_are : join_row joins h c ≡ c ∷ [] = rw (e, f) in
-      let opens_are : open_row joins h ≡ p ∷ [] = rw (e, f) in
-      record {
-        has_rows = holds_rows_same a (sym (ap (λ (x : List ℕ). numbers_in joined ++ x) rows_are));
-        has_opens = holds_rows_same b (sym (ap (λ (x : List ℕ). numbers_in opens ++ x) opens_are));
-      }
-
-  pub joined_wild : (rows : PerRow) → HoldsRows rows (numbers_in joined ++ c ∷ []) → WholeRows opens → h ≡ None
-      → JoinsTo rows opens (numbers_in joined ++ join_row joins h c) (numbers_in opens ++ open_row joins h)
-  joined_wild rows a b e =
-      let rows_are : join_row joins h c ≡ c ∷ [] = rw e in
-      let opens_are : open_row joins h ≡ [] = rw e in
-      record {
-        has_rows = holds_rows_same a (sym (ap (λ (x : List ℕ). numbers_in joined ++ x) rows_are));
-        has_opens = holds_rows_same b (sym (ap (λ (x : List ℕ). numbers_in opens ++ x) opens_are ∙ append-nil (numbers_in opens)));
-      }
-
-pub held_test : (s : List ℕ) (h : Held) {p : ℕ} → HeldKnown s h → h ≡ Some p → TestKnown s p
-held_test s h k e = rw e at k
-
 pub held_live : (s opened : List ℕ) (class c : ℕ) (h : Held) → h ≡ live_in s opened class c → HeldKnown s h
 held_live s opened class c (Some p) e = let x = (live_test_lem s opened c class p (sym e)).0.test_of in record { known = x.known; test = x.test }
 held_live s opened class c None e = tt

@@ -70,7 +70,10 @@ fn place_of(cs: &[u8; PATTERNS_MOST], n: usize, class: usize) -> usize
     requires { Whole (as_classes cs.now n) }
     ensures { result ≡ first_place class (take n cs.now) }
 {
-    cs[..n].iter().position(|c| usize::from(*c) == class).unwrap_or(n)
+    cs[..n]
+        .iter()
+        .position(|c| usize::from(*c) == class)
+        .unwrap_or(n)
 }
 
 // The first n of cs without the one tested, behind those in the list.

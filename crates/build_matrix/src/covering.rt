@@ -39,7 +39,7 @@ fn same_texts(
 fn covers_constructor(r: PatternRecord, number: u16) -> bool
     ensures { result ≡ covers_constructor r number }
 {
-    r.kind == pattern_kinds::CONSTRUCTOR && number as usize == r.a
+    r.kind == pattern_kinds::CONSTRUCTOR && usize::from(number) == r.a
 }
 
 // The kind of a pattern with such a text: an integer, or a byte string.
@@ -65,19 +65,26 @@ fn covers_text(
     ensures { result ≡ covers_text sheet.now r kind start count }
 {
     r.kind == text_pattern(kind)
-        && same_texts(sheet, map, start as usize, count as usize, r.first, r.count)
+        && same_texts(
+            sheet,
+            map,
+            usize::from(start),
+            usize::from(count),
+            r.first,
+            r.count,
+        )
 }
 
 fn covers_tailed(r: PatternRecord, count: u16) -> bool
     ensures { result ≡ covers_tailed r count }
 {
-    r.kind == pattern_kinds::LIST_WITH_TAIL && r.count <= count as usize + 1
+    r.kind == pattern_kinds::LIST_WITH_TAIL && r.count <= usize::from(count) + 1
 }
 
 fn covers_list(r: PatternRecord, count: u16) -> bool
     ensures { result ≡ covers_list r count }
 {
-    (r.kind == pattern_kinds::LIST && count as usize == r.count) || covers_tailed(r, count)
+    (r.kind == pattern_kinds::LIST && usize::from(count) == r.count) || covers_tailed(r, count)
 }
 
 // The test of pattern p belongs to the case.

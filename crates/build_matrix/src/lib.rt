@@ -54,5 +54,5 @@ pub struct Sizes {
 pub fn wide(byte: u8) -> usize
     ensures { result ≡ byte }
 {
-    byte as usize
+    usize::from(byte)
 }

@@ -12,12 +12,7 @@ use build_table::{CELL, OWNER, at};
 
 // What clause c's row has in the column of this class: its test there, by the pattern's number, if it is not opened and the test that it
 // is inside of is; None for a wildcard.
-pub fn test_at(
-    table: &[u8],
-    opened: &[u8; PATTERNS_MOST],
-    c: usize,
-    class: usize,
-) -> Option<usize>
+pub fn test_at(table: &[u8], opened: &[u8; PATTERNS_MOST], c: usize, class: usize) -> Option<usize>
     requires { InTable table.now class c }
     ensures { result ≡ held_in table.now opened.now class c }
 {
@@ -30,13 +25,7 @@ pub fn test_at(
         return None;
     }
     let owner = at(table, OWNER + p);
-    if owner == 0 {
-        return Some(p);
-    }
-    if opened[owner - 1] == 0 {
-        return None;
-    }
-    Some(p)
+    (owner == 0 || opened[owner - 1] != 0).then_some(p)
 }
 
 // The first n of these rows before the column's first wildcard.
@@ -109,7 +98,7 @@ pub fn put_row(list: &mut [u8; CLAUSES_MOST], count: usize, number: u8) -> usize
     count + 1
 }
 
-// Clause c's number behind the others, if its row has no test in the column.
+// Clause c's number behind the others, if its row has a wildcard in the column, which is None.
 fn keep_wild(list: &mut [u8; CLAUSES_MOST], count: usize, c: u8, held: Option<usize>) -> usize
     requires { WholeRows (as_rows list.old count) × (count < clauses_most) }
     ensures { HoldsRows (as_rows list.new result) (take count list.old ++ kept held c) }
@@ -134,7 +123,12 @@ pub(crate) fn wild_rows<'a>(
 {
     let mut count: usize = 0;
     for c in &rows[..n] {
-        count = keep_wild(list, count, *c, test_at(table, opened, usize::from(*c), class));
+        count = keep_wild(
+            list,
+            count,
+            *c,
+            test_at(table, opened, usize::from(*c), class),
+        );
     }
     count
 }

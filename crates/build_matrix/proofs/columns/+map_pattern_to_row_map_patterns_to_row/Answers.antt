@@ -1,30 +1,15 @@
 -- `columns::map_pattern_to_row` and `columns::map_patterns_to_row`: one law for each way out; 192 less the pattern number falls, and
 -- among the children of one pattern their number.
 use borrow.Author.Rules.{rules}
-use mathlib.Core.Path.{◌≡◌}
 use native.Mathlib.Omega.{arith}
-use Rattle.build_matrix.specs.declared.columns.Given.TheVariants.{Inside}
-use Rattle.build_matrix.specs.PuttingLaws.{nothing_is, itself_puts, itself_is, inside_children, inside_room, inside_is, children_few, none_is, child_there, child_known, child_higher, next_children, next_room, rest_listed, rest_room, each_is}
+use Rattle.build_matrix.specs.PuttingLaws.{nothing_is, itself_puts, itself_is, none_is, child_known, child_higher, next_children, next_room, rest_listed, rest_room, each_is}
 use Rattle.build_matrix.proofs.columns.+map_pattern_to_row_map_patterns_to_row.Goals as goal
-
-pub map_pattern_to_row-gives-given-requires : goal.map_pattern_to_row-gives-given-requires
-map_pattern_to_row-gives-given-requires t c = (c.requires.0, c.requires.2)
 
 pub map_pattern_to_row-put-requires : goal.map_pattern_to_row-put-requires
 map_pattern_to_row-put-requires t c =
     let a = c.args in
     let asked = c.requires in
     itself_puts asked.0 asked.1 a.p asked.2 asked.3 {g = c.gives-given.result} {class = c.in-Itself.class} c.gives-given.ensures (search rules)
-
-pub map_pattern_to_row-map_patterns_to_row-requires : goal.map_pattern_to_row-map_patterns_to_row-requires
-map_pattern_to_row-map_patterns_to_row-requires t c =
-    let a = c.args in
-    let asked = c.requires in
-    let e : c.gives-given.result ≡ Inside c.in-Inside.first c.in-Inside.n = search rules in
-    let children = inside_children asked.0 asked.1 a.p asked.2 asked.3 c.gives-given.ensures e in
-    let room = inside_room asked.0 asked.1 a.p asked.2 asked.3 c.gives-given.ensures e in
-    let few = children_few asked.0 asked.1 a.p c.in-Inside.first c.in-Inside.n children room in
-    (omega (arith, c.decreases, few, asked.2, asked.0.checked.ok.is_counted.patterns_most_holds), (asked.0, asked.1, children, room))
 
 pub map_pattern_to_row-returns-in-Nothing : goal.map_pattern_to_row-returns-in-Nothing
 map_pattern_to_row-returns-in-Nothing t c =
@@ -38,38 +23,17 @@ map_pattern_to_row-returns-in-Itself t c =
     let asked = c.requires in
     itself_is asked.0 asked.1 a.p asked.2 asked.3 {g = c.gives-given.result} {class = c.in-Itself.class} c.gives-given.ensures (search rules) c.put.ensures
 
-pub map_pattern_to_row-returns-in-Inside : goal.map_pattern_to_row-returns-in-Inside
-map_pattern_to_row-returns-in-Inside t c =
-    let a = c.args in
-    let asked = c.requires in
-    inside_is asked.0 asked.1 a.p asked.2 asked.3 {g = c.gives-given.result} {j = c.in-Inside.first} {n = c.in-Inside.n} c.gives-given.ensures (search rules) c.map_patterns_to_row.ensures
-
 pub map_patterns_to_row-returns-then-n-eq0 : goal.map_patterns_to_row-returns-then-n-eq0
 map_patterns_to_row-returns-then-n-eq0 t c =
     let a = c.args in
     let asked = c.requires in
     none_is asked.0 asked.1 a.parent a.j a.n asked.2 asked.3 c.if-n-eq0.true
 
-pub map_patterns_to_row-overflow_add-j : goal.map_patterns_to_row-overflow_add-j
-map_patterns_to_row-overflow_add-j t c =
-    let a = c.args in
-    let asked = c.requires in
-    omega (arith, children_few asked.0 asked.1 a.parent a.j a.n asked.2 asked.3)
-
-pub map_patterns_to_row-overflow_sub-n : goal.map_patterns_to_row-overflow_sub-n
-map_patterns_to_row-overflow_sub-n t c = omega (arith, c.if-n-eq0.false)
-
 pub map_patterns_to_row-map_patterns_to_row-rest-requires : goal.map_patterns_to_row-map_patterns_to_row-rest-requires
 map_patterns_to_row-map_patterns_to_row-rest-requires t c =
     let a = c.args in
     let asked = c.requires in
     (omega (arith, c.decreases, c.if-n-eq0.false), (asked.0, asked.1, next_children asked.0 asked.1 a.parent a.j a.n asked.2 asked.3 c.if-n-eq0.false, next_room asked.0 asked.1 a.parent a.j a.n asked.2 asked.3 c.if-n-eq0.false))
-
-pub map_patterns_to_row-child_at-requires : goal.map_patterns_to_row-child_at-requires
-map_patterns_to_row-child_at-requires t c =
-    let a = c.args in
-    let asked = c.requires in
-    (asked.0.checked.ok.is_laid, asked.0.checked.is_map, child_there asked.0 asked.1 a.parent a.j a.n asked.2 asked.3 c.if-n-eq0.false)
 
 pub map_patterns_to_row-map_pattern_to_row-requires : goal.map_patterns_to_row-map_pattern_to_row-requires
 map_patterns_to_row-map_pattern_to_row-requires t c =

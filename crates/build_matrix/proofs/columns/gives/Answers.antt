@@ -1,11 +1,7 @@
 -- `columns::gives`: one law for each arm of the kinds.
 use native.Mathlib.Omega.{arith}
-use Rattle.build_matrix.specs.PuttingLaws.{gives_none, gives_assigned, gives_parts, gives_itself, gives_by_test, kind_known}
+use Rattle.build_matrix.specs.PuttingLaws.{gives_none, gives_assigned, gives_parts, gives_itself, gives_by_test}
 use Rattle.build_matrix.proofs.columns.gives.Goals as goal
-
-pub is_test-requires : goal.is_test-requires
-is_test-requires c =
-    (c.requires.0.checked, c.requires.0.tabled.long, c.requires.1, (c.requires.0.tabled.placed c.args.p c.requires.1).type)
 
 pub returns-in-7 : goal.returns-in-7
 returns-in-7 c =
@@ -24,11 +20,6 @@ returns-in-3 c =
     let r = c.pattern_at-r in
     let class = c.at-class in
     gives_itself c.requires.0 c.args.p c.requires.1 r.result r.ensures class.result class.ensures (omega (arith, c.in-3.if-kind-lt2-own.false)) (omega (arith, c.in-3.if-kind-lt7-own.true))
-
-pub returns-in_default : goal.returns-in_default
-returns-in_default c =
-    let r = c.pattern_at-r in
-    absurd (kind_known c.requires.0 c.args.p c.requires.1 r.result r.ensures c.in_default.if-kind-lt10-own.false)
 
 pub returns-in-2 : goal.returns-in-2
 returns-in-2 c =

@@ -1,6 +1,5 @@
 -- `columns::put`: those passed come before the class, so that putting it goes on behind them.
-use borrow.Author.Rules.{rules}
-use mathlib.Core.Path.{◌≡◌, refl, sym, ap, ap₂, ◌∙◌}
+use mathlib.Core.Path.{◌≡◌, sym, ap, ap₂, ◌∙◌}
 use mathlib.Core.List.{List, ◌∷◌, ◌++◌}
 use Prim.Native.Nat.{ℕ}
 use native.Mathlib.Omega.{arith}
@@ -12,21 +11,13 @@ use Rattle.build_matrix.specs.ReadingLaws.{all_at}
 use Rattle.build_matrix.specs.PuttingLaws.{put_there, put_before, put_behind, put_last, insert_room}
 use Rattle.build_matrix.proofs.columns.put.Goals as goal
 
-pub loop-i-init : goal.loop-i-init
-loop-i-init c = (refl, omega arith, refl)
-
-pub bounds-list-i : goal.bounds-list-i
-bounds-list-i c =
-    let l = c.loop-i in
-    omega (arith, c.requires.whole.most, c.requires.whole.long, ap length l.invariant.0, c.loop-i-test.true)
-
 pub returns-then-other-class : goal.returns-then-other-class
 returns-then-other-class c =
     let a = c.args in
     let l = c.loop-i in
     let seen = c.from-other in
     let other : seen.result ≡ get_or a.list.now l.i 0 = seen.ensures ∙ ap (λ (x : List ℕ). get_or x l.i 0) l.invariant.0 in
-    rw l.invariant.0 (holds_same c.requires.whole (sym (put_there (first_in a.table.now) a.class a.list.now a.count l.i (omega (arith, c.requires.whole.long, c.requires.whole.most)) l.invariant.2 c.loop-i-test.true (sym other ∙ c.if-other-class.true))))
+    rw l.invariant.0 (holds_same c.requires.whole (sym (put_there (first_in a.table.now) a.class a.list.now a.count l.i (omega (arith, c.requires.whole.long, c.requires.whole.most)) l.invariant.1 c.loop-i-test.true (sym other ∙ c.if-other-class.true))))
 
 pub before-requires : goal.before-requires
 before-requires c =
@@ -44,8 +35,8 @@ insert-requires c =
     let other : seen.result ≡ get_or a.list.now l.i 0 = seen.ensures ∙ ap (λ (x : List ℕ). get_or x l.i 0) l.invariant.0 in
     let less = c.before-in-loop-i in
     let told : first_in a.table.now a.class (get_or a.list.now l.i 0) ≡ less.result = ap (first_in a.table.now a.class) (sym other) ∙ sym less.ensures in
-    let e = put_before (first_in a.table.now) a.class a.list.now a.count l.i (omega (arith, c.requires.whole.long, c.requires.whole.most)) l.invariant.2 c.loop-i-test.true (λ x. c.if-other-class.false (other ∙ x)) (told ∙ c.if-before.true) in
-    (rw l.invariant.0 c.requires.whole, l.invariant.1, omega (arith, insert_room a.list.now a.count l.i a.class l.invariant.1 (omega (arith, c.requires.whole.long, c.requires.whole.most)), ap length e, c.requires.room), c.requires.ranked.known)
+    let e = put_before (first_in a.table.now) a.class a.list.now a.count l.i (omega (arith, c.requires.whole.long, c.requires.whole.most)) l.invariant.1 c.loop-i-test.true (λ x. c.if-other-class.false (other ∙ x)) (told ∙ c.if-before.true) in
+    (rw l.invariant.0 c.requires.whole, l.auto.i-end, omega (arith, insert_room a.list.now a.count l.i a.class l.auto.i-end (omega (arith, c.requires.whole.long, c.requires.whole.most)), ap length e, c.requires.room), c.requires.ranked.known)
 
 pub returns-then-before : goal.returns-then-before
 returns-then-before c =
@@ -55,7 +46,7 @@ returns-then-before c =
     let other : seen.result ≡ get_or a.list.now l.i 0 = seen.ensures ∙ ap (λ (x : List ℕ). get_or x l.i 0) l.invariant.0 in
     let less = c.before-in-loop-i in
     let told : first_in a.table.now a.class (get_or a.list.now l.i 0) ≡ less.result = ap (first_in a.table.now a.class) (sym other) ∙ sym less.ensures in
-    holds_same c.insert.ensures (ap (λ (x : List ℕ). take l.i x ++ a.class ∷ slice l.i a.count x) l.invariant.0 ∙ sym (put_before (first_in a.table.now) a.class a.list.now a.count l.i (omega (arith, c.requires.whole.long, c.requires.whole.most)) l.invariant.2 c.loop-i-test.true (λ x. c.if-other-class.false (other ∙ x)) (told ∙ c.if-before.true)))
+    holds_same c.insert.ensures (ap (λ (x : List ℕ). take l.i x ++ a.class ∷ slice l.i a.count x) l.invariant.0 ∙ sym (put_before (first_in a.table.now) a.class a.list.now a.count l.i (omega (arith, c.requires.whole.long, c.requires.whole.most)) l.invariant.1 c.loop-i-test.true (λ x. c.if-other-class.false (other ∙ x)) (told ∙ c.if-before.true)))
 
 pub loop-i-preserved : goal.loop-i-preserved
 loop-i-preserved c =
@@ -65,18 +56,18 @@ loop-i-preserved c =
     let other : seen.result ≡ get_or a.list.now l.i 0 = seen.ensures ∙ ap (λ (x : List ℕ). get_or x l.i 0) l.invariant.0 in
     let less = c.before-in-loop-i in
     let told : first_in a.table.now a.class (get_or a.list.now l.i 0) ≡ less.result = ap (first_in a.table.now a.class) (sym other) ∙ sym less.ensures in
-    (l.invariant.0, search rules, put_behind (first_in a.table.now) a.class a.list.now a.count l.i (omega (arith, c.requires.whole.long, c.requires.whole.most)) l.invariant.2 c.loop-i-test.true (λ x. c.if-other-class.false (other ∙ x)) (told ∙ c.if-before.false))
+    (l.invariant.0, put_behind (first_in a.table.now) a.class a.list.now a.count l.i (omega (arith, c.requires.whole.long, c.requires.whole.most)) l.invariant.1 c.loop-i-test.true (λ x. c.if-other-class.false (other ∙ x)) (told ∙ c.if-before.false))
 
 pub insert-requires-2 : goal.insert-requires-2
 insert-requires-2 c =
     let a = c.args in
     let l = c.loop-i in
-    let e = put_last (first_in a.table.now) a.class a.list.now a.count l.i (omega (arith, c.requires.whole.long, c.requires.whole.most)) l.invariant.2 (omega (arith, l.invariant.1, c.loop-i-test.false)) in
-    (rw l.invariant.0 c.requires.whole, omega arith, omega (arith, insert_room a.list.now a.count l.i a.class l.invariant.1 (omega (arith, c.requires.whole.long, c.requires.whole.most)), ap length e, c.requires.room), c.requires.ranked.known)
+    let e = put_last (first_in a.table.now) a.class a.list.now a.count l.i (omega (arith, c.requires.whole.long, c.requires.whole.most)) l.invariant.1 (omega (arith, l.auto.i-end, c.loop-i-test.false)) in
+    (rw l.invariant.0 c.requires.whole, omega arith, omega (arith, insert_room a.list.now a.count l.i a.class l.auto.i-end (omega (arith, c.requires.whole.long, c.requires.whole.most)), ap length e, c.requires.room), c.requires.ranked.known)
 
 pub returns : goal.returns
 returns c =
     let a = c.args in
     let l = c.loop-i in
-    let all : l.i ≡ a.count = omega (arith, l.invariant.1, c.loop-i-test.false) in
-    holds_same c.insert-2.ensures (ap₂ (λ (i : ℕ) (x : List ℕ). take i x ++ a.class ∷ slice i a.count x) (sym all) l.invariant.0 ∙ sym (put_last (first_in a.table.now) a.class a.list.now a.count l.i (omega (arith, c.requires.whole.long, c.requires.whole.most)) l.invariant.2 all))
+    let all : l.i ≡ a.count = omega (arith, l.auto.i-end, c.loop-i-test.false) in
+    holds_same c.insert-2.ensures (ap₂ (λ (i : ℕ) (x : List ℕ). take i x ++ a.class ∷ slice i a.count x) (sym all) l.invariant.0 ∙ sym (put_last (first_in a.table.now) a.class a.list.now a.count l.i (omega (arith, c.requires.whole.long, c.requires.whole.most)) l.invariant.1 all))

@@ -3,18 +3,8 @@ use borrow.Author.Rules.{rules}
 use mathlib.Core.Path.{◌≡◌, sym, ap, ◌∙◌}
 use Rattle.format_records.specs.declared.reading.Test.{Test}
 use Rattle.build_matrix.specs.Meant.{covers_read}
-use Rattle.build_matrix.specs.MeantLaws.{pool_text_lem, covers_by, record_text}
+use Rattle.build_matrix.specs.MeantLaws.{covers_by}
 use Rattle.build_matrix.proofs.covering.covers.Goals as goal
-
-pub pattern_at-r-requires : goal.pattern_at-r-requires
-pattern_at-r-requires c = (c.requires.0.ok.is_laid, c.requires.0.is_map, c.requires.1.known)
-
-pub covers_text-requires : goal.covers_text-requires
-covers_text-requires c =
-    let a = c.args in
-    let r = c.pattern_at-r in
-    let e : a.test ≡ Test.Text c.in-Text.kind c.in-Text.start c.in-Text.count = search rules in
-    (c.requires.0, pool_text_lem a.sheet.now a.test c.requires.2 e, record_text c.requires.0.ok a.p c.requires.1 r.result r.ensures)
 
 pub returns-in-Constr : goal.returns-in-Constr
 returns-in-Constr c =

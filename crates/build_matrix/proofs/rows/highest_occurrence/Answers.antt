@@ -3,18 +3,10 @@ use mathlib.Core.Path.{sym, ap, ◌∙◌}
 use Prim.Native.Nat.{ℕ, ◌+◌}
 use lib.ListN.{get_or, take}
 use lib.Seq.{slice}
-use Rattle.spec_rules.specs.SplittingLaws.{All}
 use Rattle.build_matrix.specs.HeldRows.{count_of, best_of}
-use Rattle.build_matrix.specs.Reading.{held_in, InTable, bettered}
-use Rattle.build_matrix.specs.ReadingLaws.{best_more, best_end, all_in, left_on, left_end}
+use Rattle.build_matrix.specs.Reading.{held_in, bettered}
+use Rattle.build_matrix.specs.ReadingLaws.{best_more, best_end, left_on, left_end}
 use Rattle.build_matrix.proofs.rows.highest_occurrence.Goals as goal
-
-pub occurrence-requires : goal.occurrence-requires
-occurrence-requires c =
-    let a = c.args in
-    let l = c.loop-column in
-    let class = c.from-class in
-    (c.requires.0, all_in (λ k. All (InTable a.table.now k) (take a.height a.rows.now)) (take a.width a.columns.now) l.column-index class.result 0 c.loop-column-test.true class.ensures c.requires.2)
 
 pub loop-column-preserved : goal.loop-column-preserved
 loop-column-preserved c =

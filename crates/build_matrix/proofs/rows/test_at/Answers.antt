@@ -1,13 +1,13 @@
 -- `rows::test_at`: one law for each way out.
-use native.Mathlib.Omega.{arith}
-use Rattle.build_matrix.specs.ReadingLaws.{held_none, held_opened, held_free, held_shut, held_inside, owner_most}
+use borrow.Author.Tests.{eq-eqb, ne_eqb}
+use Rattle.std.proofs.Common.{◌≡◌, ◌∙◌, ◌-◌, eqb, not, get_or}
+use Rattle.base_words.specs.Words.{either}
+use Rattle.build_matrix.specs.ReadingLaws.{held_none, held_opened, held_owned}
+use Rattle.build_matrix.proofs.rows.test_at.Goals.{then-owner-eq0, else-owner-eq0}
 use Rattle.build_matrix.proofs.rows.test_at.Goals as goal
 
 pub returns-then-cell-eq0 : goal.returns-then-cell-eq0
 returns-then-cell-eq0 c = let a = c.args in held_none a.table.now a.opened.now a.class a.c c.at-cell.result c.at-cell.ensures c.if-cell-eq0.true
-
-pub bounds-opened-p : goal.bounds-opened-p
-bounds-opened-p c = omega (arith, c.requires.cell, c.at-cell.ensures, c.if-cell-eq0.false)
 
 pub returns-then-opened-p-ne0 : goal.returns-then-opened-p-ne0
 returns-then-opened-p-ne0 c =
@@ -15,34 +15,16 @@ returns-then-opened-p-ne0 c =
     let at = c.at-cell in
     held_opened a.table.now a.opened.now a.class a.c at.result at.ensures c.if-cell-eq0.false c.if-opened-p-ne0.true
 
-pub at-owner-requires : goal.at-owner-requires
-at-owner-requires c =
-    omega (arith, c.requires.cell, c.requires.long, c.at-cell.ensures)
-
-pub returns-then-owner-eq0 : goal.returns-then-owner-eq0
-returns-then-owner-eq0 c =
-    let a = c.args in
-    let at = c.at-cell in
-    let owner = c.at-owner in
-    held_free a.table.now a.opened.now a.class a.c at.result at.ensures c.if-cell-eq0.false c.if-opened-p-ne0.false
-    owner.result owner.ensures c.if-owner-eq0.true
-
-pub bounds-opened-owner : goal.bounds-opened-owner
-bounds-opened-owner c =
-    omega (arith, owner_most c.args.table.now c.args.class c.args.c c.requires c.at-cell.result c.at-cell.ensures c.at-owner.result c.at-owner.ensures, c.if-owner-eq0.false)
-
-pub returns-then-opened-owner-eq0 : goal.returns-then-opened-owner-eq0
-returns-then-opened-owner-eq0 c =
-    let a = c.args in
-    let at = c.at-cell in
-    let owner = c.at-owner in
-    held_shut a.table.now a.opened.now a.class a.c at.result at.ensures c.if-cell-eq0.false
-    c.if-opened-p-ne0.false owner.result owner.ensures c.if-owner-eq0.false c.if-opened-owner-eq0.true
-
 pub returns : goal.returns
 returns c =
     let a = c.args in
     let at = c.at-cell in
     let owner = c.at-owner in
-    held_inside a.table.now a.opened.now a.class a.c at.result at.ensures c.if-cell-eq0.false
-    c.if-opened-p-ne0.false owner.result owner.ensures c.if-owner-eq0.false c.if-opened-owner-eq0.false
+    let o = get_or a.opened.now (owner.result - 1) 0 in
+    let live : c.if-owner-eq0.then_some ≡ either (eqb owner.result 0) (not (eqb o 0)) =
+    elim c.if-owner-eq0.branch [
+      | then-owner-eq0 w ↦ w.then_some-is ∙ rw (eq-eqb owner.result 0 w.if-owner-eq0.true)
+      | else-owner-eq0 w ↦ w.then_some-is ∙ rw (ne_eqb owner.result 0 w.if-owner-eq0.false)
+    ]
+    in
+    c.then_some.ensures ∙ held_owned a.table.now a.opened.now a.class a.c at.result at.ensures c.if-cell-eq0.false c.if-opened-p-ne0.false owner.result owner.ensures c.if-owner-eq0.then_some live

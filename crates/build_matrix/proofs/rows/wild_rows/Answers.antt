@@ -1,5 +1,5 @@
 -- `rows::wild_rows`: the rows kept and those that stay of the rows that are left are all that stay.
-use mathlib.Core.Path.{◌≡◌, refl, sym, ap, ◌∙◌}
+use mathlib.Core.Path.{◌≡◌, sym, ap, ◌∙◌}
 use mathlib.Core.List.{List, ◌++◌}
 use Prim.Native.Nat.{ℕ, ◌+◌}
 use native.Mathlib.Omega.{arith}
@@ -8,17 +8,9 @@ use lib.Seq.{slice}
 use Rattle.build_matrix.specs.HeldRows.{wild_of}
 use Rattle.build_matrix.specs.Lists.{as_rows, numbers_in}
 use Rattle.build_matrix.specs.ListsLaws.{holds_rows_count, holds_rows_same, whole_rows}
-use Rattle.build_matrix.specs.Reading.{held_in, InTable, kept}
-use Rattle.build_matrix.specs.ReadingLaws.{kept_most, wild_step, wild_end, all_in, left_on, left_end}
+use Rattle.build_matrix.specs.Reading.{held_in, kept}
+use Rattle.build_matrix.specs.ReadingLaws.{kept_most, wild_step, wild_end, left_on, left_end}
 use Rattle.build_matrix.proofs.rows.wild_rows.Goals as goal
-
-pub loop-c-init : goal.loop-c-init
-loop-c-init c = (omega arith, record { long = c.requires.2; most = omega arith; are = refl }, refl)
-
-pub test_at-requires : goal.test_at-requires
-test_at-requires c =
-    let a = c.args in
-    all_in (InTable a.table.now a.class) (take a.n a.rows.now) c.loop-c.c-index c.from.result 0 c.loop-c-test.true c.from.ensures c.requires.1
 
 pub loop-c-preserved : goal.loop-c-preserved
 loop-c-preserved c =

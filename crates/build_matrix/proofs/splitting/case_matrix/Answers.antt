@@ -1,5 +1,4 @@
 -- `splitting::case_matrix`: its parts are those of the case by numbers; the case's own soundness gives the room.
-use mathlib.Core.Path.{refl}
 use Prim.Native.Nat.{◌+◌}
 use native.Mathlib.Omega.{arith}
 use Rattle.spec_rules.specs.SheetFile.{clauses}
@@ -11,18 +10,20 @@ use Rattle.build_matrix.specs.Meant.{meant}
 use Rattle.build_matrix.specs.SplitLaws.{joined_there, joined_low, joined_room, joined_rest, case_stands}
 use Rattle.build_matrix.proofs.splitting.case_matrix.Goals as goal
 
-pub join_rows-counts-requires : goal.join_rows-counts-requires
-join_rows-counts-requires c =
-    let a = c.args in
-    let p = c.requires.case_asked in
-    let x = matrix_of a.rows.now a.columns.now a.tested.now a.opened.now a.sizes in record { ready_table = (p.0, p.1.whole_rows, rising_below (clauses a.sheet.now) 0 (numbers_in x.rows) p.2.rising, (splits p.0 x p.1 p.2 a.class p.3).known, p.4); rows_len = (c.requires.new_rows_len.0, refl) }
-
-pub open_all-front-requires : goal.open_all-front-requires
-open_all-front-requires c =
+pub join_rows-counts-requires-clause-ready_table : goal.join_rows-counts-requires-clause-ready_table
+join_rows-counts-requires-clause-ready_table c =
     let a = c.args in
     let p = c.requires.case_asked in
     let x = matrix_of a.rows.now a.columns.now a.tested.now a.opened.now a.sizes in
-    let joined = c.join_rows-counts.ensures in record { opens_asked = (p.0, whole_rows joined.has_opens, joined_there p.0 x p.1 p.2 a.class p.3 (meant a.sheet.now a.test) joined, joined_room p.0 x p.1 p.2 a.class p.3 (meant a.sheet.now a.test) joined); list_len = c.requires.new_rows_len.1 }
+    (p.0, p.1.whole_rows, rising_below (clauses a.sheet.now) 0 (numbers_in x.rows) p.2.rising, (splits p.0 x p.1 p.2 a.class p.3).known, p.4)
+
+pub open_all-front-requires-clause-opens_asked : goal.open_all-front-requires-clause-opens_asked
+open_all-front-requires-clause-opens_asked c =
+    let a = c.args in
+    let p = c.requires.case_asked in
+    let x = matrix_of a.rows.now a.columns.now a.tested.now a.opened.now a.sizes in
+    let joined = c.join_rows-counts.ensures in
+    (p.0, whole_rows joined.has_opens, joined_there p.0 x p.1 p.2 a.class p.3 (meant a.sheet.now a.test) joined, joined_room p.0 x p.1 p.2 a.class p.3 (meant a.sheet.now a.test) joined)
 
 pub put_rest-all-requires : goal.put_rest-all-requires
 put_rest-all-requires c =
@@ -40,9 +41,6 @@ push-requires c =
     let x = matrix_of a.rows.now a.columns.now a.tested.now a.opened.now a.sizes in
     let split = splits p.0 x p.1 p.2 a.class p.3 in
     (p.1.whole_tested, split.room, split.known)
-
-pub overflow_add-time : goal.overflow_add-time
-overflow_add-time c = omega (arith, c.requires.case_asked.1.whole_tested.most)
 
 pub mark-requires : goal.mark-requires
 mark-requires c =

@@ -1,6 +1,5 @@
 -- `splitting::first_matrix`: a matrix is what its parts hold.
 use mathlib.Core.Path.{◌≡◌, refl, ap}
-use native.Mathlib.Omega.{arith}
 use Rattle.base_words.specs.Words.{zeros}
 use Rattle.spec_rules.specs.Limits.{patterns_most}
 use Rattle.spec_rules.specs.SheetFile.{clauses}
@@ -10,17 +9,6 @@ use Rattle.build_matrix.specs.RowStates.{up_from}
 use Rattle.build_matrix.specs.Numbered.{first_numbered}
 use Rattle.build_matrix.specs.InNumbersLaws.{stands_for}
 use Rattle.build_matrix.proofs.splitting.first_matrix.Goals as goal
-
-pub all_rows-rows-requires : goal.all_rows-rows-requires
-all_rows-rows-requires c =
-    let e : c.args.map.clauses.count ≡ clauses c.args.sheet.now = ap (λ (m : SheetMap). m.clauses.count) c.requires.checked.is_map in
-    omega (arith, c.requires.checked.ok.is_counted.clauses_most_holds)
-
-pub first_columns-columns-requires : goal.first_columns-columns-requires
-first_columns-columns-requires c = c.requires
-
-pub empty-requires : goal.empty-requires
-empty-requires c = tt
 
 pub returns : goal.returns
 unfolding first_numbered

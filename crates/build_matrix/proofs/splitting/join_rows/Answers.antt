@@ -3,7 +3,6 @@ use mathlib.Core.Path.{◌≡◌, refl, ap, ◌∙◌}
 use Prim.Native.Nat.{◌+◌, ◌<◌}
 use native.Mathlib.Omega.{arith}
 use lib.ListN.{get_or, take}
-use Rattle.std.proofs.lemmas.List.{length-take-le}
 use lib.Seq.{slice}
 use Rattle.spec_rules.specs.SheetFile.{clauses}
 use Rattle.build_matrix.specs.Live.{live_in}
@@ -17,15 +16,6 @@ use Rattle.build_matrix.specs.Meant.{meant}
 use Rattle.build_matrix.specs.SplitLaws.{joining_on, joining_few, joining_end, held_live}
 use Rattle.build_matrix.proofs.splitting.join_rows.Goals as goal
 
-pub loop-c-init : goal.loop-c-init
-loop-c-init c = (
-  omega arith,
-  omega arith,
-  record { long = c.requires.rows_len.0; most = omega arith; are = refl },
-  record { long = c.requires.rows_len.1; most = omega arith; are = refl },
-  record { rows_are = refl; opens_are = refl },
-)
-
 pub test_at-held-requires : goal.test_at-held-requires
 test_at-held-requires c =
     let a = c.args in
@@ -33,19 +23,17 @@ test_at-held-requires c =
     let low = all_in (λ k. k < clauses a.sheet.now) (take a.n a.from.now) c.loop-c.c-index c.from.result 0 c.loop-c-test.true c.from.ensures p.2 in
     in_table p.0 c.from.result a.class low p.3
 
-pub join_row-counts-requires : goal.join_row-counts-requires
-join_row-counts-requires c =
+pub join_row-counts-requires-clause-sheet_accepts : goal.join_row-counts-requires-clause-sheet_accepts
+join_row-counts-requires-clause-sheet_accepts c =
     let a = c.args in
-    let l = c.loop-c in
     let p = c.requires.ready_table in
-    let row = get_or (take a.n a.from.now) l.c-index 0 in
-    let low = all_in (λ k. k < clauses a.sheet.now) (take a.n a.from.now) l.c-index row 0 c.loop-c-test.true refl p.2 in
+    let row = get_or (take a.n a.from.now) c.loop-c.c-index 0 in
+    let low = all_in (λ k. k < clauses a.sheet.now) (take a.n a.from.now) c.loop-c.c-index row 0 c.loop-c-test.true refl p.2 in
     let read = c.test_at-held in
     let held : read.result ≡ live_in a.sheet.now a.opened.now a.class row =
     read.ensures ∙ ap (held_in a.table.now a.opened.now a.class) c.from.ensures ∙ held_read p.0 row a.class low p.3 a.opened.now
     in
-    let all = length-take-le a.n a.from.now (omega (arith, p.1)) in
-    record { sheet_accepts = (p.0.checked, held_live a.sheet.now a.opened.now a.class row read.result held, p.4); whole_rows = (l.invariant.2, l.invariant.3, omega (arith, l.invariant.0, c.loop-c-test.true, all, p.1.most), omega (arith, l.invariant.1, c.loop-c-test.true, all, p.1.most)) }
+    (p.0.checked, held_live a.sheet.now a.opened.now a.class row read.result held, p.4)
 
 pub loop-c-preserved : goal.loop-c-preserved
 loop-c-preserved c =
