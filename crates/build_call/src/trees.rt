@@ -119,11 +119,10 @@ fn hoist_tree(
     ensures { GivesTree sheet.now tree.old tree.new result }
 {
     if tops.nodes <= NODES_FEW {
-        let mut sets = [0u32; NODES_FEW];
-        return hoist_with(sheet, map, table, work, tops, &mut sets, tree);
+        hoist_with(sheet, map, table, work, tops, &mut [0; NODES_FEW], tree)
+    } else {
+        hoist_with(sheet, map, table, work, tops, &mut [0; NODES_MOST], tree)
     }
-    let mut sets = [0u32; NODES_MOST];
-    hoist_with(sheet, map, table, work, tops, &mut sets, tree)
 }
 
 // The tree in the arena, with the counts of its building: 12, 13, or on to its scopes.

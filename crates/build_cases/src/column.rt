@@ -15,7 +15,7 @@ use build_matrix::rows::{put_row, test_at};
 use format_sheet::SheetMap;
 use format_sheet::records::pattern_at;
 
-// One test more, if the row has one.
+// One test more, by its pattern's number, if the row has one; None is a wildcard.
 fn keep_test(list: &mut [u8; CLAUSES_MOST], count: usize, held: Option<usize>) -> usize
     requires { WholeRows (as_rows list.old count) × (count < clauses_most) × TestSmall held }
     ensures { HoldsRows (as_rows list.new result) (take count list.old ++ held_test held) }

@@ -24,7 +24,7 @@ use Rattle.build_matrix.specs.Lists.{numbers_in}
 use Rattle.build_matrix.specs.Numbered.{tests_in, tree_at}
 use Rattle.build_matrix.specs.InNumbers.{in_numbers, StandsFor, default_read}
 use Rattle.build_matrix.specs.TreesLaws.{some_tree, chosen_class}
-use Rattle.build_arena.specs.Arena.{cases_start, cases_most, arena_end}
+use Rattle.build_arena.specs.Arena.{cases_start, arena_end}
 use Rattle.build_arena.specs.WritingLaws.{Kept, stands_stored}
 use Rattle.build_cases.specs.declared.CasesMet.{CasesMet}
 use Rattle.build_cases.specs.Passes.{case_records}
@@ -158,9 +158,6 @@ module _ {s : List ℕ} {m : SheetMap} {t : List ℕ} {x : Matrix} {k : ℕ} {w 
   pub switch_node_asked : (arena_end ≤ length w₂) × (tops.nodes < nodes_most) × (k < patterns_most) × (at.nodes + 1 ≤ nodes_most + 1)
   switch_node_asked =
       (y.put.room.long, o.node_room, column_known o.col, omega (arith, y.put.room.nodes_most_holds))
-
-  pub switch_met_asked : (tops.cases ≤ c.mid) × (c.mid ≤ c.end) × (c.end < cases_most)
-  switch_met_asked = (omega (arith, o.made.mid_is), omega (arith, o.made.end_is), o.made.small)
 
   module _ (w₃ : List ℕ) (default : ℕ)
       (node : w₃ ≡ stored w₂ (node_size * tops.nodes) (node_bytes (pick c.list 1 0) k tops.cases (c.mid - tops.cases) (c.end - c.mid) default)) where

@@ -6,7 +6,7 @@ use Rattle.std.proofs.Common.{sym, ap, ap₂, subst, ◌∙◌, arith}
 use Rattle.base_words.specs.Words.{word_bytes}
 use Rattle.base_words.specs.Stored.{stored}
 use Rattle.base_words.specs.StoredLaws.{length_stored}
-use Rattle.spec_rules.specs.Limits.{nodes_most, case_size}
+use Rattle.spec_rules.specs.Limits.{case_size}
 use Rattle.spec_rules.specs.Splitting as splitting
 use Rattle.spec_rules.specs.Splitting.{Met, is_met, cases_of}
 use Rattle.spec_rules.specs.SplittingLaws.{All}
@@ -24,7 +24,7 @@ use Rattle.build_matrix.specs.Meant.{meant, InPool}
 use Rattle.build_matrix.specs.InNumbers.{in_numbers, StandsFor}
 use Rattle.format_records.specs.declared.reading.Test.{Test}
 use Rattle.format_records.specs.declared.reading.Case.{Case}
-use Rattle.build_arena.specs.Arena.{cases_start, cases_most, arena_end, case_of}
+use Rattle.build_arena.specs.Arena.{cases_start, case_of}
 use Rattle.format_records.specs.Records.{test_for}
 use Rattle.format_records.specs.RecordsLaws.{case_is, case_read}
 use Rattle.build_cases.specs.Fields.{test_in}
@@ -115,11 +115,6 @@ module _ {s : List ℕ} {m : SheetMap} {t : List ℕ} {x : Matrix} {k first : �
 
   u_meant : Meant s next.case
   u_meant = sheet_meant s next.case (all_back (InSheet s) next.done (next.case ∷ next.rest) (subst (All (InSheet s)) next.whole turn.asked.each)).0
-
-  pub turn_room : (n < cases_most) × (tops.nodes ≤ nodes_most) × (arena_end ≤ length w)
-  turn_room =
-      let r = next.put.room in
-      (omega (arith, begun.room.cases_most_holds, begun.to_come, turn.inside), r.nodes_most_holds, r.long)
 
   module _ (test : Test) (e : test ≡ (case_of w n).test) where
     abbrev now_is : in_numbers (tested_in x l) ≡ in_numbers x

@@ -75,9 +75,9 @@ fn put_leaf<'a>(
     leaves[clause] = 1;
     Tops {
         nodes: tops.nodes + 1,
-        cases: tops.cases,
         bindings: top,
         leaves,
+        ..tops
     }
 }
 
@@ -196,9 +196,11 @@ fn build_switch<'a>(
     let met = meet_cases(
         sheet, map, table, rows, sizes.rows, opened, class, work, first,
     )?;
-    let mut from = tops;
-    from.nodes += 1;
-    from.cases = met.end;
+    let from = Tops {
+        nodes: tops.nodes + 1,
+        cases: met.end,
+        ..tops
+    };
     let next = build_cases(
         sheet, map, table, rows, columns, tested, opened, sizes, class, work, first, from,
     )?;
