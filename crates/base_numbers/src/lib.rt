@@ -1,5 +1,6 @@
-// The document's numbers for the code, each once and by name: sizes, limits, kinds, the words of a node, refusals.
-// `Limits`, `Kinds` and `RefusalNumbers` of spec_rules have the same numbers for the definitions; the proofs hold the two together.
+// The document's numbers for the code, each once and by name: sizes, limits, kinds, the words of a node. Those of refusals stand with
+// their reasons in format_parts.
+// `Limits` and `Kinds` of spec_rules have the same numbers for the definitions; the proofs hold the two together.
 #![tactic(auto)]
 
 pub mod case_kinds;
@@ -10,7 +11,6 @@ pub mod panel_starts;
 pub mod pattern_kinds;
 pub mod record_fields;
 pub mod record_kinds;
-pub mod refusals;
 pub mod run_fields;
 pub mod sheet;
 pub mod sheet_starts;

@@ -6,13 +6,6 @@ ghost use Rattle.std.specs.Prelude.{◌≡◌, true, ◌+◌, ◌<◌, ◌≤◌
 ghost use Rattle.base_words.specs.Words.{word_at, word_bytes, text_at, same_text, zeros};
 ghost use Rattle.base_words.specs.Stored.{stored};
 
-// The byte as a word: a call of it asks a caller only for the byte's index.
-pub fn wide(x: u8) -> u16
-    ensures { result ≡ x }
-{
-    u16::from(x)
-}
-
 // The word at i and i + 1.
 pub fn word_at(s: &[u8], i: usize) -> u16
     requires { i + 1 < length s.now }

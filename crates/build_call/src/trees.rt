@@ -77,6 +77,7 @@ fn write_hoisted(
 {
     let more = hoist_bindings(work, scopes, map.clauses.count);
     require(tops.bindings + more <= BINDINGS_MOST, Reason::Bindings)?;
+    // The scopes tell that no clause is idle by the number of clauses there may be.
     let idle = scopes.idle;
     if idle < CLAUSES_MOST {
         return Err(Refusal {

@@ -49,10 +49,3 @@ pub struct Sizes {
     pub columns: usize,
     pub tested: usize,
 }
-
-// A byte as an index.
-pub fn wide(byte: u8) -> usize
-    ensures { result ≡ byte }
-{
-    usize::from(byte)
-}
