@@ -1,4 +1,4 @@
--- The path records by the table's counts of steps are those of the paths; a flag by the tests that find it.
+-- The path records by the table's counts of steps are those of the paths; the pool by the sheet's map.
 -- Rests on Tail and on what the table says.
 use Rattle.std.specs.Prelude.{◌≡◌, refl, ℕ, zero, suc, ◌+◌, ◌-◌, ◌*◌, ◌≤◌, ◌<◌, length, get_or}
 use Rattle.std.proofs.Common.{sym, ◌∙◌}

@@ -2,7 +2,6 @@
 -- Rests on Tail and the laws of stores; nothing here asks for room in the buffer that is written.
 use Rattle.std.specs.Prelude.{◌≡◌, refl, List, [], ◌∷◌, ◌++◌, ℕ, suc, ◌+◌, ◌-◌, ◌≤◌, ◌<◌, length, get_or}
 use Rattle.std.proofs.Common.{sym, ap, ◌∙◌, arith, add-one, append_assoc, length-append, drop-cons, take, drop}
-use Rattle.std.proofs.Math.Nat.{sub-zero}
 use Rattle.std.proofs.lemmas.Slice.{put_mid-paste}
 use Rattle.std.proofs.lemmas.List.Edits.{paste_all}
 use borrow.Rule.Slice.PartMut.{put_mid}
@@ -61,9 +60,6 @@ module _ {before now : List ℕ} {from at : ℕ} {whole rest : List ℕ} (b : Be
   }
 
 -- ---- what is left of n elements, from the i-th on
-pub rest_start : (l : List ℕ) (i n : ℕ) → text_at l i (n - 0) ≡ text_at l i n
-rest_start l i n = rw (sub-zero n)
-
 pub text_next : (l : List ℕ) (i n : ℕ) → i < length l → text_at l i (suc n) ≡ get_or l i 0 ∷ text_at l (i + 1) n
 text_next l i n h = rw (drop-cons l i 0 h, add-one i)
 

@@ -23,6 +23,7 @@ use format_sheet::SheetMap;
 use format_sheet::records::{child_in, children_of, pattern_in, root_at};
 
 // The binding of pattern p, behind the `top` bindings there are.
+// Past the room only the number goes on, to one more than the room, and is no Option: what leaf_bindings promises counts so.
 fn put_binding(
     sheet: &[u8],
     records: usize,
