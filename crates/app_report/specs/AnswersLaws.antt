@@ -2,7 +2,7 @@
 -- Rests on what the walk of a sheet's tree file is on a panel that fits the sheet.
 use Rattle.std.proofs.Math.Path.{◌≡◌, sym, ap}
 use Rattle.std.proofs.Common.{ap₂, ◌∙◌, arith}
-use Rattle.std.specs.Prelude.{true, List, ◌++◌, ℕ, ◌-◌, ◌*◌, ◌≤◌, Option, Some, None, Result, Ok, Err}
+use Rattle.std.specs.Prelude.{true, List, ◌++◌, ℕ, ◌-◌, ◌*◌, ◌≤◌, Some, None, Result, Ok, Err}
 use Rattle.std.proofs.Math.ListN.{length, take}
 use Rattle.base_words.specs.Words.{zeros}
 use Rattle.spec_rules.specs.Limits.{tree_room, work_room, bound_room, node_bindings_most}

@@ -7,5 +7,5 @@ pub returns : goal.returns
 returns c =
     let a = c.args in
     writes_as
-    (writes_then c.put_numbered-number.ensures (writes_then c.put_numbered-node_end.ensures (writes_then c.put_numbered-step_end.ensures c.put.ensures)))
+    (writes_then (rw c.number.ensures at c.put_numbered-number.ensures) (writes_then c.put_numbered-node_end.ensures (writes_then c.put_numbered-step_end.ensures c.put.ensures)))
     (stuck_is a.node a.step)

@@ -6,7 +6,7 @@ use Rattle.app_report.specs.PlacesLaws.{no_panel, no_record, record_there}
 use Rattle.app_report.proofs.places.put_place.Goals as goal
 
 pub returns-in_default : goal.returns-in_default
-returns-in_default c = writes_as (writes_nothing _ _) (no_panel c.args.panel.now c.args.r c.args.dropped c.check.ensures.verdict)
+returns-in_default c = writes_as (writes_nothing _ _) (search (rules, no_panel c.args.panel.now c.args.r c.args.dropped))
 
 pub returns-then-map-i : goal.returns-then-map-i
 returns-then-map-i c =
