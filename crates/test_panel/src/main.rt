@@ -2,8 +2,6 @@
 // The file stdout has the answers as 01 gives them, by hand.
 #![tactic(auto)]
 
-ghost use Rattle.std.specs.Prelude.{◌<◌, ◌≤◌, length};
-
 mod make;
 
 use make::{chain, end, leaf, record, three, wide};
@@ -113,17 +111,13 @@ fn more_layouts(rt: &impl Print) -> io::Result<()> {
     with_trailer(rt, "a pool that starts past the trailer", [0, 8, 18, 24])
 }
 
-fn with_records(rt: &impl Print, name: &str, n: u16) -> io::Result<()>
-    requires { 0 < n }
-{
+fn with_records(rt: &impl Print, name: &str, n: u16) -> io::Result<()> {
     let mut b = [0u8; 8192];
     let length = wide(&mut b, n);
     check_first(rt, name, &b, length)
 }
 
-fn with_depth(rt: &impl Print, name: &str, n: u16) -> io::Result<()>
-    requires { 0 < n }
-{
+fn with_depth(rt: &impl Print, name: &str, n: u16) -> io::Result<()> {
     let mut b = [0u8; 512];
     let length = chain(&mut b, n);
     check_first(rt, name, &b, length)
@@ -202,9 +196,7 @@ fn roots(rt: &impl Print) -> io::Result<()> {
 }
 
 // ---- 24
-fn integer(rt: &impl Print, name: &str, digits: &[u8]) -> io::Result<()>
-    requires { length digits.now ≤ 1000 }
-{
+fn integer(rt: &impl Print, name: &str, digits: &[u8]) -> io::Result<()> {
     let mut b = [0u8; 256];
     let n = leaf(&mut b, 0, digits);
     check_first(rt, name, &b, n)

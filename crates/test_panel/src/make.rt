@@ -1,13 +1,11 @@
 // Panels made record by record, for the cases. Whatever would lie past the end of the buffer is left out.
-ghost use Rattle.std.specs.Prelude.{◌<◌, ◌≤◌, length};
-
 use test_make::{bytes, numbers, words};
 
 // Record r: the kind byte with the zero byte after it, a, first, count.
-pub fn record(b: &mut [u8], r: usize, fields: [usize; 4])
-    requires { r < 65536 }
-{
-    words(b, 8 * r, &fields);
+pub fn record(b: &mut [u8], r: usize, fields: [usize; 4]) {
+    if r < 4096 {
+        words(b, 8 * r, &fields);
+    }
 }
 
 // The trailer of a panel of n records, so many parts and so many bytes of text, and the length of the whole.
@@ -20,18 +18,20 @@ pub fn end(b: &mut [u8], n: u16, parts: u16, pool: u16) -> usize {
 }
 
 // One record of the kind given, with the text given.
-pub fn leaf(b: &mut [u8], kind: usize, text: &[u8]) -> usize
-    requires { length text.now ≤ 1000 }
-{
+pub fn leaf(b: &mut [u8], kind: usize, text: &[u8]) -> usize {
+    if 1000 < text.len() {
+        return 0;
+    }
     record(b, 0, [kind, 0, 0, text.len()]);
     bytes(b, 8, text);
     end(b, 1, 0, text.len() as u16)
 }
 
 // n lists, each inside the one before, the last one empty.
-pub fn chain(b: &mut [u8], n: u16) -> usize
-    requires { 0 < n }
-{
+pub fn chain(b: &mut [u8], n: u16) -> usize {
+    if n == 0 {
+        return 0;
+    }
     let last = usize::from(n) - 1;
     for r in 0..last {
         record(b, r, [2, 0, r, 1]);
@@ -42,9 +42,10 @@ pub fn chain(b: &mut [u8], n: u16) -> usize
 }
 
 // A list of n - 1 empty byte strings.
-pub fn wide(b: &mut [u8], n: u16) -> usize
-    requires { 0 < n }
-{
+pub fn wide(b: &mut [u8], n: u16) -> usize {
+    if n == 0 {
+        return 0;
+    }
     let count = usize::from(n);
     record(b, 0, [2, 0, 0, count - 1]);
     for r in 1..count {

