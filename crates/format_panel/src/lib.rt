@@ -1,10 +1,10 @@
 // The panel of document 01: its check (refusals 21 to 24), the text of a position (33) with the twin that returns the part of the
-// panel itself. Each contract is one equation with a definition of the crate spec_rules.
+// panel itself. Each contract is an equation with a definition of the crate spec_rules; the check says besides what its map is.
 //
 // Cost. The check reads the trailer, each record twice (for its shape and for its text), each part once, and each byte of an integer
 // once: at most 512 records, 511 parts and 32,768 bytes of text, whatever the lists of a damaged panel say, since the pass over the
 // records ends at the first part that it meets a second time. Besides the panel it needs a table of 512 depths, which is lent on:
-// nothing is copied for a record or a part. The text call adds one record to the check.
+// nothing is copied for a record or a part. The text call adds one record to the check, whose kind it reads first.
 #![tactic(auto)]
 
 ghost use Rattle.std.specs.Prelude.{◌≡◌, IfOk};
