@@ -104,6 +104,7 @@ pub fn largest_tail(tree: &[u8], map: TreeMap, i: usize, tails: usize, n: usize)
     requires { Mapped tree.now map × (i + tails ≤ map.cases.count) × AllKind tree.now list_with_tail_case i tails }
     ensures { (f : ℕ → Tree) → result ≡ largest_tail n (cases_for f tree.now i tails) }
 {
+    // A `for` is as plain as a fold, and its invariant says what is left of the run.
     let mut best: usize = 0;
     for j in 0..tails {
         let k = case_number(tree, map, i + j) as usize;

@@ -34,7 +34,7 @@ pub struct Ended {
     pub end: Result<Option<ReachedLeaf>, StuckAt>,
 }
 
-// Where a node leads that is not stuck: to another node, or to the walk's end.
+// Where a node leads that is not stuck: to another node, or to the walk's end. Its ways have names that std's ControlFlow would not give.
 #[derive(Drop)]
 pub enum Next {
     Node(usize),
