@@ -9,7 +9,7 @@ import sys
 LINES = {
     "own enums": r"^\s*(?:pub(?:\(crate\))? )?enum \w+",
     "numbers of kinds and flags": r"\b(?:pattern|type|record|node|case|step)_kinds::[A-Z_]+|\btype_flags::[A-Z_]+",
-    "numbers of refusals": r"\brefusals::[A-Z_]+",
+    "numbers of refusals": r"\brefusals::[A-Z_]{2,}\b",
     "loops by hand": r"^\s*(?:'\w+: )?while\b",
     "endless loops": r"^\s*(?:let .*= )?(?:'\w+: )?loop \{",
     "counters moved by hand": r"^\s*\w+ [+-]= 1;$",

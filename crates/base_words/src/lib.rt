@@ -1,5 +1,5 @@
 // Words of a byte buffer, low byte first, buffers set to zero, and the comparison of two texts.
-// Each contract is one equation with a definition of specs/Words or specs/Stored; nothing below this crate is the project's.
+// Each public contract is one equation with a definition of specs/Words or specs/Stored; nothing below this crate is the project's.
 #![tactic(auto)]
 
 ghost use Rattle.std.specs.Prelude.{◌≡◌, true, ◌+◌, ◌<◌, ◌≤◌, length};

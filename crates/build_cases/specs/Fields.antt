@@ -1,7 +1,7 @@
 -- A case's test by the fields of its record: a kind, a number and a length, a text by where it is in the sheet's pool; and the search
 -- for an equal test among the cases of the arena. Rests on the arena's records; FieldsLaws has what each comparison of fields tells.
 use Rattle.std.specs.Prelude.{◌≡◌, Bool, true, false, List, ℕ, zero, suc, ◌+◌, ◌≤◌, ◌<◌, eqb}
-use Rattle.base_words.specs.Words.{either, pick}
+use Rattle.base_words.specs.Words.{both, either, pick}
 use Rattle.spec_rules.specs.Kinds.{constr_case, int_case, bytes_case, list_case, list_with_tail_case}
 use Rattle.spec_rules.specs.SheetFile.{pool_size, pool_text}
 use Rattle.spec_rules.specs.Splitting.{Test, Constr, Int, Bytes, ListOf, ListWithTail, Met, same_test}
@@ -39,14 +39,18 @@ pub record Fit (s : List ℕ) (kind number len : ℕ) : Type 0 where
   pub plain : is_text kind ≡ false → len ≡ 0
 
 -- ---- the search
+-- case i may have the test: it has its kind and length, and what is no text its number
+unfoldable pub is_alike : List ℕ → ℕ → ℕ → ℕ → ℕ → Bool
+is_alike w i kind number len = both (eqb (case_kind w i) kind) (both (eqb (case_length w i) len) (either (is_text kind) (eqb (case_number w i) number)))
+
 unfoldable pub has_test : List ℕ → List ℕ → ℕ → ℕ → ℕ → ℕ → Bool
 unfolding same_test test_in
 has_test s w kind number len i = same_test (test_in s kind number len) (test_in s (case_kind w i) (case_number w i) (case_length w i))
 
--- f holds of one of the n from i on
-unfoldable pub some_of : (ℕ → Bool) → ℕ → ℕ → Bool
-some_of f i zero = false
-some_of f i (suc n) = either (f i) (some_of f (i + 1) n)
+-- the first from i on, of n, of which f holds; or where they end
+unfoldable pub first_where : (ℕ → Bool) → ℕ → ℕ → ℕ
+first_where f i zero = i
+first_where f i (suc n) = pick (f i) i (first_where f (i + 1) n)
 
 -- the cases from `from` up to `to` have fields of cases
 pub record Readable (s w : List ℕ) (from to : ℕ) : Type 0 where

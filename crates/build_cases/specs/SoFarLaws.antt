@@ -1,10 +1,10 @@
 -- The laws of the cases met so far: they are read back from their records, so that the search finds a test exactly where it is met;
 -- and one more case, or none, is what rule 4's meeting makes of them. Rests on the laws of fields, of stores and of standing records.
-use Rattle.std.specs.Prelude.{◌≡◌, refl, Bool, true, false, ℕ, ◌+◌, ◌-◌, ◌*◌, ◌≤◌, ◌<◌, eqb, length}
-use Rattle.std.proofs.Common.{sym, ap, ap₂, ◌∙◌, arith, eqb-true, length-append, take_all}
+use Rattle.std.specs.Prelude.{◌≡◌, refl, Bool, true, false, ℕ, suc, ◌+◌, ◌-◌, ◌*◌, ◌≤◌, ◌<◌, eqb, ltb, length}
+use Rattle.std.proofs.Common.{sym, ap, ap₂, ◌∙◌, arith, eqb-true, lt-ltb, le-ltb, length-append, take_all}
 use mathlib.Core.List.{List, [], ◌∷◌, ◌++◌, append-nil, append_assoc}
 use Rattle.std.proofs.lemmas.Bool.{eqb-false}
-use Rattle.base_words.specs.Words.{either}
+use Rattle.base_words.specs.Words.{either, pick}
 use Rattle.base_words.specs.Stored.{stored}
 use Rattle.base_words.specs.StoredLaws.{length_stored, stored_append, stored_again}
 use Rattle.spec_rules.specs.Limits.{case_size}
@@ -23,7 +23,7 @@ use Rattle.format_records.specs.RecordsLaws.{CaseIs, case_is}
 use Rattle.build_arena.specs.WritingLaws.{stands_stored}
 use Rattle.build_cases.specs.Passes.{up_to, case_records}
 use Rattle.build_cases.specs.PassesLaws.{meet_full}
-use Rattle.build_cases.specs.Fields.{test_in, start_in, met_in, Fit, has_test, some_of, Readable}
+use Rattle.build_cases.specs.Fields.{test_in, start_in, met_in, Fit, has_test, first_where, Readable}
 use Rattle.build_cases.specs.FieldsLaws.{kind_back, number_back, length_back}
 use Rattle.build_cases.specs.SoFar.{InSheet, SoFar, Begun, meet_one, Meets}
 
@@ -96,11 +96,21 @@ records_fit s w i (m ∷ ms) a r j low high = go (eqb i j) refl (records_fit s w
 
 -- the search finds a test exactly where it is met
 found_met : (s w : List ℕ) (kind number len i : ℕ) (ms : List Met) → All (InSheet s) ms → Recorded w i ms
-    → is_met (test_in s kind number len) ms ≡ some_of (has_test s w kind number len) i (length ms)
-unfolding is_met some_of has_test
-found_met s w kind number len i [] a r = refl
-found_met s w kind number len i (m ∷ ms) a r =
-    ap₂ either (sym (ap (same_test (test_in s kind number len)) (case_meant s w i m a.0 r.0))) (found_met s w kind number len (i + 1) ms a.1 r.1)
+    → is_met (test_in s kind number len) ms ≡ ltb (first_where (has_test s w kind number len) i (length ms)) (i + length ms)
+unfolding is_met first_where has_test
+found_met s w kind number len i [] a r = sym (le-ltb i (i + 0) (omega arith))
+found_met s w kind number len i (m ∷ ms) a r = go (same_test (test_in s kind number len) m.test) refl (found_met s w kind number len (i + 1) ms a.1 r.1)
+  where
+    same : has_test s w kind number len i ≡ same_test (test_in s kind number len) m.test
+    same = ap (same_test (test_in s kind number len)) (case_meant s w i m a.0 r.0)
+
+    rest : ℕ
+    rest = first_where (has_test s w kind number len) (i + 1) (length ms)
+
+    go : (b : Bool) → same_test (test_in s kind number len) m.test ≡ b → is_met (test_in s kind number len) ms ≡ ltb rest (i + 1 + length ms)
+        → either (same_test (test_in s kind number len) m.test) (is_met (test_in s kind number len) ms) ≡ ltb (pick (has_test s w kind number len i) i rest) (i + suc (length ms))
+    go true e ih = rw (same ∙ e, e) (sym (lt-ltb i (i + suc (length ms)) (omega arith)))
+    go false e ih = let f : i + suc (length ms) ≡ i + 1 + length ms = omega arith in rw (same ∙ e, e, f) ih
 
 -- ---- the cases met so far
 module _ {s w₀ : List ℕ} {from : ℕ} {ms : List Met} {to : ℕ} {w : List ℕ} (x : SoFar s w₀ from ms to w) where
@@ -129,10 +139,11 @@ module _ {s w₀ : List ℕ} {from : ℕ} {ms : List Met} {to : ℕ} {w : List �
   pub so_far_begun : Begun s w from to
   so_far_begun = record { mets = ms; so_far = so_far_again }
 
-  pub so_far_met : (kind number len : ℕ) → is_met (test_in s kind number len) ms ≡ some_of (has_test s w kind number len) from (to - from)
+  pub so_far_met : (kind number len : ℕ) → is_met (test_in s kind number len) ms ≡ ltb (first_where (has_test s w kind number len) from (to - from)) to
   so_far_met kind number len =
       let e : to - from ≡ length ms = omega (arith, x.number) in
-      found_met s w kind number len from ms x.each (recorded w from ms stands) ∙ ap (some_of (has_test s w kind number len) from) (sym e)
+      found_met s w kind number len from ms x.each (recorded w from ms stands)
+      ∙ ap₂ (λ (n m : ℕ). ltb (first_where (has_test s w kind number len) from n) m) (sym e) (sym x.number)
 
   -- there is room for them
   so_far_fits : up_to from ms ≡ ms
@@ -198,19 +209,19 @@ module _ {s w : List ℕ} {from to : ℕ} (test : tests.Test) where
             rw (meet_full (cases_most - from) (start_in (kind_of test) (number_of test)) ms (test_in s (kind_of test) (number_of test) (length_of test) ∷ []) (omega (arith, x.number))) x;
       }
 
-  module _ (met : Bool) (is : met ≡ some_of (has_test s w (kind_of test) (number_of test) (length_of test)) from (to - from)) where
-    pub meets_found : met ≡ true → Meets s w from to (meet_one s from test) to w
+  module _ (at : ℕ) (is : at ≡ first_where (has_test s w (kind_of test) (number_of test) (length_of test)) from (to - from)) where
+    pub meets_found : at < to → Meets s w from to (meet_one s from test) to w
     meets_found h =
         record {
           after =
               λ w₀ ms x.
-              let y = so_far_met x (kind_of test) (number_of test) (length_of test) ∙ sym is ∙ h in
+              let y = so_far_met x (kind_of test) (number_of test) (length_of test) ∙ ap (λ (i : ℕ). ltb i to) (sym is) ∙ lt-ltb at to h in
               let z : meet_one s from test ms ≡ ms =
               ap (up_to from) (met_already (start_in (kind_of test) (number_of test)) (test_in s (kind_of test) (number_of test) (length_of test)) ms y) ∙ so_far_fits x in
               rw z x;
         }
 
-    pub meets_new : Laid s → Fit s (kind_of test) (number_of test) (length_of test) → met ≡ false → to < cases_most → (w' : List ℕ)
+    pub meets_new : Laid s → Fit s (kind_of test) (number_of test) (length_of test) → (at < to → ⊥) → to < cases_most → (w' : List ℕ)
         → w' ≡ stored w (cases_start + case_size * to) (case_record (record { test = test; child = 0 })) → Meets s w from to (meet_one s from test) (to + 1) w'
     unfolding met_in case_record
     meets_new laid fit h most w' e = record { after = grown }
@@ -220,7 +231,7 @@ module _ {s w : List ℕ} {from to : ℕ} (test : tests.Test) where
 
         grown : (w₀ : List ℕ) (ms : List Met) → SoFar s w₀ from ms to w → SoFar s w₀ from (meet_one s from test ms) (to + 1) w'
         grown w₀ ms x =
-            let y = so_far_met x (kind_of test) (number_of test) (length_of test) ∙ sym is ∙ h in
+            let y = so_far_met x (kind_of test) (number_of test) (length_of test) ∙ ap (λ (i : ℕ). ltb i to) (sym is) ∙ le-ltb at to (omega arith) in
             let longer : length (ms ++ new ∷ []) ≡ length ms + 1 = length-append ms (new ∷ []) in
             let z : meet_one s from test ms ≡ ms ++ new ∷ [] =
             ap (up_to from) (met_new (start_in (kind_of test) (number_of test)) (test_in s (kind_of test) (number_of test) (length_of test)) ms y)

@@ -7,7 +7,7 @@ ghost use Rattle.format_records.specs.Records.{kind_of, number_of, length_of};
 ghost use Rattle.build_cases.specs.Fields.{Fit};
 ghost use Rattle.build_cases.specs.SoFar.{Begun, meet_one, Meets};
 
-use crate::search::{Fields, is_met};
+use crate::search::{Fields, same_case};
 use base_numbers::tree::CASES_MOST;
 use build_arena::writing::put_case;
 use format_records::reading::{Case, Test};
@@ -29,7 +29,7 @@ pub(crate) fn meet(
     if to == CASES_MOST {
         return to;
     }
-    if is_met(sheet, map.pool.start, work, from, to, Fields::from(test)) {
+    if same_case(sheet, map.pool.start, work, from, to, Fields::from(test)) < to {
         return to;
     }
     put_case(work, to, Case { test, child: 0 });

@@ -1,13 +1,12 @@
 // The search for an equal case among those met so far. Texts are equal by their bytes in the sheet's pool.
-// Rests on the arena's records of cases.
+// Rests on the arena's records of cases; the answer is the place of the first equal one.
 ghost use Rattle.std.specs.Prelude.{◌≡◌, ◌-◌, ◌<◌, ◌≤◌, length};
 ghost use Rattle.spec_rules.specs.SheetFile.{pool_at};
 ghost use Rattle.spec_accepted.specs.SheetFacts.{Laid};
-ghost use Rattle.build_arena.specs.Arena.{cases_most, arena_end, case_kind, case_number, case_length};
-ghost use Rattle.build_cases.specs.Fields.{Fit, fields_of, is_text, has_test, some_of, Readable};
+ghost use Rattle.build_arena.specs.Arena.{cases_most, arena_end};
+ghost use Rattle.build_cases.specs.Fields.{Fit, fields_of, is_text, is_alike, has_test, first_where, Readable};
 
 use base_numbers::case_kinds;
-use base_words::same_text;
 use build_arena::reading::{case_kind, case_length, case_number};
 use format_records::reading::Test;
 
@@ -57,37 +56,52 @@ impl From<Test> for Fields {
     }
 }
 
-// Case i has this test: its kind and length, and of a text its bytes, of another its number.
-fn has_test(sheet: &[u8], pool: usize, work: &[u8], i: usize, fields: Fields) -> bool
-    requires laid { Laid sheet.now × (pool ≡ pool_at sheet.now) × Fit sheet.now fields.kind fields.number fields.len }
-    requires arena_end_in_bounds { (arena_end ≤ length work.now) × (i < cases_most) × Fit sheet.now (case_kind work.now i) (case_number work.now i) (case_length work.now i) }
-    ensures { result ≡ has_test sheet.now work.now fields.kind fields.number fields.len i }
+// Case i may have this test: it has its kind and length, and what is no text its number.
+#[tactic(auto, unfolding(crate::specs::Fields::is_alike))]
+fn is_alike(work: &[u8], i: usize, fields: Fields) -> bool
+    requires { (arena_end ≤ length work.now) × (i < cases_most) }
+    ensures { result ≡ is_alike work.now i fields.kind fields.number fields.len }
 {
-    if case_kind(work, i) != fields.kind || case_length(work, i) != fields.len {
-        return false;
-    }
-    let number = case_number(work, i);
-    if fields.is_text() {
-        let here = pool + usize::from(number);
-        let there = pool + usize::from(fields.number);
-        same_text(sheet, here, sheet, there, usize::from(fields.len))
-    } else {
-        number == fields.number
-    }
+    case_kind(work, i) == fields.kind
+        && case_length(work, i) == fields.len
+        && (fields.is_text() || case_number(work, i) == fields.number)
 }
 
-// One of the cases from `from` up to `to` has this test.
-pub(crate) fn is_met(
+// The first of the cases from `from` up to `to` with this test, or `to`. Nested loops that are left by a label with the index: the
+// document names this form for the search.
+pub(crate) fn same_case(
     sheet: &[u8],
     pool: usize,
     work: &[u8],
     from: usize,
     to: usize,
     fields: Fields,
-) -> bool
+) -> usize
     requires laid { Laid sheet.now × (pool ≡ pool_at sheet.now) × Fit sheet.now fields.kind fields.number fields.len }
     requires arena_end_in_bounds { (arena_end ≤ length work.now) × (from ≤ to) × (to ≤ cases_most) × Readable sheet.now work.now from to }
-    ensures { result ≡ some_of (has_test sheet.now work.now fields.kind fields.number fields.len) from (to - from) }
+    ensures { result ≡ first_where (has_test sheet.now work.now fields.kind fields.number fields.len) from (to - from) }
 {
-    (from..to).any(|i| has_test(sheet, pool, work, i, fields))
+    let start = pool + usize::from(fields.number);
+    let len = usize::from(fields.len);
+    let mut i = from;
+    let at = 'cases: loop {
+        if i == to {
+            break to;
+        }
+        if is_alike(work, i, fields) {
+            let other = pool + usize::from(case_number(work, i));
+            let mut k: usize = 0;
+            loop {
+                if k == len {
+                    break 'cases i;
+                }
+                if sheet[other + k] != sheet[start + k] {
+                    break;
+                }
+                k += 1;
+            }
+        }
+        i += 1;
+    };
+    at
 }

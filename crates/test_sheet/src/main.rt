@@ -92,6 +92,10 @@ fn counts(rt: &impl Print) -> io::Result<()> {
             ..ONE_CLAUSE
         },
     )?;
+    entry_counts(rt)
+}
+
+fn entry_counts(rt: &impl Print) -> io::Result<()> {
     sized(
         rt,
         "256 type entries",
