@@ -1,7 +1,7 @@
 // "node 0 there, each other node a child exactly once, in pre-order", without a stack: a node's first child is the next node, each
 // later child is where the subtree of the child before it ends, and the subtree of node 0 ends where the nodes do.
 // A subtree's end is found by going from a node to its last child as far as there is one. This is done for children that are not
-// the last alone, so that each node is met once on the way to an end: the cost is that of one pass over nodes and cases.
+// the last alone, so that each node is met once on the way to an end: the cost is that of one pass over the nodes and two over the cases.
 ghost use Rattle.std.specs.Prelude.{◌≡◌, ◌++◌, ℕ, ◌+◌, ◌<◌, ◌≤◌};
 ghost use Rattle.spec_rules.specs.Searching.{every};
 ghost use Rattle.spec_rules.specs.TreeReader.{case_children, default_child, nodes_in_pre_order};

@@ -2,7 +2,7 @@
 -- is one of the panel. Rests on Positions and the facts of an accepted panel.
 use Rattle.std.proofs.Math.Path.{◌≡◌, refl, sym}
 use Rattle.std.proofs.Common.{ap, ◌∙◌, inl, inr, ⊎_elim}
-use Rattle.std.specs.Prelude.{◌⊎◌, Some, None, Ok, Err, ok_or, Bool, true, false, eqb, ltb, leb, length}
+use Rattle.std.specs.Prelude.{◌⊎◌, Some, None, Bool, true, false, eqb, ltb, leb, length}
 use mathlib.Core.List.{List, [], ◌∷◌}
 use Rattle.std.proofs.Math.Option.{Option, none, some}
 use Prim.Native.Nat.{ℕ, zero, suc, ◌+◌, ◌-◌, ◌≤◌, ◌<◌}
@@ -30,31 +30,34 @@ use Rattle.format_tree.specs.Reading.{Ruled, step_of, path_of, binding_of}
 use Rattle.format_tree.specs.ReadingLaws.{bindings_lie, paths_lie, steps_lie, bindings_start, paths_start, steps_start, paths_count}
 use Rattle.walk.specs.declared.follow.Position.{Position}
 use Rattle.walk.specs.declared.follow.StuckAt.{StuckAt}
-use Rattle.walk.specs.Positions.{placed, position_of, taken_of, stuck_at, found_of, found_from, found_by, left_by, part_in, tail_in, Within, Followable, Bindable, ReadyToWalk}
+use Rattle.walk.specs.declared.follow.Found.{Found}
+use Rattle.walk.specs.declared.follow.Found.TheVariants.{At, Stuck}
+use Rattle.walk.specs.Positions.{placed, position_of, taken_of, stuck_at, found_of, found_from, found_by, stuck_of, left_by, part_in, tail_in, Within, Followable, Bindable, ReadyToWalk}
 
--- ---- where a step led, or at which it stuck
-pub taken_ok : (o : Option Place) (at : StuckAt) (p : Position) → Ok p ≡ ok_or (taken_of o) at → o ≡ some (placed p)
-taken_ok none at p e = let z : ◌≡◌ {A = ℕ} 0 1 = cc in absurd (omega arith)
-taken_ok (some x) at p e = let a : p ≡ position_of x = cc in ap (λ (q : Position). some (placed q)) (sym a)
+-- ---- where a step led
+pub taken_some : (o : Option Place) (p : Position) → taken_of o ≡ Some p → o ≡ some (placed p)
+taken_some none p e = let z : ◌≡◌ {A = ℕ} 0 1 = cc in absurd (omega arith)
+taken_some (some x) p e = let a : position_of x ≡ p = cc in ap (λ (q : Position). some (placed q)) a
 
-pub taken_err : (o : Option Place) (at y : StuckAt) → Err y ≡ ok_or (taken_of o) at → (o ≡ none) × (y ≡ at)
-taken_err none at y e = (refl, cc)
-taken_err (some x) at y e = let z : ◌≡◌ {A = ℕ} 0 1 = cc in absurd (omega arith)
+pub taken_none : (o : Option Place) → taken_of o ≡ None → o ≡ none
+taken_none none e = refl
+taken_none (some x) e = let z : ◌≡◌ {A = ℕ} 0 1 = cc in absurd (omega arith)
 
 -- ---- where a path led
-pub found_some : (v : List ℕ) (q : Path) (p : Position) → found_by v q ≡ Ok p → follow v q panel_root ≡ some (placed p)
+pub found_some : (v : List ℕ) (q : Path) (p : Position) → found_by v q ≡ At p → follow v q panel_root ≡ some (placed p)
 found_some v q p e = go (follow v q panel_root) e
   where
-    go : (o : Option Place) → found_of o (steps_taken v q panel_root) ≡ Ok p → o ≡ some (placed p)
+    go : (o : Option Place) → found_of o (steps_taken v q panel_root) ≡ At p → o ≡ some (placed p)
     go none f = let z : ◌≡◌ {A = ℕ} 0 1 = cc in absurd (omega arith)
     go (some x) f = let a : position_of x ≡ p = cc in ap (λ (y : Position). some (placed y)) a
 
--- stuck there
-pub found_none : (v : List ℕ) (q : Path) (y : StuckAt) → found_by v q ≡ Err y → (follow v q panel_root ≡ none) × (y.0 ≡ steps_taken v q panel_root)
-found_none v q y e = go (follow v q panel_root) e
+-- stuck at y, which the code asked for as `at`
+pub found_none : (v : List ℕ) (q : Path) (found : Found) (y at : StuckAt) → found ≡ found_by v q → found ≡ Stuck y → at ≡ stuck_of found
+    → (follow v q panel_root ≡ none) × (at.0 ≡ steps_taken v q panel_root)
+found_none v q found y at is told asked = go (follow v q panel_root) (sym is ∙ told)
   where
-    go : (o : Option Place) → found_of o (steps_taken v q panel_root) ≡ Err y → (o ≡ none) × (y.0 ≡ steps_taken v q panel_root)
-    go none f = let a : stuck_at (steps_taken v q panel_root) ≡ y = cc in (refl, sym (ap (λ (s : StuckAt). s.0) a))
+    go : (o : Option Place) → found_of o (steps_taken v q panel_root) ≡ Stuck y → (o ≡ none) × (at.0 ≡ steps_taken v q panel_root)
+    go none f = let a : stuck_at (steps_taken v q panel_root) ≡ y = cc in (refl, ap (λ (s : StuckAt). s.0) (asked ∙ ap stuck_of told ∙ sym a))
     go (some x) f = let z : ◌≡◌ {A = ℕ} 0 1 = cc in absurd (omega arith)
 
 -- ---- a record that was read as x
@@ -293,11 +296,11 @@ module _ (v t : List ℕ) (first count : ℕ) where
       let more : k + suc (steps_taken v q y) ≡ k + 1 + steps_taken v q y = omega arith in
       sym (path_next k x h ∙ rw (e, follow, steps_taken) (ap (found_of (follow v q y)) more))
 
-  pub path_stuck : (k : ℕ) (x : Place) → k < count → take_step v (step_at t (first + k)) x ≡ none → Err (stuck_at k) ≡ found_from v (steps_from t (first + k) (count - k)) x k
+  pub path_stuck : (k : ℕ) (x : Place) → k < count → take_step v (step_at t (first + k)) x ≡ none → Stuck (stuck_at k) ≡ found_from v (steps_from t (first + k) (count - k)) x k
   unfolding follow steps_taken
-  path_stuck k x h e = let None_more : k + 0 ≡ k = omega arith in sym (path_next k x h ∙ rw (e, follow, steps_taken) (ap (λ (n : ℕ). Err (stuck_at n)) None_more))
+  path_stuck k x h e = let None_more : k + 0 ≡ k = omega arith in sym (path_next k x h ∙ rw (e, follow, steps_taken) (ap (λ (n : ℕ). Stuck (stuck_at n)) None_more))
 
-  pub path_end : (k : ℕ) (x : Position) → count ≤ k → Ok x ≡ found_from v (steps_from t (first + k) (count - k)) (placed x) k
+  pub path_end : (k : ℕ) (x : Position) → count ≤ k → At x ≡ found_from v (steps_from t (first + k) (count - k)) (placed x) k
   unfolding follow steps_from
   path_end k x h = let e : count - k ≡ 0 = omega arith in rw e
 

@@ -1,6 +1,6 @@
 -- Positions as the code has them, beside the rules' own; and what the code asks of a tree and a panel that it walks on.
 -- Rests on the rules' walk, and on what the two checks give.
-use Rattle.std.specs.Prelude.{◌≡◌, Option as Taken, Some, None, Result, Ok, Err, List, ℕ, ◌+◌, ◌≤◌, ◌<◌, ltb, leb}
+use Rattle.std.specs.Prelude.{◌≡◌, Option as Taken, Some, None, List, ℕ, ◌+◌, ◌≤◌, ◌<◌, ltb, leb}
 use Rattle.std.proofs.Math.Option.{Option, none, some}
 use Rattle.base_words.specs.Words.{pick}
 use Rattle.spec_rules.specs.Kinds.{list_record, pair_record, list_step}
@@ -18,6 +18,8 @@ use Rattle.format_tree.specs.declared.layout.TreeMap.{TreeMap}
 use Rattle.format_tree.specs.Reading.{BindingsLie, PathsLie, StepsLie, Mapped}
 use Rattle.walk.specs.declared.follow.Position.{Position}
 use Rattle.walk.specs.declared.follow.StuckAt.{StuckAt}
+use Rattle.walk.specs.declared.follow.Found.{Found}
+use Rattle.walk.specs.declared.follow.Found.TheVariants.{At, Stuck}
 
 abbrev pub placed : Position → Place
 placed p = record { place = p.«record»; dropped = p.dropped }
@@ -34,16 +36,21 @@ abbrev pub stuck_at : ℕ → StuckAt
 stuck_at step = record { 0 = step }
 
 -- where a path leads, or the number of the step that could not be taken
-abbrev pub found_of : Option Place → ℕ → Result Position StuckAt
-found_of none step = Err (stuck_at step)
-found_of (some x) step = Ok (position_of x)
+abbrev pub found_of : Option Place → ℕ → Found
+found_of none step = Stuck (stuck_at step)
+found_of (some x) step = At (position_of x)
 
 -- where the path p leads from x after k steps
-abbrev pub found_from : List ℕ → Path → Place → ℕ → Result Position StuckAt
+abbrev pub found_from : List ℕ → Path → Place → ℕ → Found
 found_from v p x k = found_of (follow v p x) (k + steps_taken v p x)
 
-abbrev pub found_by : List ℕ → Path → Result Position StuckAt
+abbrev pub found_by : List ℕ → Path → Found
 found_by v p = found_of (follow v p panel_root) (steps_taken v p panel_root)
+
+-- of a path that is stuck, where
+abbrev pub stuck_of : Found → StuckAt
+stuck_of (At p) = stuck_at 0
+stuck_of (Stuck y) = y
 
 -- ---- one step: the kind of record that it is taken from, and the part or the tail of a record that was read
 abbrev pub left_by : ℕ → ℕ

@@ -6,7 +6,7 @@ ghost use Rattle.spec_rules.specs.TreeReader.{bindings, bindings_from};
 ghost use Rattle.walk.specs.Positions.{Bindable};
 ghost use Rattle.walk.specs.Bindings.{Binds};
 
-use crate::follow::{StuckAt, follow};
+use crate::follow::{Found, StuckAt, follow};
 use base_numbers::tree::BOUND_WORDS;
 use base_words::zero_words;
 use format_panel::PanelMap;
@@ -47,12 +47,9 @@ pub fn bind(
             places,
             b.path as usize,
         );
-        let p = match found {
-            Ok(p) => p,
-            Err(stuck) => {
-                zero_words(bound);
-                return Err(stuck);
-            }
+        let Found::At(p) = found else {
+            zero_words(bound);
+            return Err(found.stuck());
         };
         put_bound(
             bound,

@@ -7,7 +7,7 @@ ghost use Rattle.spec_rules.specs.Walking.{take_step};
 ghost use Rattle.spec_accepted.specs.PanelFacts.{PanelShaped};
 ghost use Rattle.format_panel.specs.Opened.{Opened};
 ghost use Rattle.format_tree.specs.Reading.{Mapped};
-ghost use Rattle.walk.specs.Positions.{placed, taken_of, found_by, left_by, part_in, tail_in, Followable, Within};
+ghost use Rattle.walk.specs.Positions.{placed, taken_of, found_by, stuck_of, left_by, part_in, tail_in, Followable, Within};
 
 use base_numbers::{record_kinds, step_kinds};
 use format_panel::PanelMap;
@@ -25,6 +25,26 @@ pub struct Position {
 // The number of the step that could not be taken, which is how many were taken before it; or the path's length, where a test is.
 #[derive(Clone, Copy)]
 pub struct StuckAt(pub u16);
+
+// Where a path leads, or the step at which it is stuck. The document names this form, "At(position) or Stuck", and that each caller takes it
+// apart by let .. else.
+#[derive(Drop)]
+pub enum Found {
+    At(Position),
+    Stuck(StuckAt),
+}
+
+impl Found {
+    // Of a path that is stuck, where.
+    pub fn stuck(self) -> StuckAt
+        ensures { result ≡ stuck_of self }
+    {
+        match self {
+            Found::At(_) => StuckAt(0),
+            Found::Stuck(at) => at,
+        }
+    }
+}
 
 // The kind of record that a step of this kind is taken from.
 fn left_by(kind: u8) -> u8
@@ -93,7 +113,7 @@ pub fn follow(
     panel: &[u8],
     places: PanelMap,
     p: usize,
-) -> Result<Position, StuckAt>
+) -> Found
     requires { Followable tree.now panel.now places × (paths_at ≡ tree_paths_at tree.now) × (steps_at ≡ tree_steps_at tree.now) × (p < paths tree.now) }
     ensures { result ≡ found_by panel.now (path_at tree.now p) }
 {
@@ -105,9 +125,12 @@ pub fn follow(
     };
     for k in 0..path.count {
         let step = step_from(tree, steps_at, first + k as usize);
-        at = take_step(panel, places, step, at).ok_or(StuckAt(k))?;
+        let Some(next) = take_step(panel, places, step, at) else {
+            return Found::Stuck(StuckAt(k));
+        };
+        at = next;
     }
-    Ok(at)
+    Found::At(at)
 }
 
 // How many steps path p has: "a test on a wrong kind of part counts as the path's length".

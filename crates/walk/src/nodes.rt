@@ -10,7 +10,7 @@ ghost use Rattle.walk.specs.Choices.{AllKind};
 ghost use Rattle.walk.specs.Turns.{steps_on, Turns, TurnsBy, default_walk, switch_walk, list_walk, tails_walk, length_walk, Steps, Arrives};
 
 use crate::choose::{asked_by, child_of, largest_tail, numbered_case, text_case};
-use crate::follow::{StuckAt, follow, path_length};
+use crate::follow::{Found, StuckAt, follow, path_length};
 use base_numbers::record_kinds;
 use format_panel::PanelMap;
 use format_panel::records::record_at;
@@ -77,14 +77,17 @@ fn from_switch(
     ensures { Turns tree.now panel.now (steps_on tree.now panel.now path) (case_children tree.now first cases ++ default_child default) (switch_walk tree.now panel.now path first cases default) result }
 {
     let asked = asked_by(test);
-    let p = follow(
+    let found = follow(
         tree,
         map.paths.start,
         map.steps.start,
         panel,
         places,
         path as usize,
-    )?;
+    );
+    let Found::At(p) = found else {
+        return Err(found.stuck());
+    };
     let x = record_at(panel, p.record);
     if x.kind != asked {
         return Err(StuckAt(path_length(tree, map, path as usize)));
@@ -158,14 +161,17 @@ fn from_list_switch(
     requires { ReadyToWalk tree.now map panel.now places × (path < map.paths.count) × (first + (cases + tails) ≤ map.cases.count) × AllKind tree.now list_case first cases × AllKind tree.now list_with_tail_case (first + cases) tails }
     ensures { Turns tree.now panel.now (steps_on tree.now panel.now path) (case_children tree.now first (cases + tails) ++ default_child default) (list_walk tree.now panel.now path first cases tails default) result }
 {
-    let p = follow(
+    let found = follow(
         tree,
         map.paths.start,
         map.steps.start,
         panel,
         places,
         path as usize,
-    )?;
+    );
+    let Found::At(p) = found else {
+        return Err(found.stuck());
+    };
     let x = record_at(panel, p.record);
     if x.kind != record_kinds::LIST {
         return Err(StuckAt(path_length(tree, map, path as usize)));

@@ -34,18 +34,17 @@ pub follow-found-requires : goal.follow-found-requires
 follow-found-requires c =
     binding_followed c.requires.0 (c.args.first + c.loop-i.i) c.binding_from-b.result (omega (arith, c.requires.1, c.loop-i-test.true)) c.binding_from-b.ensures
 
-pub shape_of-bound-in-Err : goal.shape_of-bound-in-Err
-shape_of-bound-in-Err c =
+pub shape_of-bound-in_default : goal.shape_of-bound-in_default
+shape_of-bound-in_default c =
     c.zero_words.auto.words ∙ c.loop-i.invariant.0
 
-pub returns-in-Err : goal.returns-in-Err
-returns-in-Err c =
+pub returns-in_default : goal.returns-in_default
+returns-in_default c =
     let a = c.args in
     let l = c.loop-i in
     let b = c.binding_from-b.result in
-    let stuck = c.in-Err.stuck in
     let path = ap (λ (x : Binding). x.path) c.binding_from-b.ensures in
-    let lost = found_none a.panel.now (path_at a.tree.now b.path) stuck (sym c.follow-found.ensures ∙ c.in-Err.is) in
+    let lost = found_none a.panel.now (path_at a.tree.now b.path) c.follow-found.result c.in_default.field-0 c.stuck.result c.follow-found.ensures c.in_default.is c.stuck.ensures in
     let h = c.loop-i-test.true in
     let nowhere = ap (λ (k : ℕ). follow a.panel.now (path_at a.tree.now k) panel_root) (sym path) ∙ lost.0 in
     let s = binding_stuck a.tree.now a.panel.now a.first a.count l.i h nowhere in
@@ -64,8 +63,8 @@ overflow_cast-p c =
     let a = c.args in
     let w = c.requires.0.followable in
     let b = c.binding_from-b.result in
-    let found = found_some a.panel.now (path_at a.tree.now b.path) c.in-Ok.p (sym c.follow-found.ensures ∙ c.in-Ok.is) in
-    let within = found_within w b.path c.in-Ok.p found in
+    let found = found_some a.panel.now (path_at a.tree.now b.path) c.in-At.p (sym c.follow-found.ensures ∙ c.in-At.is) in
+    let within = found_within w b.path c.in-At.p found in
     omega (arith, within.place_in, w.opened.laid.records_most_holds)
 
 pub overflow_cast-p-in-loop-i : goal.overflow_cast-p-in-loop-i
@@ -73,9 +72,9 @@ overflow_cast-p-in-loop-i c =
     let a = c.args in
     let w = c.requires.0.followable in
     let b = c.binding_from-b.result in
-    let found = found_some a.panel.now (path_at a.tree.now b.path) c.in-Ok.p (sym c.follow-found.ensures ∙ c.in-Ok.is) in
-    let within = found_within w b.path c.in-Ok.p found in
-    omega (arith, dropped_small w.opened.laid w.shaped (placed c.in-Ok.p) within)
+    let found = found_some a.panel.now (path_at a.tree.now b.path) c.in-At.p (sym c.follow-found.ensures ∙ c.in-At.is) in
+    let within = found_within w b.path c.in-At.p found in
+    omega (arith, dropped_small w.opened.laid w.shaped (placed c.in-At.p) within)
 
 pub put_bound-requires : goal.put_bound-requires
 put_bound-requires c =
@@ -86,16 +85,16 @@ loop-i-preserved c =
     let a = c.args in
     let l = c.loop-i in
     let b = c.binding_from-b.result in
-    let found = found_some a.panel.now (path_at a.tree.now b.path) c.in-Ok.p (sym c.follow-found.ensures ∙ c.in-Ok.is) in
+    let found = found_some a.panel.now (path_at a.tree.now b.path) c.in-At.p (sym c.follow-found.ensures ∙ c.in-At.is) in
     let path = ap (λ (x : Binding). x.path) c.binding_from-b.ensures in
     let name = ap (λ (x : Binding). x.name) c.binding_from-b.ensures in
     let there = ap (λ (k : ℕ). follow a.panel.now (path_at a.tree.now k) panel_root) (sym path) ∙ found in
     let h = c.loop-i-test.true in
     let stores = c.put_bound.ensures in (
       c.put_bound.auto.bound ∙ l.invariant.0,
-      given_on a.tree.now a.panel.now a.first a.count l.i (placed c.in-Ok.p) h there ∙ l.invariant.1,
+      given_on a.tree.now a.panel.now a.first a.count l.i (placed c.in-At.p) h there ∙ l.invariant.1,
       ap (λ (x : List ℕ). words_after x (3 * (l.i + 1)) (left a.tree.now a.panel.now a.first a.count (l.i + 1))) stores
-          ∙ words_on a.tree.now a.panel.now a.first a.count l.bound l.i b.name (placed c.in-Ok.p) h there name
+          ∙ words_on a.tree.now a.panel.now a.first a.count l.bound l.i b.name (placed c.in-At.p) h there name
           ∙ l.invariant.2,
     )
 

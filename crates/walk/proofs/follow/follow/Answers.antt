@@ -1,15 +1,13 @@
 -- `walk::follow::follow` meets its contract: the loop's invariant is that the steps left lead from the position at hand to where the whole path leads from the root,
 -- or stick where it does; and that the position is one of the panel.
 use Rattle.format_records.specs.declared.reading.Path.{Path}
-use Rattle.walk.specs.FollowLaws.{taken_ok, taken_err, root_within, step_within, step_taken, path_run, path_start, path_on, path_stuck, path_end}
-use Rattle.walk.specs.Positions.{placed, stuck_at}
-use Rattle.std.specs.Prelude.{ok_or, Err}
-use Rattle.std.proofs.Common.{rules}
+use Rattle.walk.specs.FollowLaws.{taken_some, taken_none, root_within, step_within, step_taken, path_run, path_start, path_on, path_stuck, path_end}
+use Rattle.walk.specs.Positions.{placed}
 use Rattle.spec_rules.specs.Walking.{take_step}
 use Rattle.spec_rules.specs.TreeReader.{step_at, step_of_fields}
 use Prim.Native.Nat.{◌+◌}
 use native.Mathlib.Omega.{arith}
-use mathlib.Core.Path.{◌≡◌, sym, ap, ◌∙◌}
+use mathlib.Core.Path.{sym, ap, ◌∙◌}
 use Rattle.walk.proofs.follow.follow.Goals as goal
 
 pub path_from-path-requires : goal.path_from-path-requires
@@ -40,18 +38,16 @@ take_step-requires c =
     let w = c.requires.0 in
     (w.opened, w.shaped, c.loop-k.invariant.0)
 
-pub returns-in_err-at : goal.returns-in_err-at
-returns-in_err-at c =
+pub returns-in_default : goal.returns-in_default
+returns-in_default c =
     let a = c.args in
     let x = c.path_from-path.result in
     let l = c.loop-k in
     let s = c.step_from-step.result in
     let u = step_taken a.panel.now a.tree.now (x.first + l.k) s l.at c.step_from-step.ensures in
     let q = take_step a.panel.now (step_of_fields s.kind s.flag s.index s.of) (placed l.at) in
-    let stuck = c.in_err-at.field-0.0 in
-    let w = taken_err q (stuck_at l.k) stuck (c.in_err-at.ensures.value ∙ ap (λ o. ok_or o (stuck_at l.k)) c.take_step.ensures) in
-    let told : c.from_residual.result ≡ Err stuck = search rules in
-    told ∙ ap (λ at. Err at) w.1 ∙ path_stuck a.panel.now a.tree.now x.first x.count l.k (placed l.at) c.loop-k-test.true (sym u ∙ w.0) ∙ l.invariant.1
+    let e = taken_none q (sym c.take_step.ensures ∙ c.in_default.is) in
+    path_stuck a.panel.now a.tree.now x.first x.count l.k (placed l.at) c.loop-k-test.true (sym u ∙ e) ∙ l.invariant.1
 
 pub loop-k-preserved : goal.loop-k-preserved
 loop-k-preserved c =
@@ -62,8 +58,8 @@ loop-k-preserved c =
     let s = c.step_from-step.result in
     let u = step_taken a.panel.now a.tree.now (x.first + l.k) s l.at c.step_from-step.ensures in
     let q = take_step a.panel.now (step_of_fields s.kind s.flag s.index s.of) (placed l.at) in
-    let next = c.in_ok-at.at in
-    let e = sym u ∙ taken_ok q (stuck_at l.k) next (c.in_ok-at.ensures.value ∙ ap (λ o. ok_or o (stuck_at l.k)) c.take_step.ensures) in (
+    let next = c.in-Some.next in
+    let e = sym u ∙ taken_some q next (sym c.take_step.ensures ∙ c.in-Some.is) in (
       step_within w.opened.laid w.shaped (step_at a.tree.now (x.first + l.k)) (placed l.at) (placed next) l.invariant.0 e,
       path_on a.panel.now a.tree.now x.first x.count l.k (placed l.at) (placed next) c.loop-k-test.true e ∙ l.invariant.1,
     )

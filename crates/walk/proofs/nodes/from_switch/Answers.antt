@@ -10,27 +10,24 @@ use Rattle.spec_rules.specs.TreeReader.{path_at}
 use Rattle.spec_rules.specs.Kinds.{bytes_record}
 use Prim.Native.Nat.{◌+◌, ◌≤◌}
 use lib.ListN.{length}
-use Rattle.std.proofs.Common.{rules}
-use Rattle.std.specs.Prelude.{Ok, Err}
+use Rattle.std.specs.Prelude.{Ok}
 use native.Mathlib.Omega.{arith}
 use mathlib.Core.Path.{◌≡◌, sym, ap, ◌∙◌}
 use Rattle.walk.proofs.nodes.from_switch.Goals as goal
 
-pub follow-requires : goal.follow-requires
-follow-requires c = ready_path c.requires.0 _ c.requires.1
+pub follow-found-requires : goal.follow-found-requires
+follow-found-requires c = ready_path c.requires.0 _ c.requires.1
 
-pub returns-in_err-p : goal.returns-in_err-p
-returns-in_err-p c =
+pub returns-in_default : goal.returns-in_default
+returns-in_default c =
     let a = c.args in
-    let stuck = c.in_err-p.field-0.0 in
-    let lost = found_none a.panel.now (path_at a.tree.now a.path) stuck (sym c.follow.ensures ∙ c.in_err-p.was) in
-    let told : Err stuck ≡ c.from_residual.result = search rules in
-    rw told at (switch_no_part a.tree.now a.panel.now a.path a.first a.cases a.default stuck.0 lost.1 lost.0)
+    let lost = found_none a.panel.now (path_at a.tree.now a.path) c.follow-found.result c.in_default.field-0 c.stuck.result c.follow-found.ensures c.in_default.is c.stuck.ensures in
+    switch_no_part a.tree.now a.panel.now a.path a.first a.cases a.default c.stuck.result.0 lost.1 lost.0
 
 pub record_at-x-requires : goal.record_at-x-requires
 record_at-x-requires c =
-    let place : Position = c.in_ok-p.p in
-    let found = found_some c.args.panel.now (path_at c.args.tree.now c.args.path) place (sym c.follow.ensures ∙ c.in_ok-p.was) in
+    let place : Position = c.in-At.p in
+    let found = found_some c.args.panel.now (path_at c.args.tree.now c.args.path) place (sym c.follow-found.ensures ∙ c.in-At.is) in
     let ready = c.requires.0 in
     (ready.opened.laid, (found_within (followable ready) c.args.path place found).place_in)
 
@@ -39,8 +36,8 @@ path_length-requires c = (c.requires.0.mapped, c.requires.1)
 
 pub returns-then-x-asked : goal.returns-then-x-asked
 returns-then-x-asked c =
-    let place : Position = c.in_ok-p.p in
-    let found = found_some c.args.panel.now (path_at c.args.tree.now c.args.path) place (sym c.follow.ensures ∙ c.in_ok-p.was) in
+    let place : Position = c.in-At.p in
+    let found = found_some c.args.panel.now (path_at c.args.tree.now c.args.path) place (sym c.follow-found.ensures ∙ c.in-At.is) in
     let asked : c.asked_by-asked.result ≡ asked_by (test_of c.args.tree.now c.args.first) = c.asked_by-asked.ensures ∙ ap asked_by c.requires.6 in
     let a = c.args in
     switch_wrong_kind a.tree.now a.panel.now a.path a.first a.cases a.default c.requires.2 c.requires.4 (placed place) found
@@ -56,8 +53,8 @@ chosen_or-requires c =
 
 pub returns-then-asked-eq-CONSTRUCTOR : goal.returns-then-asked-eq-CONSTRUCTOR
 returns-then-asked-eq-CONSTRUCTOR c =
-    let place : Position = c.in_ok-p.p in
-    let found = found_some c.args.panel.now (path_at c.args.tree.now c.args.path) place (sym c.follow.ensures ∙ c.in_ok-p.was) in
+    let place : Position = c.in-At.p in
+    let found = found_some c.args.panel.now (path_at c.args.tree.now c.args.path) place (sym c.follow-found.ensures ∙ c.in-At.is) in
     let asked : c.asked_by-asked.result ≡ asked_by (test_of c.args.tree.now c.args.first) = c.asked_by-asked.ensures ∙ ap asked_by c.requires.6 in
     let a = c.args in
     switch_constr a.tree.now a.panel.now a.path a.first a.cases a.default c.requires.2 c.requires.4 (placed place) found
@@ -66,8 +63,8 @@ returns-then-asked-eq-CONSTRUCTOR c =
 
 pub overflow_add-start : goal.overflow_add-start
 overflow_add-start c =
-    let place : Position = c.in_ok-p.p in
-    let found = found_some c.args.panel.now (path_at c.args.tree.now c.args.path) place (sym c.follow.ensures ∙ c.in_ok-p.was) in
+    let place : Position = c.in-At.p in
+    let found = found_some c.args.panel.now (path_at c.args.tree.now c.args.path) place (sym c.follow-found.ensures ∙ c.in-At.is) in
     let asked : c.asked_by-asked.result ≡ asked_by (test_of c.args.tree.now c.args.first) = c.asked_by-asked.ensures ∙ ap asked_by c.requires.6 in
     let texts : (asked_by (test_of c.args.tree.now c.args.first) ≤ bytes_record) × AllText c.args.tree.now c.args.first c.args.cases =
     let a = c.args in
@@ -86,8 +83,8 @@ text_case-chosen-requires c =
     let texts : (asked_by (test_of c.args.tree.now c.args.first) ≤ bytes_record) × AllText c.args.tree.now c.args.first c.args.cases =
     let a = c.args in
     texts_asked a.tree.now a.first c.requires.4 (λ e. c.if-asked-eq-CONSTRUCTOR.false (asked ∙ e)) a.cases c.requires.5 in
-    let place : Position = c.in_ok-p.p in
-    let found = found_some c.args.panel.now (path_at c.args.tree.now c.args.path) place (sym c.follow.ensures ∙ c.in_ok-p.was) in
+    let place : Position = c.in-At.p in
+    let found = found_some c.args.panel.now (path_at c.args.tree.now c.args.path) place (sym c.follow-found.ensures ∙ c.in-At.is) in
     let text_in : c.args.places.pool.start + c.record_at-x.result.first + c.record_at-x.result.count ≤ length c.args.panel.now =
     let a = c.args in
     let ready = c.requires.0 in
@@ -103,8 +100,8 @@ chosen_or-requires-2 c =
 
 pub returns : goal.returns
 returns c =
-    let place : Position = c.in_ok-p.p in
-    let found = found_some c.args.panel.now (path_at c.args.tree.now c.args.path) place (sym c.follow.ensures ∙ c.in_ok-p.was) in
+    let place : Position = c.in-At.p in
+    let found = found_some c.args.panel.now (path_at c.args.tree.now c.args.path) place (sym c.follow-found.ensures ∙ c.in-At.is) in
     let asked : c.asked_by-asked.result ≡ asked_by (test_of c.args.tree.now c.args.first) = c.asked_by-asked.ensures ∙ ap asked_by c.requires.6 in
     let a = c.args in
     let read = c.record_at-x in
