@@ -360,6 +360,7 @@ pub fn fill(sheet: &[u8], map: SheetMap, table: &mut [u8])
 }
 
 // Whether the path of p comes before that of q, by their indices.
+#[tactic(auto, using(crate::specs::ClassingLaws::rows_compared))]
 pub fn before(table: &[u8], p: usize, q: usize) -> bool
     requires table_len { (length table.now ≡ table_size) × (p < patterns_most) × (q < patterns_most) }
     requires p_bound { (get_or table.now (depth_at + p) 0 < depth_most) × (get_or table.now (depth_at + q) 0 < depth_most) }
