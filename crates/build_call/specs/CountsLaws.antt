@@ -19,7 +19,7 @@ use Rattle.build_arena.specs.Arena.{node_word}
 use Rattle.build_call.specs.Counts.{leaf_bindings}
 
 -- ---- a mark
-bit_most : (b : Bool) → bit b ≤ 1
+pub bit_most : (b : Bool) → bit b ≤ 1
 unfolding bit
 bit_most true = omega arith
 bit_most false = omega arith

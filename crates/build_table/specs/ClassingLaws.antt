@@ -41,11 +41,11 @@ use Rattle.build_table.specs.Tabled.{Placed, Classed, RowBelow}
 
 -- ---- the lowest pattern with the same step
 module _ (t : List ℕ) (p : ℕ) where
-  abbrev LowestFrom : ℕ → Type 0
+  abbrev pub LowestFrom : ℕ → Type 0
   LowestFrom q = lowest (λ k. same_step_in t k p) q (p - q) ≡ lowest (λ k. same_step_in t k p) 0 p
 
   -- none before the n-th
-  class_begins : (n : ℕ) → n ≤ p → ((q : ℕ) → q < n → same_step_in t q p ≡ false) → LowestFrom n
+  pub class_begins : (n : ℕ) → n ≤ p → ((q : ℕ) → q < n → same_step_in t q p ≡ false) → LowestFrom n
   class_begins zero l none_before = ap (lowest (λ k. same_step_in t k p) 0) (sub-zero p)
   class_begins (suc n) l none_before =
       let on : LowestFrom (n + 1) = lowest_on (λ k. same_step_in t k p) n p (omega arith) (none_before n (omega arith)) ∙ class_begins n (omega arith) (λ q below. none_before q (omega arith)) in
