@@ -1,6 +1,6 @@
--- Where all bits of the bytes together are none, each byte is 0.
-use Rattle.std.proofs.Common.{◌≡◌, List, ℕ, [], ◌∷◌, length}
-use Rattle.std.proofs.Math.Path.{refl, ap₂}
+-- All bits of the bytes together are none where each byte is 0, and only there.
+use Rattle.std.proofs.Common.{◌≡◌, List, ℕ, zero, suc, [], ◌∷◌, length, ◌∙◌}
+use Rattle.std.proofs.Math.Path.{refl, ap, ap₂}
 use Rattle.std.specs.List.{fold}
 use Rattle.std.specs.Int.Bits.{bit_or}
 use Rattle.base_words.specs.Words.{zeros}
@@ -15,3 +15,10 @@ none_so_far a (x ∷ xs) e =
 
 pub zeros_if_none : (xs : List ℕ) → fold bit_or 0 xs ≡ 0 → xs ≡ zeros (length xs)
 zeros_if_none xs e = (none_so_far 0 xs e).1
+
+no_bits : (n : ℕ) → fold bit_or 0 (zeros n) ≡ 0
+no_bits zero = refl
+no_bits (suc n) = no_bits n
+
+pub none_if_zeros : (xs : List ℕ) → xs ≡ zeros (length xs) → fold bit_or 0 xs ≡ 0
+none_if_zeros xs e = ap (fold bit_or 0) e ∙ no_bits (length xs)

@@ -29,7 +29,8 @@ const BLOCK: usize = 1024;
 
 // Whether each byte is 0: all their bits at once, since a search that may end early looks at one byte after another.
 fn is_zero(block: &[u8]) -> bool
-    ensures { result ≡ true → block.now ≡ zeros (length block.now) }
+    ensures only_zeros { result ≡ true → block.now ≡ zeros (length block.now) }
+    ensures all_zeros { block.now ≡ zeros (length block.now) → result ≡ true }
 {
     block.iter().fold(0, |all, byte| all | byte) == 0
 }
