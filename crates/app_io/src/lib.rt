@@ -2,7 +2,7 @@
 // No function asks anything of its caller, and what each counts are bytes of the buffer that it was lent.
 #![tactic(auto)]
 
-ghost use Rattle.std.specs.Prelude.{◌≡◌, length, IfOk, IfSome};
+ghost use Rattle.std.specs.Prelude.{◌≡◌, length, IfOk, IfErr};
 ghost use Rattle.io.specs.Counts.{IsPrefixLen};
 ghost use Rattle.app_io.specs.Shown.{ShowsTree, ShowsSheet};
 
@@ -29,27 +29,47 @@ pub fn huge_buffer() -> [u8; HUGE_ROOM]
     [0; HUGE_ROOM]
 }
 
-// Says on standard error why a file cannot be read. A line that cannot be written is left out.
-fn say_why(rt: &impl Eprint, name: &str, why: impl Display + Drop) {
+// An input that could not be read.
+#[derive(Clone, Copy)]
+pub struct Unread {
+    // How many bytes stood in the buffer when the reading failed.
+    pub count: usize,
+}
+
+// Says on standard error why a file cannot be read, of which `count` bytes were. A line that cannot be written is left out.
+fn say_why(rt: &impl Eprint, name: &str, why: impl Display + Drop, count: usize) -> Unread
+    ensures { result.count ≡ count }
+{
     let what = if name.is_empty() {
         "a file without a name"
     } else {
         name
     };
     let _ = eprintln!(rt; "{what}: {why}");
+    Unread { count }
+}
+
+// Reads until the buffer is full, the input ends or a read fails: how many bytes stand in the buffer then, and whether it failed.
+fn fill_counted(reader: &mut impl Read, buf: &mut [u8]) -> (usize, std::io::Result<()>)
+    ensures { IsPrefixLen result.0 buf.new }
+{
+    let mut count = 0;
+    while count < buf.len() {
+        match reader.read(&mut buf[count..]) {
+            Ok(0) => break,
+            Ok(n) => count += n,
+            Err(error) => return (count, Err(error)),
+        }
+    }
+    (count, Ok(()))
 }
 
 // Reads until the buffer is full or the input ends, and answers how many bytes that are.
 pub fn fill(reader: &mut impl Read, buf: &mut [u8]) -> std::io::Result<usize>
     ensures { IfOk result (λ n. IsPrefixLen n buf.new) }
 {
-    let mut count = 0;
-    while count < buf.len() {
-        match reader.read(&mut buf[count..])? {
-            0 => break,
-            n => count += n,
-        }
-    }
+    let (count, read) = fill_counted(reader, buf);
+    read?;
     Ok(count)
 }
 
@@ -59,32 +79,28 @@ pub fn read_input(
     name: &str,
     reader: &mut impl Read,
     buf: &mut [u8],
-) -> Option<usize>
-    ensures { IfSome result (λ n. IsPrefixLen n buf.new) }
+) -> Result<usize, Unread>
+    ensures ok { IfOk result (λ n. IsPrefixLen n buf.new) }
+    ensures err { IfErr result (λ e. IsPrefixLen e.count buf.new) }
 {
-    match fill(reader, buf) {
-        Ok(count) => Some(count),
-        Err(error) => {
-            say_why(rt, name, error);
-            None
-        }
+    let (count, read) = fill_counted(reader, buf);
+    match read {
+        Ok(()) => Ok(count),
+        Err(error) => Err(say_why(rt, name, error, count)),
     }
 }
 
 // Reads a file; where it cannot be read, one line on standard error says why. A name that is not UTF-8 names no file here.
-pub fn read_file<R: Files + Eprint>(rt: &R, path: &[u8], buf: &mut [u8]) -> Option<usize>
-    ensures { IfSome result (λ n. IsPrefixLen n buf.new) }
+pub fn read_file<R: Files + Eprint>(rt: &R, path: &[u8], buf: &mut [u8]) -> Result<usize, Unread>
+    ensures ok { IfOk result (λ n. IsPrefixLen n buf.new) }
+    ensures err { IfErr result (λ e. IsPrefixLen e.count buf.new) }
 {
     let Ok(name) = str::from_utf8(path) else {
-        say_why(rt, "the name of a file", "it is not UTF-8");
-        return None;
+        return Err(say_why(rt, "the name of a file", "it is not UTF-8", 0));
     };
     match fs::open(rt, name) {
         Ok(mut file) => read_input(rt, name, &mut file, buf),
-        Err(error) => {
-            say_why(rt, name, error);
-            None
-        }
+        Err(error) => Err(say_why(rt, name, error, 0)),
     }
 }
 
@@ -97,16 +113,18 @@ fn no_name(error: FillError) -> &'static str {
 }
 
 // Reads the file that argument i names.
-pub fn read_argument<R: Env + Files + Eprint>(rt: &R, i: usize, buf: &mut [u8]) -> Option<usize>
-    ensures { IfSome result (λ n. IsPrefixLen n buf.new) }
+pub fn read_argument<R: Env + Files + Eprint>(
+    rt: &R,
+    i: usize,
+    buf: &mut [u8],
+) -> Result<usize, Unread>
+    ensures ok { IfOk result (λ n. IsPrefixLen n buf.new) }
+    ensures err { IfErr result (λ e. IsPrefixLen e.count buf.new) }
 {
     let mut path = io::buffer();
     match rt.arg(i, &mut path) {
         Ok(n) => read_file(rt, &path[..n], buf),
-        Err(error) => {
-            say_why(rt, "the name of a file", no_name(error));
-            None
-        }
+        Err(error) => Err(say_why(rt, "the name of a file", no_name(error), 0)),
     }
 }
 

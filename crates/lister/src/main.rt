@@ -15,7 +15,7 @@ fn list(rt: &(impl Print + Eprint), sheet: &[u8]) -> io::Result<()> {
 
 fn main(rt: HostRuntime) -> io::Result<()> {
     let mut sheet = [0u8; SHEET_ROOM];
-    let Some(n) = app_io::read_input(&rt, "standard input", &mut rt.stdin(), &mut sheet) else {
+    let Ok(n) = app_io::read_input(&rt, "standard input", &mut rt.stdin(), &mut sheet) else {
         return Ok(());
     };
     list(&rt, &sheet[..n])

@@ -69,7 +69,7 @@ fn write_name(rt: &(impl Env + Print), i: usize) -> std::io::Result<()> {
 
 fn list_argument<R: Env + Files + Print + Eprint>(rt: &R, i: usize) -> std::io::Result<()> {
     let mut sheet = [0u8; SHEET_ROOM];
-    let Some(n) = app_io::read_argument(rt, i, &mut sheet) else {
+    let Ok(n) = app_io::read_argument(rt, i, &mut sheet) else {
         return Ok(());
     };
     write_name(rt, i)?;

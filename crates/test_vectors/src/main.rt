@@ -90,7 +90,7 @@ fn main(rt: HostRuntime) -> std::io::Result<()> {
         return eprintln!(rt; "usage: vectors FILE");
     }
     let mut file = app_io::huge_buffer();
-    let Some(n) = app_io::read_argument(&rt, 1, &mut file) else {
+    let Ok(n) = app_io::read_argument(&rt, 1, &mut file) else {
         return Ok(());
     };
     replay_file(&rt, &file[..n])

@@ -18,7 +18,7 @@ fn walk_panel(rt: &(impl Print + Eprint), sheet: &[u8], panel: &[u8]) -> std::io
 // The panel is read once the sheet was.
 fn walk_sheet<R: Env + Files + Print + Eprint>(rt: &R, sheet: &[u8]) -> std::io::Result<()> {
     let mut panel = [0u8; PANEL_ROOM];
-    let Some(n) = app_io::read_argument(rt, 2, &mut panel) else {
+    let Ok(n) = app_io::read_argument(rt, 2, &mut panel) else {
         return Ok(());
     };
     walk_panel(rt, sheet, &panel[..n])
@@ -29,7 +29,7 @@ fn main(rt: HostRuntime) -> std::io::Result<()> {
         return eprintln!(rt; "usage: walker SHEET PANEL");
     }
     let mut sheet = [0u8; SHEET_ROOM];
-    let Some(n) = app_io::read_argument(&rt, 1, &mut sheet) else {
+    let Ok(n) = app_io::read_argument(&rt, 1, &mut sheet) else {
         return Ok(());
     };
     walk_sheet(&rt, &sheet[..n])

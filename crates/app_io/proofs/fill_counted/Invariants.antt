@@ -1,6 +1,6 @@
 -- What was read is a part of the buffer, and each turn leaves less to fill.
 use Rattle.std.proofs.Common.{length, ◌-◌, ◌≤◌}
-use Rattle.app_io.proofs.fill.Given as goal
+use Rattle.app_io.proofs.fill_counted.Given as goal
 
 abbrev pub invariant-loop-count : goal.invariant-loop-count
 invariant-loop-count g l = l.count ≤ length l.buf
