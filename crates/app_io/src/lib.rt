@@ -151,6 +151,6 @@ pub fn list(sheet: &[u8], out: &mut [u8]) -> Option<usize>
     let mut work = io::large_buffer();
     match dewmycel::build(sheet, &mut tree, &mut work) {
         Ok(built) => list_tree(&tree[..built.length as usize], out),
-        Err(refusal) => app_listing::refused_line(refusal, out),
+        Err(refusal) => app_listing::refused_line(refusal.reason.number(), refusal.place, out),
     }
 }

@@ -3,7 +3,6 @@
 #![tactic(auto)]
 
 ghost use Rattle.std.specs.Prelude.{◌≡◌, length};
-ghost use Rattle.format_parts.specs.Refusals.{number_of};
 ghost use Rattle.app_listing.specs.Answers.{call_of, listing_call, line_of, refused_line_call, EndsText};
 
 use base_words::zero_all;
@@ -37,10 +36,10 @@ pub fn listing(tree: &[u8], out: &mut [u8]) -> Result<Option<usize>, Refusal>
 }
 
 // How many bytes were written: none where the line has no room.
-pub fn refused_line(refusal: Refusal, out: &mut [u8]) -> Option<usize>
-    ensures { line_of result out.new ≡ refused_line_call (number_of refusal.reason) refusal.place (length out.old) }
+pub fn refused_line(number: u16, place: u16, out: &mut [u8]) -> Option<usize>
+    ensures { line_of result out.new ≡ refused_line_call number place (length out.old) }
 {
     zero_all(out);
-    let end = put_refused(out, refusal);
+    let end = put_refused(out, number, place);
     written(out, end)
 }

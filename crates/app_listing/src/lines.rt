@@ -3,14 +3,12 @@
 ghost use Rattle.std.specs.Prelude.{[], ◌∷◌, ◌++◌, ◌+◌, ◌<◌, ◌≤◌};
 ghost use Rattle.spec_rules.specs.Listing.{decimal, node_lines};
 ghost use Rattle.spec_rules.specs.Listing.{refused_line, listing as listing_text};
-ghost use Rattle.format_parts.specs.Refusals.{number_of};
 ghost use Rattle.format_tree.specs.Reading.{Ruled};
 ghost use Rattle.app_listing.specs.Writing.{Writes};
 ghost use Rattle.app_listing.specs.Records.{switch_read, node_read, NodeInside, node_line};
 
 use crate::parts::{put_bindings, put_cases, put_default, put_path};
 use crate::texts::{put, put_decimal, put_numbered, put_text};
-use format_parts::refusals::Refusal;
 use format_tree::layout::TreeMap;
 use format_tree::reading::{Node, node_at};
 
@@ -153,8 +151,8 @@ pub(crate) fn put_listing(out: &mut [u8], tree: &[u8], map: TreeMap) -> usize
     put_lines(out, end, tree, map)
 }
 
-pub fn put_refused(out: &mut [u8], refusal: Refusal) -> usize
-    ensures { Writes out.old out.new 0 result (refused_line (number_of refusal.reason) refusal.place) }
+pub fn put_refused(out: &mut [u8], number: u16, place: u16) -> usize
+    ensures { Writes out.old out.new 0 result (refused_line number place) }
 {
-    put_two_numbers(out, b"refused ", refusal.reason.number(), refusal.place)
+    put_two_numbers(out, b"refused ", number, place)
 }

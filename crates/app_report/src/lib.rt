@@ -34,7 +34,11 @@ fn put_walked(out: &mut [u8], tree: &[u8], panel: &[u8]) -> usize
         Ok(Some(leaf)) => put_leaf(out, panel, leaf, &bound),
         Ok(None) => put_text(out, 0, b"no leaf\n"),
         Err(WalkError::Stuck { node, step }) => put_stuck(out, node, step),
-        Err(WalkError::Refused(refusal)) => put_refused(out, refusal),
+        Err(WalkError::Refused(refusal)) => put_refused(
+            out,
+            refusal.reason.number(),
+            refusal.place,
+        ),
     }
 }
 
@@ -47,7 +51,7 @@ fn put_built(out: &mut [u8], sheet: &[u8], panel: &[u8]) -> usize
     let mut work = io::large_buffer();
     match dewmycel::build(sheet, &mut tree, &mut work) {
         Ok(built) => put_walked(out, &tree[..built.length as usize], panel),
-        Err(refusal) => put_refused(out, refusal),
+        Err(refusal) => put_refused(out, refusal.reason.number(), refusal.place),
     }
 }
 
@@ -56,7 +60,7 @@ fn put_telling(out: &mut [u8], sheet: &[u8], panel: &[u8]) -> usize
 {
     match dewmycel::fit(sheet, panel) {
         Ok(()) => put_built(out, sheet, panel),
-        Err(refusal) => put_refused(out, refusal),
+        Err(refusal) => put_refused(out, refusal.reason.number(), refusal.place),
     }
 }
 

@@ -10,4 +10,4 @@ returns-in-Ok c =
 pub returns-in-Err : goal.returns-in-Err
 returns-in-Err c =
     sheet_refused _ _ _ c.build.result _ _ c.build.ensures c.large_buffer-tree.ensures c.large_buffer-work.ensures _ _ _
-    c.in-Err.refusal c.in-Err.is c.refused_line.ensures
+    c.in-Err.refusal c.in-Err.is (rw c.number.ensures at c.refused_line.ensures)

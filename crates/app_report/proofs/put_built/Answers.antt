@@ -19,6 +19,6 @@ returns-in-Ok c =
 
 pub returns-in-Err : goal.returns-in-Err
 returns-in-Err c =
-    writes_as c.put_refused.ensures
+    writes_as (rw c.number.ensures at c.put_refused.ensures)
     (built_refused c.args.sheet.now c.args.panel.now _ _ c.build.result _ _ c.build.ensures c.large_buffer-tree.ensures c.large_buffer-work.ensures
     c.requires c.in-Err.refusal c.in-Err.is)

@@ -11,5 +11,5 @@ returns-in-Ok c = writes_as c.put_built.ensures (told_built c.args.sheet.now c.a
 
 pub returns-in-Err : goal.returns-in-Err
 returns-in-Err c =
-    writes_as c.put_refused.ensures
+    writes_as (rw c.number.ensures at c.put_refused.ensures)
     (told_refused c.args.sheet.now c.args.panel.now c.fit.result c.fit.ensures c.in-Err.refusal c.in-Err.is)

@@ -31,6 +31,6 @@ returns-in-Err-Stuck c =
 
 pub returns-in-Err-Refused : goal.returns-in-Err-Refused
 returns-in-Err-Refused c =
-    writes_as (rw c.in-Err-Refused.field-0-is at c.put_refused.ensures)
+    writes_as (rw (c.number.ensures, c.in-Err-Refused.field-0-is) at c.put_refused.ensures)
     (walked_refused c.args.tree.now c.args.panel.now _ c.walk.result _ c.requires.0 c.requires.1 (search rules) c.walk.ensures
     c.in-Err-Refused.refusal (search rules))

@@ -3,4 +3,4 @@ use Rattle.app_listing.specs.RecordsLaws.{refused_line_is}
 use Rattle.app_listing.proofs.lines.put_refused.Goals as goal
 
 pub returns : goal.returns
-returns c = rw (← c.number.ensures) (writes_as c.put_two_numbers.ensures (refused_line_is _ _))
+returns c = writes_as c.put_two_numbers.ensures (refused_line_is _ _)
