@@ -24,7 +24,7 @@ module _ (room : ℕ) {after : List ℕ} {end : ℕ} {text : List ℕ} (w : Writ
   as_long : length (zeros room) ≡ room
   as_long = length-replicate room 0
 
-  as_long_after : length after ≡ room
+  pub as_long_after : length after ≡ room
   as_long_after = length_written w ∙ as_long
 
   module _ (h : end ≤ length after) where
