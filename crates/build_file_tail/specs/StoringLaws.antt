@@ -1,14 +1,11 @@
 -- How stores of parts follow each other: a part behind a part, a whole by its parts in order, and the trailer by its words.
 -- Rests on Tail and the laws of stores; nothing here asks for room in the buffer that is written.
-use Rattle.std.specs.Prelude.{◌≡◌, refl, List, [], ◌∷◌, ◌++◌, ℕ, suc, ◌+◌, ◌-◌, ◌≤◌, ◌<◌, length, get_or}
-use Rattle.std.proofs.Common.{sym, ap, ◌∙◌, arith, add-one, append_assoc, length-append, drop-cons, take, drop}
-use Rattle.std.proofs.lemmas.Slice.{put_mid-paste}
-use Rattle.std.proofs.lemmas.List.Edits.{paste_all}
-use borrow.Rule.Slice.PartMut.{put_mid}
+use Rattle.std.specs.Prelude.{◌≡◌, refl, List, [], ◌∷◌, ◌++◌, ℕ, suc, ◌+◌, ◌-◌, ◌≤◌, ◌<◌, length, get_or, set}
+use Rattle.std.proofs.Common.{sym, ap, ◌∙◌, arith, add-one, length-append, drop-cons, take}
 use Rattle.base_words.specs.Words.{word_bytes, text_at}
-use Rattle.base_words.specs.WordsLaws.{length_text_at}
+use Rattle.base_words.specs.WordsLaws.{length_text_at, text_at_add}
 use Rattle.base_words.specs.Stored.{stored}
-use Rattle.base_words.specs.StoredLaws.{length_stored, stored_append, stored_nil, stored_is}
+use Rattle.base_words.specs.StoredLaws.{length_stored, stored_append, stored_nil, set_stored}
 use Rattle.spec_rules.specs.Limits.{tree_trailer}
 use Rattle.build_file_tail.specs.Tail.{Puts, Begun, trailer_bytes}
 
@@ -90,18 +87,22 @@ module _ (l : List ℕ) (at : ℕ) where
       (puts_then (word_put (at + 10) (at + 12) pool f (omega arith)) (word_put (at + 12) (at + 14) (at + tree_trailer) g (omega arith)))))))
       ).is_stored
 
--- ---- a text of s copied as a whole, as a copy to a part of the slice leaves it
-pub copied : (s l part : List ℕ) (at from size : ℕ) → from + size ≤ length s → at + size ≤ length l → part ≡ text_at s from (from + size - from)
-    → Puts l (put_mid at (at + size - at) l part) at (at + size) (text_at s from size)
-copied s l part at from size here there e =
-    let text = text_at s from size in
-    let long : length text ≡ size = length_text_at s from size here in
-    let same : part ≡ text = e ∙ ap (text_at s from) (omega arith) in
-    record {
-      is_stored =
-          put_mid-paste at (at + size - at) l part text (length text) same (omega (arith, long)) refl
-          ∙ paste_all l at text (length text) refl
-          ∙ sym (append_assoc (take at l) text (drop (at + length text) l))
-          ∙ sym (stored_is l at text (omega (arith, long)));
-      is_end = omega (arith, long);
-    }
+-- ---- a text of s copied byte by byte: i bytes of it are there
+module _ (s l : List ℕ) (at from : ℕ) where
+  one_more : (i : ℕ) → from + i < length s → text_at s from (i + 1) ≡ text_at s from i ++ get_or s (from + i) 0 ∷ []
+  one_more i here = text_at_add s from i 1 ∙ ap (λ (xs : List ℕ). text_at s from i ++ take 1 xs) (drop-cons s (from + i) 0 here)
+
+  pub copied_next : (now : List ℕ) (i : ℕ) → from + i < length s → now ≡ stored l at (text_at s from i)
+      → set now (at + i) (get_or s (from + i) 0) ≡ stored l at (text_at s from (i + 1))
+  copied_next now i here e =
+      let x = get_or s (from + i) 0 in
+      set_stored now (at + i) x
+      ∙ ap (λ (w : List ℕ). stored w (at + i) (x ∷ [])) e
+      ∙ stored_append l at (at + i) (text_at s from i) (x ∷ []) (omega (arith, length_text_at s from i (omega arith)))
+      ∙ ap (stored l at) (sym (one_more i here))
+
+  pub copied : (now : List ℕ) (i size : ℕ) → from + size ≤ length s → i ≡ size → now ≡ stored l at (text_at s from i) → Puts l now at (at + size) (text_at s from size)
+  copied now i size here e is = record {
+    is_stored = is ∙ ap (λ (k : ℕ). stored l at (text_at s from k)) e;
+    is_end = omega (arith, length_text_at s from size here);
+  }

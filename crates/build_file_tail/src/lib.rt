@@ -34,9 +34,11 @@ fn copy_pool(sheet: &[u8], map: SheetMap, tree: &mut [u8], at: usize) -> usize
 {
     let from = map.pool.start;
     let size = map.pool.count;
-    let end = at + size;
-    tree[at..end].copy_from_slice(&sheet[from..from + size]);
-    end
+    // byte by byte: `copy_from_slice` needs memmove, and an archive for C is to need memcpy and memset alone
+    for i in 0..size {
+        tree[at + i] = sheet[from + i];
+    }
+    at + size
 }
 
 fn put_number(tree: &mut [u8], at: usize, number: usize)
