@@ -1,5 +1,5 @@
 // The reader of a tree file: every condition of "A reader asks, else 31", and the reading of its records.
-// A check reads each record once, and for their order nodes once more and cases twice; it takes no memory but a few words. Each condition
+// A check reads each record once, and nodes and cases once more for their order; it takes no memory but a few words. Each condition
 // is the rules' definition of its name; what is read of an accepted file rests on the facts of the crate spec_accepted.
 #![tactic(auto)]
 

@@ -1,12 +1,12 @@
 // "node 0 there, each other node a child exactly once, in pre-order", without a stack: a node's first child is the next node, each
 // later child is where the subtree of the child before it ends, and the subtree of node 0 ends where the nodes do.
 // A subtree's end is found by going from a node to its last child as far as there is one. This is done for children that are not
-// the last alone, so that each node is met once on the way to an end: the cost is that of one pass over the nodes and two over the cases.
+// the last alone, so that each node is met once on the way to an end: the cost is that of one pass over nodes and cases.
 ghost use Rattle.std.specs.Prelude.{◌≡◌, ◌++◌, ℕ, ◌+◌, ◌<◌, ◌≤◌};
 ghost use Rattle.spec_rules.specs.Searching.{every};
 ghost use Rattle.spec_rules.specs.TreeReader.{case_children, default_child, nodes_in_pre_order};
 ghost use Rattle.format_tree.specs.Reading.{Mapped, Ruled};
-ghost use Rattle.format_tree.specs.PreOrder.{last_from, last_child, end_of, case_follows, chained, children_follow, ChildrenAre};
+ghost use Rattle.format_tree.specs.PreOrder.{last_from, last_child, end_of, chained, children_follow, ChildrenAre};
 
 use crate::layout::TreeMap;
 use crate::reading::{case_child, node_kind, node_word};
@@ -90,21 +90,24 @@ fn end_of(tree: &[u8], map: TreeMap, k: usize) -> usize
     at + 1
 }
 
-// The child of case j is where the subtree of the child before it ends.
-fn case_follows(tree: &[u8], map: TreeMap, j: usize) -> bool
-    requires { Ruled tree.now map × (1 ≤ j) × (j < map.cases.count) }
-    ensures { result ≡ case_follows tree.now j }
-{
-    let before = case_child(tree, map, j - 1) as usize;
-    case_child(tree, map, j) as usize == end_of(tree, map, before)
-}
-
 // The children of the n cases from i on: the first is node k + 1, each later one is where the one before it ends.
 fn cases_follow(tree: &[u8], map: TreeMap, k: usize, i: usize, n: usize) -> bool
     requires { Ruled tree.now map × (k < map.nodes.count) × (1 ≤ n) × (i + n ≤ map.cases.count) }
     ensures { result ≡ chained tree.now (k + 1) (case_children tree.now i n) }
 {
-    case_child(tree, map, i) as usize == k + 1 && (i + 1..i + n).all(|j| case_follows(tree, map, j))
+    let mut before = case_child(tree, map, i) as usize;
+    if before != k + 1 {
+        return false;
+    }
+    // a for, since it hands on the child that was read: `all` would read each child but the last twice
+    for j in i + 1..i + n {
+        let child = case_child(tree, map, j) as usize;
+        if child != end_of(tree, map, before) {
+            return false;
+        }
+        before = child;
+    }
+    true
 }
 
 // The same with the default after the cases.
@@ -139,7 +142,13 @@ fn all_follow(tree: &[u8], map: TreeMap) -> bool
     requires { Ruled tree.now map }
     ensures { result ≡ every (children_follow tree.now) 0 map.nodes.count }
 {
-    (0..map.nodes.count).all(|k| children_follow(tree, map, k))
+    // a for, as the passes of records.rt are
+    for k in 0..map.nodes.count {
+        if !children_follow(tree, map, k) {
+            return false;
+        }
+    }
+    true
 }
 
 // "node 0 there, each other node a child exactly once, in pre-order"
