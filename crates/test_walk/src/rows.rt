@@ -36,7 +36,11 @@ pub fn number(line: &[u8], i: usize) -> usize
 
 // The bytes of a text, as far as there are digits, put at `at`.
 pub fn put_bytes(text: &[u8], b: &mut [u8], at: usize) {
-    for (place, pair) in b.iter_mut().skip(at).zip(text.chunks(3)) {
+    // by a slice from `at` on: an iterator that skips to it takes half as long again where a row has many copies
+    let Some(room) = b.get_mut(at..) else {
+        return;
+    };
+    for (place, pair) in room.iter_mut().zip(text.chunks(3)) {
         let [high, low, ..] = pair else {
             return;
         };
