@@ -36,7 +36,7 @@ pub fn number(line: &[u8], i: usize) -> usize
 
 // The bytes of a text, as far as there are digits, put at `at`.
 pub fn put_bytes(text: &[u8], b: &mut [u8], at: usize) {
-    // by a slice from `at` on: an iterator that skips to it takes half as long again where a row has many copies
+    // by a slice from `at` on: an iterator that skips to it takes a quarter longer where a row has many copies
     let Some(room) = b.get_mut(at..) else {
         return;
     };
